@@ -1,0 +1,7 @@
+pub mod Time
+pub mod Handshake
+pub mod Errors
+pub mod Circle
+pub mod Sequence
+pub mod Cells
+pub mod CellLaws

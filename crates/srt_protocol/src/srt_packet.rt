@@ -1,0 +1,31 @@
+// The circular order of 31-bit sequence numbers.
+ghost use mathlib.Core.Path.{_≡_};
+ghost use Rattle.srt_protocol.specs.Sequence.{sequence-distance, sequence-before, sequence-further};
+
+// How many sequence numbers there are.
+const SEQUENCE_SPACE: u32 = 0x8000_0000;
+
+// The farthest apart that two comparable sequence numbers can be.
+const SEQUENCE_HALF_SPACE: u32 = 0x4000_0000;
+
+// How far `b` lies after `a`, going up round the sequence space.
+pub fn sequence_distance(a: u32, b: u32) -> u32
+    ensures { λ r. ⌜ r ≡ sequence-distance a b ⌝ }
+{
+    std::num::wrapping_sub_u32(b, a) % SEQUENCE_SPACE
+}
+
+// Whether `a` is before `b`.
+pub fn sequence_less_than(a: u32, b: u32) -> bool
+    ensures { λ r. ⌜ r ≡ sequence-before a b ⌝ }
+{
+    let distance = sequence_distance(a, b);
+    0 < distance && distance < SEQUENCE_HALF_SPACE
+}
+
+// The sequence number `count` places after `a`.
+pub fn sequence_further(a: u32, count: u32) -> u32
+    ensures { λ r. ⌜ r ≡ sequence-further a count ⌝ }
+{
+    std::num::wrapping_add_u32(a, count) % SEQUENCE_SPACE
+}
