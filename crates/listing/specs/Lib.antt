@@ -1,0 +1,6 @@
+pub mod Column
+pub mod Line
+pub mod Text
+pub mod Placed
+pub mod Stream
+pub mod Held
