@@ -1,0 +1,54 @@
+-- The definitions, in the order in which to read them. They are all that a reader has to believe.
+pub mod Tools
+pub mod State
+pub mod Legs
+pub mod Members
+pub mod Nearest
+pub mod Run
+pub mod Collecting
+pub mod Delivery
+pub mod Polls
+pub mod Removal
+pub mod Sending
+pub mod Backup
+pub mod Cells
+pub mod Validity
+pub mod Guards
+pub mod Calls
+pub mod Lent
+-- What they compute: the replay listing, listings with the Rust's answers, P1 to P9.
+pub mod Listing
+pub mod Computed
+pub mod Examples
+pub mod Cases
+pub mod Misreadings
+-- Laws that a reader would ask for.
+pub mod Reason
+pub mod CircleLaws
+pub mod Refusals
+pub mod Moves
+pub mod Frame
+pub mod Walk
+pub mod BaseLaws
+pub mod CellLaws
+pub mod Queues
+pub mod BrokenLaws
+pub mod HonestLog
+pub mod Places
+pub mod NearestLaw
+-- A call keeps validity, rule by rule; Valid has the whole.
+pub mod Ascending
+pub mod Steps
+pub mod CellsKept
+pub mod CellsCalls
+pub mod Unique
+pub mod Sums
+pub mod SumsRemoval
+pub mod SumsKept
+pub mod Ranges
+pub mod RangesKept
+pub mod Acknowledging
+pub mod RangesCalls
+pub mod Counts
+pub mod Rounds
+pub mod Valid

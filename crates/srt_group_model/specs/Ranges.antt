@@ -1,0 +1,341 @@
+-- Every number of a state stays in its range: what `sequence-too-large` and `field-out-of-range` ask, as statements, and how the
+-- moves of a poll keep them. Assumes nothing.
+use mathlib.Core.Path.{_≡_, refl, sym, ap, ap₂, subst, _∙_}
+use mathlib.Core.Bool.{Bool, true, false, not, _&&_, _||_}
+use mathlib.Core.List.{List, [], _∷_, _++_}
+use mathlib.Core.Option.{Option, none, some}
+use Prim.Native.Nat.{ℕ, zero, suc, _+_, _-_, _%_, _^_, _≤_, _<_, min, max}
+use native.Mathlib.Omega.{arith}
+use native.Mathlib.Nat.{mod-lt}
+use borrow.Author.Tests.{eqb-true, eqb-false, eq-eqb, ltb-true, ltb-false, le-ltb, leb-true}
+use lib.Dec.{leb, ltb, eqb}
+use lib.ListN.{length, drop}
+use Rattle.srt_protocol.specs.Circle.{further, distance}
+use Rattle.srt_protocol.specs.Sequence.{half, sequence-further}
+use Rattle.srt_group_model.specs.Tools.{if_then_else_, if-some_give_otherwise_, or-else, flagged, any, such-that, first-such, place-of, at-place, change, each}
+use Rattle.srt_group_model.specs.Reason.{if-elim, if-some-elim, by-test, not-both, none-some, some-inj, and-left, and-right, or-left, or-right, All, all-map, all-append}
+use Rattle.srt_group_model.specs.State.{Member, Receive, Send, State, is-backup, next-send-sequence, turned, with-leg, with-members, on-leg, on-membership, with-admitted, with-collision, with-reserved, pending-state, active-state, standby-state, unstable-state, broken-state}
+use Rattle.srt_group_model.specs.Legs.{is-connected, has-sender, can-send, no-sequence, next-sequence-number, peer-initial-sequence, send-shared-with-sequence, synchronize-send-sequence, release-data-reservation, advance-receive-sequence, largest-sequence, largest-16, largest-32, largest-64}
+use Rattle.srt_group_model.specs.Members.{id-of, has-id, promotion, promote-backup-member, promote-if-none, arrives, base-after, peer-after, admit-peer-group, alignment-source, align-leg, align-member-sequence, steps-from, turn-aligned, settle, requalify, settle-members, break-disconnected, requalify-members}
+use Rattle.srt_group_model.specs.Validity.{above, max-events, is-too-large, event-out-of-range}
+use Rattle.srt_group_model.specs.Cells.{is-data}
+use Rattle.srt_protocol.specs.declared.time.Timestamp.{Timestamp}
+use Rattle.srt_group_model.specs.declared.Leg.{Leg}
+use Rattle.srt_group_model.specs.declared.Event.{Event}
+use Rattle.srt_group_model.specs.declared.GroupMode.{GroupMode}
+
+-- ---- legs
+
+pub record Leg-fit (l : Leg) : Type 0 where
+  pub state : l .link .state ≤ 2
+  pub peer : l .link .peer ≤ largest-32
+  pub limit : l .link .limit ≤ largest-16
+  pub started : l .sender .started ≤ 1
+  pub flight : l .sender .flight ≤ largest-16
+  pub no-flight : has-sender l ≡ false → l .sender .flight ≡ 0
+  pub window : l .sender .window ≤ largest-16
+  pub oldest : l .sender .oldest .0 ≤ largest-64
+  pub pace : l .sender .pace .0 ≤ largest-64
+  pub receive-window : l .receiver .window ≤ largest-16
+  pub latency : l .receiver .latency ≤ largest-64
+  pub srtt : l .trip .srtt ≤ largest-32
+  pub rttvar : l .trip .rttvar ≤ largest-32
+  pub heard : l .trip .heard .0 ≤ largest-64
+  pub connects : is-connected l ≡ true → has-sender l ≡ true
+  pub next : l .sender .next ≤ largest-sequence
+  pub advanced : l .receiver .advanced ≤ largest-sequence
+  pub first : (is-too-large (l .receiver .first) && not (eqb (l .receiver .first) no-sequence)) ≡ false
+
+-- a number further on is within the circle
+pub further-fits : (a n : ℕ) → sequence-further a n ≤ largest-sequence
+unfolding further half
+further-fits a n = omega arith
+
+abbrev pub Option-fit : Option ℕ → Type 0
+Option-fit o = (n : ℕ) → o ≡ some n → n ≤ largest-sequence
+
+abbrev pub Leg-gives : Option Leg → Type 0
+Leg-gives o = (k : Leg) → o ≡ some k → Leg-fit k
+
+pub gives-leg : (k : Leg) → Leg-fit k → Leg-gives (some k)
+gives-leg k h x e = subst Leg-fit (some-inj e) h
+
+pub synchronize-fit : (sequence : ℕ) (l : Leg) → sequence ≤ largest-sequence → Leg-fit l → Leg-gives (synchronize-send-sequence sequence l)
+unfolding synchronize-send-sequence
+synchronize-fit sequence l b h =
+    if-elim Leg-gives _ _ _
+    (λ e.
+    gives-leg _
+    record {
+      state = h .state;
+      peer = h .peer;
+      limit = h .limit;
+      started = h .started;
+      flight = h .flight;
+      no-flight = h .no-flight;
+      window = h .window;
+      oldest = h .oldest;
+      pace = h .pace;
+      receive-window = h .receive-window;
+      latency = h .latency;
+      srtt = h .srtt;
+      rttvar = h .rttvar;
+      heard = h .heard;
+      connects = h .connects;
+      next = b;
+      advanced = h .advanced;
+      first = h .first;
+    })
+    (λ e k g. none-some g)
+
+pub send-fit : (time size sequence : ℕ) (l : Leg) → time ≤ largest-64 → Leg-fit l → Leg-gives (send-shared-with-sequence time size sequence l)
+unfolding send-shared-with-sequence can-send
+send-fit time size sequence l b h =
+    if-elim Leg-gives _ _ _
+    (λ e.
+    let can = and-left (is-connected l && ltb 0 (l .sender .window - l .sender .flight)) _ e in
+    let connected = and-left (is-connected l) _ can in
+    let room = ltb-true 0 (l .sender .window - l .sender .flight) (and-right (is-connected l) _ can) in
+    gives-leg _
+    record {
+      state = h .state;
+      peer = h .peer;
+      limit = h .limit;
+      started = h .started;
+      flight = omega (arith, room, h .window);
+      no-flight = λ g. not-both (h .connects connected) g;
+      window = h .window;
+      oldest = if-elim (λ (t : Timestamp). t .0 ≤ largest-64) (eqb (l .sender .flight) 0) _ _ (λ g. b) (λ g. h .oldest);
+      pace = h .pace;
+      receive-window = h .receive-window;
+      latency = h .latency;
+      srtt = h .srtt;
+      rttvar = h .rttvar;
+      heard = h .heard;
+      connects = h .connects;
+      next = further-fits (l .sender .next) 1;
+      advanced = h .advanced;
+      first = h .first;
+    })
+    (λ e k g. none-some g)
+
+pub align-leg-fit : (sequence : ℕ) (l : Leg) → sequence ≤ largest-sequence → Leg-fit l → Leg-gives (align-leg sequence l)
+unfolding align-leg
+align-leg-fit sequence l b h = if-elim Leg-gives _ _ _ (λ e. gives-leg l h) (λ e. synchronize-fit sequence l b h)
+
+-- ---- members
+
+pub record Event-fit (e : Event) : Type 0 where
+  pub fields : event-out-of-range e ≡ false
+  pub sequence : (is-data e && is-too-large (e .content .sequence)) ≡ false
+
+pub record Member-fit (m : Member) : Type 0 where
+  pub leg : Leg-fit (m .leg)
+  pub id : id-of m ≤ largest-32
+  pub weight : m .membership .weight ≤ largest-16
+  pub state : m .membership .state ≤ 4
+  pub admitted : m .membership .admitted ≤ 1
+  pub expected : m .membership .collision .expected ≤ largest-32
+  pub actual : m .membership .collision .actual ≤ largest-32
+  pub queue : All Event-fit (m .queue)
+  pub short : length (m .queue) ≤ max-events
+
+abbrev pub All-fit : List Member → Type 0
+All-fit = All Member-fit
+
+pub turned-fit : (n : ℕ) (m : Member) → n ≤ 4 → Member-fit m → Member-fit (turned n m)
+turned-fit n m b h =
+    record {
+      leg = h .leg;
+      id = h .id;
+      weight = h .weight;
+      state = b;
+      admitted = h .admitted;
+      expected = h .expected;
+      actual = h .actual;
+      queue = h .queue;
+      short = h .short;
+    }
+
+pub with-leg-fit : (l : Leg) (m : Member) → Leg-fit l → Member-fit m → Member-fit (with-leg l m)
+with-leg-fit l m b h =
+    record {
+      leg = b;
+      id = h .id;
+      weight = h .weight;
+      state = h .state;
+      admitted = h .admitted;
+      expected = h .expected;
+      actual = h .actual;
+      queue = h .queue;
+      short = h .short;
+    }
+
+pub change-fit : (i : ℕ) (f : Member → Member) (ms : List Member) → ((m : Member) → Member-fit m → Member-fit (f m)) → All-fit ms → All-fit (change i f ms)
+unfolding change
+change-fit zero f [] g h = tt
+change-fit (suc i) f [] g h = tt
+change-fit zero f (m ∷ ms) g h = (g m (h .0), h .1)
+change-fit (suc i) f (m ∷ ms) g h = (h .0, change-fit i f ms g (h .1))
+
+pub at-change-fit : (i : ℕ) (f : Member → Member) (ms : List Member) → ((m : Member) → at-place i ms ≡ some m → Member-fit m → Member-fit (f m)) → All-fit ms → All-fit (change i f ms)
+unfolding change at-place
+at-change-fit zero f [] g h = tt
+at-change-fit (suc i) f [] g h = tt
+at-change-fit zero f (m ∷ ms) g h = (g m refl (h .0), h .1)
+at-change-fit (suc i) f (m ∷ ms) g h = (h .0, at-change-fit i f ms g (h .1))
+
+pub each-fit : (f : Member → Member) (ms : List Member) → ((m : Member) → Member-fit m → Member-fit (f m)) → All-fit ms → All-fit (each f ms)
+unfolding each
+each-fit f [] g h = tt
+each-fit f (m ∷ ms) g h = (g m (h .0), each-fit f ms g (h .1))
+
+pub at-fit : (i : ℕ) (m : Member) (ms : List Member) → at-place i ms ≡ some m → All-fit ms → Member-fit m
+unfolding at-place
+at-fit zero m [] at h = none-some at
+at-fit (suc i) m [] at h = none-some at
+at-fit zero m (x ∷ ms) at h = subst Member-fit (some-inj at) (h .0)
+at-fit (suc i) m (x ∷ ms) at h = at-fit i m ms at (h .1)
+
+first-such-fit : (test : Member → Bool) (m : Member) (ms : List Member) → first-such test ms ≡ some m → All-fit ms → Member-fit m
+unfolding first-such
+first-such-fit test m [] = λ e h. none-some e
+first-such-fit test m (x ∷ ms) =
+    if-elim (λ (o : Option Member). o ≡ some m → All-fit (x ∷ ms) → Member-fit m) _ _ _
+    (λ t e h. subst Member-fit (some-inj e) (h .0)) (λ t e h. first-such-fit test m ms e (h .1))
+
+pub flagged-fit : (b : Bool) (n : ℕ) → n ≤ largest-sequence → Option-fit (flagged b n)
+unfolding flagged
+flagged-fit true n h k e = subst (λ (x : ℕ). x ≤ largest-sequence) (some-inj e) h
+flagged-fit false n h k e = none-some e
+
+source-fit : (number : Option ℕ) (id : ℕ) (ms : List Member) → Option-fit number → All-fit ms → Option-fit (alignment-source number id ms)
+unfolding alignment-source or-else
+source-fit (some n) id ms b h = b
+source-fit none id ms b h =
+    if-some-elim Option-fit _ _ _
+    (λ m e. flagged-fit (has-sender (m .leg)) (m .leg .sender .next) (first-such-fit _ m ms e h .leg .next)) (λ e n g. none-some g)
+
+abbrev pub Members-give : Option (List Member) → Type 0
+Members-give o = (ns : List Member) → o ≡ some ns → All-fit ns
+
+pub align-fit : (number : Option ℕ) (i : ℕ) (ms : List Member) → Option-fit number → All-fit ms → Members-give (align-member-sequence number i ms)
+unfolding align-member-sequence
+align-fit number i ms b h =
+    if-some-elim Members-give _ _ _
+    (λ m at.
+    if-some-elim Members-give _ _ _
+    (λ sequence g.
+    if-some-elim Members-give _ _ _
+    (λ l k ns e.
+    subst All-fit (some-inj e)
+    (change-fit i (with-leg l) ms
+    (λ x f. with-leg-fit l x (align-leg-fit sequence (m .leg) (source-fit number (id-of m) ms b h sequence g) (at-fit i m ms at h .leg) l k) f) h))
+    (λ k ns e. none-some e))
+    (λ g ns e. subst All-fit (some-inj e) h))
+    (λ at ns e. none-some e)
+
+pub promote-fit : (ms : List Member) → All-fit ms → All-fit (promote-backup-member ms)
+unfolding promote-backup-member
+promote-fit ms h =
+    if-some-elim All-fit _ _ _ (λ i e. change-fit i (turned active-state) ms (λ m f. turned-fit active-state m (omega arith) f) h) (λ e. h)
+
+pub promote-if-none-fit : (mode : GroupMode) (ms : List Member) → All-fit ms → All-fit (promote-if-none mode ms)
+unfolding promote-if-none
+promote-if-none-fit mode ms h = if-elim All-fit _ _ _ (λ e. promote-fit ms h) (λ e. h)
+
+turn-aligned-fit : (test : Member → Bool) (state : List Member → ℕ) (number : Option ℕ) → ((ms : List Member) → state ms ≤ 4) → Option-fit number
+    → (i : ℕ) (ms : List Member) → All-fit ms → All-fit (turn-aligned test state number i ms)
+unfolding turn-aligned
+turn-aligned-fit test state number low b i ms h =
+    if-some-elim All-fit _ _ _
+    (λ m at.
+    if-elim All-fit _ _ _
+    (λ t.
+    if-some-elim All-fit _ _ _
+    (λ ns g. change-fit i (turned (state ns)) ns (λ x f. turned-fit (state ns) x (low ns) f) (align-fit number i ms b h ns g)) (λ g. h))
+    (λ t. h))
+    (λ at. h)
+
+steps-fit : (step : ℕ → List Member → List Member) → ((i : ℕ) (ms : List Member) → All-fit ms → All-fit (step i ms)) → (k i : ℕ) (ms : List Member) → All-fit ms → All-fit (steps-from step k i ms)
+unfolding steps-from
+steps-fit step g zero i ms h = h
+steps-fit step g (suc k) i ms h = steps-fit step g k (suc i) (step i ms) (g i ms h)
+
+pub settle-fit : (mode : GroupMode) (number : Option ℕ) (ms : List Member) → Option-fit number → All-fit ms → All-fit (settle-members mode number ms)
+unfolding settle-members settle
+settle-fit mode number ms b h =
+    promote-if-none-fit mode (steps-from (settle mode number) (length ms) 0 ms)
+    (steps-fit (settle mode number)
+    (turn-aligned-fit _ _ number (λ ns. if-elim (λ (n : ℕ). n ≤ 4) (is-backup mode) standby-state active-state (λ e. omega arith) (λ e. omega arith)) b)
+    (length ms) 0 ms h)
+
+pub requalify-fit : (mode : GroupMode) (number : Option ℕ) (ms : List Member) → Option-fit number → All-fit ms → All-fit (requalify-members mode number ms)
+unfolding requalify-members requalify break-disconnected
+requalify-fit mode number ms b h =
+    let parted = each break-disconnected ms in
+    promote-if-none-fit mode (steps-from (requalify mode number) (length parted) 0 parted)
+    (steps-fit (requalify mode number)
+    (turn-aligned-fit _ _ number (λ ns. if-elim (λ (n : ℕ). n ≤ 4) _ standby-state active-state (λ e. omega arith) (λ e. omega arith)) b)
+    (length parted) 0 parted
+    (each-fit break-disconnected ms (λ m f. if-elim Member-fit _ _ _ (λ e. turned-fit broken-state m (omega arith) f) (λ e. f)) h))
+
+-- ---- admission
+
+pub base-after-fit : (o : Option ℕ) (ms : List Member) → Option-fit o → All-fit ms → Option-fit (base-after o ms)
+unfolding base-after or-else flagged
+base-after-fit o [] b h = b
+base-after-fit none (m ∷ ms) b h =
+    base-after-fit _ ms
+    (if-elim Option-fit (arrives m) _ _ (λ e. first-fit (m .leg) (h .0 .leg)) (λ e. b)) (h .1)
+  where
+    first-fit : (l : Leg) → Leg-fit l → Option-fit (peer-initial-sequence l)
+    first-fit l f n e = first-of (eqb (l .receiver .first) no-sequence) (l .receiver .first) (f .first) n e
+      where
+        first-of : (none-there : Bool) (k : ℕ) → (is-too-large k && not none-there) ≡ false → Option-fit (flagged (not none-there) k)
+        first-of true k g n e = none-some e
+        first-of false k g n e = subst (λ (x : ℕ). x ≤ largest-sequence) (some-inj e) (ltb-false largest-sequence k (and-true (is-too-large k) g))
+          where
+            and-true : (b : Bool) → b && true ≡ false → b ≡ false
+            and-true true g = g
+            and-true false g = refl
+base-after-fit (some n) (m ∷ ms) b h =
+    base-after-fit _ ms (if-elim Option-fit (arrives m) _ _ (λ e. b) (λ e. b)) (h .1)
+
+pub peer-after-fit : (peer : ℕ) (ms : List Member) → peer ≤ largest-32 → All-fit ms → peer-after peer ms ≤ largest-32
+unfolding peer-after
+peer-after-fit peer [] b h = b
+peer-after-fit peer (m ∷ ms) b h =
+    peer-after-fit _ ms (if-elim (λ (n : ℕ). n ≤ largest-32) _ _ _ (λ e. h .0 .leg .peer) (λ e. b)) (h .1)
+
+pub admit-fit : (peer : ℕ) (m : Member) → peer ≤ largest-32 → Member-fit m → Member-fit (admit-peer-group peer m)
+unfolding admit-peer-group
+admit-fit peer m b h =
+    if-elim Member-fit _ _ _
+    (λ e.
+    if-elim Member-fit _ _ _
+    (λ g.
+    record {
+      leg = h .leg;
+      id = h .id;
+      weight = h .weight;
+      state = h .state;
+      admitted = omega arith;
+      expected = h .expected;
+      actual = h .actual;
+      queue = h .queue;
+      short = h .short;
+    })
+    (λ g.
+    record {
+      leg = h .leg;
+      id = h .id;
+      weight = h .weight;
+      state = omega arith;
+      admitted = h .admitted;
+      expected = b;
+      actual = h .leg .peer;
+      queue = h .queue;
+      short = h .short;
+    }))
+    (λ e. h)

@@ -1,0 +1,220 @@
+-- The state of a group, as lists and small records of the types in src/lib.rt, and the functions that change one part of
+-- it. Document 01's lent state: the group record, the members with their legs, the held packets, the waiting events.
+-- Assumes nothing.
+use mathlib.Core.Bool.{Bool, true, false}
+use mathlib.Core.List.{List, [], _∷_}
+use mathlib.Core.Option.{Option, none, some}
+use Prim.Native.Nat.{ℕ}
+use Rattle.srt_group_model.specs.Tools.{flagged}
+use Rattle.srt_group_model.specs.declared.Event.{Event}
+use Rattle.srt_group_model.specs.declared.Packet.{Packet}
+use Rattle.srt_group_model.specs.declared.Waiting.{Waiting}
+use Rattle.srt_group_model.specs.declared.Leg.{Leg}
+use Rattle.srt_group_model.specs.declared.Membership.{Membership}
+use Rattle.srt_group_model.specs.declared.Identity.{Identity}
+use Rattle.srt_group_model.specs.declared.Receiving.{Receiving}
+use Rattle.srt_group_model.specs.declared.Sending.{Sending}
+use Rattle.srt_group_model.specs.declared.Visit.{Visit}
+use Rattle.srt_group_model.specs.declared.Entry.{Entry}
+use Rattle.srt_group_model.specs.declared.GroupMode.{GroupMode}
+use Rattle.srt_group_model.specs.declared.GroupMode.the-variants.{Broadcast, Backup}
+
+-- `SrtGroupMember`: its membership, its leg (document 01's stand-in for `SrtConnection`) and that leg's queue of events
+pub record Member : Type 0 where
+  pub membership : Membership
+  pub leg : Leg
+  pub queue : List Event
+
+-- what receiving moves: the base, the skipped total, and the pending packets in ascending order of their sequences
+pub record Receive : Type 0 where
+  pub numbers : Receiving
+  pub pending : List Packet
+
+-- what sending moves: the send number, the carrier, and the Backup history, oldest first
+pub record Send : Type 0 where
+  pub numbers : Sending
+  pub history : List Entry
+
+-- `SrtGroup`. `owned` is the sum of the counts of the packets that the group holds itself; `waiting` the events not yet given
+pub record State : Type 0 where
+  pub identity : Identity
+  pub receive : Receive
+  pub send : Send
+  pub visit : Visit
+  pub owned : ℕ
+  pub members : List Member
+  pub waiting : List Waiting
+
+-- ---- what is read from it
+
+abbrev pub is-backup : GroupMode → Bool
+is-backup Broadcast = false
+is-backup Backup = true
+
+-- document 01's base, if it is set
+abbrev pub next-receive-sequence : Receive → Option ℕ
+next-receive-sequence x = flagged (x .numbers .based) (x .numbers .base)
+
+abbrev pub next-send-sequence : Send → Option ℕ
+next-send-sequence x = flagged (x .numbers .numbered) (x .numbers .next)
+
+abbrev pub backup-carrier : Send → Option ℕ
+backup-carrier x = flagged (x .numbers .carried) (x .numbers .carrier)
+
+-- ---- one part is changed
+
+abbrev pub with-receive : Receive → State → State
+with-receive x s =
+    record {
+      identity = s .identity;
+      receive = x;
+      send = s .send;
+      visit = s .visit;
+      owned = s .owned;
+      members = s .members;
+      waiting = s .waiting;
+    }
+
+abbrev pub with-send : Send → State → State
+with-send x s =
+    record {
+      identity = s .identity;
+      receive = s .receive;
+      send = x;
+      visit = s .visit;
+      owned = s .owned;
+      members = s .members;
+      waiting = s .waiting;
+    }
+
+abbrev pub with-visit : Visit → State → State
+with-visit x s =
+    record {
+      identity = s .identity;
+      receive = s .receive;
+      send = s .send;
+      visit = x;
+      owned = s .owned;
+      members = s .members;
+      waiting = s .waiting;
+    }
+
+abbrev pub with-owned : ℕ → State → State
+with-owned n s =
+    record {
+      identity = s .identity;
+      receive = s .receive;
+      send = s .send;
+      visit = s .visit;
+      owned = n;
+      members = s .members;
+      waiting = s .waiting;
+    }
+
+abbrev pub with-members : List Member → State → State
+with-members ms s =
+    record {
+      identity = s .identity;
+      receive = s .receive;
+      send = s .send;
+      visit = s .visit;
+      owned = s .owned;
+      members = ms;
+      waiting = s .waiting;
+    }
+
+abbrev pub with-waiting : List Waiting → State → State
+with-waiting ws s =
+    record {
+      identity = s .identity;
+      receive = s .receive;
+      send = s .send;
+      visit = s .visit;
+      owned = s .owned;
+      members = s .members;
+      waiting = ws;
+    }
+
+abbrev pub with-peer : ℕ → State → State
+with-peer n s =
+    record {
+      identity = record { id = s .identity .id; mode = s .identity .mode; length = s .identity .length; peer = n };
+      receive = s .receive;
+      send = s .send;
+      visit = s .visit;
+      owned = s .owned;
+      members = s .members;
+      waiting = s .waiting;
+    }
+
+abbrev pub with-base : ℕ → Receive → Receive
+with-base n x =
+    record { numbers = record { based = true; base = n; skipped = x .numbers .skipped }; pending = x .pending }
+
+abbrev pub with-pending : List Packet → Receive → Receive
+with-pending ps x = record { numbers = x .numbers; pending = ps }
+
+abbrev pub with-continuation : Bool → State → State
+with-continuation b s = with-visit record { continuation = b; round = s .visit .round } s
+
+abbrev pub with-round : ℕ → State → State
+with-round n s = with-visit record { continuation = s .visit .continuation; round = n } s
+
+abbrev pub with-history : List Entry → Send → Send
+with-history h x = record { numbers = x .numbers; history = h }
+
+-- ---- a member and its parts
+
+abbrev pub with-leg : Leg → Member → Member
+with-leg l m = record { membership = m .membership; leg = l; queue = m .queue }
+
+abbrev pub on-leg : (Leg → Leg) → Member → Member
+on-leg f m = with-leg (f (m .leg)) m
+
+abbrev pub with-queue : List Event → Member → Member
+with-queue q m = record { membership = m .membership; leg = m .leg; queue = q }
+
+abbrev pub on-membership : (Membership → Membership) → Member → Member
+on-membership f m = record { membership = f (m .membership); leg = m .leg; queue = m .queue }
+
+-- `GroupMemberState` as the numbers of src/lib.rt
+abbrev pub pending-state : ℕ
+pending-state = 0
+
+abbrev pub active-state : ℕ
+active-state = 1
+
+abbrev pub standby-state : ℕ
+standby-state = 2
+
+abbrev pub unstable-state : ℕ
+unstable-state = 3
+
+abbrev pub broken-state : ℕ
+broken-state = 4
+
+-- a member turns to a state
+abbrev pub turned : ℕ → Member → Member
+turned n =
+    on-membership
+    (λ x. record { id = x .id; weight = x .weight; state = n; admitted = x .admitted; reserved = x .reserved; collision = x .collision })
+
+abbrev pub with-reserved : ℕ → Membership → Membership
+with-reserved n x =
+    record { id = x .id; weight = x .weight; state = x .state; admitted = x .admitted; reserved = n; collision = x .collision }
+
+abbrev pub with-admitted : Membership → Membership
+with-admitted x =
+    record { id = x .id; weight = x .weight; state = x .state; admitted = 1; reserved = x .reserved; collision = x .collision }
+
+-- a member that answered from another receiving group: Broken, and the collision stays readable until its removal
+abbrev pub with-collision : ℕ → ℕ → Membership → Membership
+with-collision expected actual x =
+    record {
+      id = x .id;
+      weight = x .weight;
+      state = broken-state;
+      admitted = x .admitted;
+      reserved = x .reserved;
+      collision = record { expected = expected; actual = actual };
+    }

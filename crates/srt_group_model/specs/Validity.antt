@@ -1,0 +1,183 @@
+-- When a lent state is refused with 6, rule by rule: document 01, "the lent state breaks a rule". Each test is true of a state
+-- that breaks its rule; the last is "a field above its range" in a row of a lent table. Assumes nothing.
+use mathlib.Core.Bool.{Bool, true, false, not, _&&_, _||_}
+use mathlib.Core.List.{List, [], _∷_, _++_}
+use Prim.Native.Nat.{ℕ, zero, suc, _+_}
+use lib.Dec.{leb, ltb, eqb}
+use lib.ListN.{length}
+use Rattle.srt_protocol.specs.Handshake.{has-group-mask}
+use Rattle.srt_protocol.specs.Cells.{cell-size}
+use Rattle.srt_group_model.specs.Tools.{if_then_else_, any, such-that, each, total}
+use Rattle.srt_group_model.specs.State.{Member, State}
+use Rattle.srt_group_model.specs.Legs.{is-connected, has-sender, no-sequence, largest-sequence, largest-16, largest-32, largest-64}
+use Rattle.srt_group_model.specs.Members.{id-of, has-id}
+use Rattle.srt_group_model.specs.Removal.{is-owned}
+use Rattle.srt_group_model.specs.Backup.{max-history}
+use Rattle.srt_group_model.specs.Cells.{is-data, used-cells, is-among}
+use Rattle.srt_group_model.specs.declared.Data.{Data}
+use Rattle.srt_group_model.specs.declared.Event.{Event}
+use Rattle.srt_group_model.specs.declared.Packet.{Packet}
+use Rattle.srt_group_model.specs.declared.Leg.{Leg}
+use Rattle.srt_group_model.specs.declared.Entry.{Entry}
+
+abbrev pub above : ℕ → ℕ → Bool
+above limit n = ltb limit n
+
+-- ---- blank: not made by `new`, so without the mark of a group id
+
+unfoldable pub is-blank : State → Bool
+is-blank s = not (has-group-mask (s .identity .id))
+
+-- ---- a count above its limit
+
+abbrev pub max-members : ℕ
+max-members = 64
+
+abbrev pub max-events : ℕ
+max-events = 16
+
+abbrev pub max-pending : ℕ
+max-pending = 2048
+
+abbrev pub max-waiting : ℕ
+max-waiting = 64
+
+-- the round's place is that of a member; with no member it is 0
+unfoldable pub count-above-limit : State → Bool
+count-above-limit s =
+    above max-members (length (s .members))
+    || (any (λ m. above max-events (length (m .queue))) (s .members)
+    || (above max-pending (length (s .receive .pending))
+    || (above max-waiting (length (s .waiting))
+    || (above max-history (length (s .send .history))
+    || (ltb 0 (s .visit .round) && leb (length (s .members)) (s .visit .round))))))
+
+-- ---- a sequence of 2^31 or more
+
+abbrev pub is-too-large : ℕ → Bool
+is-too-large = above largest-sequence
+
+unfoldable pub leg-sequence-too-large : Leg → Bool
+leg-sequence-too-large l =
+    is-too-large (l .sender .next)
+    || (is-too-large (l .receiver .advanced) || (is-too-large (l .receiver .first) && not (eqb (l .receiver .first) no-sequence)))
+
+unfoldable pub sequence-too-large : State → Bool
+sequence-too-large s =
+    is-too-large (s .receive .numbers .base)
+    || (is-too-large (s .send .numbers .next)
+    || (any (λ p. is-too-large (p .content .sequence)) (s .receive .pending)
+    || (any (λ e. is-too-large (e .sequence)) (s .send .history)
+    || any
+    (λ m.
+    leg-sequence-too-large (m .leg) || any (λ e. is-data e && is-too-large (e .content .sequence)) (m .queue))
+    (s .members))))
+
+-- ---- one id twice; one held sequence twice, or held packets that do not ascend; a cell named twice
+
+unfoldable pub one-twice : List ℕ → Bool
+one-twice [] = false
+one-twice (n ∷ ns) = is-among n ns || one-twice ns
+
+unfoldable pub id-twice : State → Bool
+id-twice s = one-twice (each id-of (s .members))
+
+unfoldable pub ascends : List Packet → Bool
+ascends [] = true
+ascends (p ∷ []) = true
+ascends (p ∷ q ∷ qs) = ltb (p .content .sequence) (q .content .sequence) && ascends (q ∷ qs)
+
+unfoldable pub held-sequence-twice : State → Bool
+held-sequence-twice s = not (ascends (s .receive .pending))
+
+unfoldable pub cell-twice : State → Bool
+cell-twice s = one-twice (used-cells s)
+
+-- ---- a cell beyond the store, of so many cells
+
+unfoldable pub cell-beyond-store : ℕ → State → Bool
+cell-beyond-store cells s = any (leb cells) (used-cells s)
+
+-- ---- a reserved sum unequal to its packets' counts
+
+-- the counts of the packets held for a member: those that are not the group's own
+unfoldable pub held-count : ℕ → List Packet → ℕ
+held-count id ps = total (λ p. p .content .count) (such-that (λ p. eqb (p .member) id && not (is-owned p)) ps)
+
+unfoldable pub queued-count : List Event → ℕ
+queued-count q = total (λ e. e .content .count) (such-that is-data q)
+
+-- the member's sum is that of its held packets, its leg's reservation that of the held and the queued ones
+unfoldable pub member-sum-wrong : List Packet → Member → Bool
+member-sum-wrong ps m =
+    not (eqb (m .membership .reserved) (held-count (id-of m) ps))
+    || not (eqb (m .leg .receiver .reserved) (held-count (id-of m) ps + queued-count (m .queue)))
+
+-- a held packet is counted nowhere: not the group's own, and of no member
+unfoldable pub is-unreserved : List Member → Packet → Bool
+is-unreserved ms p = not (is-owned p) && not (any (has-id (p .member)) ms)
+
+unfoldable pub reserved-sum-wrong : State → Bool
+reserved-sum-wrong s =
+    any (member-sum-wrong (s .receive .pending)) (s .members)
+    || (any (is-unreserved (s .members)) (s .receive .pending)
+    || not (eqb (s .owned) (total (λ p. p .content .count) (such-that is-owned (s .receive .pending)))))
+
+-- ---- a field of a row above its range
+
+unfoldable pub data-out-of-range : Data → Bool
+data-out-of-range d =
+    eqb (d .count) 0
+    || (above largest-16 (d .count)
+    || (above largest-32 (d .message)
+    || (above largest-32 (d .timestamp) || (above largest-64 (d .source .0) || above cell-size (d .length)))))
+
+unfoldable pub event-out-of-range : Event → Bool
+event-out-of-range e =
+    above 3 (e .kind) || (above largest-32 (e .reason) || (is-data e && data-out-of-range (e .content)))
+
+-- a flight is 0 without a sender, and a connected leg has one
+unfoldable pub leg-out-of-range : Leg → Bool
+leg-out-of-range l =
+    above 2 (l .link .state)
+    || (above largest-32 (l .link .peer)
+    || (above largest-16 (l .link .limit)
+    || (above 1 (l .sender .started)
+    || (above (if has-sender l then largest-16 else 0) (l .sender .flight)
+    || (above largest-16 (l .sender .window)
+    || (above largest-64 (l .sender .oldest .0)
+    || (above largest-64 (l .sender .pace .0)
+    || (above largest-16 (l .receiver .window)
+    || (above largest-64 (l .receiver .latency)
+    || (above largest-32 (l .trip .srtt)
+    || (above largest-32 (l .trip .rttvar)
+    || (above largest-64 (l .trip .heard .0) || (is-connected l && not (has-sender l))))))))))))))
+
+unfoldable pub member-out-of-range : Member → Bool
+member-out-of-range m =
+    above largest-32 (id-of m)
+    || (above largest-16 (m .membership .weight)
+    || (above 4 (m .membership .state)
+    || (above 1 (m .membership .admitted)
+    || (above largest-32 (m .membership .collision .expected)
+    || (above largest-32 (m .membership .collision .actual)
+    || (leg-out-of-range (m .leg) || any event-out-of-range (m .queue)))))))
+
+unfoldable pub field-out-of-range : State → Bool
+field-out-of-range s =
+    any member-out-of-range (s .members)
+    || (any (λ p. above largest-32 (p .member) || (above 1 (p .owned) || data-out-of-range (p .content))) (s .receive .pending)
+    || (any (λ e. above cell-size (e .length) || above largest-64 (e .source .0)) (s .send .history)
+    || any
+    (λ w. above largest-32 (w .member) || (above 3 (w .kind) || (eqb (w .kind) 0 || above largest-32 (w .reason))))
+    (s .waiting)))
+
+-- ---- all of them, over a store of so many cells
+
+unfoldable pub broken-rules : ℕ → State → List Bool
+broken-rules cells s =
+    is-blank s ∷ count-above-limit s ∷ sequence-too-large s ∷ id-twice s ∷ held-sequence-twice s ∷ cell-twice s
+    ∷ cell-beyond-store cells s ∷ reserved-sum-wrong s ∷ field-out-of-range s ∷ []
+
+unfoldable pub is-invalid : ℕ → State → Bool
+is-invalid cells s = any (λ rule. rule) (broken-rules cells s)

@@ -1,0 +1,150 @@
+-- A schedule of consecutive runs, places along it, and the clerk. Document 01: a schedule's packet is sequence, count (at least 1,
+-- also where it is never collected) and payload, its place the counts before it added up; the clerk of a schedule starts at
+-- place 0 and is fed with the calls alone. A place is reached by the clerk's own step, so place and clerk share one function.
+-- Assumes nothing.
+use mathlib.Core.Path.{_≡_, refl, ap, _∙_, subst}
+use mathlib.Core.Bool.{Bool, true, false}
+use mathlib.Core.List.{List, [], _∷_}
+use mathlib.Core.Option.{Option, none, some}
+use Prim.Native.Nat.{ℕ, zero, suc, _+_, _-_, _≤_}
+use native.Mathlib.Omega.{arith}
+use lib.Dec.{leb, eqb}
+use Rattle.srt_protocol.specs.Sequence.{sequence-further}
+use Rattle.srt_group_model.specs.Tools.{if_then_else_, if-some_give_otherwise_}
+use Rattle.srt_group_model.specs.State.{State}
+use Rattle.srt_group_model.specs.Reason.{if-elim, by-test, not-both, none-some, some-inj}
+use Rattle.srt_history.specs.Cases.{if-true, if-false, le-of, eq-of, leb-yes, eqb-yes}
+use Rattle.srt_group_model.specs.Lent.{delivered-by}
+use Rattle.srt_history.specs.Calls.{Asked, do-call, skipped-in, Delivery}
+
+-- ---- a schedule
+
+-- Runs one after the other, the first of them at `place` from the sequence `first` on, each of at least one packet. The
+-- sequences wrap; the places do not.
+abbrev pub RunsFrom : (first place : ℕ) → List Delivery → Type 0
+RunsFrom first place [] = Unit {0}
+RunsFrom first place (x ∷ xs) = (x .sequence ≡ sequence-further first place) × (1 ≤ x .count) × RunsFrom first (place + x .count) xs
+
+-- a schedule that starts at a sequence
+abbrev pub Consecutive : ℕ → List Delivery → Type 0
+Consecutive first schedule = RunsFrom first 0 schedule
+
+-- The packets from the place n on: past those whose counts add up to n, if there are such.
+unfoldable pub pass-to : List Delivery → ℕ → Option (List Delivery)
+pass-to [] n = if eqb n 0 then some [] else none
+pass-to (x ∷ xs) n =
+    let later = pass-to xs (n - x .count) in
+    if eqb n 0 then some (x ∷ xs) else (if leb (x .count) n then later else none)
+
+-- ---- the clerk
+
+-- What he is told after a call: the skipped count, and whether a packet was delivered.
+pub record Told : Type 0 where
+  pub skipped : ℕ
+  pub delivered : Bool
+
+unfoldable pub told-by : List Asked → State → List Told
+told-by [] s = []
+told-by (call ∷ more) s =
+    record {
+      skipped = skipped-in (do-call call s .state);
+      delivered = if-some delivered-by (do-call call s .answer) give (λ p. true) otherwise false;
+    }
+    ∷ told-by more (do-call call s .state)
+
+-- He gives the next packet and goes past it. With none before him, or no packets whose counts add up to the rise, he has no answer.
+unfoldable pub give-next : Option (List Delivery) → (List Delivery → Option (List Delivery)) → Option (List Delivery)
+give-next none go-on = none
+give-next (some []) go-on = none
+give-next (some (x ∷ xs)) go-on = if-some go-on xs give (λ (ys : List Delivery). some (x ∷ ys)) otherwise none
+
+-- The packets before him, the skipped count that he knows, and what he is told, in order: what he gives. At a delivery he passes
+-- the packets whose counts add up to the count's rise, gives the next and goes past it. Other calls leave him there.
+unfoldable pub clerk : List Delivery → ℕ → List Told → Option (List Delivery)
+clerk ahead known [] = some []
+clerk ahead known (told ∷ more) =
+    if told .delivered
+    then give-next (pass-to ahead (told .skipped - known)) (λ xs. clerk xs (told .skipped) more)
+    else clerk ahead (told .skipped) more
+
+-- ---- laws of places
+
+not-zero : (n : ℕ) → 1 ≤ n → eqb n 0 ≡ false
+not-zero n h = by-test (eqb n 0) (λ e. absurd (omega (arith, eq-of n 0 e))) (λ e. e)
+
+above-zero : (n : ℕ) → eqb n 0 ≡ false → 1 ≤ n
+above-zero zero e = not-both (eqb-yes 0) e
+above-zero (suc n) e = omega arith
+
+pub pass-to-zero : (l : List Delivery) → pass-to l 0 ≡ some l
+unfolding pass-to
+pass-to-zero [] = if-true (eqb 0 0) _ _ refl
+pass-to-zero (x ∷ xs) = if-true (eqb 0 0) _ _ refl
+
+pass-to-past : (x : Delivery) (xs : List Delivery) (n : ℕ) → 1 ≤ n → x .count ≤ n → pass-to (x ∷ xs) n ≡ pass-to xs (n - x .count)
+unfolding pass-to
+pass-to-past x xs n h k = if-false (eqb n 0) _ _ (not-zero n h) ∙ if-true (leb (x .count) n) _ _ (leb-yes (x .count) n k)
+
+pub pass-to-next : (x : Delivery) (xs : List Delivery) → 1 ≤ x .count → pass-to (x ∷ xs) (x .count) ≡ some xs
+pass-to-next x xs h = pass-to-past x xs (x .count) h (omega arith) ∙ ap (pass-to xs) nothing-left ∙ pass-to-zero xs
+  where
+    nothing-left : x .count - x .count ≡ 0
+    nothing-left = omega arith
+
+-- from a place on, by n more
+pub pass-to-further : (l : List Delivery) (m n : ℕ) (rest : List Delivery) → pass-to l m ≡ some rest
+    → pass-to l (m + n) ≡ pass-to rest n
+unfolding pass-to
+pass-to-further [] m n rest =
+    if-elim (λ (o : Option (List Delivery)). o ≡ some rest → pass-to [] (m + n) ≡ pass-to rest n) (eqb m 0) _ _
+    (λ e f. ap (pass-to []) (none-more e) ∙ ap (λ (r : List Delivery). pass-to r n) (some-inj f)) (λ e f. none-some f)
+  where
+    none-more : eqb m 0 ≡ true → m + n ≡ n
+    none-more e = omega (arith, eq-of m 0 e)
+pass-to-further (x ∷ xs) m n rest =
+    if-elim (λ (o : Option (List Delivery)). o ≡ some rest → pass-to (x ∷ xs) (m + n) ≡ pass-to rest n) (eqb m 0) _ _
+    (λ e f. ap (pass-to (x ∷ xs)) (none-more e) ∙ ap (λ (r : List Delivery). pass-to r n) (some-inj f))
+    (λ e.
+    if-elim (λ (o : Option (List Delivery)). o ≡ some rest → pass-to (x ∷ xs) (m + n) ≡ pass-to rest n) (leb (x .count) m) _ _
+    (λ k f.
+    pass-to-past x xs (m + n) (omega (arith, above-zero m e)) (omega (arith, le-of (x .count) m k))
+    ∙ ap (pass-to xs) (left k) ∙ pass-to-further xs (m - x .count) n rest f)
+    (λ k f. none-some f))
+  where
+    none-more : eqb m 0 ≡ true → m + n ≡ n
+    none-more e = omega (arith, eq-of m 0 e)
+
+    left : leb (x .count) m ≡ true → m + n - x .count ≡ m - x .count + n
+    left k = omega (arith, le-of (x .count) m k)
+
+-- a packet's sequence is by its place
+pub sequence-at-place : (first place : ℕ) (l : List Delivery) (n : ℕ) (x : Delivery) (xs : List Delivery) → RunsFrom first place l
+    → pass-to l n ≡ some (x ∷ xs)
+    → (x .sequence ≡ sequence-further first (place + n)) × (1 ≤ x .count)
+unfolding pass-to
+sequence-at-place first place [] n x xs runs =
+    if-elim (λ (o : Option (List Delivery)). o ≡ some (x ∷ xs) → (x .sequence ≡ sequence-further first (place + n)) ×
+    (1 ≤ x .count)) (eqb n 0) _ _
+    (λ e f. let never : _≡_ {A = ℕ} 0 1 = cc in absurd (omega arith)) (λ e f. none-some f)
+sequence-at-place first place (y ∷ ys) n x xs runs =
+    if-elim (λ (o : Option (List Delivery)). o ≡ some (x ∷ xs) → (x .sequence ≡ sequence-further first (place + n)) ×
+    (1 ≤ x .count)) (eqb n 0) _ _
+    (λ e f.
+    let same : y ≡ x = cc in
+    subst (λ (v : Delivery). (v .sequence ≡ sequence-further first (place + n)) × (1 ≤ v .count)) same
+    (runs .0 ∙ ap (sequence-further first) (here e), runs .1))
+    (λ e.
+    if-elim (λ (o : Option (List Delivery)). o ≡ some (x ∷ xs) → (x .sequence ≡ sequence-further first (place + n)) ×
+    (1 ≤ x .count)) (leb (y .count) n) _ _
+    (λ k f.
+    let h : (x .sequence ≡ sequence-further first (place + y .count + (n - y .count))) × (1 ≤ x .count) =
+    sequence-at-place first (place + y .count) ys (n - y .count) x xs (runs .2) f
+    in
+    (h .0 ∙ ap (sequence-further first) (past k), h .1))
+    (λ k f. none-some f))
+  where
+    here : eqb n 0 ≡ true → place ≡ place + n
+    here e = omega (arith, eq-of n 0 e)
+
+    past : leb (y .count) n ≡ true → place + y .count + (n - y .count) ≡ place + n
+    past k = omega (arith, le-of (y .count) n k)

@@ -1,0 +1,458 @@
+-- The marks of one call. They are quiet (payloads put, the base set, packets collected); or the call gave a packet, and its mark
+-- stands over quiet ones; or it stands over a skip, which passed the give-up test for the packet nearest when it was tested,
+-- and whose call ends with empty leg queues. Assumes nothing.
+use mathlib.Core.Path.{_≡_, refl, sym, ap, _∙_, subst}
+use mathlib.Core.Bool.{Bool, true, false, not, _||_}
+use mathlib.Core.Logic.{_⊎_, inl, inr}
+use mathlib.Core.List.{List, [], _∷_}
+use mathlib.Core.Option.{Option, none, some}
+use Prim.Native.Nat.{ℕ, zero, suc, _+_, _-_, min}
+use native.Mathlib.Omega.{arith}
+use lib.Dec.{eqb}
+use lib.ListN.{length, drop}
+use Rattle.srt_protocol.specs.Sequence.{sequence-distance}
+use Rattle.srt_group_model.specs.Tools.{if-some_give_otherwise_, flagged, is-empty, place-of, at-place}
+use Rattle.srt_group_model.specs.State.{Member, State, Receive, next-receive-sequence, next-send-sequence, with-continuation}
+use Rattle.srt_group_model.specs.Legs.{no-sequence}
+use Rattle.srt_group_model.specs.Members.{find, base-after, align-member-sequence}
+use Rattle.srt_group_model.specs.Nearest.{sequence-of, held-at, is-held, nearest}
+use Rattle.srt_group_model.specs.Run.{Mark, put, base-set, collected, gap-skipped, delivered, Run, start, set-base, admit-connected-peer-groups, refresh-pending-states, refresh-states}
+use Rattle.srt_group_model.specs.Collecting.{in-turn, front, Visited, take-front, collect-one-event, collect-until-held, collect-until-empty}
+use Rattle.srt_group_model.specs.Delivery.{gap-given-up, Polled, nothing, event, packet, Poll, deliver, skip-to, give-waiting, skip-after, max-visits, skip-given-up-gap}
+use Rattle.srt_group_model.specs.Polls.{delivery-budget, deliver-next, poll-event, DataPoll, pass-events, poll-until-data, poll-data-bounded}
+use Rattle.srt_group_model.specs.Sending.{Flow}
+use Rattle.srt_group_model.specs.Refusals.{guard-passed}
+use Rattle.srt_group_model.specs.Guards.{no-answer, polled, membership, Step, refuse}
+use Rattle.srt_group_model.specs.Calls.{add-body, add-member, mark-member-broken, remove-body, remove-member-connection, member, refresh-member-states, disconnect, event-poll-body, poll-event-call, data-poll-body, poll-data-call, left-by-send, send-body, send, can-send-body, can-send-call, can-send-with-pacing-body, can-send-with-pacing-call, time-until-send, backup-stability-timeout-micros}
+use Rattle.srt_group_model.specs.Calls.{group-id, mode, peer-group-id, skipped-receive-packets, has-pending-data-call, has-receive-continuation, read-leg, queue-data-body, queue-data, queue-event}
+use Rattle.srt_group_model.specs.declared.Data.{Data}
+use Rattle.srt_group_model.specs.declared.Event.{Event}
+use Rattle.srt_group_model.specs.declared.Packet.{Packet}
+use Rattle.srt_group_model.specs.declared.Leg.{Leg}
+use Rattle.srt_group_model.specs.Reason.{if-elim, if-some-elim, All, not-both, or-left, or-right, none-some, some-inj}
+use Rattle.srt_history.specs.Cases.{Each, each-at}
+use Rattle.srt_history.specs.Sides.{Side, sides, deliver-packet-leaves-sides}
+use Rattle.srt_history.specs.Law.{EventOk, SideOk, CollectLaw}
+use Rattle.srt_history.specs.FreeCells.{AnyNumber}
+use Rattle.srt_history.specs.PollWalk.{collect-until-held-good, collect-until-empty-good}
+use Rattle.srt_history.specs.Held.{nearest-is-found}
+use Rattle.srt_group_model.specs.Lent.{Call, addition, broken-mark, removal, member-look, refreshing, disconnection, event-poll, data-poll, sending, readiness, paced-readiness, send-wait, stability, group-look, mode-look, peer-look, skipped-look, pending-look, continuation-look, reading, queued-data, queued-event}
+use Rattle.srt_group_model.specs.Lent.{delivered-by, step-of, with-bytes, perform}
+use Rattle.srt_history.specs.Calls.{Asked, do-call, time-of, step}
+
+-- ---- what the marks of a call can be
+
+abbrev pub QuietMark : Mark → Type 0
+QuietMark (put cell payload) = Unit {0}
+QuietMark (base-set base) = Unit {0}
+QuietMark (collected p) = Unit {0}
+QuietMark (gap-skipped tested time distance) = ⊥
+QuietMark (delivered p) = ⊥
+
+abbrev pub Quiet : List Mark → Type 0
+Quiet log = All QuietMark log
+
+-- every leg's queue is empty
+abbrev pub EmptyQueues : State → Type 0
+EmptyQueues s = All (λ (v : Side). v .queue ≡ []) (sides (s .members))
+
+-- The marks of a call at a time are a skip over quiet ones. `tested` is the state of which the give-up test was made, once,
+-- before collecting: its base was not held, no continuation was asked for, and the test was true for the packet nearest then.
+pub record Skip (time : ℕ) (s : State) (log : List Mark) : Type 0 where
+  pub tested : State
+  pub base : ℕ
+  pub distance : ℕ
+  pub before : List Mark
+  pub is : log ≡ gap-skipped tested time distance ∷ before
+  pub quiet : Quiet before
+  pub based : next-receive-sequence (tested .receive) ≡ some base
+  pub missing : is-held base (tested .receive .pending) ≡ false
+  pub complete : tested .visit .continuation ≡ false
+  pub given-up : gap-given-up time tested ≡ true
+  pub empty : EmptyQueues s
+
+-- the packet was delivered last of all
+pub record Given (time : ℕ) (p : Packet) (s : State) (log : List Mark) : Type 0 where
+  pub before : List Mark
+  pub is : log ≡ delivered p ∷ before
+  pub how : Quiet before ⊎ Skip time s before
+
+-- by the time of the call and the packet that it gave, if it gave one
+abbrev pub Shape : ℕ → Option Packet → State → List Mark → Type 0
+Shape time none s log = Quiet log
+Shape time (some p) s log = Given time p s log
+
+-- ---- collecting and the refresh are quiet
+
+any-queue : (q : List Event) → All (EventOk (λ (d : Data). Unit {0}) AnyNumber) q
+any-queue [] = tt
+any-queue (e ∷ q) = ((λ t. tt), any-queue q)
+
+any-option : (o : Option ℕ) → Each AnyNumber o
+any-option none = tt
+any-option (some n) = tt
+
+any-sides : (vs : List Side) → All (SideOk (λ (d : Data). Unit {0}) AnyNumber) vs
+any-sides [] = tt
+any-sides (v ∷ vs) = ((any-queue (v .queue), any-option (flagged (not (eqb (v .first) no-sequence)) (v .first))), any-sides vs)
+
+quiet-law : CollectLaw (λ (d : Data). Unit {0}) AnyNumber (λ (x : Receive) (log : List Mark). Quiet log)
+quiet-law = record { on-discarded = λ x log p ok e h. (tt, h); on-retained = λ x log p ok e h. (tt, h) }
+
+collect-until-held-quiet : (visits : ℕ) (r : Run) → Quiet (r .log) → Quiet (collect-until-held visits r .log)
+collect-until-held-quiet visits r h =
+    collect-until-held-good (λ (d : Data). Unit {0}) AnyNumber (λ (x : Receive) (log : List Mark). Quiet log) quiet-law visits r
+    record { sides-ok = any-sides (sides (r .state .members)); kept = h } .kept
+
+collect-until-empty-quiet : (visits sequence : ℕ) (r : Run) → Quiet (r .log)
+    → Quiet (collect-until-empty visits sequence r .run .log)
+collect-until-empty-quiet visits sequence r h =
+    collect-until-empty-good (λ (d : Data). Unit {0}) AnyNumber
+    (λ (x : Receive) (log : List Mark). Quiet log) quiet-law visits sequence r
+    record { sides-ok = any-sides (sides (r .state .members)); kept = h } .kept
+
+pub set-base-quiet : (base : Option ℕ) (r : Run) → Quiet (r .log) → Quiet (set-base base r .log)
+unfolding set-base
+set-base-quiet base r h =
+    if-some-elim (λ (q : Run). Quiet (q .log)) (next-receive-sequence (r .state .receive)) _ _
+    (λ b e. h) (λ e. if-some-elim (λ (q : Run). Quiet (q .log)) base _ _ (λ b e. (tt, h)) (λ e. h))
+
+refresh-pending-states-quiet : (r : Run) → Quiet (r .log) → Quiet (refresh-pending-states r .log)
+unfolding refresh-pending-states admit-connected-peer-groups
+refresh-pending-states-quiet r h = set-base-quiet (base-after none (r .state .members)) r h
+
+pub refresh-states-quiet : (r : Run) → Quiet (r .log) → Quiet (refresh-states r .log)
+unfolding refresh-states
+refresh-states-quiet r h = refresh-pending-states-quiet r h
+
+-- ---- where collecting found nothing and asks for no continuation, every queue is empty
+
+abbrev Empties : List Member → Type 0
+Empties ms = All (λ (v : Side). v .queue ≡ []) (sides ms)
+
+is-empty-nil : (q : List Event) → not (is-empty q) ≡ false → q ≡ []
+unfolding is-empty
+is-empty-nil [] e = refl
+is-empty-nil (x ∷ q) e = not-both {t = true} refl e
+
+no-place-empty : (ms : List Member) → place-of (λ m. not (is-empty (m .queue))) ms ≡ none → Empties ms
+unfolding place-of sides
+no-place-empty [] e = tt
+no-place-empty (m ∷ ms) e =
+    if-elim (λ (o : Option ℕ). o ≡ none → Empties (m ∷ ms)) (not (is-empty (m .queue))) _ _ (λ t f. none-some (sym f))
+    (λ t.
+    if-some-elim (λ (o : Option ℕ). o ≡ none → Empties (m ∷ ms)) (place-of (λ m. not (is-empty (m .queue))) ms) _ _
+    (λ i f g. none-some (sym g)) (λ f g. (is-empty-nil (m .queue) t, no-place-empty ms f)))
+    e
+
+in-turn-none-empty : (round : ℕ) (ms : List Member) → in-turn round ms ≡ none → Empties ms
+unfolding in-turn
+in-turn-none-empty round ms =
+    if-some-elim (λ (o : Option ℕ). o ≡ none → Empties ms) (place-of (λ m. not (is-empty (m .queue))) (drop round ms)) _ _
+    (λ i e f. none-some (sym f)) (λ e f. no-place-empty ms f)
+
+-- the place in turn is that of a member with a queue that is not empty
+abbrev HasFront : List Member → ℕ → Type 0
+HasFront ms i = (m : Member) × (at-place i ms ≡ some m) × (not (is-empty (m .queue)) ≡ true)
+
+place-has-front : (ms : List Member) → Each (HasFront ms) (place-of (λ m. not (is-empty (m .queue))) ms)
+unfolding place-of at-place
+place-has-front [] = tt
+place-has-front (m ∷ ms) =
+    if-elim (Each (HasFront (m ∷ ms))) (not (is-empty (m .queue))) _ _ (λ t. (m, refl, t))
+    (λ t.
+    if-some-elim (Each (HasFront (m ∷ ms))) (place-of (λ m. not (is-empty (m .queue))) ms) _ _
+    (λ i e. each-at (HasFront ms) (place-of (λ m. not (is-empty (m .queue))) ms) i e (place-has-front ms))
+    (λ e. tt))
+
+at-place-drop : (n i : ℕ) (ms : List Member) (m : Member) → at-place i (drop n ms) ≡ some m → at-place (n + i) ms ≡ some m
+unfolding at-place
+at-place-drop zero i ms m e = let same : 0 + i ≡ i = omega arith in rw same e
+at-place-drop (suc n) i [] m e = e
+at-place-drop (suc n) i (x ∷ ms) m e =
+    let onward : suc n + i ≡ suc (n + i) = omega arith in
+    ap (λ (j : ℕ). at-place j (x ∷ ms)) onward ∙ at-place-drop n i ms m e
+
+in-turn-has-front : (round : ℕ) (ms : List Member) → Each (HasFront ms) (in-turn round ms)
+unfolding in-turn
+in-turn-has-front round ms =
+    if-some-elim (Each (HasFront ms)) (place-of (λ m. not (is-empty (m .queue))) (drop round ms)) _ _ (λ i e.
+    let h : HasFront (drop round ms) i =
+    each-at (HasFront (drop round ms)) (place-of (λ m. not (is-empty (m .queue))) (drop round ms)) i e
+    (place-has-front (drop round ms))
+    in
+    (h .0, at-place-drop round i ms (h .0) (h .1), h .2))
+    (λ e. place-has-front ms)
+
+-- of a visit that collected nothing and asks for no continuation
+abbrev Finds : Visited → Type 0
+Finds v = v .went ≡ false → not (v .run .state .visit .continuation) ≡ true → EmptyQueues (v .run .state)
+
+front-of-nonempty : (q : List Event) → not (is-empty q) ≡ true → front q ≡ none → ⊥
+unfolding is-empty at-place
+front-of-nonempty [] e f = not-both {t = true} refl (sym e)
+front-of-nonempty (x ∷ q) e f = none-some (sym f)
+
+take-front-finds : (i : ℕ) (m : Member) (r : Run) → not (is-empty (m .queue)) ≡ true → Finds (take-front i m r)
+unfolding take-front
+take-front-finds i m r t =
+    if-some-elim Finds (front (m .queue)) _ _
+    (λ e there. if-elim Finds _ _ _ (λ e f g. not-both {t = true} refl (sym g)) (λ e f g. not-both {t = true} refl f))
+    (λ e. absurd (front-of-nonempty (m .queue) t e))
+
+collect-one-event-finds : (r : Run) → Finds (collect-one-event r)
+unfolding collect-one-event
+collect-one-event-finds r =
+    if-some-elim Finds (in-turn (r .state .visit .round) (r .state .members)) _ _
+    (λ i e.
+    let h : HasFront (r .state .members) i =
+    each-at (HasFront (r .state .members)) (in-turn (r .state .visit .round) (r .state .members)) i e
+    (in-turn-has-front (r .state .visit .round) (r .state .members))
+    in
+    if-some-elim Finds (at-place i (r .state .members)) _ _
+    (λ m there. take-front-finds i m r
+    (subst (λ (m : Member). not (is-empty (m .queue)) ≡ true) (some-inj (sym (h .1) ∙ there)) (h .2)))
+    (λ e. none-some (sym e ∙ h .1)))
+    (λ e f g. in-turn-none-empty (r .state .visit .round) (r .state .members) e)
+
+pub collect-until-empty-empties : (visits sequence : ℕ) (r : Run) → collect-until-empty visits sequence r .went ≡ true
+    → EmptyQueues (collect-until-empty visits sequence r .run .state)
+unfolding collect-until-empty
+collect-until-empty-empties zero sequence r = λ e. not-both {t = true} refl (sym e)
+collect-until-empty-empties (suc visits) sequence r =
+    if-elim (λ (v : Visited). v .went ≡ true → EmptyQueues (v .run .state)) _ _ _ (λ e f. not-both {t = true} refl (sym f))
+    (λ e.
+    if-elim (λ (v : Visited). v .went ≡ true → EmptyQueues (v .run .state)) (collect-one-event r .went) _ _
+    (λ e. collect-until-empty-empties visits sequence (collect-one-event r .run)) (λ e f. collect-one-event-finds r e f))
+
+-- ---- a poll
+
+abbrev pub packet-of : Polled → Option Packet
+packet-of nothing = none
+packet-of (event w) = none
+packet-of (packet p) = some p
+
+abbrev PollShape : ℕ → Poll → Type 0
+PollShape time q = Shape time (packet-of (q .gave)) (q .run .state) (q .run .log)
+
+deliver-shape : (time base : ℕ) (r : Run) → Quiet (r .log) → PollShape time (deliver base r)
+unfolding deliver
+deliver-shape time base r h =
+    if-some-elim (PollShape time) (held-at base (r .state .receive .pending)) _ _
+    (λ p e. record { before = r .log; is = refl; how = inl h }) (λ e. h)
+
+-- delivery moves no queue
+deliver-after-skip : (time base : ℕ) (r : Run) → ((p : Packet) × (held-at base (r .state .receive .pending) ≡ some p))
+    → Skip time (r .state) (r .log) → PollShape time (deliver base r)
+unfolding deliver
+deliver-after-skip time base r found h =
+    if-some-elim (PollShape time) (held-at base (r .state .receive .pending)) _ _ (λ p e.
+    record {
+      before = r .log;
+      is = refl;
+      how =
+          inr
+          record {
+            tested = h .tested;
+            base = h .base;
+            distance = h .distance;
+            before = h .before;
+            is = h .is;
+            quiet = h .quiet;
+            based = h .based;
+            missing = h .missing;
+            complete = h .complete;
+            given-up = h .given-up;
+            empty =
+                subst (All (λ (v : Side). v .queue ≡ [])) (sym (deliver-packet-leaves-sides base p (r .state)))
+                (h .empty);
+          };
+    })
+    (λ e. none-some (sym e ∙ found .1))
+
+give-waiting-shape : (time : ℕ) (r : Run) → Quiet (r .log) → PollShape time (give-waiting r)
+unfolding give-waiting
+give-waiting-shape time r h = if-some-elim (PollShape time) (at-place 0 (r .state .waiting)) _ _ (λ w e. h) (λ e. h)
+
+skip-after-shape : (time : ℕ) (tested : State) (base : ℕ) (c : Visited) → next-receive-sequence (tested .receive) ≡ some base
+    → is-held base (tested .receive .pending) ≡ false → tested .visit .continuation ≡ false → gap-given-up time tested ≡ true
+    → (c .went ≡ true → EmptyQueues (c .run .state)) → Quiet (c .run .log) → PollShape time (skip-after time tested base c)
+unfolding skip-after skip-to
+skip-after-shape time tested base c based missing complete given-up empty h =
+    if-elim (PollShape time) _ _ _ (λ e. give-waiting-shape time (c .run) h)
+    (λ e.
+    if-elim (PollShape time) (c .went) _ _
+    (λ e.
+    if-some-elim (PollShape time) (nearest (c .run .state .receive .pending)) _ _ (λ p near.
+    deliver-after-skip time (sequence-of p) _ (nearest-is-found (c .run .state .receive .pending) p near)
+    record {
+      tested = tested;
+      base = base;
+      distance = sequence-distance base (sequence-of p);
+      before = c .run .log;
+      is = refl;
+      quiet = h;
+      based = based;
+      missing = missing;
+      complete = complete;
+      given-up = given-up;
+      empty = empty e;
+    })
+    (λ e. h))
+    (λ e. deliver-shape time base (c .run) h))
+
+-- the skip is tried only where the test was true
+test-was-true : (held continued given-up : Bool) → (held || (continued || not given-up)) ≡ false → given-up ≡ true
+test-was-true true b c e = not-both {t = true} refl e
+test-was-true false true c e = not-both {t = true} refl e
+test-was-true false false true e = refl
+test-was-true false false false e = not-both {t = true} refl e
+
+skip-given-up-gap-shape : (time base : ℕ) (r : Run) → next-receive-sequence (r .state .receive) ≡ some base → Quiet (r .log)
+    → PollShape time (skip-given-up-gap time base r)
+unfolding skip-given-up-gap
+skip-given-up-gap-shape time base r based h =
+    if-elim (PollShape time) _ _ _ (λ e. deliver-shape time base r h)
+    (λ e.
+    skip-after-shape time (r .state) base (collect-until-empty max-visits base r)
+    based
+    (or-left (is-held base (r .state .receive .pending)) _ e)
+    (or-left (r .state .visit .continuation) _ (or-right (is-held base (r .state .receive .pending)) _ e))
+    (test-was-true (is-held base (r .state .receive .pending)) (r .state .visit .continuation) (gap-given-up time (r .state)) e)
+    (collect-until-empty-empties max-visits base r) (collect-until-empty-quiet max-visits base r h))
+
+deliver-next-shape : (time : ℕ) (r : Run) → Quiet (r .log) → PollShape time (deliver-next time r)
+unfolding deliver-next
+deliver-next-shape time r h =
+    if-some-elim (PollShape time) (next-receive-sequence (r .state .receive)) _ _
+    (λ base e. skip-given-up-gap-shape time base r e h)
+    (λ e.
+    if-some-elim (PollShape time) (nearest (r .state .receive .pending)) _ _
+    (λ p e. deliver-shape time (sequence-of p) (set-base (some (sequence-of p)) r) (set-base-quiet (some (sequence-of p)) r h))
+    (λ e. h))
+
+pub poll-event-shape : (time : ℕ) (r : Run) → Quiet (r .log) → PollShape time (poll-event time r)
+unfolding poll-event
+poll-event-shape time r h =
+    if-elim (PollShape time) _ _ _ (λ e. give-waiting-shape time _ gathered)
+    (λ e. deliver-next-shape time _ (refresh-states-quiet _ gathered))
+  where
+    gathered : Quiet (collect-until-held max-visits (refresh-pending-states record { state = with-continuation false (r .state); log = r .log; budget = delivery-budget }) .log)
+    gathered = collect-until-held-quiet max-visits _ (refresh-pending-states-quiet _ h)
+
+abbrev DataShape : ℕ → DataPoll → Type 0
+DataShape time q = Shape time (q .gave) (q .run .state) (q .run .log)
+
+poll-until-data-shape : (time visits : ℕ) (r : Run) → Quiet (r .log) → DataShape time (poll-until-data time visits r)
+unfolding poll-until-data pass-events
+poll-until-data-shape time zero r h = h
+poll-until-data-shape time (suc visits) r h =
+    go (poll-event time r .gave) refl (poll-event-shape time r h)
+    (λ q. poll-until-data-shape time visits (poll-event time r .run) q)
+  where
+    go : (gave : Polled) → poll-event time r .gave ≡ gave → PollShape time (poll-event time r)
+        → (Quiet (poll-event time r .run .log) → DataShape time (poll-until-data time visits (poll-event time r .run)))
+        → DataShape time (pass-events gave (poll-event time r .run) (poll-until-data time visits (poll-event time r .run)))
+    go nothing e x y =
+        subst (λ (a : Polled). Shape time (packet-of a) (poll-event time r .run .state) (poll-event time r .run .log)) e x
+    go (event w) e x y =
+        y (subst (λ (a : Polled). Shape time (packet-of a) (poll-event time r .run .state) (poll-event time r .run .log)) e x)
+    go (packet p) e x y =
+        subst (λ (a : Polled). Shape time (packet-of a) (poll-event time r .run .state) (poll-event time r .run .log)) e x
+
+pub poll-data-bounded-shape : (time max-events : ℕ) (r : Run) → Quiet (r .log)
+    → DataShape time (poll-data-bounded time max-events r)
+unfolding poll-data-bounded
+poll-data-bounded-shape time max-events r h =
+    if-elim (DataShape time) _ _ _ (λ e. h) (λ e. poll-until-data-shape time (min max-events max-visits) r h)
+
+-- ---- a call
+
+abbrev pub StepShape : ℕ → Step → Type 0
+StepShape time step = Shape time (delivered-by (step .answer)) (step .state) (step .log)
+
+refusal-shape : (time : ℕ) (s : State) (code : ℕ) → StepShape time (refuse code s)
+unfolding delivered-by
+refusal-shape time s code = tt
+
+pub polled-shape : (time : ℕ) (gave : Polled) (s : State) (log : List Mark) → Shape time (packet-of gave) s log
+    → Shape time (delivered-by (polled gave)) s log
+unfolding delivered-by
+polled-shape time nothing s log h = h
+polled-shape time (event w) s log h = h
+polled-shape time (packet p) s log h = h
+
+add-body-shape : (time id weight : ℕ) (leg : Leg) (s : State) → StepShape time (add-body id weight leg s)
+unfolding add-body delivered-by
+add-body-shape time id weight leg s =
+    if-elim (StepShape time) _ _ _
+    (λ e.
+    if-some-elim (StepShape time) (align-member-sequence (next-send-sequence (s .send)) (length (s .members)) _) _ _
+    (λ ms e. set-base-quiet _ (start s) tt) (λ e. set-base-quiet _ (start s) tt))
+    (λ e. set-base-quiet _ (start s) tt)
+
+remove-body-shape : (time id : ℕ) (s : State) → StepShape time (remove-body id s)
+unfolding remove-body delivered-by
+remove-body-shape time id s =
+    if-some-elim (StepShape time) (find id (s .members)) _ _
+    (λ i e. if-some-elim (StepShape time) (at-place i (s .members)) _ _ (λ m e. tt) (λ e. tt))
+    (λ e. tt)
+
+left-by-send-shape : (time cell : ℕ) (payload : List ℕ) (r : Run) (flow : Flow) → Quiet (r .log)
+    → StepShape time (left-by-send cell payload r flow)
+unfolding left-by-send delivered-by
+left-by-send-shape time cell payload r flow h =
+    if-elim (StepShape time) _ _ _ (λ e. if-elim Quiet _ _ _ (λ e. (tt, h)) (λ e. h)) (λ e. h)
+
+-- a look at a member gives no packet
+membership-shape : (time : ℕ) (o : Option Member) (s : State)
+    → Shape time (delivered-by (if-some o give (λ m. membership (m .membership)) otherwise no-answer)) s []
+unfolding delivered-by if-some_give_otherwise_
+membership-shape time none s = tt
+membership-shape time (some m) s = tt
+
+-- every call, lent a store, an output and a list of these lengths
+pub step-of-shape : (store output list : ℕ) (call : Call) (s : State) → StepShape (time-of call) (step-of store output list call s)
+unfolding step-of time-of delivered-by add-member mark-member-broken remove-member-connection member refresh-member-states disconnect event-poll-body poll-event-call data-poll-body poll-data-call send send-body can-send-body can-send-call can-send-with-pacing-body can-send-with-pacing-call time-until-send backup-stability-timeout-micros group-id mode peer-group-id skipped-receive-packets has-pending-data-call has-receive-continuation read-leg queue-data-body queue-data queue-event
+step-of-shape store output list (addition id weight leg queue) s =
+    guard-passed (StepShape 0) _ s _ (refusal-shape 0 s) (λ c. add-body-shape 0 id weight leg s)
+step-of-shape store output list (broken-mark id) s = guard-passed (StepShape 0) _ s _ (refusal-shape 0 s) (λ c. tt)
+step-of-shape store output list (removal id) s = guard-passed (StepShape 0) _ s _ (refusal-shape 0 s) (λ c. remove-body-shape 0 id s)
+step-of-shape store output list (member-look id) s =
+    guard-passed (StepShape 0) _ s _ (refusal-shape 0 s) (λ c. membership-shape 0 _ s)
+step-of-shape store output list refreshing s =
+    guard-passed (StepShape 0) _ s _ (refusal-shape 0 s) (λ c. refresh-states-quiet (start s) tt)
+step-of-shape store output list (disconnection time) s = guard-passed (StepShape 0) _ s _ (refusal-shape 0 s) (λ c. tt)
+step-of-shape store output list (event-poll time) s =
+    guard-passed (StepShape time) _ s _ (refusal-shape time s)
+    (λ c. polled-shape time (poll-event time (start s) .gave) _ _ (poll-event-shape time (start s) tt))
+step-of-shape store output list (data-poll time max-events) s =
+    guard-passed (StepShape time) _ s _ (refusal-shape time s) (λ c. poll-data-bounded-shape time max-events (start s) tt)
+step-of-shape store output list (sending time payload) s =
+    guard-passed (StepShape 0) _ s _ (refusal-shape 0 s)
+    (λ c. left-by-send-shape 0 _ payload (refresh-states (start s)) _ (refresh-states-quiet (start s) tt))
+step-of-shape store output list readiness s =
+    guard-passed (StepShape 0) _ s _ (refusal-shape 0 s)
+    (λ c. if-elim (StepShape 0) _ _ _ (λ e. refresh-states-quiet (start s) tt) (λ e. refresh-states-quiet (start s) tt))
+step-of-shape store output list (paced-readiness time) s =
+    guard-passed (StepShape 0) _ s _ (refusal-shape 0 s)
+    (λ c. if-elim (StepShape 0) _ _ _ (λ e. refresh-states-quiet (start s) tt) (λ e. refresh-states-quiet (start s) tt))
+step-of-shape store output list (send-wait time) s = guard-passed (StepShape 0) _ s _ (refusal-shape 0 s) (λ c. tt)
+step-of-shape store output list (stability id) s = guard-passed (StepShape 0) _ s _ (refusal-shape 0 s) (λ c. tt)
+step-of-shape store output list group-look s = guard-passed (StepShape 0) _ s _ (refusal-shape 0 s) (λ c. tt)
+step-of-shape store output list mode-look s = guard-passed (StepShape 0) _ s _ (refusal-shape 0 s) (λ c. tt)
+step-of-shape store output list peer-look s = guard-passed (StepShape 0) _ s _ (refusal-shape 0 s) (λ c. tt)
+step-of-shape store output list skipped-look s = guard-passed (StepShape 0) _ s _ (refusal-shape 0 s) (λ c. tt)
+step-of-shape store output list pending-look s = guard-passed (StepShape 0) _ s _ (refusal-shape 0 s) (λ c. tt)
+step-of-shape store output list continuation-look s = guard-passed (StepShape 0) _ s _ (refusal-shape 0 s) (λ c. tt)
+step-of-shape store output list (reading id field n) s = guard-passed (StepShape 0) _ s _ (refusal-shape 0 s) (λ c. tt)
+step-of-shape store output list (queued-data id content payload) s =
+    guard-passed (StepShape 0) _ s _ (refusal-shape 0 s) (λ c. (tt, tt))
+step-of-shape store output list (queued-event id kind reason) s = guard-passed (StepShape 0) _ s _ (refusal-shape 0 s) (λ c. tt)
+
+-- as it is asked for
+pub call-shape : (call : Asked) (s : State)
+    → Shape (time-of (call .call)) (delivered-by (do-call call s .answer)) (do-call call s .state) (do-call call s .log)
+unfolding do-call perform with-bytes
+call-shape call s =
+    step-of-shape (length (call .lent .store)) (length (call .lent .output)) (length (call .lent .list)) (call .call) s

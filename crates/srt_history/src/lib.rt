@@ -1,0 +1,1 @@
+// The history theorem stands in specs/: no code.

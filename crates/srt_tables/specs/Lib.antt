@@ -1,0 +1,4 @@
+pub mod Ring
+pub mod Packets
+pub mod PacketLaws
+pub mod Waitings

@@ -1,0 +1,78 @@
+// What the Backup carrier sent and its peer has not acknowledged: a ring of entries, oldest first.
+ghost use mathlib.Core.Path.{_≡_};
+ghost use mathlib.Core.List.{[]};
+ghost use Prim.Native.Nat.{_<_};
+ghost use Rattle.srt_group_model.specs.Backup.{drop-before};
+ghost use Rattle.srt_tables.specs.Ring.{entry-at, entries-of, InRing, Shows, with-newest};
+use srt_group_model::Entry;
+use srt_protocol::srt_packet::sequence_less_than;
+use srt_protocol::time::Timestamp;
+
+pub struct History {
+    pub entries: [Entry; 512],
+    pub start: usize,
+    pub length: usize,
+}
+
+impl History {
+    // The most entries that are kept: half of the stand-in's output queue.
+    pub const MAX_HISTORY: usize = 512;
+
+    pub fn new() -> Self
+        ensures { λ r. ⌜ Shows r [] ⌝ }
+    {
+        let blank = Entry {
+            sequence: 0,
+            cell: 0,
+            length: 0,
+            source: Timestamp(0),
+        };
+        Self {
+            entries: [blank; 512],
+            start: 0,
+            length: 0,
+        }
+    }
+
+    // The entry so many places after the oldest.
+    pub fn entry(self, index: usize) -> Entry
+        requires { ⌜ InRing self ⌝ }
+        requires { ⌜ index < self .length ⌝ }
+        ensures { λ r. ⌜ r ≡ entry-at self index ⌝ }
+    {
+        let at = (self.start + index) % 512;
+        self.entries[at]
+    }
+
+    // An entry behind the newest. A full history loses its oldest entry.
+    pub fn push_back(mut self, entry: Entry) -> Self
+        requires { ⌜ InRing self ⌝ }
+        ensures { λ r. ⌜ Shows r (with-newest entry (entries-of self)) ⌝ }
+    {
+        let at = (self.start + self.length) % 512;
+        self.entries[at] = entry;
+        if self.length < Self::MAX_HISTORY {
+            self.length += 1;
+            return self;
+        }
+        self.start = (self.start + 1) % 512;
+        self
+    }
+
+    // Without the entries at the front that are before `oldest`.
+    pub fn drop_before(mut self, oldest: u32) -> Self
+        requires { ⌜ InRing self ⌝ }
+        ensures { λ r. ⌜ Shows r (drop-before oldest (entries-of self)) ⌝ }
+    {
+        while 0 < self.length {
+            let at = self.start;
+            let front = self.entries[at];
+            if !sequence_less_than(front.sequence, oldest) {
+                return self;
+            }
+            self.start = (at + 1) % 512;
+            self.length -= 1;
+        }
+        self
+    }
+}
