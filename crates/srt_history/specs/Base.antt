@@ -71,10 +71,6 @@ stands-moved (some first) base place b n c e is h = (
   ap {B = Option ℕ} some (is ∙ ap (λ (x : ℕ). sequence-further x n) (some-inj (sym e ∙ h .1)) ∙ further-twice first place n),
 )
 
-pub stands-fits : (first base : Option ℕ) (place b : ℕ) → base ≡ some b → Stands first base place → Fits b
-stands-fits none base place b e h = none-some (sym (h .0) ∙ e)
-stands-fits (some first) base place b e h = subst Fits (some-inj (sym (h .1) ∙ e)) (further-fits first place)
-
 -- ---- the invariant
 
 abbrev pub SequenceFits : Data → Type 0

@@ -33,11 +33,11 @@ use Rattle.srt_group_model.specs.declared.Event.{Event}
 use Rattle.srt_group_model.specs.declared.Packet.{Packet}
 use Rattle.srt_group_model.specs.declared.Leg.{Leg}
 use Rattle.srt_group_model.specs.Reason.{if-elim, if-some-elim, by-test, All, not-both, or-right, and-left, and-right}
-use Rattle.srt_history.specs.Cases.{Each, each-at, ge-of, and-true-left, eqb-yes, eq-of}
+use Rattle.srt_history.specs.Cases.{each-at, ge-of, and-true-left, eqb-yes, eq-of}
 use Rattle.srt_history.specs.Marks.{last-put, last-put-elsewhere, last-put-there}
 use Rattle.srt_history.specs.Sides.{Side, sides, Leaves}
 use Rattle.srt_history.specs.Law.{OfContent, ElsewhereThan, EventOk, SideOk, CallLaw}
-use Rattle.srt_history.specs.FreeCells.{AnyNumber, Unused, taken-cell-unused, taken-cell-within}
+use Rattle.srt_history.specs.FreeCells.{AnyNumber, any-number, Unused, taken-cell-unused, taken-cell-within}
 use Rattle.srt_history.specs.PollWalk.{Good, refresh-states-good, poll-event-good, poll-data-bounded-good}
 use Rattle.srt_history.specs.CallWalk.{change-member-sides, change-member-receive, enqueue-ok, Kept, refresh-states-mode, send-flow-leaves, add-kept, mark-member-broken-kept, remove-kept, look-kept, refresh-kept, disconnect-kept, can-send-kept, can-send-with-pacing-kept, read-leg-kept, queue-event-kept}
 use Rattle.srt_history.specs.Held.{insert-all, held-at-all, not-covered-all}
@@ -133,10 +133,6 @@ abbrev pub SamePayload : List Mark → List Mark → Data → Type 0
 SamePayload before after d = last-put after (d .cell) ≡ last-put before (d .cell)
 
 -- what holds of every packet holds of what is alive
-any-option : (o : Option ℕ) → Each AnyNumber o
-any-option none = tt
-any-option (some n) = tt
-
 module _ (P : Data → Type 0) (every : (d : Data) → P d) where
   events-all : (q : List Event) → All (EventOk P AnyNumber) q
   events-all [] = tt
@@ -144,7 +140,7 @@ module _ (P : Data → Type 0) (every : (d : Data) → P d) where
 
   sides-all : (vs : List Side) → All (SideOk P AnyNumber) vs
   sides-all [] = tt
-  sides-all (v ∷ vs) = ((events-all (v .queue), any-option (flagged (not (eqb (v .first) no-sequence)) (v .first))), sides-all vs)
+  sides-all (v ∷ vs) = ((events-all (v .queue), any-number (flagged (not (eqb (v .first) no-sequence)) (v .first))), sides-all vs)
 
   held-all : (ps : List Packet) → All (OfContent P) ps
   held-all [] = tt

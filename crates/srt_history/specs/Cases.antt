@@ -5,7 +5,7 @@ use mathlib.Core.Bool.{Bool, true, false, not, _&&_, _||_}
 use mathlib.Core.List.{List, [], _∷_}
 use mathlib.Core.Option.{Option, none, some}
 use Prim.Native.Nat.{ℕ, zero, suc, _≤_, _<_}
-use lib.Dec.{T, leb, ltb, eqb, leb→le, nleb→lt, nltb→le, ltb→lt, eqb→eq, eqb-refl, le→leb, lt→ltb}
+use lib.Dec.{T, leb, ltb, eqb, leb→le, nleb→lt, nltb→le, eqb→eq, eqb-refl, le→leb}
 use lib.ListN.{drop}
 use Rattle.srt_group_model.specs.Reason.{if-elim, not-both, All}
 use Rattle.srt_group_model.specs.Tools.{if_then_else_, or-else, such-that, first-such, at-place, change, without-place, each}
@@ -47,9 +47,6 @@ le-of m n e = leb→le m n (subst T (sym e) tt)
 pub gt-of : (m n : ℕ) → leb m n ≡ false → n < m
 gt-of m n e = nleb→lt m n (subst (λ (t : Bool). T (not t)) (sym e) tt)
 
-pub lt-of : (m n : ℕ) → ltb m n ≡ true → m < n
-lt-of m n e = ltb→lt m n (subst T (sym e) tt)
-
 pub ge-of : (m n : ℕ) → ltb m n ≡ false → n ≤ m
 ge-of m n e = nltb→le m n (subst (λ (t : Bool). T (not t)) (sym e) tt)
 
@@ -63,18 +60,11 @@ true-of false h = absurd h
 pub leb-yes : (m n : ℕ) → m ≤ n → leb m n ≡ true
 leb-yes m n h = true-of (leb m n) (le→leb m n h)
 
-pub ltb-yes : (m n : ℕ) → m < n → ltb m n ≡ true
-ltb-yes m n h = true-of (ltb m n) (lt→ltb m n h)
-
 pub eqb-yes : (n : ℕ) → eqb n n ≡ true
 eqb-yes n = true-of (eqb n n) (eqb-refl n)
 
 pub not-eq-of : (m n : ℕ) → eqb m n ≡ false → m ≡ n → ⊥
 not-eq-of m n e f = not-both (eqb-yes n) (subst (λ (x : ℕ). eqb x n ≡ false) f e)
-
-pub not-true : (t : Bool) → not t ≡ false → t ≡ true
-not-true true e = refl
-not-true false e = not-both {t = true} refl e
 
 pub not-false : (t : Bool) → not t ≡ true → t ≡ false
 not-false true e = not-both {t = true} refl (sym e)

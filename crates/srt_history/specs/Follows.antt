@@ -11,6 +11,7 @@ use Rattle.srt_protocol.specs.Circle.{distance-places, before-places, distance-
 use Rattle.srt_protocol.specs.Sequence.{half, sequence-distance, sequence-before, sequence-further}
 use Rattle.srt_group_model.specs.Tools.{if-some_give_otherwise_, flagged, or-else}
 use Rattle.srt_group_model.specs.State.{State, Receive, next-receive-sequence, with-pending}
+use Rattle.srt_group_model.specs.NearestLaw.{nearest-least-far}
 use Rattle.srt_group_model.specs.Nearest.{sequence-of, held-at, insert, nearest, not-covered}
 use Rattle.srt_group_model.specs.Run.{Mark, put, base-set, collected, gap-skipped, delivered}
 use Rattle.srt_group_model.specs.Collecting.{is-late, is-discarded}
@@ -24,7 +25,7 @@ use Rattle.srt_history.specs.Marks.{first-base, total-skipped, total-del
 use Rattle.srt_history.specs.Sides.{sides}
 use Rattle.srt_history.specs.Law.{OfContent, ElsewhereThan, PutLaw}
 use Rattle.srt_history.specs.CallWalk.{Fits, Holds, call-holds, calls-hold}
-use Rattle.srt_history.specs.Held.{insert-all, nearest-all, held-at-all, held-at-sequence, not-covered-all, not-covered-beyond, nearest-is-least}
+use Rattle.srt_history.specs.Held.{insert-all, nearest-all, held-at-all, held-at-sequence, not-covered-all, not-covered-beyond}
 use Rattle.srt_history.specs.Base.{half-above-zero, further-fits, Stands, SequenceFits, Sums, sums-law}
 use Rattle.srt_history.specs.Schedule.{Consecutive, pass-to, pass-to-zero, pass-to-next, pass-to-further, sequence-at-place}
 use Rattle.srt_history.specs.Calls.{Asked, do-call, Making, made, state-after, log-after, Delivery}
@@ -189,9 +190,7 @@ module _ (schedule : List Delivery) where
               (all-both (AheadNow log)
               (λ (p : Packet). sequence-distance base (sequence-of n) ≤ sequence-distance base (sequence-of p)) (x .pending)
               (k .held)
-              (each-at (λ (n : Packet). All
-              (λ (p : Packet). sequence-distance base (sequence-of n) ≤ sequence-distance base (sequence-of p)) (x .pending))
-              (nearest (x .pending)) n near least));
+              least);
           here = (an .at .scheduled ∷ an .at .rest, ap (pass-to schedule) there ∙ an .at .here);
           at-places = k .at-places;
         }
@@ -205,22 +204,22 @@ module _ (schedule : List Delivery) where
         fits : Fits base
         fits = subst Fits (sym stands) (further-fits first (place-after log))
 
-        least : Each (λ (n : Packet). All (λ (p : Packet). sequence-distance base (sequence-of n) ≤ sequence-distance base (sequence-of p)) (x .pending)) (nearest (x .pending))
+        least : All (λ (p : Packet). sequence-distance base (sequence-of n) ≤ sequence-distance base (sequence-of p)) (x .pending)
         least =
-            nearest-is-least base (x .pending) fits
+            nearest-least-far base (x .pending) n fits
             (all-map (AheadNow log) (λ (p : Packet). Fits (sequence-of p) × (sequence-distance base (sequence-of p) < half))
             (λ p a. (
               sequence-fits (last-put log) (place-after log) (p .content) a,
               omega (
                 arith,
-                distance-of (last-put log) (place-after log) base
-                    (p .content) a stands,
+                distance-of (last-put log) (place-after log) base (p .content) a stands,
                 a .ahead,
                 a .from,
                 half-above-zero,
               ),
             ))
             (x .pending) (k .held))
+            near
 
         an : AheadNow log n
         an = each-at (AheadNow log) (nearest (x .pending)) n near (nearest-all (AheadNow log) (x .pending) (k .held))

@@ -54,16 +54,16 @@ none-is number cell (x ∷ xs) e =
 abbrev pub AnyNumber : ℕ → Type 0
 AnyNumber n = Unit {0}
 
-any-first : (o : Option ℕ) → Each AnyNumber o
-any-first none = tt
-any-first (some n) = tt
+pub any-number : (o : Option ℕ) → Each AnyNumber o
+any-number none = tt
+any-number (some n) = tt
 
 queue-elsewhere : (cell : ℕ) (m : Member) → is-among cell (queue-cells m) ≡ false → SideOk (ElsewhereThan cell) AnyNumber (side m)
 unfolding queue-cells
 queue-elsewhere cell m e = (
   all-if-passes (λ (e : Event). ElsewhereThan cell (e .content)) is-data (m .queue)
       (none-is (λ (e : Event). e .content .cell) cell (such-that is-data (m .queue)) e),
-  any-first (flagged (not (eqb (m .leg .receiver .first) no-sequence)) (m .leg .receiver .first)),
+  any-number (flagged (not (eqb (m .leg .receiver .first) no-sequence)) (m .leg .receiver .first)),
 )
 
 queues-elsewhere : (cell : ℕ) (ms : List Member) → is-among cell (queued-cells ms) ≡ false

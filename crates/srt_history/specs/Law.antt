@@ -68,8 +68,8 @@ module _ (P : Data → Type 0) (F : ℕ → Type 0) where
           → nearest (x .pending) ≡ some p → I x log
           → I (with-base (sequence-of p) x) (base-set (sequence-of p) ∷ log)
       pub on-skipped : (x : Receive) (log : List Mark) (base : ℕ) (p : Packet) (tested : State) (time : ℕ)
-          → next-receive-sequence x ≡ some base
-          → nearest (x .pending) ≡ some p → I x log
+          → next-receive-sequence x ≡ some base → nearest (x .pending) ≡ some p
+          → I x log
           → I (skip-to base (sequence-of p) x) (gap-skipped tested time (sequence-distance base (sequence-of p)) ∷ log)
       pub on-delivered : (x : Receive) (log : List Mark) (base : ℕ) (p : Packet) → next-receive-sequence x ≡ some base
           → held-at base (x .pending) ≡ some p

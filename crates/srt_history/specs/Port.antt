@@ -4,17 +4,22 @@
 -- four claims are about the code. Assumes nothing.
 use mathlib.Core.Path.{_≡_, refl, sym, ap, _∙_, subst}
 use mathlib.Core.Bool.{true, false}
+use mathlib.Core.Logic.{_⊎_}
 use mathlib.Core.List.{List, [], _∷_, _++_}
 use mathlib.Core.Option.{Option, some}
-use Prim.Native.Nat.{ℕ}
+use Prim.Native.Nat.{ℕ, _+_, _%_, _<_}
+use Rattle.srt_protocol.specs.Sequence.{half, sequence-distance}
+use Rattle.srt_protocol.specs.Time.{last-moment}
 use Rattle.srt_group_model.specs.Tools.{if-some_give_otherwise_}
-use Rattle.srt_group_model.specs.State.{State}
+use Rattle.srt_group_model.specs.State.{State, next-receive-sequence}
 use Rattle.srt_group_model.specs.Guards.{Answer}
 use Rattle.srt_group_model.specs.Lent.{Lent, Result, delivered-by}
 use Rattle.srt_history.specs.Schedule.{Consecutive, Told, told-by, clerk}
-use Rattle.srt_history.specs.Gateways.{Fair}
+use Rattle.srt_history.specs.Gateways.{Prefix, Fair, Gateway, until-skip, stands-at, delivers}
+use Rattle.srt_history.specs.Marks.{first-base}
+use Rattle.srt_history.specs.Base.{BaseClaim}
 use Rattle.srt_history.specs.HistoryTheorem.{history-theorem}
-use Rattle.srt_history.specs.Calls.{Asked, do-call, Making, made, skipped-in, Delivery, delivery-of, given-by, deliveries}
+use Rattle.srt_history.specs.Calls.{Asked, do-call, Making, made, state-after, log-after, counts-of, skipped-in, Delivery, delivery-of, given-by, deliveries}
 
 -- ---- what a port shows of a call
 
@@ -59,7 +64,8 @@ delivery-is-given : (r : Result) → shown-delivery (shows r) ≡ given-by r
 unfolding shown-delivery given-by
 delivery-is-given r = refl
 
-pub shown-deliveries-are : (calls : List Asked) (s : State) (xs : List Shown) → Performed calls s xs → shown-deliveries xs ≡ deliveries calls s
+pub shown-deliveries-are : (calls : List Asked) (s : State) (xs : List Shown) → Performed calls s xs
+    → shown-deliveries xs ≡ deliveries calls s
 unfolding shown-deliveries deliveries
 shown-deliveries-are [] s [] h = refl
 shown-deliveries-are [] s (x ∷ xs) h = absurd h
@@ -101,3 +107,55 @@ pub port-has-clerks-list : (schedule : List Delivery) (first : ℕ) → Consecut
 port-has-clerks-list schedule first runs g calls fair xs h =
     ap (clerk schedule 0) (shown-told-is calls (made g) xs h) ∙ history-theorem .schedule schedule first runs g calls fair
     ∙ ap {B = Option (List Delivery)} some (sym (shown-deliveries-are calls (made g) xs h))
+
+-- the state that a port shows last
+unfoldable pub last-shown : State → List Shown → State
+last-shown s [] = s
+last-shown s (x ∷ xs) = last-shown (x .state) xs
+
+pub last-shown-is : (calls : List Asked) (s : State) (xs : List Shown) → Performed calls s xs
+    → last-shown s xs ≡ state-after calls s
+unfolding last-shown state-after
+last-shown-is [] s [] h = refl
+last-shown-is [] s (x ∷ xs) h = absurd h
+last-shown-is (call ∷ more) s [] h = absurd h
+last-shown-is (call ∷ more) s (x ∷ xs) h =
+    last-shown-is more (x .state) xs (h .1) ∙ ap (λ (y : Shown). state-after more (y .state)) (h .0)
+
+-- The base that a port shows, less its first value, is what it shows as delivered and skipped, modulo 2^31.
+pub port-base : (g : Making) (calls : List Asked) (xs : List Shown) → Performed calls (made g) xs
+    → (first : ℕ) → first-base (log-after calls (made g)) ≡ some first → skipped-in (last-shown (made g) xs) < last-moment
+    → (base : ℕ)
+    × (next-receive-sequence (last-shown (made g) xs .receive) ≡ some base)
+    × (sequence-distance first base ≡ (counts-of (shown-deliveries xs) + skipped-in (last-shown (made g) xs)) % (half + half))
+port-base g calls xs h first e below = (
+  claim .base,
+  ap (λ (s : State). next-receive-sequence (s .receive)) (last-shown-is calls (made g) xs h) ∙ claim .is,
+  claim .moved
+      ∙ ap (λ (n : ℕ). n % (half + half))
+      (sym
+      (ap (λ (l : List Delivery). counts-of l + skipped-in (last-shown (made g) xs)) (shown-deliveries-are calls (made g) xs h)
+      ∙ ap (λ (s : State). counts-of (deliveries calls (made g)) + skipped-in s) (last-shown-is calls (made g) xs h))),
+)
+  where
+    claim : BaseClaim g calls first
+    claim =
+        history-theorem .base g calls first e
+        (subst (λ (s : State). skipped-in s < last-moment) (last-shown-is calls (made g) xs h) below)
+
+-- Two ports that stand at one place show the same packets, one list a prefix of the other, each up to its next skip.
+pub ports-agree : (schedule : List Delivery) (first : ℕ) → Consecutive first schedule → (a b : Gateway schedule first)
+    → stands-at schedule first a ≡ stands-at schedule first b
+    → (xs ys : List Shown)
+    → Performed (until-skip (a .after) (state-after (a .before) (made (a .making)))) (state-after (a .before) (made (a .making))) xs
+    → Performed (until-skip (b .after) (state-after (b .before) (made (b .making)))) (state-after (b .before) (made (b .making))) ys
+    → Prefix (shown-deliveries xs) (shown-deliveries ys) ⊎ Prefix (shown-deliveries ys) (shown-deliveries xs)
+ports-agree schedule first runs a b e xs ys h k =
+    rw (shown-of a xs h, shown-of b ys k) (history-theorem .gateways schedule first runs a b e)
+  where
+    shown-of : (w : Gateway schedule first) (zs : List Shown)
+        → Performed (until-skip (w .after) (state-after (w .before) (made (w .making)))) (state-after (w .before) (made (w .making))) zs
+        → shown-deliveries zs ≡ delivers schedule first w
+    shown-of w zs p =
+        shown-deliveries-are (until-skip (w .after) (state-after (w .before) (made (w .making))))
+        (state-after (w .before) (made (w .making))) zs p

@@ -33,7 +33,7 @@ use Rattle.srt_group_model.specs.Reason.{if-elim, if-some-elim, All, not-both, 
 use Rattle.srt_history.specs.Cases.{Each, each-at}
 use Rattle.srt_history.specs.Sides.{Side, sides, deliver-packet-leaves-sides}
 use Rattle.srt_history.specs.Law.{EventOk, SideOk, CollectLaw}
-use Rattle.srt_history.specs.FreeCells.{AnyNumber}
+use Rattle.srt_history.specs.FreeCells.{AnyNumber, any-number}
 use Rattle.srt_history.specs.PollWalk.{collect-until-held-good, collect-until-empty-good}
 use Rattle.srt_history.specs.Held.{nearest-is-found}
 use Rattle.srt_group_model.specs.Lent.{Call, addition, broken-mark, removal, member-look, refreshing, disconnection, event-poll, data-poll, sending, readiness, paced-readiness, send-wait, stability, group-look, mode-look, peer-look, skipped-look, pending-look, continuation-look, reading, queued-data, queued-event}
@@ -88,13 +88,9 @@ any-queue : (q : List Event) → All (EventOk (λ (d : Data). Unit {0}) AnyNumbe
 any-queue [] = tt
 any-queue (e ∷ q) = ((λ t. tt), any-queue q)
 
-any-option : (o : Option ℕ) → Each AnyNumber o
-any-option none = tt
-any-option (some n) = tt
-
 any-sides : (vs : List Side) → All (SideOk (λ (d : Data). Unit {0}) AnyNumber) vs
 any-sides [] = tt
-any-sides (v ∷ vs) = ((any-queue (v .queue), any-option (flagged (not (eqb (v .first) no-sequence)) (v .first))), any-sides vs)
+any-sides (v ∷ vs) = ((any-queue (v .queue), any-number (flagged (not (eqb (v .first) no-sequence)) (v .first))), any-sides vs)
 
 quiet-law : CollectLaw (λ (d : Data). Unit {0}) AnyNumber (λ (x : Receive) (log : List Mark). Quiet log)
 quiet-law = record { on-discarded = λ x log p ok e h. (tt, h); on-retained = λ x log p ok e h. (tt, h) }

@@ -82,7 +82,7 @@ pub record Leaves (s t : State) : Type 0 where
 pub leaves-all : (s : State) → Leaves s s
 leaves-all s = record { receive = refl; sides = refl }
 
-pub leaves-then : (s t u : State) → Leaves s t → Leaves t u → Leaves s u
+leaves-then : (s t u : State) → Leaves s t → Leaves t u → Leaves s u
 leaves-then s t u h k = record { receive = k .receive ∙ h .receive; sides = k .sides ∙ h .sides }
 
 -- what the model's Frame says of a send

@@ -8,12 +8,12 @@ use mathlib.Core.List.{List, [], _∷_}
 use mathlib.Core.Option.{Option, none}
 use Prim.Native.Nat.{ℕ, zero, suc, _≤_}
 use native.Mathlib.Omega.{arith}
-use lib.Dec.{leb, ltb, eqb}
+use lib.Dec.{ltb, eqb}
 use lib.ListN.{length, replicate, length-replicate}
 use Rattle.srt_protocol.specs.Handshake.{has-group-mask}
 use Rattle.srt_protocol.specs.Cells.{cell-size, cells-of}
 use Rattle.srt_group_model.specs.Tools.{any, such-that, at-place}
-use Rattle.srt_group_model.specs.Reason.{if-elim, if-some-elim, by-test, not-both, or-left, or-right, or-yes-left}
+use Rattle.srt_group_model.specs.Reason.{if-elim, if-some-elim, by-test, not-both, or-yes-left}
 use Rattle.srt_group_model.specs.State.{Member, State, next-receive-sequence}
 use Rattle.srt_group_model.specs.Legs.{largest-32}
 use Rattle.srt_group_model.specs.Members.{find, base-after, align-member-sequence}
@@ -23,8 +23,7 @@ use Rattle.srt_group_model.specs.Collecting.{retain-group-packet, report-event}
 use Rattle.srt_group_model.specs.Delivery.{release-pending-reservation, release-all, advance-legs, deliver-packet}
 use Rattle.srt_group_model.specs.Removal.{is-owned, retire, bound-group-owned-pending, take-out, remove-member-at}
 use Rattle.srt_group_model.specs.Sending.{Flow}
-use Rattle.srt_group_model.specs.Cells.{used-cells}
-use Rattle.srt_group_model.specs.Validity.{max-pending, cell-beyond-store, is-invalid}
+use Rattle.srt_group_model.specs.Validity.{max-pending, is-invalid}
 use Rattle.srt_group_model.specs.Guards.{Step, refuse, Check, guard}
 use Rattle.srt_group_model.specs.Calls.{store-unfit, cells-given, breaks-rule, change-member, new, add-body, add-member, mark-member-broken, remove-body, remove-member-connection, member, refresh-member-states, disconnect, event-poll-body, poll-event-call, data-poll-body, poll-data-call, left-by-send, send-flow, send-body, send, can-send-body, can-send-call, can-send-with-pacing-body, can-send-with-pacing-call}
 use Rattle.srt_group_model.specs.Calls.{time-until-send, backup-stability-timeout-micros, group-id, mode, peer-group-id, skipped-receive-packets, has-pending-data-call, has-receive-continuation, read-leg, queue-data-body, queue-data, queue-event}
@@ -33,11 +32,11 @@ use Rattle.srt_group_model.specs.Lent.{step-of, with-bytes, perform}
 use Rattle.srt_group_model.specs.Frame.{trim-framed, broadcast-framed, backup-framed}
 use Rattle.srt_group_model.specs.Steps.{State-law, refresh-has, poll-event-has, poll-data-has}
 use Rattle.srt_group_model.specs.Refusals.{changes-nothing, guard-elim, refusal-leaves-everything}
-use Rattle.srt_group_model.specs.Valid.{Valid, valid-of, of-valid, valid-kept, new-valid}
+use Rattle.srt_group_model.specs.Valid.{valid-kept, valid-wider, new-valid}
 use Rattle.srt_group_model.specs.declared.Identity.{Identity}
 use Rattle.srt_group_model.specs.declared.Packet.{Packet}
 use Rattle.srt_group_model.specs.declared.Leg.{Leg}
-use Rattle.srt_history.specs.Cases.{if-true, le-of, leb-yes, eq-of, eqb-yes, or-both}
+use Rattle.srt_history.specs.Cases.{if-true, eq-of, eqb-yes}
 use Rattle.srt_history.specs.Calls.{Asked, do-call, takes-store, Making, made, state-after}
 
 -- ---- a call keeps the store's length given at the start
@@ -336,40 +335,14 @@ reaches-valid-given g calls mask some-length =
 
 -- ---- so the tests of 6 are false: of a call that is lent a store of n bytes, and of one that is lent none
 
-fewer-cells-beyond : (m n : ℕ) (used : List ℕ) → n ≤ m → any (leb n) used ≡ false → any (leb m) used ≡ false
-unfolding any
-fewer-cells-beyond m n [] l e = refl
-fewer-cells-beyond m n (cell ∷ used) l e =
-    or-both (leb m cell) (any (leb m) used)
-    (by-test (leb m cell) (λ t. not-both (leb-yes n cell (omega (arith, le-of m cell t))) (or-left (leb n cell) _ e)) (λ t. t))
-    (fewer-cells-beyond m n used l (or-right (leb n cell) _ e))
-
--- a state that is valid over some cells is valid over more
-more-cells-valid : (m n : ℕ) (s : State) → n ≤ m → is-invalid n s ≡ false → is-invalid m s ≡ false
-unfolding cell-beyond-store
-more-cells-valid m n s l e =
-    let v : Valid n s = valid-of n s e in
-    of-valid m s
-    record {
-      blank = v .blank;
-      counts = v .counts;
-      sequences = v .sequences;
-      ids-once = v .ids-once;
-      ascending = v .ascending;
-      cells-once = v .cells-once;
-      cells-inside = fewer-cells-beyond m n (used-cells s) l (v .cells-inside);
-      sums = v .sums;
-      fields = v .fields;
-    }
-
 -- with no length given, or with this one
 pub valid-breaks-no-rule : (n : ℕ) (s : State) → (s .identity .length ≡ 0) ⊎ (s .identity .length ≡ n) → ValidAt n s → breaks-rule s ≡ false
 unfolding cells-given
 valid-breaks-no-rule n s (inl none-given) h =
     if-elim (λ (cells : ℕ). is-invalid cells s ≡ false) (eqb (s .identity .length) 0) _ _
-    (λ e. more-cells-valid max-pending (cells-of n) s (omega arith) (h .valid))
+    (λ e. valid-wider (cells-of n) max-pending s (omega arith) (h .valid))
     (λ e. not-both (ap (λ (m : ℕ). eqb m 0) none-given ∙ eqb-yes 0) e)
 valid-breaks-no-rule n s (inr this-given) h =
     if-elim (λ (cells : ℕ). is-invalid cells s ≡ false) (eqb (s .identity .length) 0) _ _
-    (λ e. more-cells-valid max-pending (cells-of n) s (omega arith) (h .valid))
+    (λ e. valid-wider (cells-of n) max-pending s (omega arith) (h .valid))
     (λ e. subst (λ (m : ℕ). is-invalid (cells-of m) s ≡ false) (sym this-given) (h .valid))

@@ -14,8 +14,8 @@ use lib.ListN.{length, drop, getD, drop-of-length-le}
 use lib.Seq.{sets, sets-eq, drop-cons}
 use lib.Dec.{ltb, leb, eqb}
 use borrow.Author.Tests.{lt-ltb, le-ltb, le-leb, lt-leb, eq-eqb, ne-eqb, ltb-true, ltb-false, eqb-true, eqb-false}
-use Rattle.rows.specs.Tab.{tab, tab-at, tab-same, tab-none, tab-push, tab-length, inserted, removed}
-use Rattle.rows.specs.Rows.{row-at, row-word, row-there, row-elsewhere, Opened, Closed, table-inserted, table-removed}
+use Rattle.word_rows.specs.Tab.{tab, tab-at, tab-same, tab-none, tab-push, tab-length, inserted, removed}
+use Rattle.word_rows.specs.Rows.{row-at, row-word, row-there, row-elsewhere, Opened, Closed, table-inserted, table-removed}
 use Rattle.srt_protocol.specs.Sequence.{half, sequence-distance}
 use Rattle.srt_protocol.specs.Cells.{overwritten}
 use Rattle.srt_protocol.specs.CellLaws.{overwritten-length}

@@ -7,8 +7,8 @@ use mathlib.Core.Option.{Option, none, some}
 use Prim.Native.Nat.{ℕ, _≤_, _<_}
 use lib.Dec.{eqb}
 use lib.ListN.{length, getD}
-use Rattle.rows.specs.Tab.{tab}
-use Rattle.rows.specs.Rows.{row-at}
+use Rattle.word_rows.specs.Tab.{tab}
+use Rattle.word_rows.specs.Rows.{row-at}
 use Rattle.srt_group_model.specs.declared.Packet.{Packet}
 use Rattle.srt_group_model.specs.Tools.{if_then_else_, if-some_give_otherwise_, place-of}
 use Rattle.srt_group_model.specs.Nearest.{sequence-of, has-sequence, farther}

@@ -15,7 +15,7 @@ use Rattle.srt_group_model.specs.declared.Entry.{Entry}
 use Rattle.srt_group_model.specs.Tools.{if_then_else_}
 use Rattle.srt_group_model.specs.Backup.{max-history, drop-before}
 use Rattle.srt_tables.specs.declared.history.History.{History}
-use Rattle.rows.specs.Tab.{tab, tab-length, tab-front, tab-none, tab-pop, tab-push}
+use Rattle.word_rows.specs.Tab.{tab, tab-length, tab-front, tab-none, tab-pop, tab-push}
 
 -- what a place that is not in use reads as
 abbrev pub no-entry : Entry

@@ -5,8 +5,8 @@ use mathlib.Core.List.{List, [], _∷_, _++_}
 use Prim.Native.Nat.{ℕ, zero, suc, _+_, _-_, _*_, _≤_, _<_}
 use native.Mathlib.Omega.{arith}
 use lib.ListN.{length, take, drop, getD}
-use Rattle.rows.specs.Tab.{tab, removed}
-use Rattle.rows.specs.Rows.{row-at, Closed, table-push, table-removed}
+use Rattle.word_rows.specs.Tab.{tab, removed}
+use Rattle.word_rows.specs.Rows.{row-at, Closed, table-push, table-removed}
 use Rattle.srt_protocol.specs.Cells.{overwritten}
 use Rattle.srt_protocol.specs.CellLaws.{overwritten-length}
 use Rattle.srt_group_model.specs.declared.Waiting.{Waiting}

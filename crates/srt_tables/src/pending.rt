@@ -5,8 +5,8 @@ ghost use mathlib.Core.Bool.{true, false};
 ghost use Prim.Native.Nat.{_+_, _-_, _*_, _≤_, _<_};
 ghost use lib.ListN.{length};
 ghost use lib.Dec.{ltb};
-ghost use Rattle.rows.specs.Tab.{removed};
-ghost use Rattle.rows.specs.Rows.{row-at};
+ghost use Rattle.word_rows.specs.Tab.{removed};
+ghost use Rattle.word_rows.specs.Rows.{row-at};
 ghost use Rattle.srt_protocol.specs.Sequence.{sequence-distance};
 ghost use Rattle.srt_protocol.specs.Cells.{overwritten};
 ghost use Rattle.srt_group_model.specs.Nearest.{insert, is-held, nearest, not-covered, farthest};
@@ -130,7 +130,7 @@ pub fn insert(pending: &mut [u64], count: usize, packet: Packet)
     ensures { λ _. ⌜ Holds (length (now (pending .entry))) (now (pending .exit)) (count + 1) (insert packet (packets count (now (pending .entry)))) ⌝ }
 {
     let at = place(pending, count, packet.content.sequence);
-    rows::open_gap(
+    word_rows::open_gap(
         pending,
         at * PACKET_WORDS,
         count * PACKET_WORDS,
@@ -144,7 +144,7 @@ pub fn remove(pending: &mut [u64], count: usize, at: usize)
     requires { ⌜ (18432 ≤ length (now pending)) × (at < count) × (count ≤ 2048) ⌝ }
     ensures { λ _. ⌜ Holds (length (now (pending .entry))) (now (pending .exit)) (count - 1) (removed at (packets count (now (pending .entry)))) ⌝ }
 {
-    rows::close_gap(
+    word_rows::close_gap(
         pending,
         at * PACKET_WORDS,
         count * PACKET_WORDS,

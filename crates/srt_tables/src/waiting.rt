@@ -56,5 +56,5 @@ pub fn pop_front(waiting: &mut [u64], count: usize)
     requires { ⌜ (192 ≤ length (now waiting)) × (0 < count) × (count ≤ 64) ⌝ }
     ensures { λ _. ⌜ HoldsWaiting (length (now (waiting .entry))) (now (waiting .exit)) (count - 1) (drop 1 (waitings count (now (waiting .entry)))) ⌝ }
 {
-    rows::close_gap(waiting, 0, count * WAITING_WORDS, WAITING_WORDS);
+    word_rows::close_gap(waiting, 0, count * WAITING_WORDS, WAITING_WORDS);
 }

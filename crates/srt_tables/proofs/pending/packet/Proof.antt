@@ -1,7 +1,7 @@
 -- `packet` meets its contract: the part that is lent is the row. Assumes nothing.
 use mathlib.Core.Path.{ap, _∙_}
 use borrow.Author.Needs.{needs}
-use Rattle.rows.specs.Rows.{row-part}
+use Rattle.word_rows.specs.Rows.{row-part}
 use Rattle.srt_tables.specs.Packets.{packet-of, packet-at}
 use Rattle.srt_tables.proofs.pending.packet.Statement.{statement}
 use Rattle.srt_tables.proofs.pending.packet.Tie as tie

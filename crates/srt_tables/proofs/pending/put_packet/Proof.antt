@@ -1,6 +1,6 @@
 -- `put_packet` meets its contract: the part that was lent comes back as the packet's row. Assumes nothing.
 use borrow.Author.Needs.{needs}
-use Rattle.rows.specs.Rows.{row-back}
+use Rattle.word_rows.specs.Rows.{row-back}
 use Rattle.srt_tables.specs.PacketLaws.{nine-words}
 use Rattle.srt_tables.proofs.pending.put_packet.Statement.{statement}
 use Rattle.srt_tables.proofs.pending.put_packet.Tie as tie

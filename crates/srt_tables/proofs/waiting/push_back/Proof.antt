@@ -4,7 +4,7 @@ use mathlib.Core.List.{List, [], _∷_, _++_}
 use Prim.Native.Nat.{ℕ, _+_}
 use native.Mathlib.Omega.{arith}
 use lib.ListN.{length}
-use Rattle.rows.specs.Rows.{row-back}
+use Rattle.word_rows.specs.Rows.{row-back}
 use Rattle.srt_tables.specs.Waitings.{waiting-words, waitings, HoldsWaiting, three-words, waiting-pushed}
 use borrow.Author.Needs.{needs}
 use Rattle.srt_tables.proofs.waiting.push_back.Statement.{statement}

@@ -1,6 +1,6 @@
 -- `waiting_event` meets its contract: the part that is lent is the row. Assumes nothing.
 use mathlib.Core.Path.{ap, _∙_}
-use Rattle.rows.specs.Rows.{row-part}
+use Rattle.word_rows.specs.Rows.{row-part}
 use Rattle.srt_tables.specs.Waitings.{waiting-of, waiting-at}
 use borrow.Author.Needs.{needs}
 use Rattle.srt_tables.proofs.waiting.waiting_event.Statement.{statement}

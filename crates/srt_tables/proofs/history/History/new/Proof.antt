@@ -1,6 +1,6 @@
 use mathlib.Core.Path.{refl}
 use native.Mathlib.Omega.{arith}
-use Rattle.rows.specs.Tab.{tab}
+use Rattle.word_rows.specs.Tab.{tab}
 use borrow.Author.Needs.{needs}
 use Rattle.srt_tables.proofs.history.History.new.Statement.{statement}
 use Rattle.srt_tables.proofs.history.History.new.Tie as tie
