@@ -13,6 +13,7 @@ use Rattle.srt_protocol.specs.Sequence.{sequence-distance}
 use Rattle.srt_protocol.specs.declared.error.Error.the-variants.{OutOfRange, OutOfTurn}
 use Rattle.srt_group_model.specs.Tools.{if_then_else_, if-some_give_otherwise_, at-place}
 use Rattle.srt_group_model.specs.Legs.{moment, on-link, on-sender, on-receiver, on-trip, has-sender, oldest-unacked-sequence, readings, reading-of, goes-back}
+use Rattle.srt_group_model.specs.Calls.{reading-out-of-range, read-field}
 use Rattle.srt_group_model.specs.declared.Leg.{Leg}
 use Rattle.srt_connection.specs.declared.readings.ReadResult.{ReadResult}
 use Rattle.srt_connection.specs.declared.readings.ReadResult.the-variants.{Read, Refused}
@@ -56,13 +57,6 @@ abbrev pub with-limit : ℕ → Leg → Leg
 with-limit n = on-link (λ x. record { state = x .state; peer = x .peer; limit = n })
 
 -- ---- a field by its number
-
--- 2: an unknown field, or a number above the field's largest
-unfoldable pub reading-out-of-range : (field n : ℕ) → Bool
-reading-out-of-range field n = if-some reading-of field give (λ x. ltb (x .largest) n) otherwise true
-
-unfoldable pub read-field : (field n : ℕ) → Leg → Leg
-read-field field n l = if-some reading-of field give (λ x. x .put n l) otherwise l
 
 -- from the oldest unacknowledged sequence up to next
 unfoldable pub acknowledges : ℕ → Leg → Bool
