@@ -25,9 +25,9 @@ use Rattle.srt_history.specs.Law.{OfContent, PutLaw}
 use Rattle.srt_history.specs.CallWalk.{Fits, Holds, calls-hold}
 use Rattle.srt_history.specs.Held.{insert-all, nearest-all, not-covered-all}
 use Rattle.srt_history.specs.Sides.{sides}
-use Rattle.srt_history.specs.Shape.{Quiet, Skip, Shape, call-shape}
+use Rattle.srt_history.specs.Shape.{When, when-of, Quiet, Skip, Shape, call-shape}
 use Rattle.srt_group_model.specs.Lent.{Result, delivered-by}
-use Rattle.srt_history.specs.Calls.{Asked, do-call, time-of, Making, made, state-after, log-after, skipped-in, Delivery, delivery-of, given-by, deliveries, counts-of}
+use Rattle.srt_history.specs.Calls.{Asked, do-call, Making, made, state-after, log-after, skipped-in, Delivery, delivery-of, given-by, deliveries, counts-of}
 
 pub half-above-zero : 0 < half
 unfolding half
@@ -192,11 +192,11 @@ quiet-skips-nothing (gap-skipped tested time distance ∷ m) log h = absurd (h .
 quiet-skips-nothing (delivered p ∷ m) log h = absurd (h .0)
 
 -- before the packet that a call gave: so many skipped, and nothing delivered
-pub before-delivery : (time : ℕ) (s : State) (m log : List Mark) → Quiet m ⊎ Skip time s m
+pub before-delivery : (when : When) (s : State) (m log : List Mark) → Quiet m ⊎ Skip when s m
     → (rise : ℕ) × (total-delivered (m ++ log) ≡ total-delivered log) × (total-skipped (m ++ log) ≡ total-skipped log + rise)
 unfolding total-delivered total-skipped
-before-delivery time s m log (inl quiet) = (0, quiet-delivers-nothing m log quiet, quiet-skips-nothing m log quiet ∙ omega arith)
-before-delivery time s m log (inr skip) = (
+before-delivery when s m log (inl quiet) = (0, quiet-delivers-nothing m log quiet, quiet-skips-nothing m log quiet ∙ omega arith)
+before-delivery when s m log (inr skip) = (
   skip .distance,
   ap (λ (x : List Mark). total-delivered (x ++ log)) (skip .is) ∙ quiet-delivers-nothing (skip .before) log (skip .quiet),
   ap (λ (x : List Mark). total-skipped (x ++ log)) (skip .is)
@@ -208,18 +208,18 @@ unfolding counts-of
 counts-append [] ys = omega arith
 counts-append (x ∷ xs) ys = omega (arith, counts-append xs ys)
 
-given-count : (time : ℕ) (r : Result) → Shape time (delivered-by (r .answer)) (r .state) (r .log)
+given-count : (when : When) (r : Result) → Shape when (delivered-by (r .answer)) (r .state) (r .log)
     → total-delivered (r .log) ≡ counts-of (given-by r)
 unfolding given-by counts-of if-some_give_otherwise_ total-delivered
-given-count time r = go (delivered-by (r .answer))
+given-count when r = go (delivered-by (r .answer))
   where
-    go : (o : Option Packet) → Shape time o (r .state) (r .log)
+    go : (o : Option Packet) → Shape when o (r .state) (r .log)
         → total-delivered (r .log) ≡ counts-of (if-some o give (λ p. delivery-of p (r .lent .output) ∷ []) otherwise [])
     go none h = sym (ap total-delivered (append-nil (r .log))) ∙ quiet-delivers-nothing (r .log) [] h
     go (some p) h =
         ap total-delivered (h .is)
         ∙ ap (λ (n : ℕ). n + p .content .count)
-        (sym (ap total-delivered (append-nil (h .before))) ∙ before-delivery time (r .state) (h .before) [] (h .how) .1)
+        (sym (ap total-delivered (append-nil (h .before))) ∙ before-delivery when (r .state) (h .before) [] (h .how) .1)
         ∙ omega arith
 
 pub delivered-counts : (calls : List Asked) (s : State) → total-delivered (log-after calls s) ≡ counts-of (deliveries calls s)
@@ -230,7 +230,7 @@ delivered-counts (call ∷ more) s =
     ∙ omega (
       arith,
       delivered-counts more (do-call call s .state),
-      given-count (time-of (call .call)) (do-call call s) (call-shape call s),
+      given-count (when-of (call .call) s) (do-call call s) (call-shape call s),
       counts-append (given-by (do-call call s)) (deliveries more (do-call call s .state)),
     )
 

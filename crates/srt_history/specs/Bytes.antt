@@ -41,7 +41,7 @@ use Rattle.srt_history.specs.FreeCells.{AnyNumber, any-number, Unused, t
 use Rattle.srt_history.specs.PollWalk.{Good, refresh-states-good, poll-event-good, poll-data-bounded-good}
 use Rattle.srt_history.specs.CallWalk.{change-member-sides, change-member-receive, enqueue-ok, Kept, refresh-states-mode, send-flow-leaves, add-kept, mark-member-broken-kept, remove-kept, look-kept, refresh-kept, disconnect-kept, can-send-kept, can-send-with-pacing-kept, read-leg-kept, queue-event-kept}
 use Rattle.srt_history.specs.Held.{insert-all, held-at-all, not-covered-all}
-use Rattle.srt_history.specs.Shape.{Shape, polled-shape, poll-event-shape, poll-data-bounded-shape}
+use Rattle.srt_history.specs.Shape.{When, Shape, polled-shape, poll-event-shape, poll-data-bounded-shape}
 use Rattle.srt_history.specs.ClerkClaim.{given-as-queued, delivered-as-queued}
 use Rattle.srt_group_model.specs.Lent.{Call, addition, broken-mark, removal, member-look, refreshing, disconnection, event-poll, data-poll, sending, readiness, paced-readiness, send-wait, stability, group-look, mode-look, peer-look, skipped-look, pending-look, continuation-look, reading, queued-data, queued-event}
 use Rattle.srt_group_model.specs.Lent.{Lent, stored, delivered-by, shown, with-bytes, step-of, perform}
@@ -254,7 +254,8 @@ module _ (s : State) (store : List ℕ) (log : List Mark) (alive : Live (InCell 
   begun : StoreLives store log (s .receive) []
   begun = record { held = alive .held; given = tt; same = λ cell. refl }
 
-  silent-after : (lent : Lent) (step : Step) → Silent step → Kept (InStore store log) AnyNumber (StoreLives store log) step → After s store log lent step
+  silent-after : (lent : Lent) (step : Step) → Silent step → Kept (InStore store log) AnyNumber (StoreLives store log) step
+      → After s store log lent step
   silent-after lent step silent k =
       record {
         alive =
@@ -274,13 +275,14 @@ module _ (s : State) (store : List ℕ) (log : List Mark) (alive : Live (InCell 
 
   -- ---- polls
 
-  poll-given : (time : ℕ) (lent : Lent) (r : Run) (answer : Answer) → lent .store ≡ store
+  poll-given : (when : When) (lent : Lent) (r : Run) (answer : Answer) → lent .store ≡ store
       → head-size + cell-size ≤ length (lent .output)
-      → StoreLives store log (r .state .receive) (r .log) → (o : Option Packet) → delivered-by answer ≡ o → Shape time o (r .state) (r .log)
+      → StoreLives store log (r .state .receive) (r .log) → (o : Option Packet) → delivered-by answer ≡ o
+      → Shape when o (r .state) (r .log)
       → given-by (with-bytes lent (left-by r answer)) ≡ given-as-queued (r .log ++ log) (delivered-by answer)
   unfolding given-by with-bytes shown given-as-queued if-some_give_otherwise_
-  poll-given time lent r answer same room k none is shape = nothing-given (r .log ++ log) lent (left-by r answer) is
-  poll-given time lent r answer same room k (some p) is shape =
+  poll-given when lent r answer same room k none is shape = nothing-given (r .log ++ log) lent (left-by r answer) is
+  poll-given when lent r answer same room k (some p) is shape =
       ap (λ (o : Option Packet). if-some o give (λ p. delivery-of p (shown o (lent .store) (lent .output)) ∷ []) otherwise []) is
       ∙ ap (λ (payload : List ℕ). record { sequence = p .content .sequence; count = p .content .count; payload = payload } ∷ [])
       bytes
@@ -296,16 +298,17 @@ module _ (s : State) (store : List ℕ) (log : List Mark) (alive : Live (InCell 
           (drop head-size (overwritten head-size (cell-bytes (p .content .cell) (p .content .length) z) (lent .output)))) same
           ∙ copied-payload store (lent .output) (last-put log) (p .content) there room ∙ sym (k .same (p .content .cell))
 
-  poll-after : (time : ℕ) (lent : Lent) (r : Run) (answer : Answer) → lent .store ≡ store
+  poll-after : (when : When) (lent : Lent) (r : Run) (answer : Answer) → lent .store ≡ store
       → head-size + cell-size ≤ length (lent .output)
-      → Good (InStore store log) AnyNumber (StoreLives store log) r → Shape time (delivered-by answer) (r .state) (r .log) → After s store log lent (left-by r answer)
-  poll-after time lent r answer same room good shape =
+      → Good (InStore store log) AnyNumber (StoreLives store log) r → Shape when (delivered-by answer) (r .state) (r .log)
+      → After s store log lent (left-by r answer)
+  poll-after when lent r answer same room good shape =
       record {
         alive =
             subst (λ (z : List ℕ). Live (InCell z (last-put (r .log ++ log))) (r .state))
             (sym (store-unwritten store (left-by r answer) refl))
             (alive-after store log (last-put log) (r .state) (r .log) (good .kept .same) (good .sides-ok) (good .kept .held));
-        given = poll-given time lent r answer same room (good .kept) (delivered-by answer) refl shape;
+        given = poll-given when lent r answer same room (good .kept) (delivered-by answer) refl shape;
         stays = all-alive (SamePayload log (r .log ++ log)) (λ d. good .kept .same (d .cell)) s;
         refused-puts-nothing = λ e. refl;
       }
@@ -325,12 +328,14 @@ module _ (s : State) (store : List ℕ) (log : List Mark) (alive : Live (InCell 
   poll-event-after lent time =
       guard-passed (AfterIf lent) _ s _ (λ code same. refused-after lent code)
       (λ c same.
-      poll-after time lent (poll-event time (start s) .run) (polled (poll-event time (start s) .gave))
+      poll-after record { time = time; from = s } lent (poll-event time (start s) .run) (polled (poll-event time (start s) .gave))
       (same refl)
       (enough (length (lent .output))
       (or-right (store-unfit (length (lent .store)) s) (output-unfit (length (lent .output))) (c .0)))
-      (poll-event-good (InStore store log) AnyNumber (StoreLives store log) (store-law store log .polling) time (start s) record { sides-ok = alive .queued; kept = begun })
-      (polled-shape time (poll-event time (start s) .gave) _ _ (poll-event-shape time (start s) tt)))
+      (poll-event-good (InStore store log) AnyNumber (StoreLives store log) (store-law store log .polling) time
+      (start s) record { sides-ok = alive .queued; kept = begun })
+      (polled-shape record { time = time; from = s } (poll-event time (start s) .gave) _ _
+      (poll-event-shape record { time = time; from = s })))
 
   poll-data-after : (lent : Lent) (time max-events : ℕ)
       → AfterIf lent (poll-data-call (length (lent .store)) (length (lent .output)) time max-events s)
@@ -338,14 +343,14 @@ module _ (s : State) (store : List ℕ) (log : List Mark) (alive : Live (InCell 
   poll-data-after lent time max-events =
       guard-passed (AfterIf lent) _ s _ (λ code same. refused-after lent code)
       (λ c same.
-      poll-after time lent (poll-data-bounded time max-events (start s) .run)
+      poll-after record { time = time; from = s } lent (poll-data-bounded time max-events (start s) .run)
       (data-polled (poll-data-bounded time max-events (start s) .gave) (poll-data-bounded time max-events (start s) .continuation))
       (same refl)
       (enough (length (lent .output))
       (or-right (store-unfit (length (lent .store)) s) (output-unfit (length (lent .output))) (c .0)))
       (poll-data-bounded-good (InStore store log) AnyNumber (StoreLives store log) (store-law store log .polling) time max-events
       (start s) record { sides-ok = alive .queued; kept = begun })
-      (poll-data-bounded-shape time max-events (start s) tt))
+      (poll-data-bounded-shape record { time = time; from = s } max-events))
 
   -- ---- a payload is put
 
@@ -356,10 +361,12 @@ module _ (s : State) (store : List ℕ) (log : List Mark) (alive : Live (InCell 
   alive-elsewhere cell payload unused small within =
       record {
         queued =
-            sides-change (InStore store log) (InCell (overwritten (cell * cell-size) payload store) (last-put (put cell payload ∷ log))) cell
+            sides-change (InStore store log)
+            (InCell (overwritten (cell * cell-size) payload store) (last-put (put cell payload ∷ log))) cell
             (in-cell-after-put store payload cell log small within) (sides (s .members)) (unused .queued) (alive .queued);
         held =
-            held-change (InStore store log) (InCell (overwritten (cell * cell-size) payload store) (last-put (put cell payload ∷ log))) cell
+            held-change (InStore store log)
+            (InCell (overwritten (cell * cell-size) payload store) (last-put (put cell payload ∷ log))) cell
             (in-cell-after-put store payload cell log small within) (s .receive .pending) (unused .held) (alive .held);
       }
 
@@ -586,14 +593,16 @@ refresh-silent s = guard-passed Silent _ s _ (silent-refusal s) (λ c. record { 
 -- ---- every call
 
 module _ (s : State) (store : List ℕ) (log : List Mark) (alive : Live (InCell store (last-put log)) s) (lent : Lent) where
-  silently : (step : Step) → Silent step → Kept (InStore store log) AnyNumber (StoreLives store log) step → After s store log lent step
+  silently : (step : Step) → Silent step → Kept (InStore store log) AnyNumber (StoreLives store log) step
+      → After s store log lent step
   silently = silent-after s store log alive lent
 
   looked : (checks : List Check) (answer : Answer) → delivered-by answer ≡ none
       → After s store log lent (guard checks s (accept s answer))
   looked checks answer e =
       silently (guard checks s (accept s answer)) (look-silent checks answer s e)
-      (look-kept (InStore store log) AnyNumber (StoreLives store log) (store-law store log) s (alive .queued) (begun s store log alive) checks answer)
+      (look-kept (InStore store log) AnyNumber (StoreLives store log) (store-law store log) s (alive .queued)
+      (begun s store log alive) checks answer)
 
   pub step-after : (call : Call)
       → (takes-store call ≡ true → step-of (length (lent .store)) (length (lent .output)) (length (lent .list)) call s .code ≡ 0 → lent .store ≡ store)
@@ -601,29 +610,36 @@ module _ (s : State) (store : List ℕ) (log : List Mark) (alive : Live (InCell 
   unfolding step-of takes-store mark-member-broken member disconnect time-until-send backup-stability-timeout-micros group-id mode peer-group-id skipped-receive-packets has-pending-data-call has-receive-continuation read-leg queue-event delivered-by
   step-after (addition id weight leg queue) same =
       silently (add-member id weight leg queue s) (add-silent id weight leg queue s)
-      (add-kept (InStore store log) AnyNumber (StoreLives store log) (store-law store log) s (alive .queued) (begun s store log alive) (λ n f. tt) id weight leg queue)
+      (add-kept (InStore store log) AnyNumber (StoreLives store log) (store-law store log) s (alive .queued)
+      (begun s store log alive) (λ n f. tt) id weight leg queue)
   step-after (broken-mark id) same =
       silently _ (accept-silent _ _ s)
-      (mark-member-broken-kept (InStore store log) AnyNumber (StoreLives store log) (store-law store log) s (alive .queued) (begun s store log alive) id)
+      (mark-member-broken-kept (InStore store log) AnyNumber (StoreLives store log) (store-law store log) s (alive .queued)
+      (begun s store log alive) id)
   step-after (removal id) same =
       silently (remove-member-connection id s) (remove-silent id s)
-      (remove-kept (InStore store log) AnyNumber (StoreLives store log) (store-law store log) s (alive .queued) (begun s store log alive) id)
+      (remove-kept (InStore store log) AnyNumber (StoreLives store log) (store-law store log) s (alive .queued)
+      (begun s store log alive) id)
   step-after (member-look id) same = looked _ _ (member-no-packet _)
   step-after refreshing same =
       silently (refresh-member-states s) (refresh-silent s)
-      (refresh-kept (InStore store log) AnyNumber (StoreLives store log) (store-law store log) s (alive .queued) (begun s store log alive))
+      (refresh-kept (InStore store log) AnyNumber (StoreLives store log) (store-law store log) s (alive .queued)
+      (begun s store log alive))
   step-after (disconnection time) same =
       silently _ (accept-silent _ _ s)
-      (disconnect-kept (InStore store log) AnyNumber (StoreLives store log) (store-law store log) s (alive .queued) (begun s store log alive) time)
+      (disconnect-kept (InStore store log) AnyNumber (StoreLives store log) (store-law store log) s (alive .queued)
+      (begun s store log alive) time)
   step-after (event-poll time) same = poll-event-after s store log alive lent time (same refl)
   step-after (data-poll time max-events) same = poll-data-after s store log alive lent time max-events (same refl)
   step-after (sending time payload) same = send-after s store log alive lent (length (lent .list)) time payload (same refl)
   step-after readiness same =
       silently (can-send-call s) (can-send-silent s)
-      (can-send-kept (InStore store log) AnyNumber (StoreLives store log) (store-law store log) s (alive .queued) (begun s store log alive))
+      (can-send-kept (InStore store log) AnyNumber (StoreLives store log) (store-law store log) s (alive .queued)
+      (begun s store log alive))
   step-after (paced-readiness time) same =
       silently (can-send-with-pacing-call time s) (can-send-with-pacing-silent time s)
-      (can-send-with-pacing-kept (InStore store log) AnyNumber (StoreLives store log) (store-law store log) s (alive .queued) (begun s store log alive) time)
+      (can-send-with-pacing-kept (InStore store log) AnyNumber (StoreLives store log) (store-law store log) s (alive .queued)
+      (begun s store log alive) time)
   step-after (send-wait time) same = looked _ _ refl
   step-after (stability id) same = looked _ _ refl
   step-after group-look same = looked _ _ refl
@@ -634,11 +650,13 @@ module _ (s : State) (store : List ℕ) (log : List Mark) (alive : Live (InCell 
   step-after continuation-look same = looked _ _ refl
   step-after (reading id field n) same =
       silently _ (accept-silent _ _ s)
-      (read-leg-kept (InStore store log) AnyNumber (StoreLives store log) (store-law store log) s (alive .queued) (begun s store log alive) id field n)
+      (read-leg-kept (InStore store log) AnyNumber (StoreLives store log) (store-law store log) s (alive .queued)
+      (begun s store log alive) id field n)
   step-after (queued-data id content payload) same = queue-data-after s store log alive lent id content payload (same refl)
   step-after (queued-event id kind reason) same =
       silently _ (accept-silent _ _ s)
-      (queue-event-kept (InStore store log) AnyNumber (StoreLives store log) (store-law store log) s (alive .queued) (begun s store log alive) id kind reason)
+      (queue-event-kept (InStore store log) AnyNumber (StoreLives store log) (store-law store log) s (alive .queued)
+      (begun s store log alive) id kind reason)
 
 -- a call that is lent no store puts nothing
 unlent-puts-nothing : (store output list : ℕ) (call : Call) (s : State) → takes-store call ≡ false

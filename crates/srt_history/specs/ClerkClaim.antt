@@ -15,11 +15,11 @@ use Rattle.srt_group_model.specs.Calls.{new}
 use Rattle.srt_group_model.specs.declared.Packet.{Packet}
 use Rattle.srt_group_model.specs.Lent.{delivered-by}
 use Rattle.srt_history.specs.Marks.{total-skipped, total-delivered, place-after, last-put, total-skipped-append}
-use Rattle.srt_history.specs.Shape.{Quiet, Given, Shape, call-shape}
+use Rattle.srt_history.specs.Shape.{When, when-of, Quiet, Given, Shape, call-shape}
 use Rattle.srt_history.specs.Base.{sums-after, quiet-delivers-nothing, quiet-skips-nothing, before-delivery}
 use Rattle.srt_history.specs.Schedule.{Consecutive, pass-to, pass-to-zero, pass-to-next, pass-to-further, sequence-at-place, Told, told-by, give-next, clerk}
 use Rattle.srt_history.specs.Follows.{AtPlace, FromSchedule, AtPlaces, Follows, Following, call-following, new-following}
-use Rattle.srt_history.specs.Calls.{Asked, do-call, time-of, skipped-in, Making, made, state-after, log-after, Delivery}
+use Rattle.srt_history.specs.Calls.{Asked, do-call, skipped-in, Making, made, state-after, log-after, Delivery}
 
 -- ---- what was delivered, as it was queued
 
@@ -62,7 +62,8 @@ give-next-some o x xs ys go-on e f =
 
 module _ (schedule : List Delivery) (first : ℕ) (runs : Consecutive first schedule) where
   -- The clerk has `ahead` before him; m are the marks of the call, log those before it; told and ys are of the calls after it.
-  module _ (time : ℕ) (s : State) (log : List Mark) (ahead : List Delivery) (here : pass-to schedule (place-after log) ≡ some ahead)
+  module _ (when : When) (s : State) (log : List Mark) (ahead : List Delivery)
+      (here : pass-to schedule (place-after log) ≡ some ahead)
       (after : State) (m : List Mark)
       (follows : Follows schedule first runs (s .receive) log)
       (follows-after : Follows schedule first runs (after .receive) (m ++ log))
@@ -88,7 +89,7 @@ module _ (schedule : List Delivery) (first : ℕ) (runs : Consecutive first sche
         same-place = omega (arith, quiet-delivers-nothing m log quiet, quiet-skips-nothing m log quiet)
 
     -- a call that delivers: he passes the rise, gives the next and goes past it
-    gives : (p : Packet) → Given time p after m → GoesOn
+    gives : (p : Packet) → Given when p after m → GoesOn
         → give-next (pass-to ahead (after .receive .numbers .skipped - s .receive .numbers .skipped)) (λ xs. clerk xs (after .receive .numbers .skipped) told)
         ≡ some (record {
           sequence = p .content .sequence;
@@ -114,13 +115,13 @@ module _ (schedule : List Delivery) (first : ℕ) (runs : Consecutive first sche
         at = (subst (λ (z : List Mark). AtPlaces schedule (z ++ log)) (given .is) (follows-after .1 from .at-places)) .0
 
         distance : ℕ
-        distance = before-delivery time after (given .before) log (given .how) .0
+        distance = before-delivery when after (given .before) log (given .how) .0
 
         nothing-delivered : total-delivered (given .before ++ log) ≡ total-delivered log
-        nothing-delivered = before-delivery time after (given .before) log (given .how) .1
+        nothing-delivered = before-delivery when after (given .before) log (given .how) .1
 
         skipped-before : total-skipped (given .before ++ log) ≡ total-skipped log + distance
-        skipped-before = before-delivery time after (given .before) log (given .how) .2
+        skipped-before = before-delivery when after (given .before) log (given .how) .2
 
         whole-skipped : total-skipped (m ++ log) ≡ total-skipped (given .before ++ log)
         whole-skipped = ap (λ (z : List Mark). total-skipped (z ++ log)) (given .is)
@@ -147,7 +148,7 @@ module _ (schedule : List Delivery) (first : ℕ) (runs : Consecutive first sche
             }
 
     -- a call, by what it gave
-    clerk-of-call : (o : Option Packet) → Shape time o after m → GoesOn
+    clerk-of-call : (o : Option Packet) → Shape when o after m → GoesOn
         → clerk ahead (s .receive .numbers .skipped)
         (record { skipped = after .receive .numbers .skipped; delivered = if-some o give (λ p. true) otherwise false } ∷ told)
         ≡ some (given-as-queued (m ++ log) o ++ ys)
@@ -165,7 +166,8 @@ module _ (schedule : List Delivery) (first : ℕ) (runs : Consecutive first sche
   unfolding log-after told-by delivered-as-queued clerk
   clerk-of-calls [] s log ahead here k from below = refl
   clerk-of-calls (call ∷ more) s log ahead here k from below =
-      clerk-of-call (time-of (call .call)) s log ahead here (do-call call s .state) (do-call call s .log) (k .kept) (k-after .kept)
+      clerk-of-call (when-of (call .call) s) s log ahead here (do-call call s .state) (do-call call s .log) (k .kept)
+      (k-after .kept)
       (from-schedule-before schedule first (log-after more (do-call call s .state)) (do-call call s .log ++ log) from-after)
       (omega (arith, below-after, skipped-rises (log-after more (do-call call s .state)) (do-call call s .log ++ log)))
       (told-by more (do-call call s .state)) (delivered-as-queued (do-call call s .log ++ log) more (do-call call s .state))

@@ -18,7 +18,7 @@ use Rattle.srt_protocol.specs.Time.{last-moment}
 use Rattle.srt_group_model.specs.Lent.{delivered-by}
 use Rattle.srt_group_model.specs.declared.Packet.{Packet}
 use Rattle.srt_history.specs.CallWalk.{Fits, Holds, call-holds}
-use Rattle.srt_history.specs.Shape.{Quiet, Skip, Given, Shape, call-shape}
+use Rattle.srt_history.specs.Shape.{when-of, Quiet, Skip, Given, Shape, call-shape}
 use Rattle.srt_history.specs.Skips.{RightSkip, right-skip}
 use Rattle.srt_history.specs.Base.{Stands, SequenceFits, Sums, sums-law, sums-hold, quiet-delivers-nothing, quiet-skips-nothing}
 use Rattle.srt_history.specs.Schedule.{Consecutive, pass-to, pass-to-zero, pass-to-next, pass-to-further, sequence-at-place, Told, told-by, give-next, clerk}
@@ -122,7 +122,8 @@ quiet-leaves-base x y m log base h k quiet e =
 -- ---- the skipped count rises only by a right skip
 
 -- x and y are the receiving sides before and after a call, m its marks: quiet marks leave the skipped count
-quiet-leaves-count : (x y : Receive) (m log : List Mark) → Sums x log → Sums y (m ++ log) → total-skipped (m ++ log) ≡ total-skipped log
+quiet-leaves-count : (x y : Receive) (m log : List Mark) → Sums x log → Sums y (m ++ log)
+    → total-skipped (m ++ log) ≡ total-skipped log
     → y .numbers .skipped ≡ x .numbers .skipped
 quiet-leaves-count x y m log h k e = k .skipped ∙ ap (λ (n : ℕ). min n last-moment) e ∙ sym (h .skipped)
 
@@ -134,7 +135,8 @@ skips-under-delivery p m log = refl
 pub rise-is-right-skip : (g : Making) (calls : List Asked) (call : Asked)
     → (skipped-in (do-call call (state-after calls (made g)) .state) ≡ skipped-in (state-after calls (made g)) → ⊥)
     → (tested : State)
-    × RightSkip (time-of (call .call)) (do-call call (state-after calls (made g)) .state) tested (time-of (call .call))
+    × RightSkip (when-of (call .call) (state-after calls (made g))) (do-call call (state-after calls (made g)) .state) tested
+    (time-of (call .call))
 rise-is-right-skip g calls call risen = go (delivered-by (do-call call s .answer)) (call-shape call s)
   where
     s : State
@@ -154,14 +156,16 @@ rise-is-right-skip g calls call risen = go (delivered-by (do-call call s .answer
         risen
         (quiet-leaves-count (s .receive) (do-call call s .state .receive) (do-call call s .log) log (before .kept) (after .kept) e)
 
-    go : (o : Option Packet) → Shape (time-of (call .call)) o (do-call call s .state) (do-call call s .log)
-        → (tested : State) × RightSkip (time-of (call .call)) (do-call call s .state) tested (time-of (call .call))
+    go : (o : Option Packet) → Shape (when-of (call .call) s) o (do-call call s .state) (do-call call s .log)
+        → (tested : State) × RightSkip (when-of (call .call) s) (do-call call s .state) tested (time-of (call .call))
     go none quiet = absurd (same-count (quiet-skips-nothing (do-call call s .log) log quiet))
     go (some p) given =
         ⊎-elim (λ (quiet : Quiet (given .before)). absurd (same-count (delivered-skips-nothing given quiet)))
-        (λ (skip : Skip (time-of (call .call)) (do-call call s .state) (given .before)). (skip .tested, right-skip skip)) (given .how)
+        (λ (skip : Skip (when-of (call .call) s) (do-call call s .state) (given .before)). (skip .tested, right-skip skip))
+        (given .how)
       where
-        delivered-skips-nothing : (given : Given (time-of (call .call)) p (do-call call s .state) (do-call call s .log)) → Quiet (given .before)
+        delivered-skips-nothing : (given : Given (when-of (call .call) s) p (do-call call s .state) (do-call call s .log))
+            → Quiet (given .before)
             → total-skipped (do-call call s .log ++ log) ≡ total-skipped log
         delivered-skips-nothing given quiet =
             ap (λ (z : List Mark). total-skipped (z ++ log)) (given .is) ∙ skips-under-delivery p (given .before) log

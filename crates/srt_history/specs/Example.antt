@@ -235,5 +235,6 @@ fair = record { store = store-0; from = from; below = lit< tt; one-store = one-s
 pub by-clerk : clerk schedule 0 (told-by calls (made group)) ≡ some (deliveries calls (made group))
 by-clerk = history-theorem .schedule schedule 100 runs group calls fair
 
-pub clerk-list : clerk schedule 0 (told-by calls (made group)) ≡ some (planned 100 1 (64 ∷ []) ∷ planned 101 2 (65 ∷ 66 ∷ []) ∷ planned 104 1 (68 ∷ []) ∷ [])
+pub clerk-list : clerk schedule 0 (told-by calls (made group))
+    ≡ some (planned 100 1 (64 ∷ []) ∷ planned 101 2 (65 ∷ 66 ∷ []) ∷ planned 104 1 (68 ∷ []) ∷ [])
 clerk-list = by-clerk ∙ ap {B = Option (List Delivery)} some delivered-list

@@ -30,8 +30,9 @@ pub record HistoryTheorem : Type 0 where
   pub schedule : (schedule : List Delivery) (first : ℕ) → Consecutive first schedule → (g : Making) (calls : List Asked)
       → Fair schedule first g calls
       → clerk schedule 0 (told-by calls (made g)) ≡ some (deliveries calls (made g))
-  -- "Every skip passes 01's give-up test and ends with empty leg queues." The test was true for the packet nearest when it was
-  -- made, of a state whose base was set and not held and which asked for no continuation, at the time of the poll.
+  -- "Every skip passes 01's give-up test and ends with empty leg queues." The test was made at the poll's time, of the state that
+  -- the poll then had: its base was set and not held, it asked for no continuation, and the test was true for the packet
+  -- nearest in it. The call leaves every leg's queue empty.
   pub skips : (g : Making) (calls : List Asked) → SkipsRight calls (made g)
   -- "Two gateways with any such lists over one schedule, once both stand at one place of it, deliver the same packets, one list a
   -- prefix of the other, each up to its next skip." Places are counted unreduced, delivered plus skipped. The two may differ in

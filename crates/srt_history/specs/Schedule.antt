@@ -117,27 +117,27 @@ pass-to-further (x ∷ xs) m n rest =
     left : leb (x .count) m ≡ true → m + n - x .count ≡ m - x .count + n
     left k = omega (arith, le-of (x .count) m k)
 
--- a packet's sequence is by its place
+-- a packet's sequence is by its place, and it counts at least one
+abbrev pub SequenceAt : (first at : ℕ) → Delivery → Type 0
+SequenceAt first at x = (x .sequence ≡ sequence-further first at) × (1 ≤ x .count)
+
 pub sequence-at-place : (first place : ℕ) (l : List Delivery) (n : ℕ) (x : Delivery) (xs : List Delivery) → RunsFrom first place l
     → pass-to l n ≡ some (x ∷ xs)
-    → (x .sequence ≡ sequence-further first (place + n)) × (1 ≤ x .count)
+    → SequenceAt first (place + n) x
 unfolding pass-to
 sequence-at-place first place [] n x xs runs =
-    if-elim (λ (o : Option (List Delivery)). o ≡ some (x ∷ xs) → (x .sequence ≡ sequence-further first (place + n)) ×
-    (1 ≤ x .count)) (eqb n 0) _ _
+    if-elim (λ (o : Option (List Delivery)). o ≡ some (x ∷ xs) → SequenceAt first (place + n) x) (eqb n 0) _ _
     (λ e f. let never : _≡_ {A = ℕ} 0 1 = cc in absurd (omega arith)) (λ e f. none-some f)
 sequence-at-place first place (y ∷ ys) n x xs runs =
-    if-elim (λ (o : Option (List Delivery)). o ≡ some (x ∷ xs) → (x .sequence ≡ sequence-further first (place + n)) ×
-    (1 ≤ x .count)) (eqb n 0) _ _
+    if-elim (λ (o : Option (List Delivery)). o ≡ some (x ∷ xs) → SequenceAt first (place + n) x) (eqb n 0) _ _
     (λ e f.
     let same : y ≡ x = cc in
-    subst (λ (v : Delivery). (v .sequence ≡ sequence-further first (place + n)) × (1 ≤ v .count)) same
+    subst (SequenceAt first (place + n)) same
     (runs .0 ∙ ap (sequence-further first) (here e), runs .1))
     (λ e.
-    if-elim (λ (o : Option (List Delivery)). o ≡ some (x ∷ xs) → (x .sequence ≡ sequence-further first (place + n)) ×
-    (1 ≤ x .count)) (leb (y .count) n) _ _
+    if-elim (λ (o : Option (List Delivery)). o ≡ some (x ∷ xs) → SequenceAt first (place + n) x) (leb (y .count) n) _ _
     (λ k f.
-    let h : (x .sequence ≡ sequence-further first (place + y .count + (n - y .count))) × (1 ≤ x .count) =
+    let h : SequenceAt first (place + y .count + (n - y .count)) x =
     sequence-at-place first (place + y .count) ys (n - y .count) x xs (runs .2) f
     in
     (h .0 ∙ ap (sequence-further first) (past k), h .1))

@@ -56,31 +56,57 @@ Quiet log = All QuietMark log
 abbrev pub EmptyQueues : State → Type 0
 EmptyQueues s = All (λ (v : Side). v .queue ≡ []) (sides (s .members))
 
--- The marks of a call at a time are a skip over quiet ones. `tested` is the state of which the give-up test was made, once,
--- before collecting: its base was not held, no continuation was asked for, and the test was true for the packet nearest then.
-pub record Skip (time : ℕ) (s : State) (log : List Mark) : Type 0 where
+-- ---- when a poll makes its give-up test
+
+-- the time of a call and the state that it began with
+pub record When : Type 0 where
+  pub time : ℕ
+  pub from : State
+
+-- the state of which an event poll makes its give-up test: after its collecting and its two refreshes
+unfoldable pub state-at-test : Run → State
+state-at-test r =
+    refresh-states
+    (collect-until-held max-visits
+    (refresh-pending-states record { state = with-continuation false (r .state); log = r .log; budget = delivery-budget })) .state
+
+-- a call under way after so many event polls
+unfoldable pub after-polls : (time polls : ℕ) → Run → Run
+after-polls time zero r = r
+after-polls time (suc polls) r = poll-event time (after-polls time polls r) .run
+
+-- it is that of one of the event polls of this call
+abbrev pub AtTest : When → State → Type 0
+AtTest when tested = (polls : ℕ) × (tested ≡ state-at-test (after-polls (when .time) polls (start (when .from))))
+
+-- ---- what the marks of a call can be, if it gave a packet
+
+-- The marks of a call are a skip over quiet ones. `tested` is the state of which the give-up test was made, once, before
+-- collecting: its base was not held, no continuation was asked for, and the test was true for the packet nearest then.
+pub record Skip (when : When) (s : State) (log : List Mark) : Type 0 where
   pub tested : State
   pub base : ℕ
   pub distance : ℕ
   pub before : List Mark
-  pub is : log ≡ gap-skipped tested time distance ∷ before
+  pub is : log ≡ gap-skipped tested (when .time) distance ∷ before
   pub quiet : Quiet before
+  pub at-test : AtTest when tested
   pub based : next-receive-sequence (tested .receive) ≡ some base
   pub missing : is-held base (tested .receive .pending) ≡ false
   pub complete : tested .visit .continuation ≡ false
-  pub given-up : gap-given-up time tested ≡ true
+  pub given-up : gap-given-up (when .time) tested ≡ true
   pub empty : EmptyQueues s
 
 -- the packet was delivered last of all
-pub record Given (time : ℕ) (p : Packet) (s : State) (log : List Mark) : Type 0 where
+pub record Given (when : When) (p : Packet) (s : State) (log : List Mark) : Type 0 where
   pub before : List Mark
   pub is : log ≡ delivered p ∷ before
-  pub how : Quiet before ⊎ Skip time s before
+  pub how : Quiet before ⊎ Skip when s before
 
--- by the time of the call and the packet that it gave, if it gave one
-abbrev pub Shape : ℕ → Option Packet → State → List Mark → Type 0
-Shape time none s log = Quiet log
-Shape time (some p) s log = Given time p s log
+-- by the packet that it gave, if it gave one
+abbrev pub Shape : When → Option Packet → State → List Mark → Type 0
+Shape when none s log = Quiet log
+Shape when (some p) s log = Given when p s log
 
 -- ---- collecting and the refresh are quiet
 
@@ -228,21 +254,21 @@ packet-of nothing = none
 packet-of (event w) = none
 packet-of (packet p) = some p
 
-abbrev PollShape : ℕ → Poll → Type 0
-PollShape time q = Shape time (packet-of (q .gave)) (q .run .state) (q .run .log)
+abbrev PollShape : When → Poll → Type 0
+PollShape when q = Shape when (packet-of (q .gave)) (q .run .state) (q .run .log)
 
-deliver-shape : (time base : ℕ) (r : Run) → Quiet (r .log) → PollShape time (deliver base r)
+deliver-shape : (when : When) (base : ℕ) (r : Run) → Quiet (r .log) → PollShape when (deliver base r)
 unfolding deliver
-deliver-shape time base r h =
-    if-some-elim (PollShape time) (held-at base (r .state .receive .pending)) _ _
+deliver-shape when base r h =
+    if-some-elim (PollShape when) (held-at base (r .state .receive .pending)) _ _
     (λ p e. record { before = r .log; is = refl; how = inl h }) (λ e. h)
 
 -- delivery moves no queue
-deliver-after-skip : (time base : ℕ) (r : Run) → ((p : Packet) × (held-at base (r .state .receive .pending) ≡ some p))
-    → Skip time (r .state) (r .log) → PollShape time (deliver base r)
+deliver-after-skip : (when : When) (base : ℕ) (r : Run) → ((p : Packet) × (held-at base (r .state .receive .pending) ≡ some p))
+    → Skip when (r .state) (r .log) → PollShape when (deliver base r)
 unfolding deliver
-deliver-after-skip time base r found h =
-    if-some-elim (PollShape time) (held-at base (r .state .receive .pending)) _ _ (λ p e.
+deliver-after-skip when base r found h =
+    if-some-elim (PollShape when) (held-at base (r .state .receive .pending)) _ _ (λ p e.
     record {
       before = r .log;
       is = refl;
@@ -255,6 +281,7 @@ deliver-after-skip time base r found h =
             before = h .before;
             is = h .is;
             quiet = h .quiet;
+            at-test = h .at-test;
             based = h .based;
             missing = h .missing;
             complete = h .complete;
@@ -266,21 +293,23 @@ deliver-after-skip time base r found h =
     })
     (λ e. none-some (sym e ∙ found .1))
 
-give-waiting-shape : (time : ℕ) (r : Run) → Quiet (r .log) → PollShape time (give-waiting r)
+give-waiting-shape : (when : When) (r : Run) → Quiet (r .log) → PollShape when (give-waiting r)
 unfolding give-waiting
-give-waiting-shape time r h = if-some-elim (PollShape time) (at-place 0 (r .state .waiting)) _ _ (λ w e. h) (λ e. h)
+give-waiting-shape when r h = if-some-elim (PollShape when) (at-place 0 (r .state .waiting)) _ _ (λ w e. h) (λ e. h)
 
-skip-after-shape : (time : ℕ) (tested : State) (base : ℕ) (c : Visited) → next-receive-sequence (tested .receive) ≡ some base
-    → is-held base (tested .receive .pending) ≡ false → tested .visit .continuation ≡ false → gap-given-up time tested ≡ true
-    → (c .went ≡ true → EmptyQueues (c .run .state)) → Quiet (c .run .log) → PollShape time (skip-after time tested base c)
+skip-after-shape : (when : When) (tested : State) (base : ℕ) (c : Visited) → AtTest when tested
+    → next-receive-sequence (tested .receive) ≡ some base
+    → is-held base (tested .receive .pending) ≡ false → tested .visit .continuation ≡ false
+    → gap-given-up (when .time) tested ≡ true
+    → (c .went ≡ true → EmptyQueues (c .run .state)) → Quiet (c .run .log) → PollShape when (skip-after (when .time) tested base c)
 unfolding skip-after skip-to
-skip-after-shape time tested base c based missing complete given-up empty h =
-    if-elim (PollShape time) _ _ _ (λ e. give-waiting-shape time (c .run) h)
+skip-after-shape when tested base c at-test based missing complete given-up empty h =
+    if-elim (PollShape when) _ _ _ (λ e. give-waiting-shape when (c .run) h)
     (λ e.
-    if-elim (PollShape time) (c .went) _ _
+    if-elim (PollShape when) (c .went) _ _
     (λ e.
-    if-some-elim (PollShape time) (nearest (c .run .state .receive .pending)) _ _ (λ p near.
-    deliver-after-skip time (sequence-of p) _ (nearest-is-found (c .run .state .receive .pending) p near)
+    if-some-elim (PollShape when) (nearest (c .run .state .receive .pending)) _ _ (λ p near.
+    deliver-after-skip when (sequence-of p) _ (nearest-is-found (c .run .state .receive .pending) p near)
     record {
       tested = tested;
       base = base;
@@ -288,6 +317,7 @@ skip-after-shape time tested base c based missing complete given-up empty h =
       before = c .run .log;
       is = refl;
       quiet = h;
+      at-test = at-test;
       based = based;
       missing = missing;
       complete = complete;
@@ -295,7 +325,7 @@ skip-after-shape time tested base c based missing complete given-up empty h =
       empty = empty e;
     })
     (λ e. h))
-    (λ e. deliver-shape time base (c .run) h))
+    (λ e. deliver-shape when base (c .run) h))
 
 -- the skip is tried only where the test was true
 test-was-true : (held continued given-up : Bool) → (held || (continued || not given-up)) ≡ false → given-up ≡ true
@@ -304,151 +334,202 @@ test-was-true false true c e = not-both {t = true} refl e
 test-was-true false false true e = refl
 test-was-true false false false e = not-both {t = true} refl e
 
-skip-given-up-gap-shape : (time base : ℕ) (r : Run) → next-receive-sequence (r .state .receive) ≡ some base → Quiet (r .log)
-    → PollShape time (skip-given-up-gap time base r)
+skip-given-up-gap-shape : (when : When) (base : ℕ) (r : Run) → AtTest when (r .state)
+    → next-receive-sequence (r .state .receive) ≡ some base → Quiet (r .log)
+    → PollShape when (skip-given-up-gap (when .time) base r)
 unfolding skip-given-up-gap
-skip-given-up-gap-shape time base r based h =
-    if-elim (PollShape time) _ _ _ (λ e. deliver-shape time base r h)
+skip-given-up-gap-shape when base r at-test based h =
+    if-elim (PollShape when) _ _ _ (λ e. deliver-shape when base r h)
     (λ e.
-    skip-after-shape time (r .state) base (collect-until-empty max-visits base r)
+    skip-after-shape when (r .state) base (collect-until-empty max-visits base r)
+    at-test
     based
     (or-left (is-held base (r .state .receive .pending)) _ e)
     (or-left (r .state .visit .continuation) _ (or-right (is-held base (r .state .receive .pending)) _ e))
-    (test-was-true (is-held base (r .state .receive .pending)) (r .state .visit .continuation) (gap-given-up time (r .state)) e)
+    (test-was-true (is-held base (r .state .receive .pending)) (r .state .visit .continuation)
+    (gap-given-up (when .time) (r .state)) e)
     (collect-until-empty-empties max-visits base r) (collect-until-empty-quiet max-visits base r h))
 
-deliver-next-shape : (time : ℕ) (r : Run) → Quiet (r .log) → PollShape time (deliver-next time r)
+deliver-next-shape : (when : When) (r : Run) → AtTest when (r .state) → Quiet (r .log)
+    → PollShape when (deliver-next (when .time) r)
 unfolding deliver-next
-deliver-next-shape time r h =
-    if-some-elim (PollShape time) (next-receive-sequence (r .state .receive)) _ _
-    (λ base e. skip-given-up-gap-shape time base r e h)
+deliver-next-shape when r at-test h =
+    if-some-elim (PollShape when) (next-receive-sequence (r .state .receive)) _ _
+    (λ base e. skip-given-up-gap-shape when base r at-test e h)
     (λ e.
-    if-some-elim (PollShape time) (nearest (r .state .receive .pending)) _ _
-    (λ p e. deliver-shape time (sequence-of p) (set-base (some (sequence-of p)) r) (set-base-quiet (some (sequence-of p)) r h))
+    if-some-elim (PollShape when) (nearest (r .state .receive .pending)) _ _
+    (λ p e. deliver-shape when (sequence-of p) (set-base (some (sequence-of p)) r) (set-base-quiet (some (sequence-of p)) r h))
     (λ e. h))
 
-pub poll-event-shape : (time : ℕ) (r : Run) → Quiet (r .log) → PollShape time (poll-event time r)
-unfolding poll-event
-poll-event-shape time r h =
-    if-elim (PollShape time) _ _ _ (λ e. give-waiting-shape time _ gathered)
-    (λ e. deliver-next-shape time _ (refresh-states-quiet _ gathered))
+-- the run is that of this call after so many event polls
+abbrev AfterPolls : When → ℕ → Run → Type 0
+AfterPolls when polls r = r ≡ after-polls (when .time) polls (start (when .from))
+
+poll-event-shape-after : (when : When) (polls : ℕ) (r : Run) → AfterPolls when polls r → Quiet (r .log)
+    → PollShape when (poll-event (when .time) r)
+unfolding poll-event state-at-test
+poll-event-shape-after when polls r here h =
+    if-elim (PollShape when) _ _ _ (λ e. give-waiting-shape when _ gathered)
+    (λ e. deliver-next-shape when _ (polls, ap state-at-test here) (refresh-states-quiet _ gathered))
   where
-    gathered : Quiet (collect-until-held max-visits (refresh-pending-states record { state = with-continuation false (r .state); log = r .log; budget = delivery-budget }) .log)
+    gathered : Quiet
+        (collect-until-held max-visits
+        (refresh-pending-states record { state = with-continuation false (r .state); log = r .log; budget = delivery-budget }) .log)
     gathered = collect-until-held-quiet max-visits _ (refresh-pending-states-quiet _ h)
 
-abbrev DataShape : ℕ → DataPoll → Type 0
-DataShape time q = Shape time (q .gave) (q .run .state) (q .run .log)
+pub poll-event-shape : (when : When) → PollShape when (poll-event (when .time) (start (when .from)))
+unfolding after-polls
+poll-event-shape when = poll-event-shape-after when 0 (start (when .from)) refl tt
 
-poll-until-data-shape : (time visits : ℕ) (r : Run) → Quiet (r .log) → DataShape time (poll-until-data time visits r)
-unfolding poll-until-data pass-events
-poll-until-data-shape time zero r h = h
-poll-until-data-shape time (suc visits) r h =
-    go (poll-event time r .gave) refl (poll-event-shape time r h)
-    (λ q. poll-until-data-shape time visits (poll-event time r .run) q)
+abbrev DataShape : When → DataPoll → Type 0
+DataShape when q = Shape when (q .gave) (q .run .state) (q .run .log)
+
+poll-until-data-shape : (when : When) (visits polls : ℕ) (r : Run) → AfterPolls when polls r → Quiet (r .log)
+    → DataShape when (poll-until-data (when .time) visits r)
+unfolding poll-until-data pass-events after-polls
+poll-until-data-shape when zero polls r here h = h
+poll-until-data-shape when (suc visits) polls r here h =
+    go (poll-event (when .time) r .gave) refl (poll-event-shape-after when polls r here h)
+    (λ q.
+    poll-until-data-shape when visits (suc polls) (poll-event (when .time) r .run)
+    (ap (λ (x : Run). poll-event (when .time) x .run) here) q)
   where
-    go : (gave : Polled) → poll-event time r .gave ≡ gave → PollShape time (poll-event time r)
-        → (Quiet (poll-event time r .run .log) → DataShape time (poll-until-data time visits (poll-event time r .run)))
-        → DataShape time (pass-events gave (poll-event time r .run) (poll-until-data time visits (poll-event time r .run)))
+    go : (gave : Polled) → poll-event (when .time) r .gave ≡ gave → PollShape when (poll-event (when .time) r)
+        → (Quiet (poll-event (when .time) r .run .log)
+        → DataShape when (poll-until-data (when .time) visits (poll-event (when .time) r .run)))
+        → DataShape when
+        (pass-events gave (poll-event (when .time) r .run) (poll-until-data (when .time) visits (poll-event (when .time) r .run)))
     go nothing e x y =
-        subst (λ (a : Polled). Shape time (packet-of a) (poll-event time r .run .state) (poll-event time r .run .log)) e x
+        subst (λ (a : Polled). Shape when (packet-of a) (poll-event (when .time) r .run .state)
+        (poll-event (when .time) r .run .log)) e x
     go (event w) e x y =
-        y (subst (λ (a : Polled). Shape time (packet-of a) (poll-event time r .run .state) (poll-event time r .run .log)) e x)
+        y (subst (λ (a : Polled). Shape when (packet-of a) (poll-event (when .time) r .run .state)
+        (poll-event (when .time) r .run .log)) e x)
     go (packet p) e x y =
-        subst (λ (a : Polled). Shape time (packet-of a) (poll-event time r .run .state) (poll-event time r .run .log)) e x
+        subst (λ (a : Polled). Shape when (packet-of a) (poll-event (when .time) r .run .state)
+        (poll-event (when .time) r .run .log)) e x
 
-pub poll-data-bounded-shape : (time max-events : ℕ) (r : Run) → Quiet (r .log)
-    → DataShape time (poll-data-bounded time max-events r)
-unfolding poll-data-bounded
-poll-data-bounded-shape time max-events r h =
-    if-elim (DataShape time) _ _ _ (λ e. h) (λ e. poll-until-data-shape time (min max-events max-visits) r h)
+pub poll-data-bounded-shape : (when : When) (max-events : ℕ)
+    → DataShape when (poll-data-bounded (when .time) max-events (start (when .from)))
+unfolding poll-data-bounded after-polls
+poll-data-bounded-shape when max-events =
+    if-elim (DataShape when) _ _ _ (λ e. tt)
+    (λ e. poll-until-data-shape when (min max-events max-visits) 0 (start (when .from)) refl tt)
 
 -- ---- a call
 
-abbrev pub StepShape : ℕ → Step → Type 0
-StepShape time step = Shape time (delivered-by (step .answer)) (step .state) (step .log)
+abbrev pub StepShape : When → Step → Type 0
+StepShape when step = Shape when (delivered-by (step .answer)) (step .state) (step .log)
 
-refusal-shape : (time : ℕ) (s : State) (code : ℕ) → StepShape time (refuse code s)
+refusal-shape : (when : When) (s : State) (code : ℕ) → StepShape when (refuse code s)
 unfolding delivered-by
-refusal-shape time s code = tt
+refusal-shape when s code = tt
 
-pub polled-shape : (time : ℕ) (gave : Polled) (s : State) (log : List Mark) → Shape time (packet-of gave) s log
-    → Shape time (delivered-by (polled gave)) s log
+pub polled-shape : (when : When) (gave : Polled) (s : State) (log : List Mark) → Shape when (packet-of gave) s log
+    → Shape when (delivered-by (polled gave)) s log
 unfolding delivered-by
-polled-shape time nothing s log h = h
-polled-shape time (event w) s log h = h
-polled-shape time (packet p) s log h = h
+polled-shape when nothing s log h = h
+polled-shape when (event w) s log h = h
+polled-shape when (packet p) s log h = h
 
-add-body-shape : (time id weight : ℕ) (leg : Leg) (s : State) → StepShape time (add-body id weight leg s)
+add-body-shape : (when : When) (id weight : ℕ) (leg : Leg) (s : State) → StepShape when (add-body id weight leg s)
 unfolding add-body delivered-by
-add-body-shape time id weight leg s =
-    if-elim (StepShape time) _ _ _
+add-body-shape when id weight leg s =
+    if-elim (StepShape when) _ _ _
     (λ e.
-    if-some-elim (StepShape time) (align-member-sequence (next-send-sequence (s .send)) (length (s .members)) _) _ _
+    if-some-elim (StepShape when) (align-member-sequence (next-send-sequence (s .send)) (length (s .members)) _) _ _
     (λ ms e. set-base-quiet _ (start s) tt) (λ e. set-base-quiet _ (start s) tt))
     (λ e. set-base-quiet _ (start s) tt)
 
-remove-body-shape : (time id : ℕ) (s : State) → StepShape time (remove-body id s)
+remove-body-shape : (when : When) (id : ℕ) (s : State) → StepShape when (remove-body id s)
 unfolding remove-body delivered-by
-remove-body-shape time id s =
-    if-some-elim (StepShape time) (find id (s .members)) _ _
-    (λ i e. if-some-elim (StepShape time) (at-place i (s .members)) _ _ (λ m e. tt) (λ e. tt))
+remove-body-shape when id s =
+    if-some-elim (StepShape when) (find id (s .members)) _ _
+    (λ i e. if-some-elim (StepShape when) (at-place i (s .members)) _ _ (λ m e. tt) (λ e. tt))
     (λ e. tt)
 
-left-by-send-shape : (time cell : ℕ) (payload : List ℕ) (r : Run) (flow : Flow) → Quiet (r .log)
-    → StepShape time (left-by-send cell payload r flow)
+left-by-send-shape : (when : When) (cell : ℕ) (payload : List ℕ) (r : Run) (flow : Flow) → Quiet (r .log)
+    → StepShape when (left-by-send cell payload r flow)
 unfolding left-by-send delivered-by
-left-by-send-shape time cell payload r flow h =
-    if-elim (StepShape time) _ _ _ (λ e. if-elim Quiet _ _ _ (λ e. (tt, h)) (λ e. h)) (λ e. h)
+left-by-send-shape when cell payload r flow h =
+    if-elim (StepShape when) _ _ _ (λ e. if-elim Quiet _ _ _ (λ e. (tt, h)) (λ e. h)) (λ e. h)
 
 -- a look at a member gives no packet
-membership-shape : (time : ℕ) (o : Option Member) (s : State)
-    → Shape time (delivered-by (if-some o give (λ m. membership (m .membership)) otherwise no-answer)) s []
+membership-shape : (when : When) (o : Option Member) (s : State)
+    → Shape when (delivered-by (if-some o give (λ m. membership (m .membership)) otherwise no-answer)) s []
 unfolding delivered-by if-some_give_otherwise_
-membership-shape time none s = tt
-membership-shape time (some m) s = tt
+membership-shape when none s = tt
+membership-shape when (some m) s = tt
+
+abbrev at-time : ℕ → State → When
+at-time time s = record { time = time; from = s }
+
+abbrev at-no-time : State → When
+at-no-time = at-time 0
+
+abbrev pub when-of : Call → State → When
+when-of call s = record { time = time-of call; from = s }
 
 -- every call, lent a store, an output and a list of these lengths
-pub step-of-shape : (store output list : ℕ) (call : Call) (s : State) → StepShape (time-of call) (step-of store output list call s)
+pub step-of-shape : (store output list : ℕ) (call : Call) (s : State)
+    → StepShape (when-of call s) (step-of store output list call s)
 unfolding step-of time-of delivered-by add-member mark-member-broken remove-member-connection member refresh-member-states disconnect event-poll-body poll-event-call data-poll-body poll-data-call send send-body can-send-body can-send-call can-send-with-pacing-body can-send-with-pacing-call time-until-send backup-stability-timeout-micros group-id mode peer-group-id skipped-receive-packets has-pending-data-call has-receive-continuation read-leg queue-data-body queue-data queue-event
 step-of-shape store output list (addition id weight leg queue) s =
-    guard-passed (StepShape 0) _ s _ (refusal-shape 0 s) (λ c. add-body-shape 0 id weight leg s)
-step-of-shape store output list (broken-mark id) s = guard-passed (StepShape 0) _ s _ (refusal-shape 0 s) (λ c. tt)
-step-of-shape store output list (removal id) s = guard-passed (StepShape 0) _ s _ (refusal-shape 0 s) (λ c. remove-body-shape 0 id s)
+    guard-passed (StepShape (at-no-time s)) _ s _ (refusal-shape (at-no-time s) s)
+    (λ c. add-body-shape (at-no-time s) id weight leg s)
+step-of-shape store output list (broken-mark id) s =
+    guard-passed (StepShape (at-no-time s)) _ s _ (refusal-shape (at-no-time s) s) (λ c. tt)
+step-of-shape store output list (removal id) s =
+    guard-passed (StepShape (at-no-time s)) _ s _ (refusal-shape (at-no-time s) s) (λ c. remove-body-shape (at-no-time s) id s)
 step-of-shape store output list (member-look id) s =
-    guard-passed (StepShape 0) _ s _ (refusal-shape 0 s) (λ c. membership-shape 0 _ s)
+    guard-passed (StepShape (at-no-time s)) _ s _ (refusal-shape (at-no-time s) s) (λ c. membership-shape (at-no-time s) _ s)
 step-of-shape store output list refreshing s =
-    guard-passed (StepShape 0) _ s _ (refusal-shape 0 s) (λ c. refresh-states-quiet (start s) tt)
-step-of-shape store output list (disconnection time) s = guard-passed (StepShape 0) _ s _ (refusal-shape 0 s) (λ c. tt)
+    guard-passed (StepShape (at-no-time s)) _ s _ (refusal-shape (at-no-time s) s) (λ c. refresh-states-quiet (start s) tt)
+step-of-shape store output list (disconnection time) s =
+    guard-passed (StepShape (at-no-time s)) _ s _ (refusal-shape (at-no-time s) s) (λ c. tt)
 step-of-shape store output list (event-poll time) s =
-    guard-passed (StepShape time) _ s _ (refusal-shape time s)
-    (λ c. polled-shape time (poll-event time (start s) .gave) _ _ (poll-event-shape time (start s) tt))
+    guard-passed (StepShape (at-time time s)) _ s _ (refusal-shape (at-time time s) s)
+    (λ c. polled-shape (at-time time s) (poll-event time (start s) .gave) _ _ (poll-event-shape (at-time time s)))
 step-of-shape store output list (data-poll time max-events) s =
-    guard-passed (StepShape time) _ s _ (refusal-shape time s) (λ c. poll-data-bounded-shape time max-events (start s) tt)
+    guard-passed (StepShape (at-time time s)) _ s _ (refusal-shape (at-time time s) s)
+    (λ c. poll-data-bounded-shape (at-time time s) max-events)
 step-of-shape store output list (sending time payload) s =
-    guard-passed (StepShape 0) _ s _ (refusal-shape 0 s)
-    (λ c. left-by-send-shape 0 _ payload (refresh-states (start s)) _ (refresh-states-quiet (start s) tt))
+    guard-passed (StepShape (at-no-time s)) _ s _ (refusal-shape (at-no-time s) s)
+    (λ c. left-by-send-shape (at-no-time s) _ payload (refresh-states (start s)) _ (refresh-states-quiet (start s) tt))
 step-of-shape store output list readiness s =
-    guard-passed (StepShape 0) _ s _ (refusal-shape 0 s)
-    (λ c. if-elim (StepShape 0) _ _ _ (λ e. refresh-states-quiet (start s) tt) (λ e. refresh-states-quiet (start s) tt))
+    guard-passed (StepShape (at-no-time s)) _ s _ (refusal-shape (at-no-time s) s)
+    (λ c. if-elim (StepShape (at-no-time s)) _ _ _ (λ e. refresh-states-quiet (start s) tt)
+    (λ e. refresh-states-quiet (start s) tt))
 step-of-shape store output list (paced-readiness time) s =
-    guard-passed (StepShape 0) _ s _ (refusal-shape 0 s)
-    (λ c. if-elim (StepShape 0) _ _ _ (λ e. refresh-states-quiet (start s) tt) (λ e. refresh-states-quiet (start s) tt))
-step-of-shape store output list (send-wait time) s = guard-passed (StepShape 0) _ s _ (refusal-shape 0 s) (λ c. tt)
-step-of-shape store output list (stability id) s = guard-passed (StepShape 0) _ s _ (refusal-shape 0 s) (λ c. tt)
-step-of-shape store output list group-look s = guard-passed (StepShape 0) _ s _ (refusal-shape 0 s) (λ c. tt)
-step-of-shape store output list mode-look s = guard-passed (StepShape 0) _ s _ (refusal-shape 0 s) (λ c. tt)
-step-of-shape store output list peer-look s = guard-passed (StepShape 0) _ s _ (refusal-shape 0 s) (λ c. tt)
-step-of-shape store output list skipped-look s = guard-passed (StepShape 0) _ s _ (refusal-shape 0 s) (λ c. tt)
-step-of-shape store output list pending-look s = guard-passed (StepShape 0) _ s _ (refusal-shape 0 s) (λ c. tt)
-step-of-shape store output list continuation-look s = guard-passed (StepShape 0) _ s _ (refusal-shape 0 s) (λ c. tt)
-step-of-shape store output list (reading id field n) s = guard-passed (StepShape 0) _ s _ (refusal-shape 0 s) (λ c. tt)
+    guard-passed (StepShape (at-no-time s)) _ s _ (refusal-shape (at-no-time s) s)
+    (λ c. if-elim (StepShape (at-no-time s)) _ _ _ (λ e. refresh-states-quiet (start s) tt)
+    (λ e. refresh-states-quiet (start s) tt))
+step-of-shape store output list (send-wait time) s =
+    guard-passed (StepShape (at-no-time s)) _ s _ (refusal-shape (at-no-time s) s) (λ c. tt)
+step-of-shape store output list (stability id) s =
+    guard-passed (StepShape (at-no-time s)) _ s _ (refusal-shape (at-no-time s) s) (λ c. tt)
+step-of-shape store output list group-look s =
+    guard-passed (StepShape (at-no-time s)) _ s _ (refusal-shape (at-no-time s) s) (λ c. tt)
+step-of-shape store output list mode-look s =
+    guard-passed (StepShape (at-no-time s)) _ s _ (refusal-shape (at-no-time s) s) (λ c. tt)
+step-of-shape store output list peer-look s =
+    guard-passed (StepShape (at-no-time s)) _ s _ (refusal-shape (at-no-time s) s) (λ c. tt)
+step-of-shape store output list skipped-look s =
+    guard-passed (StepShape (at-no-time s)) _ s _ (refusal-shape (at-no-time s) s) (λ c. tt)
+step-of-shape store output list pending-look s =
+    guard-passed (StepShape (at-no-time s)) _ s _ (refusal-shape (at-no-time s) s) (λ c. tt)
+step-of-shape store output list continuation-look s =
+    guard-passed (StepShape (at-no-time s)) _ s _ (refusal-shape (at-no-time s) s) (λ c. tt)
+step-of-shape store output list (reading id field n) s =
+    guard-passed (StepShape (at-no-time s)) _ s _ (refusal-shape (at-no-time s) s) (λ c. tt)
 step-of-shape store output list (queued-data id content payload) s =
-    guard-passed (StepShape 0) _ s _ (refusal-shape 0 s) (λ c. (tt, tt))
-step-of-shape store output list (queued-event id kind reason) s = guard-passed (StepShape 0) _ s _ (refusal-shape 0 s) (λ c. tt)
+    guard-passed (StepShape (at-no-time s)) _ s _ (refusal-shape (at-no-time s) s) (λ c. (tt, tt))
+step-of-shape store output list (queued-event id kind reason) s =
+    guard-passed (StepShape (at-no-time s)) _ s _ (refusal-shape (at-no-time s) s) (λ c. tt)
 
 -- as it is asked for
 pub call-shape : (call : Asked) (s : State)
-    → Shape (time-of (call .call)) (delivered-by (do-call call s .answer)) (do-call call s .state) (do-call call s .log)
+    → Shape (when-of (call .call) s) (delivered-by (do-call call s .answer)) (do-call call s .state) (do-call call s .log)
 unfolding do-call perform with-bytes
 call-shape call s =
     step-of-shape (length (call .lent .store)) (length (call .lent .output)) (length (call .lent .list)) (call .call) s
