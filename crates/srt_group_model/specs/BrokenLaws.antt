@@ -15,10 +15,10 @@ use Rattle.srt_group_model.specs.Members.{id-of, has-id, in-state, align
 use Rattle.srt_group_model.specs.Run.{Mark, Run, start, refresh-states}
 use Rattle.srt_group_model.specs.Removal.{retire, bound-group-owned-pending, take-out, remove-member-at}
 use Rattle.srt_group_model.specs.Guards.{Step, Check, guard}
-use Rattle.srt_group_model.specs.Calls.{change-member, add-body, add-member, mark-member-broken, remove-body, remove-member-connection, member, refresh-member-states, disconnect, event-poll-body, poll-event-call, data-poll-body, poll-data-call, left-by-send, send-flow, send-body, send, can-send-body, can-send-call, can-send-with-pacing-body, can-send-with-pacing-call, time-until-send, backup-stability-timeout-micros, group-id, mode, peer-group-id, skipped-receive-packets, has-pending-data-call, has-receive-continuation, read-leg, queue-data-body, queue-data, queue-event}
+use Rattle.srt_group_model.specs.Calls.{change-member, add-body, add-member, mark-member-broken, remove-body, remove-member-connection, member, refresh-member-states, disconnect, event-poll-body, poll-event-call, data-poll-body, poll-data-call, left-by-send, send-flow, send-body, send, can-send-body, can-send-call, can-send-with-pacing-body, can-send-with-pacing-call, time-until-send, backup-stability-timeout-micros, group-id, members-call, mode, peer-group-id, skipped-receive-packets, has-pending-data-call, has-receive-continuation, read-leg, queue-data-body, queue-data, queue-event}
 use Rattle.srt_group_model.specs.Sending.{Flow}
 use Rattle.srt_group_model.specs.Backup.{demote-stale-backup-carrier, trim-by-carrier}
-use Rattle.srt_group_model.specs.Lent.{Lent, Call, addition, broken-mark, removal, member-look, refreshing, disconnection, event-poll, data-poll, sending, readiness, paced-readiness, send-wait, stability, group-look, mode-look, peer-look, skipped-look, pending-look, continuation-look, reading, queued-data, queued-event, with-bytes, step-of, perform}
+use Rattle.srt_group_model.specs.Lent.{Lent, Call, addition, broken-mark, removal, member-look, refreshing, disconnection, event-poll, data-poll, sending, readiness, paced-readiness, send-wait, stability, group-look, members-look, mode-look, peer-look, skipped-look, pending-look, continuation-look, reading, queued-data, queued-event, with-bytes, step-of, perform}
 use Rattle.srt_group_model.specs.Refusals.{guard-elim}
 use Rattle.srt_group_model.specs.Frame.{Carried, All-carried, all-then, all-kept-carried, align-kept, demote-carried, promote-if-none-carried, place-passes, broadcast-framed, backup-framed, trim-members}
 use Rattle.srt_group_model.specs.Queues.{Relabelled, pop, Queue-law, refresh-kept, poll-event-kept, poll-data-kept}
@@ -200,6 +200,7 @@ removes (paced-readiness time) id = false
 removes (send-wait time) id = false
 removes (stability k) id = false
 removes group-look id = false
+removes members-look id = false
 removes mode-look id = false
 removes peer-look id = false
 removes skipped-look id = false
@@ -216,7 +217,7 @@ leg-still : (m : Member) (n : Member) → n .membership ≡ m .membership → St
 leg-still m n e = record { id = ap (λ (x : Membership). x .id) e; broken = λ h. ap (λ (x : Membership). eqb (x .state) broken-state) e ∙ h }
 
 step-keeps : (id store output list : ℕ) (c : Call) (s : State) → removes c id ≡ false → Broken-in id (s .members) → Keeps-broken id (step-of store output list c s)
-unfolding step-of add-member mark-member-broken remove-member-connection member refresh-member-states disconnect event-poll-body poll-event-call data-poll-body poll-data-call send can-send-call can-send-with-pacing-call time-until-send backup-stability-timeout-micros group-id mode peer-group-id skipped-receive-packets has-pending-data-call has-receive-continuation read-leg queue-data-body queue-data queue-event
+unfolding step-of add-member mark-member-broken remove-member-connection member refresh-member-states disconnect event-poll-body poll-event-call data-poll-body poll-data-call send can-send-call can-send-with-pacing-call time-until-send backup-stability-timeout-micros group-id members-call mode peer-group-id skipped-receive-packets has-pending-data-call has-receive-continuation read-leg queue-data-body queue-data queue-event
 step-keeps id store output list (addition k weight l queue) s o h = guarded id _ s _ h (add-keeps id k weight l s h)
 step-keeps id store output list (broken-mark k) s o h =
     guarded id _ s _ h (change-keeps id k _ s (λ m. record { id = refl; broken = λ e. refl }) h)
@@ -236,6 +237,7 @@ step-keeps id store output list (paced-readiness time) s o h = guarded id _ s _ 
 step-keeps id store output list (send-wait time) s o h = guarded id _ s _ h h
 step-keeps id store output list (stability k) s o h = guarded id _ s _ h h
 step-keeps id store output list group-look s o h = guarded id _ s _ h h
+step-keeps id store output list members-look s o h = guarded id _ s _ h h
 step-keeps id store output list mode-look s o h = guarded id _ s _ h h
 step-keeps id store output list peer-look s o h = guarded id _ s _ h h
 step-keeps id store output list skipped-look s o h = guarded id _ s _ h h

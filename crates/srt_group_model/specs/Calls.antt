@@ -22,7 +22,7 @@ use Rattle.srt_group_model.specs.Sending.{Flow, ends-with, above-limit, 
 use Rattle.srt_group_model.specs.Backup.{stability-timeout, demote-stale-backup-carrier, trim-by-carrier, send-backup, backup-send-ready, group-time-until-send}
 use Rattle.srt_group_model.specs.Cells.{free-cell}
 use Rattle.srt_group_model.specs.Validity.{above, is-invalid, leg-out-of-range, leg-sequence-too-large, data-out-of-range, max-members, max-events, max-pending}
-use Rattle.srt_group_model.specs.Guards.{Answer, no-answer, truth, number, optional, polled, data-polled, leg-back, membership, Put, Step, refuse, accept, Check, _when_, guard}
+use Rattle.srt_group_model.specs.Guards.{Answer, no-answer, truth, number, optional, polled, data-polled, leg-back, membership, memberships, Put, Step, refuse, accept, Check, _when_, guard}
 use Rattle.srt_group_model.specs.declared.Data.{Data}
 use Rattle.srt_group_model.specs.declared.Event.{Event}
 use Rattle.srt_group_model.specs.declared.Leg.{Leg}
@@ -296,6 +296,11 @@ backup-stability-timeout-micros id s =
     otherwise none)))
 
 -- ---- looking
+
+-- `members`: the memberships, in the order of addition
+unfoldable pub members-call : State → Step
+members-call s =
+    guard ((6 when breaks-rule s) ∷ []) s (accept s (memberships (each (λ m. m .membership) (s .members))))
 
 unfoldable pub group-id : State → Step
 group-id s = guard ((6 when breaks-rule s) ∷ []) s (accept s (number (s .identity .id)))

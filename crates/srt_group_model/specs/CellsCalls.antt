@@ -23,8 +23,8 @@ use Rattle.srt_group_model.specs.Run.{Run, start, set-base, refresh-stat
 use Rattle.srt_group_model.specs.Cells.{is-data, queue-cells, queued-cells, used-cells, free-cell}
 use Rattle.srt_group_model.specs.Validity.{above, cell-twice, cell-beyond-store}
 use Rattle.srt_group_model.specs.Guards.{Step, Check, guard}
-use Rattle.srt_group_model.specs.Calls.{new-member, add-body, remove-body, change-member, enqueue, no-data, data-event, queue-data-body, left-by-send, send-flow, send-body, no-free-cell, taken-cell, add-member, mark-member-broken, remove-member-connection, member, refresh-member-states, disconnect, event-poll-body, poll-event-call, data-poll-body, poll-data-call, send, can-send-body, can-send-call, can-send-with-pacing-body, can-send-with-pacing-call, time-until-send, backup-stability-timeout-micros, group-id, mode, peer-group-id, skipped-receive-packets, has-pending-data-call, has-receive-continuation, read-leg, queue-data, queue-event}
-use Rattle.srt_group_model.specs.Lent.{Lent, Call, addition, broken-mark, removal, member-look, refreshing, disconnection, event-poll, data-poll, sending, readiness, paced-readiness, send-wait, stability, group-look, mode-look, peer-look, skipped-look, pending-look, continuation-look, reading, queued-data, queued-event, with-bytes, step-of, perform}
+use Rattle.srt_group_model.specs.Calls.{new-member, add-body, remove-body, change-member, enqueue, no-data, data-event, queue-data-body, left-by-send, send-flow, send-body, no-free-cell, taken-cell, add-member, mark-member-broken, remove-member-connection, member, refresh-member-states, disconnect, event-poll-body, poll-event-call, data-poll-body, poll-data-call, send, can-send-body, can-send-call, can-send-with-pacing-body, can-send-with-pacing-call, time-until-send, backup-stability-timeout-micros, group-id, members-call, mode, peer-group-id, skipped-receive-packets, has-pending-data-call, has-receive-continuation, read-leg, queue-data, queue-event}
+use Rattle.srt_group_model.specs.Lent.{Lent, Call, addition, broken-mark, removal, member-look, refreshing, disconnection, event-poll, data-poll, sending, readiness, paced-readiness, send-wait, stability, group-look, members-look, mode-look, peer-look, skipped-look, pending-look, continuation-look, reading, queued-data, queued-event, with-bytes, step-of, perform}
 use Rattle.srt_group_model.specs.Refusals.{guard-elim, guard-passed}
 use Rattle.srt_group_model.specs.CellLaws.{Lowest, free-cell-is-lowest}
 use Rattle.srt_group_model.specs.Frame.{Carried, all-then, all-kept-carried, align-kept, demote-carried, promote-if-none-carried, Framed, members-framed, kept-framed, trim-framed, backup-framed, broadcast-framed}
@@ -436,7 +436,7 @@ free-of true f e h = h
 free-of false f e h = not-both e refl
 
 step-apart : (store output list : ℕ) (c : Call) (s : State) → Apart (cells-of store) (used-cells s) → Stays-apart (cells-of store) (step-of store output list c s)
-unfolding step-of add-member mark-member-broken remove-member-connection member refresh-member-states disconnect event-poll-body poll-event-call data-poll-body poll-data-call send can-send-call can-send-with-pacing-call time-until-send backup-stability-timeout-micros group-id mode peer-group-id skipped-receive-packets has-pending-data-call has-receive-continuation read-leg queue-data queue-event
+unfolding step-of add-member mark-member-broken remove-member-connection member refresh-member-states disconnect event-poll-body poll-event-call data-poll-body poll-data-call send can-send-call can-send-with-pacing-call time-until-send backup-stability-timeout-micros group-id members-call mode peer-group-id skipped-receive-packets has-pending-data-call has-receive-continuation read-leg queue-data queue-event
 step-apart store output list (addition id weight l queue) s h = kept store _ s _ h (add-grows id weight l s)
 step-apart store output list (broken-mark id) s h = kept store _ s _ h (label-grows id _ s (λ m. refl))
 step-apart store output list (removal id) s h = kept store _ s _ h (remove-grows id s)
@@ -460,6 +460,7 @@ step-apart store output list (paced-readiness time) s h = kept store _ s _ h (ca
 step-apart store output list (send-wait time) s h = kept store _ s _ h (λ n. omega arith)
 step-apart store output list (stability id) s h = kept store _ s _ h (λ n. omega arith)
 step-apart store output list group-look s h = kept store _ s _ h (λ n. omega arith)
+step-apart store output list members-look s h = kept store _ s _ h (λ n. omega arith)
 step-apart store output list mode-look s h = kept store _ s _ h (λ n. omega arith)
 step-apart store output list peer-look s h = kept store _ s _ h (λ n. omega arith)
 step-apart store output list skipped-look s h = kept store _ s _ h (λ n. omega arith)

@@ -27,8 +27,8 @@ use Rattle.srt_group_model.specs.Backup.{trim-by-carrier}
 use Rattle.srt_group_model.specs.Cells.{used-cells}
 use Rattle.srt_group_model.specs.Validity.{max-waiting}
 use Rattle.srt_group_model.specs.Guards.{Step, Check, guard}
-use Rattle.srt_group_model.specs.Calls.{change-member, taken-cell, new-member, add-body, add-member, mark-member-broken, remove-body, remove-member-connection, member, refresh-member-states, disconnect, event-poll-body, poll-event-call, data-poll-body, poll-data-call, left-by-send, send-flow, send-body, send, can-send-body, can-send-call, can-send-with-pacing-body, can-send-with-pacing-call, time-until-send, backup-stability-timeout-micros, group-id, mode, peer-group-id, skipped-receive-packets, has-pending-data-call, has-receive-continuation, read-leg, queue-data-body, queue-data, queue-event}
-use Rattle.srt_group_model.specs.Lent.{Call, addition, broken-mark, removal, member-look, refreshing, disconnection, event-poll, data-poll, sending, readiness, paced-readiness, send-wait, stability, group-look, mode-look, peer-look, skipped-look, pending-look, continuation-look, reading, queued-data, queued-event, step-of}
+use Rattle.srt_group_model.specs.Calls.{change-member, taken-cell, new-member, add-body, add-member, mark-member-broken, remove-body, remove-member-connection, member, refresh-member-states, disconnect, event-poll-body, poll-event-call, data-poll-body, poll-data-call, left-by-send, send-flow, send-body, send, can-send-body, can-send-call, can-send-with-pacing-body, can-send-with-pacing-call, time-until-send, backup-stability-timeout-micros, group-id, members-call, mode, peer-group-id, skipped-receive-packets, has-pending-data-call, has-receive-continuation, read-leg, queue-data-body, queue-data, queue-event}
+use Rattle.srt_group_model.specs.Lent.{Call, addition, broken-mark, removal, member-look, refreshing, disconnection, event-poll, data-poll, sending, readiness, paced-readiness, send-wait, stability, group-look, members-look, mode-look, peer-look, skipped-look, pending-look, continuation-look, reading, queued-data, queued-event, step-of}
 use Rattle.srt_group_model.specs.Refusals.{guard-elim}
 use Rattle.srt_group_model.specs.Frame.{backup-framed, broadcast-framed, trim-framed}
 use Rattle.srt_group_model.specs.CellsCalls.{left-by-send-state}
@@ -304,7 +304,7 @@ same : (l m : List Waiting) → m ≡ l → length l ≤ max-waiting → length 
 same l m e h = omega (arith, h, ap (λ (x : List Waiting). length x) e)
 
 pub step-waits : (store output list : ℕ) (c : Call) (s : State) → length (s .waiting) ≤ max-waiting → Few-wait (step-of store output list c s)
-unfolding step-of add-member mark-member-broken remove-member-connection member refresh-member-states disconnect event-poll-body poll-event-call data-poll-body poll-data-call send can-send-call can-send-with-pacing-call time-until-send backup-stability-timeout-micros group-id mode peer-group-id skipped-receive-packets has-pending-data-call has-receive-continuation read-leg queue-data queue-data-body queue-event
+unfolding step-of add-member mark-member-broken remove-member-connection member refresh-member-states disconnect event-poll-body poll-event-call data-poll-body poll-data-call send can-send-call can-send-with-pacing-call time-until-send backup-stability-timeout-micros group-id members-call mode peer-group-id skipped-receive-packets has-pending-data-call has-receive-continuation read-leg queue-data queue-data-body queue-event
 step-waits store output list (addition id weight l queue) s h = kept _ s _ h (omega (arith, h, add-waits id weight l s))
 step-waits store output list (broken-mark id) s h = kept _ s _ h (same (s .waiting) _ (change-waits id _ s) h)
 step-waits store output list (removal id) s h = kept _ s _ h (same (s .waiting) _ (remove-waits id s) h)
@@ -319,6 +319,7 @@ step-waits store output list (paced-readiness time) s h = kept _ s _ h (omega (a
 step-waits store output list (send-wait time) s h = kept _ s _ h h
 step-waits store output list (stability id) s h = kept _ s _ h h
 step-waits store output list group-look s h = kept _ s _ h h
+step-waits store output list members-look s h = kept _ s _ h h
 step-waits store output list mode-look s h = kept _ s _ h h
 step-waits store output list peer-look s h = kept _ s _ h h
 step-waits store output list skipped-look s h = kept _ s _ h h

@@ -29,6 +29,8 @@ pub data Answer : Type 0 where
   leg-back : Leg → Answer
   -- of a look at a member
   membership : Membership → Answer
+  -- of a look at all members, in the order of their addition
+  memberships : List Membership → Answer
 
 -- a payload that is written into a cell
 pub record Put : Type 0 where

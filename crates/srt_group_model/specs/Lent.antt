@@ -11,8 +11,8 @@ use Rattle.srt_group_model.specs.State.{State}
 use Rattle.srt_group_model.specs.Run.{Mark}
 use Rattle.srt_group_model.specs.Delivery.{Polled, nothing, event, packet, max-visits}
 use Rattle.srt_group_model.specs.Sending.{Sent}
-use Rattle.srt_group_model.specs.Guards.{Answer, no-answer, truth, number, optional, polled, data-polled, leg-back, membership, Put, Step}
-use Rattle.srt_group_model.specs.Calls.{add-member, mark-member-broken, remove-member-connection, member, refresh-member-states, disconnect, poll-event-call, poll-data-call, send, can-send-call, can-send-with-pacing-call, time-until-send, backup-stability-timeout-micros, group-id, mode, peer-group-id, skipped-receive-packets, has-pending-data-call, has-receive-continuation, read-leg, queue-data, queue-event}
+use Rattle.srt_group_model.specs.Guards.{Answer, no-answer, truth, number, optional, polled, data-polled, leg-back, membership, memberships, Put, Step}
+use Rattle.srt_group_model.specs.Calls.{add-member, mark-member-broken, remove-member-connection, member, refresh-member-states, disconnect, poll-event-call, poll-data-call, send, can-send-call, can-send-with-pacing-call, time-until-send, backup-stability-timeout-micros, group-id, members-call, mode, peer-group-id, skipped-receive-packets, has-pending-data-call, has-receive-continuation, read-leg, queue-data, queue-event}
 use Rattle.srt_group_model.specs.declared.Data.{Data}
 use Rattle.srt_group_model.specs.declared.Event.{Event}
 use Rattle.srt_group_model.specs.declared.Packet.{Packet}
@@ -41,6 +41,7 @@ delivered-by (polled (packet p)) = some p
 delivered-by (data-polled o more) = o
 delivered-by (leg-back l) = none
 delivered-by (membership m) = none
+delivered-by (memberships ms) = none
 
 -- the bytes of a packet's payload
 abbrev pub payload-of : Packet → List ℕ → List ℕ
@@ -97,6 +98,7 @@ pub data Call : Type 0 where
   send-wait : (time : ℕ) → Call
   stability : (id : ℕ) → Call
   group-look : Call
+  members-look : Call
   mode-look : Call
   peer-look : Call
   skipped-look : Call
@@ -126,6 +128,7 @@ step-of store output list (paced-readiness time) s = can-send-with-pacing-call t
 step-of store output list (send-wait time) s = time-until-send time s
 step-of store output list (stability id) s = backup-stability-timeout-micros id s
 step-of store output list group-look s = group-id s
+step-of store output list members-look s = members-call s
 step-of store output list mode-look s = mode s
 step-of store output list peer-look s = peer-group-id s
 step-of store output list skipped-look s = skipped-receive-packets s

@@ -12,7 +12,7 @@ use Rattle.srt_group_model.specs.State.{State}
 use Rattle.srt_group_model.specs.Legs.{moment}
 use Rattle.srt_group_model.specs.Delivery.{max-visits}
 use Rattle.srt_group_model.specs.Validity.{above}
-use Rattle.srt_group_model.specs.Guards.{Answer, no-answer, truth, number, optional, polled, data-polled, leg-back, membership, Step, refuse}
+use Rattle.srt_group_model.specs.Guards.{Answer, no-answer, truth, number, optional, polled, data-polled, leg-back, membership, memberships, Step, refuse}
 use Rattle.srt_group_model.specs.Calls.{new, new-code, mode-of, add-member, mark-member-broken, remove-member-connection, poll-data-call, send, read-leg, queue-data, queue-event}
 use Rattle.srt_group_model.specs.declared.Leg.{Leg}
 
@@ -95,6 +95,7 @@ columns (data-polled (some p) more) s =
     p .member ∷ p .content .sequence ∷ p .content .count ∷ s .receive .numbers .skipped ∷ []
 columns (leg-back l) s = 0 ∷ 0 ∷ 0 ∷ 0 ∷ []
 columns (membership m) s = 0 ∷ 0 ∷ 0 ∷ 0 ∷ []
+columns (memberships ms) s = 0 ∷ 0 ∷ 0 ∷ 0 ∷ []
 
 abbrev pub refused-line : (verb code : ℕ) → List ℕ
 refused-line verb code = verb ∷ code ∷ 0 ∷ 0 ∷ 0 ∷ 0 ∷ []

@@ -21,8 +21,8 @@ use Rattle.srt_group_model.specs.Sending.{Flow, with-send-number, _and-t
 use Rattle.srt_group_model.specs.Backup.{max-history, demote-stale-backup-carrier, drop-before, trim-backup-history, trim-by-carrier, append-history, record-backup-send, Replayed, replay-entries, put-leg, replay-on, replay-flight, align-carrier, take-over-backup-flight, send-own, send-after-promotion, send-at-place, send-backup}
 use Rattle.srt_group_model.specs.Validity.{above, is-too-large, max-events, data-out-of-range, event-out-of-range, leg-out-of-range, leg-sequence-too-large}
 use Rattle.srt_group_model.specs.Guards.{Step, Check, guard}
-use Rattle.srt_group_model.specs.Calls.{change-member, of-member, queue-full, enqueue, data-event, data-unfit, no-data, reading-out-of-range, read-field, left-by-send, send-flow, send-body, can-send-body, can-send-with-pacing-body, add-member, mark-member-broken, remove-member-connection, member, refresh-member-states, disconnect, event-poll-body, poll-event-call, data-poll-body, poll-data-call, send, can-send-call, can-send-with-pacing-call, time-until-send, backup-stability-timeout-micros, group-id, mode, peer-group-id, skipped-receive-packets, has-pending-data-call, has-receive-continuation, read-leg, queue-data-body, queue-data, queue-event, remove-body, state-at-addition, new-member, add-body}
-use Rattle.srt_group_model.specs.Lent.{Call, addition, broken-mark, removal, member-look, refreshing, disconnection, event-poll, data-poll, sending, readiness, paced-readiness, send-wait, stability, group-look, mode-look, peer-look, skipped-look, pending-look, continuation-look, reading, queued-data, queued-event, step-of}
+use Rattle.srt_group_model.specs.Calls.{change-member, of-member, queue-full, enqueue, data-event, data-unfit, no-data, reading-out-of-range, read-field, left-by-send, send-flow, send-body, can-send-body, can-send-with-pacing-body, add-member, mark-member-broken, remove-member-connection, member, refresh-member-states, disconnect, event-poll-body, poll-event-call, data-poll-body, poll-data-call, send, can-send-call, can-send-with-pacing-call, time-until-send, backup-stability-timeout-micros, group-id, members-call, mode, peer-group-id, skipped-receive-packets, has-pending-data-call, has-receive-continuation, read-leg, queue-data-body, queue-data, queue-event, remove-body, state-at-addition, new-member, add-body}
+use Rattle.srt_group_model.specs.Lent.{Call, addition, broken-mark, removal, member-look, refreshing, disconnection, event-poll, data-poll, sending, readiness, paced-readiness, send-wait, stability, group-look, members-look, mode-look, peer-look, skipped-look, pending-look, continuation-look, reading, queued-data, queued-event, step-of}
 use Rattle.srt_group_model.specs.Refusals.{guard-elim, guard-passed}
 use Rattle.srt_group_model.specs.Places.{found, first-such-is-found}
 use Rattle.srt_group_model.specs.Sums.{all-such-that}
@@ -617,7 +617,7 @@ kept : (cs : List Check) (s : State) (body : Step) → Fit s → Fit (body .stat
 kept cs s body h k = guard-elim (λ (x : Step). Fit (x .state)) cs s body (λ code. h) k
 
 pub step-fit : (store output list : ℕ) (c : Call) (s : State) → Fit s → Fit (step-of store output list c s .state)
-unfolding step-of add-member mark-member-broken remove-member-connection member refresh-member-states disconnect event-poll-body poll-event-call data-poll-body poll-data-call send can-send-call can-send-with-pacing-call time-until-send backup-stability-timeout-micros group-id mode peer-group-id skipped-receive-packets has-pending-data-call has-receive-continuation read-leg queue-data queue-data-body queue-event
+unfolding step-of add-member mark-member-broken remove-member-connection member refresh-member-states disconnect event-poll-body poll-event-call data-poll-body poll-data-call send can-send-call can-send-with-pacing-call time-until-send backup-stability-timeout-micros group-id members-call mode peer-group-id skipped-receive-packets has-pending-data-call has-receive-continuation read-leg queue-data queue-data-body queue-event
 step-fit store output list (addition id weight l queue) s h =
     guard-passed (λ (x : Step). Fit (x .state)) _ s _ (λ code. h)
     (λ g.
@@ -642,6 +642,7 @@ step-fit store output list (paced-readiness time) s h = kept _ s _ h (can-send-w
 step-fit store output list (send-wait time) s h = kept _ s _ h h
 step-fit store output list (stability id) s h = kept _ s _ h h
 step-fit store output list group-look s h = kept _ s _ h h
+step-fit store output list members-look s h = kept _ s _ h h
 step-fit store output list mode-look s h = kept _ s _ h h
 step-fit store output list peer-look s h = kept _ s _ h h
 step-fit store output list skipped-look s h = kept _ s _ h h

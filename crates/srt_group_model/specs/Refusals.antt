@@ -18,10 +18,10 @@ use Rattle.srt_group_model.specs.Run.{Run}
 use Rattle.srt_group_model.specs.Sending.{Flow, _and-then_, send-broadcast}
 use Rattle.srt_group_model.specs.Backup.{replay-on, replay-flight, align-carrier, take-over-backup-flight, send-own, send-after-promotion, send-at-place, send-backup}
 use Rattle.srt_group_model.specs.Guards.{Answer, no-answer, Put, Step, refuse, Check, guard}
-use Rattle.srt_group_model.specs.Calls.{add-body, add-member, mark-member-broken, remove-body, remove-member-connection, member, refresh-member-states, disconnect, event-poll-body, poll-event-call, data-poll-body, poll-data-call, left-by-send, send-flow, send-body, send, can-send-body, can-send-call, can-send-with-pacing-body, can-send-with-pacing-call, time-until-send, backup-stability-timeout-micros, group-id, mode, peer-group-id, skipped-receive-packets, has-pending-data-call, has-receive-continuation, read-leg, queue-data-body, queue-data, queue-event}
+use Rattle.srt_group_model.specs.Calls.{add-body, add-member, mark-member-broken, remove-body, remove-member-connection, member, refresh-member-states, disconnect, event-poll-body, poll-event-call, data-poll-body, poll-data-call, left-by-send, send-flow, send-body, send, can-send-body, can-send-call, can-send-with-pacing-body, can-send-with-pacing-call, time-until-send, backup-stability-timeout-micros, group-id, members-call, mode, peer-group-id, skipped-receive-packets, has-pending-data-call, has-receive-continuation, read-leg, queue-data-body, queue-data, queue-event}
 use Rattle.srt_group_model.specs.declared.Leg.{Leg}
 use Rattle.srt_group_model.specs.declared.Entry.{Entry}
-use Rattle.srt_group_model.specs.Lent.{Lent, Result, Call, addition, broken-mark, removal, member-look, refreshing, disconnection, event-poll, data-poll, sending, readiness, paced-readiness, send-wait, stability, group-look, mode-look, peer-look, skipped-look, pending-look, continuation-look, reading, queued-data, queued-event, stored, delivered-by, shown, list-rows, with-bytes, step-of, perform}
+use Rattle.srt_group_model.specs.Lent.{Lent, Result, Call, addition, broken-mark, removal, member-look, refreshing, disconnection, event-poll, data-poll, sending, readiness, paced-readiness, send-wait, stability, group-look, members-look, mode-look, peer-look, skipped-look, pending-look, continuation-look, reading, queued-data, queued-event, stored, delivered-by, shown, list-rows, with-bytes, step-of, perform}
 
 -- the codes after which nothing has changed
 unfoldable pub changes-nothing : ℕ → Bool
@@ -175,7 +175,7 @@ can-send-with-pacing-body-ends time s = if-elim (Ends s) _ _ _ (λ e. accepted r
 -- ---- every call
 
 pub call-ends : (store output list : ℕ) (c : Call) (s : State) → Ends s (step-of store output list c s)
-unfolding step-of add-member mark-member-broken remove-member-connection member refresh-member-states disconnect event-poll-body poll-event-call data-poll-body poll-data-call send can-send-call can-send-with-pacing-call time-until-send backup-stability-timeout-micros group-id mode peer-group-id skipped-receive-packets has-pending-data-call has-receive-continuation read-leg queue-data-body queue-data queue-event
+unfolding step-of add-member mark-member-broken remove-member-connection member refresh-member-states disconnect event-poll-body poll-event-call data-poll-body poll-data-call send can-send-call can-send-with-pacing-call time-until-send backup-stability-timeout-micros group-id members-call mode peer-group-id skipped-receive-packets has-pending-data-call has-receive-continuation read-leg queue-data-body queue-data queue-event
 call-ends store output list (addition id weight l queue) s = guard-ends _ s _ (add-body-ends id weight l s)
 call-ends store output list (broken-mark id) s = guard-ends _ s _ (accepted refl)
 call-ends store output list (removal id) s = guard-ends _ s _ (remove-body-ends id s)
@@ -190,6 +190,7 @@ call-ends store output list (paced-readiness time) s = guard-ends _ s _ (can-sen
 call-ends store output list (send-wait time) s = guard-ends _ s _ (accepted refl)
 call-ends store output list (stability id) s = guard-ends _ s _ (accepted refl)
 call-ends store output list group-look s = guard-ends _ s _ (accepted refl)
+call-ends store output list members-look s = guard-ends _ s _ (accepted refl)
 call-ends store output list mode-look s = guard-ends _ s _ (accepted refl)
 call-ends store output list peer-look s = guard-ends _ s _ (accepted refl)
 call-ends store output list skipped-look s = guard-ends _ s _ (accepted refl)

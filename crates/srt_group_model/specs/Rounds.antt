@@ -21,8 +21,8 @@ use Rattle.srt_group_model.specs.Removal.{retire, bound-group-owned-pend
 use Rattle.srt_group_model.specs.Sending.{Flow}
 use Rattle.srt_group_model.specs.Backup.{demote-stale-backup-carrier, trim-by-carrier}
 use Rattle.srt_group_model.specs.Guards.{Step, Check, guard}
-use Rattle.srt_group_model.specs.Calls.{change-member, new-member, add-body, add-member, mark-member-broken, remove-body, remove-member-connection, member, refresh-member-states, disconnect, event-poll-body, poll-event-call, data-poll-body, poll-data-call, left-by-send, send-flow, send-body, send, can-send-body, can-send-call, can-send-with-pacing-body, can-send-with-pacing-call, time-until-send, backup-stability-timeout-micros, group-id, mode, peer-group-id, skipped-receive-packets, has-pending-data-call, has-receive-continuation, read-leg, queue-data-body, queue-data, queue-event}
-use Rattle.srt_group_model.specs.Lent.{Call, addition, broken-mark, removal, member-look, refreshing, disconnection, event-poll, data-poll, sending, readiness, paced-readiness, send-wait, stability, group-look, mode-look, peer-look, skipped-look, pending-look, continuation-look, reading, queued-data, queued-event, step-of}
+use Rattle.srt_group_model.specs.Calls.{change-member, new-member, add-body, add-member, mark-member-broken, remove-body, remove-member-connection, member, refresh-member-states, disconnect, event-poll-body, poll-event-call, data-poll-body, poll-data-call, left-by-send, send-flow, send-body, send, can-send-body, can-send-call, can-send-with-pacing-body, can-send-with-pacing-call, time-until-send, backup-stability-timeout-micros, group-id, members-call, mode, peer-group-id, skipped-receive-packets, has-pending-data-call, has-receive-continuation, read-leg, queue-data-body, queue-data, queue-event}
+use Rattle.srt_group_model.specs.Lent.{Call, addition, broken-mark, removal, member-look, refreshing, disconnection, event-poll, data-poll, sending, readiness, paced-readiness, send-wait, stability, group-look, members-look, mode-look, peer-look, skipped-look, pending-look, continuation-look, reading, queued-data, queued-event, step-of}
 use Rattle.srt_group_model.specs.Refusals.{guard-elim}
 use Rattle.srt_group_model.specs.Frame.{Carried, All-carried, Framed, members-framed, all-then, all-kept-carried, align-kept, admit-all-carried, settle-carried, requalify-carried, demote-carried, promote-if-none-carried, backup-framed, broadcast-framed, trim-framed, kept-framed}
 use Rattle.srt_group_model.specs.Queues.{All-relabelled, Relabelled, pop, retain-relabelled, report-carried, release-relabelled, advance-relabelled}
@@ -205,7 +205,7 @@ kept : (cs : List Check) (s : State) (body : Step) → In-round s → In-round (
 kept cs s body h k = guard-elim (λ (x : Step). In-round (x .state)) cs s body (λ code. h) k
 
 pub step-round : (store output list : ℕ) (c : Call) (s : State) → In-round s → In-round (step-of store output list c s .state)
-unfolding step-of add-member mark-member-broken remove-member-connection member refresh-member-states disconnect event-poll-body poll-event-call data-poll-body poll-data-call send can-send-call can-send-with-pacing-call time-until-send backup-stability-timeout-micros group-id mode peer-group-id skipped-receive-packets has-pending-data-call has-receive-continuation read-leg queue-data queue-data-body queue-event
+unfolding step-of add-member mark-member-broken remove-member-connection member refresh-member-states disconnect event-poll-body poll-event-call data-poll-body poll-data-call send can-send-call can-send-with-pacing-call time-until-send backup-stability-timeout-micros group-id members-call mode peer-group-id skipped-receive-packets has-pending-data-call has-receive-continuation read-leg queue-data queue-data-body queue-event
 step-round store output list (addition id weight l queue) s h = kept _ s _ h (add-round id weight l s h)
 step-round store output list (broken-mark id) s h = kept _ s _ h (change-round id _ s h)
 step-round store output list (removal id) s h = kept _ s _ h (remove-round id s h)
@@ -220,6 +220,7 @@ step-round store output list (paced-readiness time) s h = kept _ s _ h (can-send
 step-round store output list (send-wait time) s h = kept _ s _ h h
 step-round store output list (stability id) s h = kept _ s _ h h
 step-round store output list group-look s h = kept _ s _ h h
+step-round store output list members-look s h = kept _ s _ h h
 step-round store output list mode-look s h = kept _ s _ h h
 step-round store output list peer-look s h = kept _ s _ h h
 step-round store output list skipped-look s h = kept _ s _ h h

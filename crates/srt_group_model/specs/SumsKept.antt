@@ -22,8 +22,8 @@ use Rattle.srt_group_model.specs.Backup.{demote-stale-backup-carrier, tr
 use Rattle.srt_group_model.specs.Cells.{is-data, is-among}
 use Rattle.srt_group_model.specs.Validity.{above, one-twice, ascends, held-count, queued-count, member-sum-wrong, is-unreserved, reserved-sum-wrong}
 use Rattle.srt_group_model.specs.Guards.{Step, Check, guard}
-use Rattle.srt_group_model.specs.Calls.{change-member, taken-cell, enqueue, data-event, no-data, new-member, add-body, add-member, mark-member-broken, remove-body, remove-member-connection, member, refresh-member-states, disconnect, event-poll-body, poll-event-call, data-poll-body, poll-data-call, left-by-send, send-flow, send-body, send, can-send-body, can-send-call, can-send-with-pacing-body, can-send-with-pacing-call, time-until-send, backup-stability-timeout-micros, group-id, mode, peer-group-id, skipped-receive-packets, has-pending-data-call, has-receive-continuation, read-field, read-leg, queue-data-body, queue-data, queue-event, breaks-rule}
-use Rattle.srt_group_model.specs.Lent.{Lent, Call, addition, broken-mark, removal, member-look, refreshing, disconnection, event-poll, data-poll, sending, readiness, paced-readiness, send-wait, stability, group-look, mode-look, peer-look, skipped-look, pending-look, continuation-look, reading, queued-data, queued-event, with-bytes, step-of, perform}
+use Rattle.srt_group_model.specs.Calls.{change-member, taken-cell, enqueue, data-event, no-data, new-member, add-body, add-member, mark-member-broken, remove-body, remove-member-connection, member, refresh-member-states, disconnect, event-poll-body, poll-event-call, data-poll-body, poll-data-call, left-by-send, send-flow, send-body, send, can-send-body, can-send-call, can-send-with-pacing-body, can-send-with-pacing-call, time-until-send, backup-stability-timeout-micros, group-id, members-call, mode, peer-group-id, skipped-receive-packets, has-pending-data-call, has-receive-continuation, read-field, read-leg, queue-data-body, queue-data, queue-event, breaks-rule}
+use Rattle.srt_group_model.specs.Lent.{Lent, Call, addition, broken-mark, removal, member-look, refreshing, disconnection, event-poll, data-poll, sending, readiness, paced-readiness, send-wait, stability, group-look, members-look, mode-look, peer-look, skipped-look, pending-look, continuation-look, reading, queued-data, queued-event, with-bytes, step-of, perform}
 use Rattle.srt_group_model.specs.Refusals.{guard-elim, guard-passed}
 use Rattle.srt_group_model.specs.Frame.{Carried, Framed, members-framed, all-then, all-kept-carried, align-kept, admit-all-carried, demote-carried, promote-if-none-carried, backup-framed, broadcast-framed, trim-framed, kept-framed}
 use Rattle.srt_group_model.specs.Queues.{Relabelled}
@@ -242,7 +242,7 @@ disconnect-sums s h =
     each-summed (m ∷ ms) k = (record { reserved = k .0 .reserved; reservation = k .0 .reservation }, each-summed ms (k .1))
 
 step-sums : (store output list : ℕ) (c : Call) (s : State) → Right s → Sums-right (step-of store output list c s .state)
-unfolding step-of add-member mark-member-broken remove-member-connection member refresh-member-states disconnect event-poll-body poll-event-call data-poll-body poll-data-call send can-send-call can-send-with-pacing-call time-until-send backup-stability-timeout-micros group-id mode peer-group-id skipped-receive-packets has-pending-data-call has-receive-continuation read-leg queue-data queue-data-body queue-event
+unfolding step-of add-member mark-member-broken remove-member-connection member refresh-member-states disconnect event-poll-body poll-event-call data-poll-body poll-data-call send can-send-call can-send-with-pacing-call time-until-send backup-stability-timeout-micros group-id members-call mode peer-group-id skipped-receive-packets has-pending-data-call has-receive-continuation read-leg queue-data queue-data-body queue-event
 step-sums store output list (addition id weight l queue) s h =
     guard-passed (λ (x : Step). Sums-right (x .state)) _ s _ (λ code. h .sums)
     (λ g.
@@ -263,6 +263,7 @@ step-sums store output list (paced-readiness time) s h = kept _ s _ h (can-send-
 step-sums store output list (send-wait time) s h = kept _ s _ h (h .sums)
 step-sums store output list (stability id) s h = kept _ s _ h (h .sums)
 step-sums store output list group-look s h = kept _ s _ h (h .sums)
+step-sums store output list members-look s h = kept _ s _ h (h .sums)
 step-sums store output list mode-look s h = kept _ s _ h (h .sums)
 step-sums store output list peer-look s h = kept _ s _ h (h .sums)
 step-sums store output list skipped-look s h = kept _ s _ h (h .sums)

@@ -25,8 +25,8 @@ use Rattle.srt_group_model.specs.Backup.{demote-stale-backup-carrier, tr
 use Rattle.srt_group_model.specs.Cells.{is-among}
 use Rattle.srt_group_model.specs.Validity.{max-members, one-twice, id-twice, is-blank}
 use Rattle.srt_group_model.specs.Guards.{Step, Check, guard}
-use Rattle.srt_group_model.specs.Calls.{change-member, new-member, add-body, add-member, mark-member-broken, remove-body, remove-member-connection, member, refresh-member-states, disconnect, event-poll-body, poll-event-call, data-poll-body, poll-data-call, left-by-send, send-flow, send-body, send, can-send-body, can-send-call, can-send-with-pacing-body, can-send-with-pacing-call, time-until-send, backup-stability-timeout-micros, group-id, mode, peer-group-id, skipped-receive-packets, has-pending-data-call, has-receive-continuation, read-leg, queue-data-body, queue-data, queue-event}
-use Rattle.srt_group_model.specs.Lent.{Lent, Call, addition, broken-mark, removal, member-look, refreshing, disconnection, event-poll, data-poll, sending, readiness, paced-readiness, send-wait, stability, group-look, mode-look, peer-look, skipped-look, pending-look, continuation-look, reading, queued-data, queued-event, with-bytes, step-of, perform}
+use Rattle.srt_group_model.specs.Calls.{change-member, new-member, add-body, add-member, mark-member-broken, remove-body, remove-member-connection, member, refresh-member-states, disconnect, event-poll-body, poll-event-call, data-poll-body, poll-data-call, left-by-send, send-flow, send-body, send, can-send-body, can-send-call, can-send-with-pacing-body, can-send-with-pacing-call, time-until-send, backup-stability-timeout-micros, group-id, members-call, mode, peer-group-id, skipped-receive-packets, has-pending-data-call, has-receive-continuation, read-leg, queue-data-body, queue-data, queue-event}
+use Rattle.srt_group_model.specs.Lent.{Lent, Call, addition, broken-mark, removal, member-look, refreshing, disconnection, event-poll, data-poll, sending, readiness, paced-readiness, send-wait, stability, group-look, members-look, mode-look, peer-look, skipped-look, pending-look, continuation-look, reading, queued-data, queued-event, with-bytes, step-of, perform}
 use Rattle.srt_group_model.specs.Refusals.{guard-elim, guard-passed}
 use Rattle.srt_group_model.specs.Frame.{Carried, All-carried, Framed, members-framed, all-then, all-kept-carried, align-kept, admit-all-carried, settle-carried, requalify-carried, demote-carried, promote-if-none-carried, backup-framed, broadcast-framed, trim-framed, kept-framed}
 use Rattle.srt_group_model.specs.Queues.{Relabelled, All-relabelled, all-carried-relabelled, pop, retain-relabelled, report-carried, release-relabelled, advance-relabelled}
@@ -315,7 +315,7 @@ guarded cs s body h k =
     guard-elim (λ (x : Step). Named (s .identity .id) (x .state)) cs s body (λ code. h) (named-walked s (body .state) k h)
 
 step-named : (store output list : ℕ) (c : Call) (s : State) → Named (s .identity .id) s → Named (s .identity .id) (step-of store output list c s .state)
-unfolding step-of add-member mark-member-broken remove-member-connection member refresh-member-states disconnect event-poll-body poll-event-call data-poll-body poll-data-call send can-send-call can-send-with-pacing-call time-until-send backup-stability-timeout-micros group-id mode peer-group-id skipped-receive-packets has-pending-data-call has-receive-continuation read-leg queue-data queue-data-body queue-event
+unfolding step-of add-member mark-member-broken remove-member-connection member refresh-member-states disconnect event-poll-body poll-event-call data-poll-body poll-data-call send can-send-call can-send-with-pacing-call time-until-send backup-stability-timeout-micros group-id members-call mode peer-group-id skipped-receive-packets has-pending-data-call has-receive-continuation read-leg queue-data queue-data-body queue-event
 step-named store output list (addition id weight l queue) s h =
     guard-passed (λ (x : Step). Named (s .identity .id) (x .state)) _ s _ (λ code. h)
     (λ g. add-named id weight l s h (leb-false max-members (length (s .members)) (g .1 .1 .0)) (g .1 .1 .1 .0))
@@ -342,6 +342,7 @@ step-named store output list (paced-readiness time) s h = guarded _ s _ h (can-s
 step-named store output list (send-wait time) s h = guarded _ s _ h (start-same s)
 step-named store output list (stability id) s h = guarded _ s _ h (start-same s)
 step-named store output list group-look s h = guarded _ s _ h (start-same s)
+step-named store output list members-look s h = guarded _ s _ h (start-same s)
 step-named store output list mode-look s h = guarded _ s _ h (start-same s)
 step-named store output list peer-look s h = guarded _ s _ h (start-same s)
 step-named store output list skipped-look s h = guarded _ s _ h (start-same s)

@@ -13,8 +13,8 @@ use Rattle.srt_group_model.specs.Removal.{retire, bound-group-owned-pend
 use Rattle.srt_group_model.specs.Sending.{Flow, send-broadcast}
 use Rattle.srt_group_model.specs.Backup.{trim-by-carrier, send-backup}
 use Rattle.srt_group_model.specs.Guards.{Step, refuse, Check, guard}
-use Rattle.srt_group_model.specs.Calls.{change-member, add-body, add-member, mark-member-broken, remove-body, remove-member-connection, member, refresh-member-states, disconnect, event-poll-body, poll-event-call, data-poll-body, poll-data-call, left-by-send, send-flow, send-body, send, can-send-body, can-send-call, can-send-with-pacing-body, can-send-with-pacing-call, time-until-send, backup-stability-timeout-micros, group-id, mode, peer-group-id, skipped-receive-packets, has-pending-data-call, has-receive-continuation, read-leg, queue-data-body, queue-data, queue-event}
-use Rattle.srt_group_model.specs.Lent.{Call, addition, broken-mark, removal, member-look, refreshing, disconnection, event-poll, data-poll, sending, readiness, paced-readiness, send-wait, stability, group-look, mode-look, peer-look, skipped-look, pending-look, continuation-look, reading, queued-data, queued-event, step-of}
+use Rattle.srt_group_model.specs.Calls.{change-member, add-body, add-member, mark-member-broken, remove-body, remove-member-connection, member, refresh-member-states, disconnect, event-poll-body, poll-event-call, data-poll-body, poll-data-call, left-by-send, send-flow, send-body, send, can-send-body, can-send-call, can-send-with-pacing-body, can-send-with-pacing-call, time-until-send, backup-stability-timeout-micros, group-id, members-call, mode, peer-group-id, skipped-receive-packets, has-pending-data-call, has-receive-continuation, read-leg, queue-data-body, queue-data, queue-event}
+use Rattle.srt_group_model.specs.Lent.{Call, addition, broken-mark, removal, member-look, refreshing, disconnection, event-poll, data-poll, sending, readiness, paced-readiness, send-wait, stability, group-look, members-look, mode-look, peer-look, skipped-look, pending-look, continuation-look, reading, queued-data, queued-event, step-of}
 use Rattle.srt_group_model.specs.Refusals.{guard-elim}
 use Rattle.srt_group_model.specs.Moves.{Law, set-base-holds, refresh-holds, poll-event-holds, poll-data-holds}
 use Rattle.srt_group_model.specs.Frame.{Framed, Carried, broadcast-framed, backup-framed, trim-receive}
@@ -94,7 +94,7 @@ module _ (I : Receive → List Mark → Type 0) (law : Law I) where
   queue-keeps id cell d payload s h = law .puts _ _ cell payload (moved-to _ _ [] (change-member-receive id _ s) h)
 
   pub call-keeps : (store output list : ℕ) (c : Call) (s : State) → I (s .receive) [] → Keeps (step-of store output list c s)
-  unfolding step-of add-member mark-member-broken remove-member-connection member refresh-member-states disconnect event-poll-body poll-event-call data-poll-body poll-data-call send can-send-call can-send-with-pacing-call time-until-send backup-stability-timeout-micros group-id mode peer-group-id skipped-receive-packets has-pending-data-call has-receive-continuation read-leg queue-data queue-event
+  unfolding step-of add-member mark-member-broken remove-member-connection member refresh-member-states disconnect event-poll-body poll-event-call data-poll-body poll-data-call send can-send-call can-send-with-pacing-call time-until-send backup-stability-timeout-micros group-id members-call mode peer-group-id skipped-receive-packets has-pending-data-call has-receive-continuation read-leg queue-data queue-event
   call-keeps store output list (addition id weight l queue) s h = guarded _ s _ h (add-keeps id weight l s h)
   call-keeps store output list (broken-mark id) s h = guarded _ s _ h (moved-to _ _ [] (change-member-receive id _ s) h)
   call-keeps store output list (removal id) s h = guarded _ s _ h (remove-keeps id s h)
@@ -110,6 +110,7 @@ module _ (I : Receive → List Mark → Type 0) (law : Law I) where
   call-keeps store output list (send-wait time) s h = guarded _ s _ h h
   call-keeps store output list (stability id) s h = guarded _ s _ h h
   call-keeps store output list group-look s h = guarded _ s _ h h
+  call-keeps store output list members-look s h = guarded _ s _ h h
   call-keeps store output list mode-look s h = guarded _ s _ h h
   call-keeps store output list peer-look s h = guarded _ s _ h h
   call-keeps store output list skipped-look s h = guarded _ s _ h h

@@ -27,7 +27,7 @@ use Rattle.srt_group_model.specs.Validity.{above}
 use Rattle.srt_group_model.specs.Refusals.{guard-passed}
 use Rattle.srt_group_model.specs.Guards.{Answer, no-answer, membership, polled, data-polled, Put, Step, refuse, accept, Check, guard}
 use Rattle.srt_group_model.specs.Calls.{new, add-body, add-member, mark-member-broken, remove-body, remove-member-connection, member, refresh-member-states, disconnect, event-poll-body, poll-event-call, data-poll-body, poll-data-call, left-by, left-by-send, send-body, send, no-free-cell, taken-cell, can-send-body, can-send-call, can-send-with-pacing-body, can-send-with-pacing-call, time-until-send, backup-stability-timeout-micros}
-use Rattle.srt_group_model.specs.Calls.{store-unfit, output-unfit, group-id, mode, peer-group-id, skipped-receive-packets, has-pending-data-call, has-receive-continuation, read-leg, queue-data-body, queue-data, queue-event}
+use Rattle.srt_group_model.specs.Calls.{store-unfit, output-unfit, group-id, members-call, mode, peer-group-id, skipped-receive-packets, has-pending-data-call, has-receive-continuation, read-leg, queue-data-body, queue-data, queue-event}
 use Rattle.srt_group_model.specs.declared.Data.{Data}
 use Rattle.srt_group_model.specs.declared.Event.{Event}
 use Rattle.srt_group_model.specs.declared.Packet.{Packet}
@@ -43,7 +43,7 @@ use Rattle.srt_history.specs.CallWalk.{change-member-sides, change-membe
 use Rattle.srt_history.specs.Held.{insert-all, held-at-all, not-covered-all}
 use Rattle.srt_history.specs.Shape.{When, Shape, polled-shape, poll-event-shape, poll-data-bounded-shape}
 use Rattle.srt_history.specs.ClerkClaim.{given-as-queued, delivered-as-queued}
-use Rattle.srt_group_model.specs.Lent.{Call, addition, broken-mark, removal, member-look, refreshing, disconnection, event-poll, data-poll, sending, readiness, paced-readiness, send-wait, stability, group-look, mode-look, peer-look, skipped-look, pending-look, continuation-look, reading, queued-data, queued-event}
+use Rattle.srt_group_model.specs.Lent.{Call, addition, broken-mark, removal, member-look, refreshing, disconnection, event-poll, data-poll, sending, readiness, paced-readiness, send-wait, stability, group-look, members-look, mode-look, peer-look, skipped-look, pending-look, continuation-look, reading, queued-data, queued-event}
 use Rattle.srt_group_model.specs.Lent.{Lent, stored, delivered-by, shown, with-bytes, step-of, perform}
 use Rattle.srt_history.specs.Calls.{Asked, do-call, step, takes-store, store-left, Delivery, delivery-of, given-by, deliveries, Making, made, state-after, log-after}
 
@@ -607,7 +607,7 @@ module _ (s : State) (store : List ℕ) (log : List Mark) (alive : Live (InCell 
   pub step-after : (call : Call)
       → (takes-store call ≡ true → step-of (length (lent .store)) (length (lent .output)) (length (lent .list)) call s .code ≡ 0 → lent .store ≡ store)
       → After s store log lent (step-of (length (lent .store)) (length (lent .output)) (length (lent .list)) call s)
-  unfolding step-of takes-store mark-member-broken member disconnect time-until-send backup-stability-timeout-micros group-id mode peer-group-id skipped-receive-packets has-pending-data-call has-receive-continuation read-leg queue-event delivered-by
+  unfolding step-of takes-store mark-member-broken member disconnect time-until-send backup-stability-timeout-micros group-id members-call mode peer-group-id skipped-receive-packets has-pending-data-call has-receive-continuation read-leg queue-event delivered-by
   step-after (addition id weight leg queue) same =
       silently (add-member id weight leg queue s) (add-silent id weight leg queue s)
       (add-kept (InStore store log) AnyNumber (StoreLives store log) (store-law store log) s (alive .queued)
@@ -643,6 +643,7 @@ module _ (s : State) (store : List ℕ) (log : List Mark) (alive : Live (InCell 
   step-after (send-wait time) same = looked _ _ refl
   step-after (stability id) same = looked _ _ refl
   step-after group-look same = looked _ _ refl
+  step-after members-look same = looked _ _ refl
   step-after mode-look same = looked _ _ refl
   step-after peer-look same = looked _ _ refl
   step-after skipped-look same = looked _ _ refl
@@ -661,7 +662,7 @@ module _ (s : State) (store : List ℕ) (log : List Mark) (alive : Live (InCell 
 -- a call that is lent no store puts nothing
 unlent-puts-nothing : (store output list : ℕ) (call : Call) (s : State) → takes-store call ≡ false
     → step-of store output list call s .put ≡ none
-unfolding step-of takes-store mark-member-broken member disconnect time-until-send backup-stability-timeout-micros group-id mode peer-group-id skipped-receive-packets has-pending-data-call has-receive-continuation read-leg queue-event delivered-by
+unfolding step-of takes-store mark-member-broken member disconnect time-until-send backup-stability-timeout-micros group-id members-call mode peer-group-id skipped-receive-packets has-pending-data-call has-receive-continuation read-leg queue-event delivered-by
 unlent-puts-nothing store output list (addition id weight leg queue) s e = add-silent id weight leg queue s .no-put
 unlent-puts-nothing store output list (broken-mark id) s e = accept-silent _ _ s .no-put
 unlent-puts-nothing store output list (removal id) s e = remove-silent id s .no-put
@@ -676,6 +677,7 @@ unlent-puts-nothing store output list (paced-readiness time) s e = can-send-with
 unlent-puts-nothing store output list (send-wait time) s e = look-silent _ _ s refl .no-put
 unlent-puts-nothing store output list (stability id) s e = look-silent _ _ s refl .no-put
 unlent-puts-nothing store output list group-look s e = look-silent _ _ s refl .no-put
+unlent-puts-nothing store output list members-look s e = look-silent _ _ s refl .no-put
 unlent-puts-nothing store output list mode-look s e = look-silent _ _ s refl .no-put
 unlent-puts-nothing store output list peer-look s e = look-silent _ _ s refl .no-put
 unlent-puts-nothing store output list skipped-look s e = look-silent _ _ s refl .no-put

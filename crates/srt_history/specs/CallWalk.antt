@@ -23,7 +23,7 @@ use Rattle.srt_group_model.specs.Validity.{above, is-too-large, leg-sequence-to
 use Rattle.srt_group_model.specs.Refusals.{guard-passed}
 use Rattle.srt_group_model.specs.Guards.{Step, Answer, no-answer, refuse, accept, Check, guard}
 use Rattle.srt_group_model.specs.Calls.{new-member, add-body, add-member, change-member, mark-member-broken, remove-body, remove-member-connection, member, refresh-member-states, disconnect, event-poll-body, poll-event-call, data-poll-body, poll-data-call, left-by-send, send-flow, send-body, send, no-free-cell, taken-cell, can-send-body, can-send-call, can-send-with-pacing-body, can-send-with-pacing-call, time-until-send, backup-stability-timeout-micros}
-use Rattle.srt_group_model.specs.Calls.{group-id, mode, peer-group-id, skipped-receive-packets, has-pending-data-call, has-receive-continuation, read-field, read-leg, enqueue, data-unfit, queue-data-body, queue-data, queue-event}
+use Rattle.srt_group_model.specs.Calls.{group-id, members-call, mode, peer-group-id, skipped-receive-packets, has-pending-data-call, has-receive-continuation, read-field, read-leg, enqueue, data-unfit, queue-data-body, queue-data, queue-event}
 use Rattle.srt_group_model.specs.declared.Data.{Data}
 use Rattle.srt_group_model.specs.declared.Event.{Event}
 use Rattle.srt_group_model.specs.declared.Packet.{Packet}
@@ -33,7 +33,7 @@ use Rattle.srt_history.specs.Cases.{and-with-true, and-true-left, Each, 
 use Rattle.srt_history.specs.Sides.{Side, side, sides, all-sides, all-members, each-leaves, carried-sides, Leaves, leaves-all, framed-leaves}
 use Rattle.srt_group_model.specs.Frame.{all-then, all-kept-carried, kept-framed, admit-all-carried, promote-if-none-carried, align-kept, demote-carried, trim-framed, broadcast-framed, backup-framed}
 use Rattle.srt_history.specs.Law.{OfContent, ElsewhereThan, owned-by-group, EventOk, SideOk, CallLaw, PutLaw}
-use Rattle.srt_group_model.specs.Lent.{Call, addition, broken-mark, removal, member-look, refreshing, disconnection, event-poll, data-poll, sending, readiness, paced-readiness, send-wait, stability, group-look, mode-look, peer-look, skipped-look, pending-look, continuation-look, reading, queued-data, queued-event}
+use Rattle.srt_group_model.specs.Lent.{Call, addition, broken-mark, removal, member-look, refreshing, disconnection, event-poll, data-poll, sending, readiness, paced-readiness, send-wait, stability, group-look, members-look, mode-look, peer-look, skipped-look, pending-look, continuation-look, reading, queued-data, queued-event}
 use Rattle.srt_group_model.specs.Lent.{step-of, with-bytes, perform}
 use Rattle.srt_history.specs.Calls.{Asked, do-call, step, state-after, log-after}
 use Rattle.srt_history.specs.FreeCells.{taken-cell-unused}
@@ -489,7 +489,7 @@ module _ (P : Data → Type 0) (F : ℕ → Type 0) (I : Receive → List Mark �
   pub step-of-kept : Puts → ((n : ℕ) → Fits n → F n) → ((d : Data) → Fits (d .sequence) → P d)
       → (store output list : ℕ) (call : Call)
       → Kept P F I (step-of store output list call s)
-  unfolding step-of member time-until-send backup-stability-timeout-micros group-id mode peer-group-id skipped-receive-packets has-pending-data-call has-receive-continuation
+  unfolding step-of member time-until-send backup-stability-timeout-micros group-id members-call mode peer-group-id skipped-receive-packets has-pending-data-call has-receive-continuation
   step-of-kept on-put firsts fitting store output list (addition id weight leg queue) = add-kept firsts id weight leg queue
   step-of-kept on-put firsts fitting store output list (broken-mark id) = mark-member-broken-kept id
   step-of-kept on-put firsts fitting store output list (removal id) = remove-kept id
@@ -504,6 +504,7 @@ module _ (P : Data → Type 0) (F : ℕ → Type 0) (I : Receive → List Mark �
   step-of-kept on-put firsts fitting store output list (send-wait time) = look-kept _ _
   step-of-kept on-put firsts fitting store output list (stability id) = look-kept _ _
   step-of-kept on-put firsts fitting store output list group-look = look-kept _ _
+  step-of-kept on-put firsts fitting store output list members-look = look-kept _ _
   step-of-kept on-put firsts fitting store output list mode-look = look-kept _ _
   step-of-kept on-put firsts fitting store output list peer-look = look-kept _ _
   step-of-kept on-put firsts fitting store output list skipped-look = look-kept _ _

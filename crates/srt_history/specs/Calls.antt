@@ -12,7 +12,7 @@ use Rattle.srt_group_model.specs.State.{State}
 use Rattle.srt_group_model.specs.Run.{Mark}
 use Rattle.srt_group_model.specs.Guards.{Step}
 use Rattle.srt_group_model.specs.Calls.{new}
-use Rattle.srt_group_model.specs.Lent.{Lent, Result, Call, addition, broken-mark, removal, member-look, refreshing, disconnection, event-poll, data-poll, sending, readiness, paced-readiness, send-wait, stability, group-look, mode-look, peer-look, skipped-look, pending-look, continuation-look, reading, queued-data, queued-event}
+use Rattle.srt_group_model.specs.Lent.{Lent, Result, Call, addition, broken-mark, removal, member-look, refreshing, disconnection, event-poll, data-poll, sending, readiness, paced-readiness, send-wait, stability, group-look, members-look, mode-look, peer-look, skipped-look, pending-look, continuation-look, reading, queued-data, queued-event}
 use Rattle.srt_group_model.specs.Lent.{delivered-by, step-of, perform}
 use Rattle.srt_group_model.specs.declared.Packet.{Packet}
 use Rattle.srt_group_model.specs.declared.GroupMode.{GroupMode}
@@ -49,6 +49,7 @@ takes-store (paced-readiness time) = false
 takes-store (send-wait time) = false
 takes-store (stability id) = false
 takes-store group-look = false
+takes-store members-look = false
 takes-store mode-look = false
 takes-store peer-look = false
 takes-store skipped-look = false
@@ -74,6 +75,7 @@ time-of (paced-readiness time) = 0
 time-of (send-wait time) = 0
 time-of (stability id) = 0
 time-of group-look = 0
+time-of members-look = 0
 time-of mode-look = 0
 time-of peer-look = 0
 time-of skipped-look = 0

@@ -24,7 +24,7 @@ use Rattle.srt_group_model.specs.Sending.{Flow}
 use Rattle.srt_group_model.specs.Refusals.{guard-passed}
 use Rattle.srt_group_model.specs.Guards.{no-answer, polled, membership, Step, refuse}
 use Rattle.srt_group_model.specs.Calls.{add-body, add-member, mark-member-broken, remove-body, remove-member-connection, member, refresh-member-states, disconnect, event-poll-body, poll-event-call, data-poll-body, poll-data-call, left-by-send, send-body, send, can-send-body, can-send-call, can-send-with-pacing-body, can-send-with-pacing-call, time-until-send, backup-stability-timeout-micros}
-use Rattle.srt_group_model.specs.Calls.{group-id, mode, peer-group-id, skipped-receive-packets, has-pending-data-call, has-receive-continuation, read-leg, queue-data-body, queue-data, queue-event}
+use Rattle.srt_group_model.specs.Calls.{group-id, members-call, mode, peer-group-id, skipped-receive-packets, has-pending-data-call, has-receive-continuation, read-leg, queue-data-body, queue-data, queue-event}
 use Rattle.srt_group_model.specs.declared.Data.{Data}
 use Rattle.srt_group_model.specs.declared.Event.{Event}
 use Rattle.srt_group_model.specs.declared.Packet.{Packet}
@@ -36,7 +36,7 @@ use Rattle.srt_history.specs.Law.{EventOk, SideOk, CollectLaw}
 use Rattle.srt_history.specs.FreeCells.{AnyNumber, any-number}
 use Rattle.srt_history.specs.PollWalk.{collect-until-held-good, collect-until-empty-good}
 use Rattle.srt_history.specs.Held.{nearest-is-found}
-use Rattle.srt_group_model.specs.Lent.{Call, addition, broken-mark, removal, member-look, refreshing, disconnection, event-poll, data-poll, sending, readiness, paced-readiness, send-wait, stability, group-look, mode-look, peer-look, skipped-look, pending-look, continuation-look, reading, queued-data, queued-event}
+use Rattle.srt_group_model.specs.Lent.{Call, addition, broken-mark, removal, member-look, refreshing, disconnection, event-poll, data-poll, sending, readiness, paced-readiness, send-wait, stability, group-look, members-look, mode-look, peer-look, skipped-look, pending-look, continuation-look, reading, queued-data, queued-event}
 use Rattle.srt_group_model.specs.Lent.{delivered-by, step-of, with-bytes, perform}
 use Rattle.srt_history.specs.Calls.{Asked, do-call, time-of, step}
 
@@ -473,7 +473,7 @@ when-of call s = record { time = time-of call; from = s }
 -- every call, lent a store, an output and a list of these lengths
 pub step-of-shape : (store output list : ℕ) (call : Call) (s : State)
     → StepShape (when-of call s) (step-of store output list call s)
-unfolding step-of time-of delivered-by add-member mark-member-broken remove-member-connection member refresh-member-states disconnect event-poll-body poll-event-call data-poll-body poll-data-call send send-body can-send-body can-send-call can-send-with-pacing-body can-send-with-pacing-call time-until-send backup-stability-timeout-micros group-id mode peer-group-id skipped-receive-packets has-pending-data-call has-receive-continuation read-leg queue-data-body queue-data queue-event
+unfolding step-of time-of delivered-by add-member mark-member-broken remove-member-connection member refresh-member-states disconnect event-poll-body poll-event-call data-poll-body poll-data-call send send-body can-send-body can-send-call can-send-with-pacing-body can-send-with-pacing-call time-until-send backup-stability-timeout-micros group-id members-call mode peer-group-id skipped-receive-packets has-pending-data-call has-receive-continuation read-leg queue-data-body queue-data queue-event
 step-of-shape store output list (addition id weight leg queue) s =
     guard-passed (StepShape (at-no-time s)) _ s _ (refusal-shape (at-no-time s) s)
     (λ c. add-body-shape (at-no-time s) id weight leg s)
@@ -509,6 +509,8 @@ step-of-shape store output list (send-wait time) s =
 step-of-shape store output list (stability id) s =
     guard-passed (StepShape (at-no-time s)) _ s _ (refusal-shape (at-no-time s) s) (λ c. tt)
 step-of-shape store output list group-look s =
+    guard-passed (StepShape (at-no-time s)) _ s _ (refusal-shape (at-no-time s) s) (λ c. tt)
+step-of-shape store output list members-look s =
     guard-passed (StepShape (at-no-time s)) _ s _ (refusal-shape (at-no-time s) s) (λ c. tt)
 step-of-shape store output list mode-look s =
     guard-passed (StepShape (at-no-time s)) _ s _ (refusal-shape (at-no-time s) s) (λ c. tt)

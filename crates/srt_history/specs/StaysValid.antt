@@ -26,8 +26,8 @@ use Rattle.srt_group_model.specs.Sending.{Flow}
 use Rattle.srt_group_model.specs.Validity.{max-pending, is-invalid}
 use Rattle.srt_group_model.specs.Guards.{Step, refuse, Check, guard}
 use Rattle.srt_group_model.specs.Calls.{store-unfit, cells-given, breaks-rule, change-member, new, add-body, add-member, mark-member-broken, remove-body, remove-member-connection, member, refresh-member-states, disconnect, event-poll-body, poll-event-call, data-poll-body, poll-data-call, left-by-send, send-flow, send-body, send, can-send-body, can-send-call, can-send-with-pacing-body, can-send-with-pacing-call}
-use Rattle.srt_group_model.specs.Calls.{time-until-send, backup-stability-timeout-micros, group-id, mode, peer-group-id, skipped-receive-packets, has-pending-data-call, has-receive-continuation, read-leg, queue-data-body, queue-data, queue-event}
-use Rattle.srt_group_model.specs.Lent.{Lent, Call, addition, broken-mark, removal, member-look, refreshing, disconnection, event-poll, data-poll, sending, readiness, paced-readiness, send-wait, stability, group-look, mode-look, peer-look, skipped-look, pending-look, continuation-look, reading, queued-data, queued-event}
+use Rattle.srt_group_model.specs.Calls.{time-until-send, backup-stability-timeout-micros, group-id, members-call, mode, peer-group-id, skipped-receive-packets, has-pending-data-call, has-receive-continuation, read-leg, queue-data-body, queue-data, queue-event}
+use Rattle.srt_group_model.specs.Lent.{Lent, Call, addition, broken-mark, removal, member-look, refreshing, disconnection, event-poll, data-poll, sending, readiness, paced-readiness, send-wait, stability, group-look, members-look, mode-look, peer-look, skipped-look, pending-look, continuation-look, reading, queued-data, queued-event}
 use Rattle.srt_group_model.specs.Lent.{step-of, with-bytes, perform}
 use Rattle.srt_group_model.specs.Frame.{trim-framed, broadcast-framed, backup-framed}
 use Rattle.srt_group_model.specs.Steps.{State-law, refresh-has, poll-event-has, poll-data-has}
@@ -149,7 +149,7 @@ module _ (n : ℕ) (s : State) (given : Given n s) where
   guarded checks body h = guard-elim GivenAfter checks s body (λ code. given) h
 
   step-given : (store output list : ℕ) (call : Call) → GivenAfter (step-of store output list call s)
-  unfolding step-of add-member mark-member-broken remove-member-connection member refresh-member-states disconnect event-poll-body poll-event-call data-poll-body poll-data-call send can-send-call can-send-with-pacing-call time-until-send backup-stability-timeout-micros group-id mode peer-group-id skipped-receive-packets has-pending-data-call has-receive-continuation read-leg queue-data-body queue-data queue-event
+  unfolding step-of add-member mark-member-broken remove-member-connection member refresh-member-states disconnect event-poll-body poll-event-call data-poll-body poll-data-call send can-send-call can-send-with-pacing-call time-until-send backup-stability-timeout-micros group-id members-call mode peer-group-id skipped-receive-packets has-pending-data-call has-receive-continuation read-leg queue-data-body queue-data queue-event
   step-given store output list (addition id weight leg queue) = guarded _ _ (add-given id weight leg)
   step-given store output list (broken-mark id) = guarded _ _ (change-given id _)
   step-given store output list (removal id) = guarded _ _ (remove-given id)
@@ -165,6 +165,7 @@ module _ (n : ℕ) (s : State) (given : Given n s) where
   step-given store output list (send-wait time) = guarded _ _ given
   step-given store output list (stability id) = guarded _ _ given
   step-given store output list group-look = guarded _ _ given
+  step-given store output list members-look = guarded _ _ given
   step-given store output list mode-look = guarded _ _ given
   step-given store output list peer-look = guarded _ _ given
   step-given store output list skipped-look = guarded _ _ given
@@ -197,6 +198,7 @@ unlent-same store output list store′ output′ list′ (paced-readiness time) 
 unlent-same store output list store′ output′ list′ (send-wait time) s e = refl
 unlent-same store output list store′ output′ list′ (stability id) s e = refl
 unlent-same store output list store′ output′ list′ group-look s e = refl
+unlent-same store output list store′ output′ list′ members-look s e = refl
 unlent-same store output list store′ output′ list′ mode-look s e = refl
 unlent-same store output list store′ output′ list′ peer-look s e = refl
 unlent-same store output list store′ output′ list′ skipped-look s e = refl
@@ -308,6 +310,7 @@ given-lends n store output list (paced-readiness time) s given some-length takes
 given-lends n store output list (send-wait time) s given some-length takes e = not-both takes refl
 given-lends n store output list (stability id) s given some-length takes e = not-both takes refl
 given-lends n store output list group-look s given some-length takes e = not-both takes refl
+given-lends n store output list members-look s given some-length takes e = not-both takes refl
 given-lends n store output list mode-look s given some-length takes e = not-both takes refl
 given-lends n store output list peer-look s given some-length takes e = not-both takes refl
 given-lends n store output list skipped-look s given some-length takes e = not-both takes refl
