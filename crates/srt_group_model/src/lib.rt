@@ -157,8 +157,16 @@ pub struct Visit {
     pub round: usize,
 }
 
+// How many rows of each lent table are in use: members, pending packets, waiting events.
+pub struct Counts {
+    pub members: usize,
+    pub pending: usize,
+    pub waiting: usize,
+}
+
 // All scalars of the group. owned is owned_packets.
 pub struct Core {
+    pub counts: Counts,
     pub identity: Identity,
     pub receiving: Receiving,
     pub sending: Sending,

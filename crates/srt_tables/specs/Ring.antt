@@ -29,9 +29,8 @@ entry-at h i = getD (h .entries) ((h .start + i) % 512) no-entry
 abbrev pub entries-of : History → List Entry
 entries-of h = tab (h .length) (entry-at h)
 
--- the start and the length are those of a ring
+-- no more entries than the ring has places
 pub record InRing (h : History) : Type 0 where
-  pub starts : h .start < 512
   pub fits : h .length ≤ 512
 
 -- a ring that shows these entries
@@ -66,17 +65,17 @@ first-stays sequence e es first = rw first
 
 -- the ring without its oldest entry
 abbrev pub popped : History → History
-popped h = record { entries = h .entries; start = (h .start + 1) % 512; length = h .length - 1 }
+popped h = record { entries = h .entries; start = (h .start % 512 + 1) % 512; length = h .length - 1 }
 
 -- the ring with an entry at the place behind the newest: over the oldest one, if the ring is full
 abbrev stored : Entry → History → List Entry
-stored e h = set (h .entries) ((h .start + h .length) % 512) e
+stored e h = set (h .entries) ((h .start % 512 + h .length) % 512) e
 
 module _ (h : History) (ring : InRing h) where
   pub front-popped : 0 < h .length → Shows (popped h) (drop 1 (entries-of h))
   front-popped some =
       record {
-        ring = record { starts = omega (arith, ring .starts); fits = omega (arith, ring .fits) };
+        ring = record { fits = omega (arith, ring .fits) };
         is =
             tab-pop (h .length - 1) (entry-at h) (entry-at (popped h))
             (λ i below. ap (λ (n : ℕ). getD (h .entries) n no-entry) (omega arith))
@@ -88,23 +87,24 @@ module _ (h : History) (ring : InRing h) where
     kept : (i : ℕ) → 0 < i ⊎ h .length < 512 → i < h .length
         → getD (stored e h) ((h .start + i) % 512) no-entry ≡ entry-at h i
     kept i apart below =
-        getD-set-other (h .entries) ((h .start + h .length) % 512) ((h .start + i) % 512) e no-entry (elsewhere apart)
+        getD-set-other (h .entries) ((h .start % 512 + h .length) % 512) ((h .start + i) % 512) e no-entry (elsewhere apart)
       where
-        elsewhere : 0 < i ⊎ h .length < 512 → (h .start + i) % 512 ≡ (h .start + h .length) % 512 → ⊥
+        elsewhere : 0 < i ⊎ h .length < 512 → (h .start + i) % 512 ≡ (h .start % 512 + h .length) % 512 → ⊥
         elsewhere (inl later) same = omega (arith, ring .fits)
         elsewhere (inr room) same = omega arith
 
-    there : getD (stored e h) ((h .start + h .length) % 512) no-entry ≡ e
-    there = getD-set-same (h .entries) ((h .start + h .length) % 512) e no-entry (omega arith)
+    there : getD (stored e h) ((h .start % 512 + h .length) % 512) no-entry ≡ e
+    there = getD-set-same (h .entries) ((h .start % 512 + h .length) % 512) e no-entry (omega arith)
 
     pub back-pushed : h .length < 512
         → Shows record { entries = stored e h; start = h .start; length = h .length + 1 } (with-newest e (entries-of h))
     back-pushed room =
         record {
-          ring = record { starts = ring .starts; fits = omega arith };
+          ring = record { fits = omega arith };
           is =
               ap (λ (n : ℕ). tab n (entry-at pushed)) (add-one (h .length))
-              ∙ tab-push (h .length) (entry-at h) (entry-at pushed) e (λ i below. kept i (inr room) below) there
+              ∙ tab-push (h .length) (entry-at h) (entry-at pushed) e (λ i below. kept i (inr room) below)
+              (ap (λ (n : ℕ). getD (stored e h) n no-entry) (omega arith) ∙ there)
               ∙ sym (newest-with-room e (entries-of h) (omega (arith, tab-length (h .length) (entry-at h))));
         }
       where
@@ -112,10 +112,10 @@ module _ (h : History) (ring : InRing h) where
         pushed = record { entries = stored e h; start = h .start; length = h .length + 1 }
 
     pub back-pushed-full : 512 ≤ h .length
-        → Shows record { entries = stored e h; start = (h .start + 1) % 512; length = h .length } (with-newest e (entries-of h))
+        → Shows record { entries = stored e h; start = (h .start % 512 + 1) % 512; length = h .length } (with-newest e (entries-of h))
     back-pushed-full full =
         record {
-          ring = record { starts = omega arith; fits = ring .fits };
+          ring = record { fits = ring .fits };
           is =
               ap (λ (n : ℕ). tab n (entry-at pushed)) one-more
               ∙ tab-push (h .length - 1) (entry-at (popped h)) (entry-at pushed) e same last
@@ -124,7 +124,7 @@ module _ (h : History) (ring : InRing h) where
         }
       where
         pushed : History
-        pushed = record { entries = stored e h; start = (h .start + 1) % 512; length = h .length }
+        pushed = record { entries = stored e h; start = (h .start % 512 + 1) % 512; length = h .length }
 
         one-more : h .length ≡ suc (h .length - 1)
         one-more = omega arith
@@ -160,8 +160,8 @@ module _ (h : History) (ring : InRing h) where
       ap (drop-before sequence) (tab-none (h .length) (entry-at h) none) ∙ sym (tab-none (h .length) (entry-at h) none)
 
   -- the oldest entry is the one at the start
-  pub front-entry : getD (h .entries) (h .start) no-entry ≡ entry-at h 0
-  front-entry = ap (λ (n : ℕ). getD (h .entries) n no-entry) (omega (arith, ring .starts))
+  pub front-entry : getD (h .entries) (h .start % 512) no-entry ≡ entry-at h 0
+  front-entry = ap (λ (n : ℕ). getD (h .entries) n no-entry) (omega arith)
 
 -- where the loop of `drop_before` stands: what is left to drop gives what all of it gives
 pub record Trimming (sequence : ℕ) (before : History) (h : History) : Type 0 where
@@ -170,7 +170,7 @@ pub record Trimming (sequence : ℕ) (before : History) (h : History) : Type 0 w
   pub same : drop-before sequence (entries-of h) ≡ drop-before sequence (entries-of before)
 
 module _ (sequence : ℕ) (before h : History) (here : Trimming sequence before h) where
-  pub trimmed-one : 0 < h .length → (front : Entry) → front ≡ getD (h .entries) (h .start) no-entry
+  pub trimmed-one : 0 < h .length → (front : Entry) → front ≡ getD (h .entries) (h .start % 512) no-entry
       → sequence-before (front .sequence) sequence ≡ true → Trimming sequence before (popped h)
   trimmed-one some front is first =
       record {
@@ -182,7 +182,7 @@ module _ (sequence : ℕ) (before h : History) (here : Trimming sequence before 
             ∙ here .same;
       }
 
-  pub trimmed-there : 0 < h .length → (front : Entry) → front ≡ getD (h .entries) (h .start) no-entry
+  pub trimmed-there : 0 < h .length → (front : Entry) → front ≡ getD (h .entries) (h .start % 512) no-entry
       → sequence-before (front .sequence) sequence ≡ false → Shows h (drop-before sequence (entries-of before))
   trimmed-there some front is first =
       record {

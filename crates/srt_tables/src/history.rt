@@ -8,6 +8,7 @@ use srt_group_model::Entry;
 use srt_protocol::srt_packet::sequence_less_than;
 use srt_protocol::time::Timestamp;
 
+// The oldest entry stands at the start, read modulo 512.
 pub struct History {
     pub entries: [Entry; 512],
     pub start: usize,
@@ -40,7 +41,7 @@ impl History {
         requires { ⌜ index < self .length ⌝ }
         ensures { λ r. ⌜ r ≡ entry-at self index ⌝ }
     {
-        let at = (self.start + index) % 512;
+        let at = (self.start % 512 + index) % 512;
         self.entries[at]
     }
 
@@ -49,13 +50,13 @@ impl History {
         requires { ⌜ InRing self ⌝ }
         ensures { λ r. ⌜ Shows r (with-newest entry (entries-of self)) ⌝ }
     {
-        let at = (self.start + self.length) % 512;
+        let at = (self.start % 512 + self.length) % 512;
         self.entries[at] = entry;
         if self.length < Self::MAX_HISTORY {
             self.length += 1;
             return self;
         }
-        self.start = (self.start + 1) % 512;
+        self.start = (self.start % 512 + 1) % 512;
         self
     }
 
@@ -65,7 +66,7 @@ impl History {
         ensures { λ r. ⌜ Shows r (drop-before oldest (entries-of self)) ⌝ }
     {
         while 0 < self.length {
-            let at = self.start;
+            let at = self.start % 512;
             let front = self.entries[at];
             if !sequence_less_than(front.sequence, oldest) {
                 return self;

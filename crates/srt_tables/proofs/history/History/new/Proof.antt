@@ -9,7 +9,7 @@ use Rattle.srt_tables.proofs.history.History.new.Lts as lts
 
 returns : tie.Need-returns
 unfolding tab
-returns c = record { ring = record { starts = search needs; fits = search needs }; is = refl }
+returns c = record { ring = record { fits = search needs }; is = refl }
 
 pub new-spec : {M : Type 1} → statement M
 new-spec = tie.close (tie.spec returns)

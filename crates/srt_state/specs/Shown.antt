@@ -1,0 +1,57 @@
+-- The state that the group record and the lent tables show: document 01's lent state. Rows past a count are free and show in
+-- nothing. Assumes nothing.
+use mathlib.Core.Path.{_≡_, ap}
+use mathlib.Core.Bool.{true, false}
+use mathlib.Core.List.{List, []}
+use Prim.Native.Nat.{ℕ}
+use Rattle.srt_group_model.specs.declared.Core.{Core}
+use Rattle.srt_group_model.specs.declared.Entry.{Entry}
+use Rattle.srt_group_model.specs.State.{State}
+use Rattle.srt_group_model.specs.declared.GroupMode.{GroupMode}
+use Rattle.srt_group_model.specs.Calls.{new}
+use Rattle.word_rows.specs.Tab.{tab}
+use Rattle.srt_connection.specs.Members.{members-of}
+use Rattle.srt_tables.specs.Packets.{packets}
+use Rattle.srt_tables.specs.Waitings.{waitings}
+use Rattle.srt_tables.specs.Ring.{entries-of}
+use Rattle.srt_tables.specs.declared.history.History.{History}
+use Rattle.srt_state.specs.declared.group.Group.{Group}
+
+-- over a history that is given as a list: what touches no history speaks of every one
+abbrev pub shown : Core → List Entry → (members pending waiting : List ℕ) → State
+shown core history members pending waiting =
+    record {
+      identity = core .identity;
+      receive = record { numbers = core .receiving; pending = packets (core .counts .pending) pending };
+      send = record { numbers = core .sending; history = history };
+      visit = core .visit;
+      owned = core .owned;
+      members = members-of (core .counts .members) members;
+      waiting = waitings (core .counts .waiting) waiting;
+    }
+
+abbrev pub state-of : Group → (members pending waiting : List ℕ) → State
+state-of g members pending waiting = shown (g .core) (entries-of (g .history)) members pending waiting
+
+-- a group of which no row is in use: it shows the same over any tables
+pub record Fresh (g : Group) (s : State) : Type 0 where
+  pub shows : (members pending waiting : List ℕ) → state-of g members pending waiting ≡ s
+
+-- the record's numbers at the start
+abbrev pub core-of-new : (id : ℕ) → GroupMode → (store-length : ℕ) → Core
+core-of-new id mode store-length =
+    record {
+      counts = record { members = 0; pending = 0; waiting = 0 };
+      identity = record { id = id; mode = mode; length = store-length; peer = 0 };
+      receiving = record { based = false; base = 0; skipped = 0 };
+      sending = record { numbered = false; next = 0; carried = false; carrier = 0; gap = false };
+      visit = record { continuation = false; round = 0 };
+      owned = 0;
+    }
+
+-- with no row of any table in use
+pub shows-new : (h : History) (id : ℕ) (mode : GroupMode) (store-length : ℕ) → entries-of h ≡ []
+    → Fresh record { core = core-of-new id mode store-length; history = h } (new id mode store-length)
+unfolding new tab members-of
+shows-new h id mode store-length empty =
+    record { shows = λ members pending waiting. ap (λ (es : List Entry). shown (core-of-new id mode store-length) es members pending waiting) empty }
