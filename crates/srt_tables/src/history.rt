@@ -8,9 +8,13 @@ use srt_group_model::Entry;
 use srt_protocol::srt_packet::sequence_less_than;
 use srt_protocol::time::Timestamp;
 
-// The oldest entry stands at the start, read modulo 512.
+// An array for each part of an entry, so that one part can be lent for reading without the others. The oldest entry stands at
+// the start, read modulo 512.
 pub struct History {
-    pub entries: [Entry; 512],
+    pub sequences: [u32; 512],
+    pub cells: [u16; 512],
+    pub lengths: [u16; 512],
+    pub sources: [Timestamp; 512],
     pub start: usize,
     pub length: usize,
 }
@@ -22,14 +26,11 @@ impl History {
     pub fn new() -> Self
         ensures { λ r. ⌜ Shows r [] ⌝ }
     {
-        let blank = Entry {
-            sequence: 0,
-            cell: 0,
-            length: 0,
-            source: Timestamp(0),
-        };
         Self {
-            entries: [blank; 512],
+            sequences: [0; 512],
+            cells: [0; 512],
+            lengths: [0; 512],
+            sources: [Timestamp(0); 512],
             start: 0,
             length: 0,
         }
@@ -42,7 +43,12 @@ impl History {
         ensures { λ r. ⌜ r ≡ entry-at self index ⌝ }
     {
         let at = (self.start % 512 + index) % 512;
-        self.entries[at]
+        Entry {
+            sequence: self.sequences[at],
+            cell: self.cells[at],
+            length: self.lengths[at],
+            source: self.sources[at],
+        }
     }
 
     // An entry behind the newest. A full history loses its oldest entry.
@@ -51,7 +57,11 @@ impl History {
         ensures { λ r. ⌜ Shows r (with-newest entry (entries-of self)) ⌝ }
     {
         let at = (self.start % 512 + self.length) % 512;
-        self.entries[at] = entry;
+        self.sequences[at] = entry.sequence;
+        self.cells[at] = entry.cell;
+        self.lengths[at] = entry.length;
+        let source = entry.source;
+        self.sources[at] = source;
         if self.length < Self::MAX_HISTORY {
             self.length += 1;
             return self;
@@ -67,8 +77,7 @@ impl History {
     {
         while 0 < self.length {
             let at = self.start % 512;
-            let front = self.entries[at];
-            if !sequence_less_than(front.sequence, oldest) {
+            if !sequence_less_than(self.sequences[at], oldest) {
                 return self;
             }
             self.start = (at + 1) % 512;

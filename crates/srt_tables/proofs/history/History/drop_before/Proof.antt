@@ -2,10 +2,10 @@
 -- nothing.
 use mathlib.Core.Path.{refl, sym, _∙_}
 use native.Mathlib.Omega.{arith}
-use borrow.Author.Needs.{needs}
 use borrow.Author.Tests.{not-true, not-false}
+use borrow.Author.Needs.{needs}
 use Rattle.srt_tables.specs.Ring.{Trimming, trimmed-one, trimmed-there, trimmed-all}
-use Rattle.srt_tables.proofs.Entries.{entries-long}
+use Rattle.srt_tables.proofs.Arrays.{arrays-long}
 use Rattle.srt_tables.proofs.history.History.drop_before.Statement.{statement}
 use Rattle.srt_tables.proofs.history.History.drop_before.Tie as tie
 
@@ -16,20 +16,20 @@ abbrev μ-loop : tie.MeasureT-loop
 μ-loop oldest self₀ self = self .length
 
 loop-holds : tie.Need-loop-holds Inv-loop μ-loop
-loop-holds c = record { ring = c .pre; long = entries-long (c .args .t1) _ (c .good .0); same = refl }
+loop-holds c = record { ring = c .pre; long = arrays-long (c .args .t1) _ (c .good .0); same = refl }
 
-mul-front : tie.Need-mul-front Inv-loop μ-loop
-mul-front c = search needs
+mul-sequence-less-than : tie.Need-mul-sequence-less-than Inv-loop μ-loop
+mul-sequence-less-than c = search needs
 
-element-copy-out-front : tie.Need-element-copy-out-front Inv-loop μ-loop
-element-copy-out-front c = search needs
+element-copy-out-sequence-less-than : tie.Need-element-copy-out-sequence-less-than Inv-loop μ-loop
+element-copy-out-sequence-less-than c = search needs
 
 sequence-less-than-requires : tie.Need-sequence-less-than-requires Inv-loop μ-loop
 sequence-less-than-requires c κs = search needs
 
 returns : tie.Need-returns Inv-loop μ-loop
 returns c =
-    trimmed-there _ _ _ (c .before .before .before .before .loop .inv) (omega arith) _ refl
+    trimmed-there _ _ _ (c .before .before .before .before .loop .inv) (omega arith)
     (sym (c .before .sequence-less-than .ensures) ∙ not-true _ (c .if1 .taken))
 
 add-self : tie.Need-add-self Inv-loop μ-loop
@@ -43,7 +43,7 @@ loop-less c = search needs
 
 loop-again : tie.Need-loop-again Inv-loop μ-loop
 loop-again c =
-    trimmed-one _ _ _ (c .before .before .before .before .loop .inv) (omega arith) _ refl
+    trimmed-one _ _ _ (c .before .before .before .before .loop .inv) (omega arith)
     (sym (c .before .sequence-less-than .ensures) ∙ not-false _ (c .if1 .left))
 
 returns-2 : tie.Need-returns-2 Inv-loop μ-loop
@@ -56,8 +56,8 @@ drop-before-spec =
     Inv-loop
     μ-loop
     loop-holds
-    mul-front
-    element-copy-out-front
+    mul-sequence-less-than
+    element-copy-out-sequence-less-than
     sequence-less-than-requires
     returns
     add-self
