@@ -57,7 +57,7 @@ insert-above n p [] h k = (h, tt)
 insert-above n p (q ∷ qs) h k =
     if-elim (Above n) _ _ _ (λ e. (h, k)) (λ e. (k .0, insert-above n p qs h (k .1)))
 
-insert-ascends : (p : Packet) (ps : List Packet) → is-held (sequence-of p) ps ≡ false → ascends ps ≡ true → ascends (insert p ps) ≡ true
+pub insert-ascends : (p : Packet) (ps : List Packet) → is-held (sequence-of p) ps ≡ false → ascends ps ≡ true → ascends (insert p ps) ≡ true
 unfolding insert any
 insert-ascends p [] h e = ascends-cons p [] tt e
 insert-ascends p (q ∷ qs) h e =

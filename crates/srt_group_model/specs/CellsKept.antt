@@ -97,7 +97,7 @@ apart-of-rules cells l h k n =
     if-elim (λ (r : ℕ). occurs n l ≤ r) (ltb n cells) 1 0 (λ e. once l h n)
     (λ e. by-test (leb 1 (occurs n l)) (λ g. absurd (omega (arith, inside cells l k n (leb-true 1 (occurs n l) g), ltb-false n cells e))) (λ g. omega (arith, leb-false 1 (occurs n l) g)))
 
-room-inside : (cells n : ℕ) → 1 ≤ room cells n → n < cells
+pub room-inside : (cells n : ℕ) → 1 ≤ room cells n → n < cells
 room-inside cells n =
     if-elim (λ (r : ℕ). 1 ≤ r → n < cells) (ltb n cells) 1 0 (λ e h. ltb-true n cells e) (λ e h. absurd (omega arith))
 
@@ -170,7 +170,7 @@ front-event (x ∷ q) e f d =
     if-elim (λ (l : List Event). l ≡ such-that is-data q) _ _ _
     (λ g. not-both g (ap (λ (y : Event). eqb (y .kind) 0) (some-inj f) ∙ d)) (λ g. refl)
 
-popped-data : (n i : ℕ) (m : Member) (e : Event) (ms : List Member) → at-place i ms ≡ some m → front (m .queue) ≡ some e → eqb (e .kind) 0 ≡ true
+pub popped-data : (n i : ℕ) (m : Member) (e : Event) (ms : List Member) → at-place i ms ≡ some m → front (m .queue) ≡ some e → eqb (e .kind) 0 ≡ true
     → occurs n (queued-cells ms) ≡ one (e .content .cell) n + occurs n (queued-cells (change i pop ms))
 unfolding queued-cells queue-cells at-place change
 popped-data n zero m e [] at f d = none-some at

@@ -52,3 +52,4 @@ pub mod RangesCalls
 pub mod Counts
 pub mod Rounds
 pub mod Valid
+pub mod Sound

@@ -91,7 +91,7 @@ release-all-round (p ∷ ps) s =
 turn-within : (i n : ℕ) → 0 < n → suc i % n ≤ n - 1
 turn-within i n h = let low : suc i % n < n = mod-lt (suc i) {m = n} h in omega (arith, low)
 
-round-law : State-law In-round
+pub round-law : State-law In-round
 unfolding admit-connected-peer-groups report-event deliver-packet advance-legs
 round-law =
     record {

@@ -45,7 +45,7 @@ module _ (Good : State → Type 0) (law : State-law Good) where
   abbrev Has : Run → Type 0
   Has r = Good (r .state)
 
-  refresh-pending-has : (r : Run) → Has r → Has (refresh-pending-states r)
+  pub refresh-pending-has : (r : Run) → Has r → Has (refresh-pending-states r)
   unfolding refresh-pending-states
   refresh-pending-has r h = law .settles _ (law .admits r h)
 
@@ -80,7 +80,7 @@ module _ (Good : State → Type 0) (law : State-law Good) where
       (λ i g. if-some-elim (λ (v : Visited). Has (v .run)) _ _ _ (λ m k. take-front-has i m r k h) (λ k. h))
       (λ g. h)
 
-  until-held-has : (n : ℕ) (r : Run) → Has r → Has (collect-until-held n r)
+  pub until-held-has : (n : ℕ) (r : Run) → Has r → Has (collect-until-held n r)
   unfolding collect-until-held
   until-held-has zero r h = h
   until-held-has (suc n) r h =
@@ -90,7 +90,7 @@ module _ (Good : State → Type 0) (law : State-law Good) where
       if-elim Has _ _ _ (λ g. collect-one-has r h)
       (λ g. if-elim Has _ _ _ (λ k. more) (λ k. until-held-has n _ more)))
 
-  until-empty-has : (n sequence : ℕ) (r : Run) → Has r → Has (collect-until-empty n sequence r .run)
+  pub until-empty-has : (n sequence : ℕ) (r : Run) → Has r → Has (collect-until-empty n sequence r .run)
   unfolding collect-until-empty
   until-empty-has zero sequence r h = law .continues _ _ h
   until-empty-has (suc n) sequence r h =
@@ -99,16 +99,16 @@ module _ (Good : State → Type 0) (law : State-law Good) where
       if-elim (λ (v : Visited). Has (v .run)) _ _ _ (λ g. until-empty-has n sequence _ (collect-one-has r h))
       (λ g. collect-one-has r h))
 
-  deliver-has : (base : ℕ) (r : Run) → Has r → Has (deliver base r .run)
+  pub deliver-has : (base : ℕ) (r : Run) → Has r → Has (deliver base r .run)
   unfolding deliver
   deliver-has base r h =
       if-some-elim (λ (q : Poll). Has (q .run)) _ _ _ (λ p g. law .delivers _ base p g h) (λ g. h)
 
-  give-waiting-has : (r : Run) → Has r → Has (give-waiting r .run)
+  pub give-waiting-has : (r : Run) → Has r → Has (give-waiting r .run)
   unfolding give-waiting
   give-waiting-has r h = if-some-elim (λ (q : Poll). Has (q .run)) _ _ _ (λ w g. law .gives _ h) (λ g. h)
 
-  skip-has : (time base : ℕ) (r : Run) → Has r → Has (skip-given-up-gap time base r .run)
+  pub skip-has : (time base : ℕ) (r : Run) → Has r → Has (skip-given-up-gap time base r .run)
   unfolding skip-given-up-gap skip-after
   skip-has time base r h =
       let emptied = until-empty-has max-visits base r h in
@@ -121,7 +121,7 @@ module _ (Good : State → Type 0) (law : State-law Good) where
       if-some-elim (λ (q : Poll). Has (q .run)) _ _ _ (λ p m. deliver-has _ _ (law .skips _ base p m emptied)) (λ m. emptied))
       (λ k. deliver-has base _ emptied)))
 
-  deliver-next-has : (time : ℕ) (r : Run) → Has r → Has (deliver-next time r .run)
+  pub deliver-next-has : (time : ℕ) (r : Run) → Has r → Has (deliver-next time r .run)
   unfolding deliver-next set-base
   deliver-next-has time r h =
       if-some-elim (λ (q : Poll). Has (q .run)) _ _ _ (λ base b. skip-has time base r h)
@@ -146,7 +146,7 @@ module _ (Good : State → Type 0) (law : State-law Good) where
   pass-events-has (event w) r later h k = k
   pass-events-has (packet p) r later h k = h
 
-  poll-until-has : (time n : ℕ) (r : Run) → Has r → Has (poll-until-data time n r .run)
+  pub poll-until-has : (time n : ℕ) (r : Run) → Has r → Has (poll-until-data time n r .run)
   unfolding poll-until-data
   poll-until-has time zero r h = h
   poll-until-has time (suc n) r h =

@@ -215,7 +215,7 @@ pub record Counted (s : State) : Type 0 where
   pub history : length (s .send .history) ≤ 512
   pub round : In-round s
 
-counted-of : (s : State) → count-above-limit s ≡ false → Counted s
+pub counted-of : (s : State) → count-above-limit s ≡ false → Counted s
 unfolding count-above-limit
 counted-of s h =
     let r1 = or-right (above max-members (length (s .members))) _ h in
@@ -243,7 +243,7 @@ of-counted s h =
 
 -- ---- ranges of a state
 
-fit-of : (cells : ℕ) (s : State) → Valid cells s → s .identity .peer ≤ largest-32 → Fit s
+pub fit-of : (cells : ℕ) (s : State) → Valid cells s → s .identity .peer ≤ largest-32 → Fit s
 unfolding sequence-too-large field-out-of-range packet-out entry-out waiting-out too-large-data
 fit-of cells s h b =
     let counts = counted-of s (h .counts) in

@@ -1,0 +1,281 @@
+-- What holds of a valid state, and of every state between the steps of a poll: the rules of document 01's code 6 that the code
+-- rests on while a call is under way. A law of the steps, and what it says of the event in front of a queue. Assumes nothing.
+use mathlib.Core.Path.{_≡_, refl, sym, ap, ap₂, subst, _∙_}
+use mathlib.Core.Bool.{Bool, true, false, not, _&&_, _||_}
+use mathlib.Core.List.{List, [], _∷_, _++_}
+use mathlib.Core.Option.{Option, none, some}
+use Prim.Native.Nat.{ℕ, zero, suc, _+_, _-_, _*_, _≤_, _<_}
+use native.Mathlib.Omega.{arith}
+use borrow.Author.Tests.{eqb-true, ltb-false, ltb-true}
+use lib.Dec.{leb, ltb, eqb}
+use lib.ListN.{length}
+use Rattle.srt_group_model.specs.Tools.{if_then_else_, if-some_give_otherwise_, such-that, at-place, change, each, any}
+use Rattle.srt_group_model.specs.Reason.{if-elim, if-some-elim, by-test, not-both, none-some, some-inj, or-left, or-right, All}
+use Rattle.srt_group_model.specs.State.{Member, Receive, Send, State, with-send, with-history}
+use Rattle.srt_group_model.specs.Legs.{largest-sequence, largest-16, largest-32}
+use Rattle.srt_group_model.specs.Members.{id-of}
+use Rattle.srt_group_model.specs.Nearest.{sequence-of, is-held, insert, not-covered}
+use Rattle.srt_group_model.specs.Run.{Run, set-base, admit-connected-peer-groups}
+use Rattle.srt_group_model.specs.Collecting.{front, is-late, is-discarded, retain-group-packet, report-event}
+use Rattle.srt_group_model.specs.Delivery.{deliver-packet, pass-run, skip-to}
+use Rattle.srt_group_model.specs.Cells.{is-data, is-among, used-cells, queued-cells}
+use Rattle.srt_group_model.specs.Validity.{above, ascends, is-too-large, data-out-of-range, event-out-of-range, held-sequence-twice, id-twice, cell-twice, cell-beyond-store, is-invalid}
+use Rattle.srt_group_model.specs.Queues.{pop, packet-of}
+use Rattle.srt_group_model.specs.Steps.{State-law, popped}
+use Rattle.srt_group_model.specs.Ascending.{insert-ascends, such-that-ascends}
+use Rattle.srt_group_model.specs.CellsKept.{Apart, Within, room, room-inside, room-most, one, one-same, occurs, absent, present, uses, pending-cells, history-cells, popped-data, set-base-parts, within-law, apart-of-rules, uses-used}
+use Rattle.srt_group_model.specs.Counts.{apart-few}
+use Rattle.srt_group_model.specs.Rounds.{In-round, round-law}
+use Rattle.srt_group_model.specs.Ranges.{Event-fit, Member-fit, at-fit}
+use Rattle.srt_group_model.specs.RangesKept.{Packet-fit, Fit, fit-law}
+use Rattle.srt_group_model.specs.Sums.{Sums-right, Summed, held-for, for-member, sums-law}
+use Rattle.srt_group_model.specs.SumsKept.{sums-of-rule}
+use Rattle.srt_group_model.specs.Valid.{Valid, valid-of, counted-of, fit-of}
+use Rattle.srt_group_model.specs.declared.Data.{Data}
+use Rattle.srt_group_model.specs.declared.Event.{Event}
+use Rattle.srt_group_model.specs.declared.Packet.{Packet}
+
+-- ---- the statement
+
+-- the most cells that a store has
+abbrev pub most-cells : ℕ
+most-cells = 2048
+
+pub record Sound (s : State) : Type 0 where
+  pub ascending : ascends (s .receive .pending) ≡ true
+  pub cells : Within (room most-cells) s
+  pub fit : Fit s
+  pub sums : Sums-right s
+  pub round : In-round s
+
+-- ---- the steps keep it
+
+Ascending : State → Type 0
+Ascending s = ascends (s .receive .pending) ≡ true
+
+retain-ascends : (i : ℕ) (p : Packet) (s : State) → Ascending s → Ascending (retain-group-packet i p s)
+unfolding retain-group-packet is-discarded Ascending
+retain-ascends i p s h =
+    if-elim (λ (t : State). ascends (t .receive .pending) ≡ true) _ _ _ (λ e. h)
+    (λ e. insert-ascends p (s .receive .pending) (or-right (is-late p (s .receive)) (is-held (sequence-of p) (s .receive .pending)) e) h)
+
+ascending-law : State-law Ascending
+unfolding admit-connected-peer-groups report-event deliver-packet pass-run skip-to Ascending
+ascending-law =
+    record {
+      admits = λ r h. ap ascends (set-base-parts _ r .0) ∙ h;
+      settles = λ s h. h;
+      requalifies = λ s h. h;
+      continues = λ s b h. h;
+      turns = λ s i m at h. h;
+      takes = λ s i m e at f d h. retain-ascends i (packet-of m e) (popped i s) h;
+      reports = λ s i m e at f d h. h;
+      delivers = λ s base p g h. such-that-ascends _ (s .receive .pending) h;
+      skips = λ s base p g h. h;
+      bases = λ s p g h. h;
+      gives = λ s h. h;
+    }
+
+-- laws that hold together
+module _ (P Q : State → Type 0) (p : State-law P) (q : State-law Q) where
+  pub both-laws : State-law (λ s. P s × Q s)
+  both-laws =
+      record {
+        admits = λ r h. (p .admits r (h .0), q .admits r (h .1));
+        settles = λ s h. (p .settles s (h .0), q .settles s (h .1));
+        requalifies = λ s h. (p .requalifies s (h .0), q .requalifies s (h .1));
+        continues = λ s b h. (p .continues s b (h .0), q .continues s b (h .1));
+        turns = λ s i m at h. (p .turns s i m at (h .0), q .turns s i m at (h .1));
+        takes = λ s i m e at f d h. (p .takes s i m e at f d (h .0), q .takes s i m e at f d (h .1));
+        reports = λ s i m e at f d h. (p .reports s i m e at f d (h .0), q .reports s i m e at f d (h .1));
+        delivers = λ s base x g h. (p .delivers s base x g (h .0), q .delivers s base x g (h .1));
+        skips = λ s base x g h. (p .skips s base x g (h .0), q .skips s base x g (h .1));
+        bases = λ s x g h. (p .bases s x g (h .0), q .bases s x g (h .1));
+        gives = λ s h. (p .gives s (h .0), q .gives s (h .1));
+      }
+
+All-five : State → Type 0
+All-five s = Ascending s × (Within (room most-cells) s × (Fit s × (Sums-right s × In-round s)))
+
+five-law : State-law All-five
+unfolding All-five
+five-law =
+    both-laws _ _ ascending-law
+    (both-laws _ _ (within-law (room most-cells)) (both-laws _ _ fit-law (both-laws _ _ sums-law round-law)))
+
+of-sound : (s : State) → Sound s → All-five s
+unfolding All-five Ascending
+of-sound s h = (h .ascending, (h .cells, (h .fit, (h .sums, h .round))))
+
+to-sound : (s : State) → All-five s → Sound s
+unfolding All-five Ascending
+to-sound s h = record { ascending = h .0; cells = h .1 .0; fit = h .1 .1 .0; sums = h .1 .1 .1 .0; round = h .1 .1 .1 .1 }
+
+pub sound-law : State-law Sound
+sound-law =
+    record {
+      admits = λ r h. to-sound _ (five-law .admits r (of-sound _ h));
+      settles = λ s h. to-sound _ (five-law .settles s (of-sound _ h));
+      requalifies = λ s h. to-sound _ (five-law .requalifies s (of-sound _ h));
+      continues = λ s b h. to-sound _ (five-law .continues s b (of-sound _ h));
+      turns = λ s i m at h. to-sound _ (five-law .turns s i m at (of-sound _ h));
+      takes = λ s i m e at f d h. to-sound _ (five-law .takes s i m e at f d (of-sound _ h));
+      reports = λ s i m e at f d h. to-sound _ (five-law .reports s i m e at f d (of-sound _ h));
+      delivers = λ s base p g h. to-sound _ (five-law .delivers s base p g (of-sound _ h));
+      skips = λ s base p g h. to-sound _ (five-law .skips s base p g (of-sound _ h));
+      bases = λ s p g h. to-sound _ (five-law .bases s p g (of-sound _ h));
+      gives = λ s h. to-sound _ (five-law .gives s (of-sound _ h));
+    }
+
+-- ---- a valid state has it
+
+not-not : (b : Bool) → not b ≡ false → b ≡ true
+not-not true e = refl
+not-not false e = not-both {t = true} refl e
+
+room-wider : (cells n : ℕ) → cells ≤ most-cells → room cells n ≤ room most-cells n
+room-wider cells n wide =
+    if-elim (λ (a : ℕ). a ≤ room most-cells n) (ltb n cells) 1 0
+    (λ e.
+    if-elim (λ (b : ℕ). 1 ≤ b) (ltb n most-cells) 1 0 (λ g. omega arith)
+    (λ g. absurd (omega (arith, wide, ltb-true n cells e, ltb-false n most-cells g))))
+    (λ e. omega arith)
+
+pub sound-of-valid : (cells : ℕ) (s : State) → cells ≤ most-cells → s .identity .peer ≤ largest-32 → is-invalid cells s ≡ false → Sound s
+unfolding held-sequence-twice cell-twice cell-beyond-store id-twice
+sound-of-valid cells s wide peer fine =
+    let h = valid-of cells s fine in
+    let apart = apart-of-rules cells (used-cells s) (h .cells-once) (h .cells-inside) in
+    record {
+      ascending = not-not (ascends (s .receive .pending)) (h .ascending);
+      cells = λ n. omega (arith, apart n, uses-used n s, room-wider cells n wide);
+      fit = fit-of cells s h peer;
+      sums = sums-of-rule s (h .ids-once) (h .sums);
+      round = counted-of s (h .counts) .round;
+    }
+
+-- with no history, a state that is sound stays so: what touches no history may be asked without one
+pub sound-without-history : (s : State) → Sound s → Sound (with-send (with-history [] (s .send)) s)
+unfolding each occurs
+sound-without-history s h =
+    record {
+      ascending = h .ascending;
+      cells = λ n. omega (arith, h .cells n);
+      fit =
+          record {
+            members = h .fit .members;
+            pending = h .fit .pending;
+            history = tt;
+            remembered = omega arith;
+            waiting = h .fit .waiting;
+            base = h .fit .base;
+            next = h .fit .next;
+            peer = h .fit .peer;
+          };
+      sums = record { unique = h .sums .unique; members = h .sums .members; placed = h .sums .placed; own = h .sums .own };
+      round = h .round;
+    }
+
+-- ---- the event in front of a queue
+
+-- what the code needs to know of a data event in front of the queue of the member at a place, to hold its packet
+pub record Front-data (s : State) (m : Member) (e : Event) : Type 0 where
+  pub sequence : e .content .sequence ≤ largest-sequence
+  pub count : e .content .count ≤ largest-16
+  pub cell : e .content .cell < most-cells
+  pub apart : is-among (e .content .cell) (pending-cells (s .receive .pending)) ≡ false
+  pub held : length (s .receive .pending) < most-cells
+  pub reserved : m .membership .reserved ≤ largest-16 * most-cells
+  pub id : id-of m ≤ largest-32
+
+right-of : (a b : Bool) → a ≡ true → a && b ≡ false → b ≡ false
+right-of true b t e = e
+right-of false b t e = not-both t refl
+
+count-fits : (d : Data) → data-out-of-range d ≡ false → d .count ≤ largest-16
+unfolding data-out-of-range
+count-fits d h = ltb-false largest-16 (d .count) (or-left (above largest-16 (d .count)) _ (or-right (eqb (d .count) 0) _ h))
+
+cells-length : (ps : List Packet) → length (pending-cells ps) ≡ length ps
+unfolding each
+cells-length [] = refl
+cells-length (p ∷ ps) = ap suc (cells-length ps)
+
+-- the counts of packets held for a member: at most 65,535 each
+held-for-most : (id : ℕ) (ps : List Packet) → All Packet-fit ps → held-for id ps ≤ largest-16 * length ps
+unfolding held-for
+held-for-most id [] h = omega arith
+held-for-most id (p ∷ ps) h =
+    omega (arith, count-for, held-for-most id ps (h .1))
+  where
+    count-most : p .content .count ≤ largest-16
+    count-most = count-fits (p .content) (h .0 .fields)
+
+    count-for : for-member id p ≤ largest-16
+    count-for = if-elim (λ (k : ℕ). k ≤ largest-16) _ _ _ (λ e. count-most) (λ e. omega arith)
+
+-- the front event is one of the queue's, in range
+front-fit : (q : List Event) (e : Event) → All Event-fit q → front q ≡ some e → Event-fit e
+unfolding at-place
+front-fit [] e h f = none-some f
+front-fit (x ∷ q) e h f = subst Event-fit (some-inj f) (h .0)
+
+all-at : (P : Member → Type 0) (ms : List Member) (i : ℕ) (m : Member) → All P ms → at-place i ms ≡ some m → P m
+unfolding at-place
+all-at P [] i m h at = none-some at
+all-at P (x ∷ ms) zero m h at = subst P (some-inj at) (h .0)
+all-at P (x ∷ ms) (suc i) m h at = all-at P ms i m (h .1) at
+
+module _ (s : State) (i : ℕ) (m : Member) (e : Event) (sound : Sound s) (at : at-place i (s .members) ≡ some m)
+    (in-front : front (m .queue) ≡ some e) (is-packet : eqb (e .kind) 0 ≡ true) where
+  member-fits : Member-fit m
+  member-fits = all-at Member-fit (s .members) i m (sound .fit .members) at
+
+  event-fits : Event-fit e
+  event-fits = front-fit (m .queue) e (member-fits .queue) in-front
+
+  -- its cell is used once more than by the held packets
+  used-once : (n : ℕ) → one (e .content .cell) n + occurs n (pending-cells (s .receive .pending)) ≤ room most-cells n
+  used-once n = omega (arith, sound .cells n, popped-data n i m e (s .members) at in-front is-packet)
+
+  few : suc (length (pending-cells (s .receive .pending))) ≤ most-cells
+  unfolding occurs
+  few = apart-few most-cells (e .content .cell ∷ pending-cells (s .receive .pending)) used-once
+
+  fields-fit : data-out-of-range (e .content) ≡ false
+  unfolding event-out-of-range
+  fields-fit =
+      right-of (is-data e) _ is-packet
+      (or-right (above largest-32 (e .reason)) _ (or-right (above 3 (e .kind)) _ (event-fits .fields)))
+
+  pub front-data : Front-data s m e
+  front-data =
+      record {
+        sequence = ltb-false largest-sequence (e .content .sequence) (right-of (is-data e) _ is-packet (event-fits .sequence));
+        count = count-fits (e .content) fields-fit;
+        cell =
+            room-inside most-cells (e .content .cell)
+            (omega (arith, used-once (e .content .cell), one-same (e .content .cell)));
+        apart =
+            by-test (is-among (e .content .cell) (pending-cells (s .receive .pending)))
+            (λ among.
+            absurd
+            (omega (
+              arith,
+              present (e .content .cell) (pending-cells (s .receive .pending)) among,
+              used-once (e .content .cell),
+              one-same (e .content .cell),
+              room-most most-cells (e .content .cell),
+            )))
+            (λ g. g);
+        held = omega (arith, few, cells-length (s .receive .pending));
+        reserved =
+            omega (
+              arith,
+              all-at (Summed (s .receive .pending)) (s .members) i m (sound .sums .members) at .reserved,
+              held-for-most (id-of m) (s .receive .pending) (sound .fit .pending),
+              few,
+              cells-length (s .receive .pending),
+            );
+        id = member-fits .id;
+      }
