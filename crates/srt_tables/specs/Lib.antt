@@ -1,4 +1,5 @@
 pub mod Ring
 pub mod Packets
+pub mod PacketIndex
 pub mod PacketLaws
 pub mod Waitings

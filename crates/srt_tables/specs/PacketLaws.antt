@@ -1,57 +1,42 @@
--- Laws of the pending rows: a row written and read back, a search that halves, a packet put into its place and one taken out.
--- Assumes nothing.
+-- Laws of the pending packets: a search that halves, a packet put into its place and one taken out, the nearest and the
+-- farthest, sums of counts. Assumes nothing.
 use mathlib.Core.Path.{_≡_, refl, ap, sym, subst, _∙_}
 use mathlib.Core.Bool.{Bool, true, false, not, _&&_, _||_}
 use mathlib.Core.List.{List, [], _∷_, _++_, append-nil, append-assoc}
-use mathlib.Core.Option.{Option, none, some}
-use mathlib.Core.Logic.{_⊎_, ⊎-elim, inl, inr}
+use mathlib.Core.Option.{none, some}
+use mathlib.Core.Logic.{⊎-elim}
 use Prim.Native.Nat.{ℕ, zero, suc, _+_, _*_, _-_, _^_, _≤_, _<_}
-use native.Mathlib.Nat.{eq-or-lt-of-le, add-zero, zero-add}
+use native.Mathlib.Nat.{eq-or-lt-of-le, zero-add}
 use native.Mathlib.Numerals.{add-one}
-use native.Mathlib.Decide.{decLt}
+use native.Mathlib.Decide.{decLt, ℕ-discrete}
 use native.Mathlib.Omega.{arith}
-use lib.ListN.{length, drop, getD, drop-of-length-le}
-use lib.Seq.{sets, sets-eq, drop-cons}
+use lib.ListN.{length, drop, getD, set, length-set, drop-of-length-le}
+use lib.Seq.{drop-cons}
 use lib.Dec.{ltb, leb, eqb}
-use borrow.Author.Tests.{lt-ltb, le-ltb, le-leb, lt-leb, eq-eqb, ne-eqb, ltb-true, ltb-false, eqb-true, eqb-false}
-use Rattle.word_rows.specs.Tab.{tab, tab-at, tab-same, tab-none, tab-push, tab-length, inserted, removed}
-use Rattle.word_rows.specs.Rows.{row-at, row-word, row-there, row-elsewhere, Opened, Closed, table-inserted, table-removed}
+use borrow.Author.Tests.{lt-ltb, le-ltb, le-leb, lt-leb, eq-eqb, ne-eqb, ltb-true}
+use Rattle.word_rows.specs.Tab.{tab, tab-at, tab-same, tab-none, tab-push, tab-insert, tab-remove, tab-length, inserted, removed}
+use Rattle.word_rows.specs.Rows.{Opened, Closed}
 use Rattle.srt_protocol.specs.Sequence.{half, sequence-distance}
-use Rattle.srt_protocol.specs.Cells.{overwritten}
-use Rattle.srt_protocol.specs.CellLaws.{overwritten-length}
 use Rattle.srt_group_model.specs.declared.Packet.{Packet}
 use Rattle.srt_group_model.specs.Tools.{if_then_else_, if-some_give_otherwise_, or-else, any, place-of, such-that, each, total}
+use Rattle.srt_group_model.specs.Cells.{is-among}
+use Rattle.srt_group_model.specs.CellsKept.{pending-cells}
 use Rattle.srt_group_model.specs.Nearest.{sequence-of, has-sequence, is-held, insert, lowest, nearest, is-covered, farther, farthest}
 use Rattle.srt_group_model.specs.Removal.{own-packet, is-owned}
 use Rattle.srt_group_model.specs.Validity.{ascends}
 use Rattle.srt_tables.specs.declared.pending.Found.{Found}
 use Rattle.srt_tables.specs.declared.pending.Found.the-variants.{At, Nothing}
-use Rattle.srt_tables.specs.Packets.{packet-of, packet-words, packet-at, packets, Placed, Holds, found, place-found, packet-found, in-use, FoundPacket, by-group, with-owned-packet, count-if, is-held-for, CountsFit}
+use Rattle.srt_tables.specs.Packets.{packet-at, packets, Placed, Holds, found, place-found, packet-found, in-use, FoundPacket, by-group, with-owned-packet, count-if, is-held-for, CountsFit}
+use Rattle.srt_tables.specs.PacketIndex.{cell-of, indexed-there, indexed-elsewhere, index-lent, index-back, back-length, closed-low, closed-high, opened-low, opened-high, put-in, put-length, put-there, put-elsewhere, member-word, same-member, owned-same-cell, owned-other-cell}
 
 drop-zero : (l : List Packet) → drop 0 l ≡ l
 drop-zero [] = refl
 drop-zero (p ∷ l) = refl
 
--- ---- a row
-
--- a row whose words are all stored is the list of what was stored
-pub all-stored : (row words : List ℕ) → length row ≡ length words → sets row 0 words ≡ words
-all-stored row words long =
-    sets-eq words row 0 (omega arith)
-    ∙ ap (λ (rest : List ℕ). words ++ rest) (drop-of-length-le row {i = 0 + length words} (omega arith)) ∙ append-nil words
-
-pub packet-back : (p : Packet) → packet-of (packet-words p) ≡ p
-unfolding packet-of packet-words
-packet-back p = refl
-
-pub nine-words : (p : Packet) → length (packet-words p) ≡ 9
-unfolding packet-words
-nine-words p = refl
-
--- a row's first word is its packet's sequence
-pub first-word : (words : List ℕ) (i : ℕ) → getD words (i * 9) 0 ≡ sequence-of (packet-at words i)
-unfolding packet-at packet-of
-first-word words i = ap (λ (k : ℕ). getD words k 0) (sym (add-zero (i * 9))) ∙ sym (row-word 9 words i 0 (omega arith))
+each-tab : {A B : Type 0} (f : A → B) (n : ℕ) (g : ℕ → A) → each f (tab n g) ≡ tab n (λ i. f (g i))
+unfolding each tab
+each-tab f zero g = refl
+each-tab f (suc n) g = cc (each-tab f n (λ i. g (suc i)))
 
 -- ---- ascending packets
 
@@ -105,23 +90,19 @@ pub record Between (words : List ℕ) (count sequence low high : ℕ) : Type 0 w
 
 module _ (words : List ℕ) (count sequence : ℕ) (up : ascends (packets count words) ≡ true) where
   pub between-above : {low high : ℕ} → Between words count sequence low high → (middle : ℕ) → middle < high
-      → getD words (middle * 9) 0 < sequence → Between words count sequence (middle + 1) high
+      → sequence-of (packet-at words middle) < sequence → Between words count sequence (middle + 1) high
   between-above here middle inside less =
       record {
         ordered = omega arith;
         within = here .within;
         below =
             λ k lower.
-            omega (
-              arith,
-              first-word words middle,
-              ascends-le count (packet-at words) up k middle (omega arith) (omega (arith, here .within)),
-            );
+            omega (arith, ascends-le count (packet-at words) up k middle (omega arith) (omega (arith, here .within)));
         above = here .above;
       }
 
   pub between-below : {low high : ℕ} → Between words count sequence low high → (middle : ℕ) → low ≤ middle → middle < high
-      → sequence ≤ getD words (middle * 9) 0 → Between words count sequence low middle
+      → sequence ≤ sequence-of (packet-at words middle) → Between words count sequence low middle
   between-below here middle inside upper less =
       record {
         ordered = inside;
@@ -129,7 +110,7 @@ module _ (words : List ℕ) (count sequence : ℕ) (up : ascends (packets count 
         below = here .below;
         above =
             λ k higher inside-count.
-            omega (arith, first-word words middle, ascends-le count (packet-at words) up middle k higher inside-count);
+            omega (arith, ascends-le count (packet-at words) up middle k higher inside-count);
       }
 
 -- ---- whether a sequence is held, by what stands at its place
@@ -156,17 +137,17 @@ place-nowhere (suc n) f sequence never =
     )
 
 module _ (words : List ℕ) (count sequence place : ℕ) (at : Placed words count sequence place) where
-  pub find-there : place < count → getD words (place * 9) 0 ≡ sequence → place-found sequence (packets count words) ≡ At place
+  pub find-there : place < count → sequence-of (packet-at words place) ≡ sequence → place-found sequence (packets count words) ≡ At place
   find-there inside is =
       ap found
-      (place-there count (packet-at words) sequence place inside (at .below) (sym (first-word words place) ∙ is))
+      (place-there count (packet-at words) sequence place inside (at .below) is)
 
   pub find-past : count ≤ place → place-found sequence (packets count words) ≡ Nothing
   find-past past =
       ap found
       (place-nowhere count (packet-at words) sequence (λ k inside is. omega (arith, at .below k (omega arith))))
 
-  pub find-other : ascends (packets count words) ≡ true → place < count → (getD words (place * 9) 0 ≡ sequence → ⊥)
+  pub find-other : ascends (packets count words) ≡ true → place < count → (sequence-of (packet-at words place) ≡ sequence → ⊥)
       → place-found sequence (packets count words) ≡ Nothing
   find-other up inside other = ap found (place-nowhere count (packet-at words) sequence never)
     where
@@ -177,29 +158,36 @@ module _ (words : List ℕ) (count sequence place : ℕ) (at : Placed words coun
           go (yes lower) h = omega (arith, at .below k lower)
           go (no l) (yes higher) =
               omega (arith, at .above place (omega arith) inside, ascends-up count (packet-at words) up place k higher inside-k)
-          go (no l) (no h) = other (first-word words place ∙ ap (λ (i : ℕ). sequence-of (packet-at words i)) (omega arith) ∙ is)
+          go (no l) (no h) = other (ap (λ (i : ℕ). sequence-of (packet-at words i)) (omega arith) ∙ is)
 
 -- ---- a packet put into its place
 
-never-held : (n : ℕ) (f : ℕ → Packet) (sequence : ℕ) → is-held sequence (tab n f) ≡ false → (k : ℕ) → k < n
-    → sequence-of (f k) ≡ sequence → ⊥
+none-passes : {A : Type 0} (test : A → Bool) (n : ℕ) (f : ℕ → A) → any test (tab n f) ≡ false → (k : ℕ) → k < n
+    → test (f k) ≡ true → ⊥
 unfolding tab any
-never-held zero f sequence absent k inside is = omega arith
-never-held (suc n) f sequence absent zero inside is =
-    not-first (eqb (sequence-of (f 0)) sequence) (any (has-sequence sequence) (tab n (λ i. f (suc i)))) absent
-    (eq-eqb (sequence-of (f 0)) sequence is)
+none-passes test zero f none-of k inside passes = omega arith
+none-passes test (suc n) f none-of zero inside passes = not-first (test (f 0)) (any test (tab n (λ i. f (suc i)))) none-of passes
   where
     not-first : (a b : Bool) → (a || b) ≡ false → a ≡ true → ⊥
     not-first true b neither first = let different : _≡_ {A = ℕ} 0 1 = cc in omega arith
     not-first false b neither first = let different : _≡_ {A = ℕ} 0 1 = cc in omega arith
-never-held (suc n) f sequence absent (suc k) inside is =
-    never-held n (λ i. f (suc i)) sequence
-    (or-right (eqb (sequence-of (f 0)) sequence) (any (has-sequence sequence) (tab n (λ i. f (suc i)))) absent)
-    k (omega arith) is
+none-passes test (suc n) f none-of (suc k) inside passes =
+    none-passes test n (λ i. f (suc i)) (or-right (test (f 0)) (any test (tab n (λ i. f (suc i)))) none-of) k (omega arith) passes
   where
     or-right : (a b : Bool) → (a || b) ≡ false → b ≡ false
     or-right true b e = let different : _≡_ {A = ℕ} 0 1 = cc in absurd (omega arith)
     or-right false b e = e
+
+never-held : (n : ℕ) (f : ℕ → Packet) (sequence : ℕ) → is-held sequence (tab n f) ≡ false → (k : ℕ) → k < n
+    → sequence-of (f k) ≡ sequence → ⊥
+never-held n f sequence absent k inside is =
+    none-passes (has-sequence sequence) n f absent k inside (eq-eqb (sequence-of (f k)) sequence is)
+
+cell-unused : (n : ℕ) (f : ℕ → Packet) (cell : ℕ) → is-among cell (pending-cells (tab n f)) ≡ false → (k : ℕ) → k < n
+    → cell-of (f k) ≡ cell → ⊥
+cell-unused n f cell absent k inside is =
+    none-passes (λ (c : ℕ). eqb c cell) n (λ i. cell-of (f i)) (ap (is-among cell) (sym (each-tab cell-of n f)) ∙ absent) k inside
+    (eq-eqb (cell-of (f k)) cell is)
 
 insert-there : (n : ℕ) (f : ℕ → Packet) (p : Packet) (place : ℕ) → place ≤ n
     → ((k : ℕ) → k < place → sequence-of (f k) < sequence-of p) → (place < n → sequence-of p < sequence-of (f place))
@@ -213,21 +201,49 @@ insert-there (suc n) f p (suc place) within below here =
     (ap (λ (rest : List Packet). f 0 ∷ rest)
     (insert-there n (λ i. f (suc i)) p place (omega arith) (λ k lower. below (suc k) (omega arith)) (λ inside. here (omega arith))))
 
-pub packet-inserted : (words opened : List ℕ) (count place : ℕ) (p : Packet) → 18432 ≤ length words → count < 2048
-    → Placed words count (sequence-of p) place → Opened 9 words (place * 9) (count * 9) opened
-    → ascends (packets count words) ≡ true → is-held (sequence-of p) (packets count words) ≡ false
-    → Holds (length words) (overwritten (place * 9) (packet-words p) opened) (count + 1) (insert p (packets count words))
-unfolding packet-at
-packet-inserted words opened count place p enough room at gap up absent =
+pub packet-inserted : (words index : List ℕ) (count place : ℕ) (p : Packet) → (enough : 18432 ≤ length words) → count < 2048
+    → Placed words count (sequence-of p) place → Opened 1 (index-lent words) place count index
+    → ascends (packets count words) ≡ true → is-held (sequence-of p) (packets count words) ≡ false → cell-of p < 2048
+    → is-among (cell-of p) (pending-cells (packets count words)) ≡ false
+    → Holds (length words) (put-in (index-back words index) place p) (count + 1) (insert p (packets count words))
+packet-inserted words index count place p enough room at gap up absent small unused =
     record {
-      length-kept =
-          overwritten-length (place * 9) (packet-words p) opened (omega (arith, at .within, gap .long, nine-words p)) ∙ gap .long;
+      length-kept = put-length opened place p opened-enough low small ∙ opened-long;
       is =
-          table-inserted 9 packet-of words opened (packet-words p) count place (omega arith) (at .within) (nine-words p) gap
-          ∙ ap (λ (q : Packet). inserted place q (packets count words)) (packet-back p)
+          ap (λ (n : ℕ). packets n (put-in opened place p)) (add-one count)
+          ∙ tab-insert count place p (packet-at words) (packet-at (put-in opened place p)) (at .within) lower-packets
+          (put-there opened place p opened-enough low small) upper-packets
           ∙ sym (insert-there count (packet-at words) p place (at .within) (at .below) strictly);
     }
   where
+    opened : List ℕ
+    opened = index-back words index
+
+    opened-long : length opened ≡ length words
+    opened-long = back-length words enough index (gap .long)
+
+    opened-enough : 18432 ≤ length opened
+    opened-enough = omega (arith, opened-long)
+
+    low : place < 2048
+    low = omega (arith, at .within)
+
+    cell-free : (i j : ℕ) → i < count → packet-at opened j ≡ packet-at words i → cell-of (packet-at opened j) ≡ cell-of p → ⊥
+    cell-free i j inside same is =
+        cell-unused count (packet-at words) (cell-of p) unused i inside (ap cell-of (sym same) ∙ is)
+
+    lower-packets : (i : ℕ) → i < place → packet-at (put-in opened place p) i ≡ packet-at words i
+    lower-packets i lower =
+        let inside : i < count = omega (arith, at .within) in
+        let same : packet-at opened i ≡ packet-at words i = opened-low words index count place enough room gap i lower inside in
+        put-elsewhere opened place p opened-enough low small i (omega arith) (λ q. omega arith) (cell-free i i inside same) ∙ same
+
+    upper-packets : (i : ℕ) → place ≤ i → i < count → packet-at (put-in opened place p) (suc i) ≡ packet-at words i
+    upper-packets i higher inside =
+        let same : packet-at opened (suc i) ≡ packet-at words i =
+        ap (packet-at opened) (sym (add-one i)) ∙ opened-high words index count place enough room gap i higher inside in
+        put-elsewhere opened place p opened-enough low small (suc i) (omega arith) (λ q. omega arith) (cell-free i (suc i) inside same) ∙ same
+
     strictly : place < count → sequence-of p < sequence-of (packet-at words place)
     strictly inside =
         ⊎-elim (λ same. absurd (never-held count (packet-at words) (sequence-of p) absent place inside (sym same)))
@@ -235,11 +251,22 @@ packet-inserted words opened count place p enough room at gap up absent =
 
 -- ---- a packet taken out of its place
 
-pub packet-removed : (words closed : List ℕ) (count place : ℕ) → 18432 ≤ length words → place < count → count ≤ 2048
-    → Closed 9 words (place * 9) (count * 9) closed → Holds (length words) closed (count - 1) (removed place (packets count words))
-unfolding packet-at
-packet-removed words closed count place enough inside most gap =
-    record { length-kept = gap .long; is = table-removed 9 packet-of words closed count place (omega arith) inside gap }
+pub packet-removed : (words index : List ℕ) (count place : ℕ) → 18432 ≤ length words → place < count → count ≤ 2048
+    → Closed 1 (index-lent words) place count index
+    → Holds (length words) (index-back words index) (count - 1) (removed place (packets count words))
+packet-removed words index count place enough inside most gap =
+    record {
+      length-kept = back-length words enough index (gap .long);
+      is =
+          tab-remove (count - 1) place (packet-at words) (packet-at (index-back words index)) (omega arith)
+          (λ i lower. closed-low words index count place enough most gap i lower (omega arith))
+          (λ i higher below.
+          closed-high words index count place enough most gap i higher (omega arith) ∙ ap (packet-at words) (add-one i))
+          ∙ ap (λ (n : ℕ). removed place (packets n words)) one-less;
+    }
+  where
+    one-less : suc (count - 1) ≡ count
+    one-less = omega arith
 
 -- ---- the lowest, and the nearest
 
@@ -283,19 +310,16 @@ such-that-from (suc n) f sequence (suc place) below above =
     (such-that-from n (λ i. f (suc i)) sequence place (λ k lower inside. below (suc k) (omega arith) (omega arith))
     (λ k higher inside. above (suc k) (omega arith) (omega arith)))
 
--- `from` is half the space above the first row's sequence, and `place` the place of `from`
+-- `from` is half the space above the first packet's sequence, and `place` the place of `from`
 module _ (words : List ℕ) (count from place : ℕ) (some-held : 0 < count) (up : ascends (packets count words) ≡ true)
-    (half-above : from ≡ getD words 0 0 + half) (at : Placed words count from place) where
+    (half-above : from ≡ sequence-of (packet-at words 0) + half) (at : Placed words count from place) where
   lowest-is : lowest (packets count words) ≡ some (packet-at words 0)
   lowest-is = ap lowest (sym (drop-zero (packets count words))) ∙ lowest-from count (packet-at words) 0 up some-held
-
-  first-sequence : sequence-of (packet-at words 0) + half ≡ from
-  first-sequence = ap (λ (n : ℕ). n + half) (sym (first-word words 0)) ∙ sym half-above
 
   far : such-that (λ p. leb (sequence-of (packet-at words 0) + half) (sequence-of p)) (packets count words)
       ≡ drop place (packets count words)
   far =
-      ap (λ (n : ℕ). such-that (λ p. leb n (sequence-of p)) (packets count words)) first-sequence
+      ap (λ (n : ℕ). such-that (λ p. leb n (sequence-of p)) (packets count words)) (sym half-above)
       ∙ such-that-from count (packet-at words) from place (λ k lower inside. at .below k lower) (at .above)
 
   pub nearest-wraps : place < count → nearest (packets count words) ≡ some (packet-at words place)
@@ -307,34 +331,11 @@ module _ (words : List ℕ) (count from place : ℕ) (some-held : 0 < count) (up
   nearest-lowest past =
       rw (lowest-is, far, drop-of-length-le (packets count words) {i = place} (omega (arith, tab-length count (packet-at words))))
 
--- no word reaches half the space above the first: there is no place for it
-pub placed-last : (words : List ℕ) (count from : ℕ) → ((k : ℕ) → getD words k 0 < from) → Placed words count from count
-placed-last words count from bound =
-    record {
-      within = omega arith;
-      below = λ k lower. omega (arith, first-word words k, bound (k * 9));
-      above = λ k higher inside. absurd (omega arith);
-    }
-
 pub nearest-none : (words : List ℕ) (count : ℕ) → count ≡ 0 → nearest (packets count words) ≡ none
 unfolding nearest lowest if-some_give_otherwise_
 nearest-none words count nothing = ap nearest (tab-none count (packet-at words) nothing)
 
--- ---- a row copied to another place
-
-module _ (words : List ℕ) (to : ℕ) (p : Packet) (fits : to * 9 + 9 ≤ length words) where
-  pub copied-there : packet-at (overwritten (to * 9) (packet-words p) words) to ≡ p
-  unfolding packet-at
-  copied-there = ap packet-of (row-there 9 words (packet-words p) to fits (nine-words p)) ∙ packet-back p
-
-  pub copied-elsewhere : (i : ℕ) → (i ≡ to → ⊥) → packet-at (overwritten (to * 9) (packet-words p) words) i ≡ packet-at words i
-  unfolding packet-at
-  copied-elsewhere i other = ap packet-of (row-elsewhere 9 words (packet-words p) to fits (nine-words p) i other)
-
-  pub copied-length : length (overwritten (to * 9) (packet-words p) words) ≡ length words
-  copied-length = overwritten-length (to * 9) (packet-words p) words (omega (arith, nine-words p))
-
--- ---- those that pass a test are kept: the rows before `at` were looked at, and `kept` of them passed
+-- ---- those that pass a test are kept: the packets before `at` were looked at, and `kept` of them passed
 
 pub record Keeping (test : Packet → Bool) (count : ℕ) (before words : List ℕ) (kept at : ℕ) : Type 0 where
   pub ordered : kept ≤ at
@@ -387,13 +388,13 @@ module _ (test : Packet → Bool) where
           rest = λ k above below. here .rest k (omega arith) below;
         }
 
-    pub kept-one : at < count → count * 9 ≤ length before → test (packet-at words at) ≡ true
-        → Keeping test count before (overwritten (kept * 9) (packet-words (packet-at words at)) words) (kept + 1) (at + 1)
-    kept-one inside fits passes =
+    pub kept-one : at < count → count ≤ 2048 → 18432 ≤ length before → test (packet-at words at) ≡ true
+        → Keeping test count before (set words kept (getD words at 0)) (kept + 1) (at + 1)
+    kept-one inside most enough passes =
         record {
           ordered = omega (arith, here .ordered);
           within = omega arith;
-          long = copied-length words kept (packet-at words at) room ∙ here .long;
+          long = length-set words kept (getD words at 0) ∙ here .long;
           is =
               ap (λ (l : List Packet). l ++ such-that test (drop (at + 1) (packets count before))) one-more
               ∙ append-assoc (packets kept words) (packet-at words at ∷ []) (such-that test (drop (at + 1) (packets count before)))
@@ -401,21 +402,19 @@ module _ (test : Packet → Bool) where
               ∙ here .is;
           rest =
               λ k above below.
-              copied-elsewhere words kept (packet-at words at) room k (λ same. omega (arith, here .ordered))
+              indexed-elsewhere words kept (getD words at 0) low k (λ same. omega (arith, here .ordered))
               ∙ here .rest k (omega arith) below;
         }
       where
-        room : kept * 9 + 9 ≤ length words
-        room = omega (arith, here .ordered, here .long)
+        low : kept < 2048
+        low = omega (arith, here .ordered)
 
-        one-more : packets (kept + 1) (overwritten (kept * 9) (packet-words (packet-at words at)) words)
-            ≡ packets kept words ++ (packet-at words at ∷ [])
+        one-more : packets (kept + 1) (set words kept (getD words at 0)) ≡ packets kept words ++ (packet-at words at ∷ [])
         one-more =
-            ap (λ (n : ℕ). packets n (overwritten (kept * 9) (packet-words (packet-at words at)) words)) (add-one kept)
-            ∙ tab-push kept (packet-at words) (packet-at (overwritten (kept * 9) (packet-words (packet-at words at)) words))
-            (packet-at words at)
-            (λ i below. copied-elsewhere words kept (packet-at words at) room i (λ same. omega arith))
-            (copied-there words kept (packet-at words at) room)
+            ap (λ (n : ℕ). packets n (set words kept (getD words at 0))) (add-one kept)
+            ∙ tab-push kept (packet-at words) (packet-at (set words kept (getD words at 0))) (packet-at words at)
+            (λ i below. indexed-elsewhere words kept (getD words at 0) low i (λ same. omega arith))
+            (indexed-there words kept (getD words at 0) low at (omega (arith, low, here .long)) refl)
 
         same-packet : packet-at words at ≡ packet-at before at
         same-packet = here .rest at (omega arith) inside
@@ -439,12 +438,12 @@ module _ (test : Packet → Bool) where
               ∙ here .is;
         }
 
--- the test of a row's first word is the test of its packet
-pub covered-row : (words : List ℕ) (at first run : ℕ) (tested answer : Bool)
-    → tested ≡ ltb (sequence-distance first (getD words (at * 9) 0)) run → tested ≡ answer
+-- the test of a packet's sequence is the test of the packet
+pub covered-packet : (words : List ℕ) (at first run sequence : ℕ) (tested answer : Bool) → sequence ≡ sequence-of (packet-at words at)
+    → tested ≡ ltb (sequence-distance first sequence) run → tested ≡ answer
     → not (is-covered first run (packet-at words at)) ≡ not answer
-covered-row words at first run tested answer is answered =
-    ap not (ap (λ (n : ℕ). ltb (sequence-distance first n) run) (sym (first-word words at)) ∙ sym is ∙ answered)
+covered-packet words at first run sequence tested answer sequence-is is answered =
+    ap not (ap (λ (n : ℕ). ltb (sequence-distance first n) run) (sym sequence-is) ∙ sym is ∙ answered)
 
 -- ---- whether packets ascend: each of the first `next` sequences is below the one after it
 
@@ -458,19 +457,19 @@ ascends-all (suc (suc n)) f up =
       ascends-all (suc n) (λ i. f (suc i)) (λ k inside. up (suc k) (omega arith)),
     )
 
--- the rows before `next` ascend
+-- the packets before `next` ascend
 pub record Ascending (words : List ℕ) (next : ℕ) : Type 0 where
   pub some : 1 ≤ next
-  pub up : (k : ℕ) → 0 < k → k < next → getD words ((k - 1) * 9) 0 < getD words (k * 9) 0
+  pub up : (k : ℕ) → 0 < k → k < next → sequence-of (packet-at words (k - 1)) < sequence-of (packet-at words k)
 
 pub ascending-start : (words : List ℕ) → Ascending words 1
 ascending-start words = record { some = omega arith; up = λ k positive below. absurd (omega arith) }
 
 module _ (words : List ℕ) (count next : ℕ) (here : Ascending words next) where
-  pub ascending-one : getD words ((next - 1) * 9) 0 < getD words (next * 9) 0 → Ascending words (next + 1)
+  pub ascending-one : sequence-of (packet-at words (next - 1)) < sequence-of (packet-at words next) → Ascending words (next + 1)
   ascending-one less = record { some = omega arith; up = λ k positive below. go k (decLt k next) positive below }
     where
-      go : (k : ℕ) → Dec (k < next) → 0 < k → k < next + 1 → getD words ((k - 1) * 9) 0 < getD words (k * 9) 0
+      go : (k : ℕ) → Dec (k < next) → 0 < k → k < next + 1 → sequence-of (packet-at words (k - 1)) < sequence-of (packet-at words k)
       go k (yes lower) positive below = here .up k positive lower
       go k (no not-lower) positive below = let here-is : k ≡ next = omega arith in rw here-is less
 
@@ -480,14 +479,9 @@ module _ (words : List ℕ) (count next : ℕ) (here : Ascending words next) whe
       below-next : (k : ℕ) → suc k < count → sequence-of (packet-at words k) < sequence-of (packet-at words (suc k))
       below-next k inside =
           let back : suc k - 1 ≡ k = omega arith in
-          omega (
-            arith,
-            first-word words k,
-            first-word words (suc k),
-            rw back at (here .up (suc k) (omega arith) (omega arith)),
-          )
+          rw back at (here .up (suc k) (omega arith) (omega arith))
 
-  pub ascending-not : next < count → getD words (next * 9) 0 ≤ getD words ((next - 1) * 9) 0 → false ≡ ascends (packets count words)
+  pub ascending-not : next < count → sequence-of (packet-at words next) ≤ sequence-of (packet-at words (next - 1)) → false ≡ ascends (packets count words)
   ascending-not inside down = by-test (ascends (packets count words)) refl
     where
       by-test : (b : Bool) → ascends (packets count words) ≡ b → false ≡ b
@@ -496,19 +490,18 @@ module _ (words : List ℕ) (count next : ℕ) (here : Ascending words next) whe
           absurd
           (omega (
             arith,
-            first-word words (next - 1),
-            first-word words next,
             here .some,
             ascends-up count (packet-at words) e (next - 1) next (omega (arith, here .some)) inside,
           ))
 
--- ---- packets that become the group's own: those before `at` have, those from there on have not
+-- ---- packets that become the group's own: those before `at` have. A packet from there on may have too, if it shares its row
+-- with one before; owning it once more then changes nothing
 
 pub record Owning (id count : ℕ) (before words : List ℕ) (at : ℕ) : Type 0 where
   pub within : at ≤ count
   pub long : length words ≡ length before
   pub done : (k : ℕ) → k < at → packet-at words k ≡ own-packet id (packet-at before k)
-  pub rest : (k : ℕ) → at ≤ k → packet-at words k ≡ packet-at before k
+  pub alike : (k : ℕ) → k < count → own-packet id (packet-at words k) ≡ own-packet id (packet-at before k)
 
 own-yes : (id : ℕ) (p : Packet) → p .member ≡ id → own-packet id p ≡ by-group p
 unfolding own-packet if_then_else_
@@ -518,117 +511,132 @@ own-no : (id : ℕ) (p : Packet) → (p .member ≡ id → ⊥) → own-packet i
 unfolding own-packet if_then_else_
 own-no id p other = rw (ne-eqb (p .member) id other)
 
-each-tab : {A B : Type 0} (f : A → B) (n : ℕ) (g : ℕ → A) → each f (tab n g) ≡ tab n (λ i. f (g i))
-unfolding each tab
-each-tab f zero g = refl
-each-tab f (suc n) g = cc (each-tab f n (λ i. g (suc i)))
+own-twice : (id : ℕ) (p : Packet) → own-packet id (own-packet id p) ≡ own-packet id p
+unfolding own-packet if_then_else_
+own-twice id p = by-test (eqb (p .member) id) refl
+  where
+    by-test : (b : Bool) → eqb (p .member) id ≡ b → own-packet id (own-packet id p) ≡ own-packet id p
+    by-test true e = rw (e, e)
+    by-test false e = rw (e, e)
 
-module _ (id count : ℕ) (before words : List ℕ) (at : ℕ) (here : Owning id count before words at) where
-  pub owned-one : at < count → count * 9 ≤ length before → (p : Packet) → p ≡ packet-at words at → p .member ≡ id
-      → Owning id count before (overwritten (at * 9) (packet-words (by-group p)) words) (at + 1)
-  owned-one inside fits p is mine =
+pub owning-start : (id count : ℕ) (before : List ℕ) → Owning id count before before 0
+owning-start id count before =
+    record { within = omega arith; long = refl; done = λ k lower. absurd (omega arith); alike = λ k inside. refl }
+
+module _ (id count : ℕ) (before words : List ℕ) (at start : ℕ) (here : Owning id count before words at) (inside : at < count)
+    (start-is : start ≡ (256 + cell-of (packet-at words at)) * 8) where
+  pub owned-one : count ≤ 2048 → 18432 ≤ length before → getD words (start + 5) 0 ≡ id
+      → Owning id count before (set words (start + 6) 1) (at + 1)
+  owned-one most enough mine =
       record {
         within = omega arith;
-        long = copied-length words at (by-group p) room ∙ here .long;
+        long = length-set words (start + 6) 1 ∙ here .long;
         done = λ k lower. done k (decLt k at) lower;
-        rest = λ k higher. copied-elsewhere words at (by-group p) room k (λ same. omega arith) ∙ here .rest k (omega arith);
+        alike = alike;
       }
     where
-      room : at * 9 + 9 ≤ length words
-      room = omega (arith, here .long)
+      after : List ℕ
+      after = set words (start + 6) 1
 
-      this : p ≡ packet-at before at
-      this = is ∙ here .rest at (omega arith)
+      long-enough : 18432 ≤ length words
+      long-enough = omega (arith, here .long)
 
-      done : (k : ℕ) → Dec (k < at) → k < at + 1
-          → packet-at (overwritten (at * 9) (packet-words (by-group p)) words) k ≡ own-packet id (packet-at before k)
-      done k (yes lower) upto = copied-elsewhere words at (by-group p) room k (λ same. omega arith) ∙ here .done k lower
+      -- the row is that of every packet with its cell, and they are all the member's
+      owned : (k : ℕ) → k < 2048 → cell-of (packet-at words k) ≡ cell-of (packet-at words at)
+          → packet-at after k ≡ own-packet id (packet-at words k)
+      owned k low same =
+          owned-same-cell words at start start-is long-enough k low same
+          ∙ sym
+          (own-yes id (packet-at words k)
+          (same-member words at start start-is long-enough k same ∙ sym (member-word words at start start-is) ∙ mine))
+
+      alike : (k : ℕ) → k < count → own-packet id (packet-at after k) ≡ own-packet id (packet-at before k)
+      alike k within = by-cell (ℕ-discrete (cell-of (packet-at words k)) (cell-of (packet-at words at)))
+        where
+          by-cell : Dec (cell-of (packet-at words k) ≡ cell-of (packet-at words at))
+              → own-packet id (packet-at after k) ≡ own-packet id (packet-at before k)
+          by-cell (yes same) =
+              ap (own-packet id) (owned k (omega arith) same) ∙ own-twice id (packet-at words k) ∙ here .alike k within
+          by-cell (no other) =
+              ap (own-packet id) (owned-other-cell words at start start-is long-enough k (omega arith) other) ∙ here .alike k within
+
+      done : (k : ℕ) → Dec (k < at) → k < at + 1 → packet-at after k ≡ own-packet id (packet-at before k)
       done k (no not-lower) upto =
           let here-is : k ≡ at = omega arith in
-          ap (packet-at (overwritten (at * 9) (packet-words (by-group p)) words)) here-is
-          ∙ copied-there words at (by-group p) room ∙ ap by-group this
-          ∙ sym (own-yes id (packet-at before at) (ap (λ (q : Packet). q .member) (sym this) ∙ mine))
-          ∙ ap (λ (i : ℕ). own-packet id (packet-at before i)) (sym here-is)
+          owned k (omega arith) (ap (λ (i : ℕ). cell-of (packet-at words i)) here-is) ∙ here .alike k (omega arith)
+      done k (yes lower) upto = by-cell (ℕ-discrete (cell-of (packet-at words k)) (cell-of (packet-at words at)))
+        where
+          by-cell : Dec (cell-of (packet-at words k) ≡ cell-of (packet-at words at)) → packet-at after k ≡ own-packet id (packet-at before k)
+          by-cell (yes same) = owned k (omega arith) same ∙ here .alike k (omega arith)
+          by-cell (no other) =
+              owned-other-cell words at start start-is long-enough k (omega arith) other ∙ here .done k lower
 
-  pub owned-not : at < count → (p : Packet) → p ≡ packet-at words at → (p .member ≡ id → ⊥) → Owning id count before words (at + 1)
-  owned-not inside p is other =
+  pub owned-not : (getD words (start + 5) 0 ≡ id → ⊥) → Owning id count before words (at + 1)
+  owned-not other =
       record {
         within = omega arith;
         long = here .long;
         done = λ k lower. done k (decLt k at) lower;
-        rest = λ k higher. here .rest k (omega arith);
+        alike = here .alike;
       }
     where
-      this : p ≡ packet-at before at
-      this = is ∙ here .rest at (omega arith)
-
       done : (k : ℕ) → Dec (k < at) → k < at + 1 → packet-at words k ≡ own-packet id (packet-at before k)
       done k (yes lower) upto = here .done k lower
       done k (no not-lower) upto =
-          let here-is : at ≡ k = omega arith in
-          here .rest k (omega arith)
-          ∙ sym
-          (own-no id (packet-at before k)
-          (λ mine. other (ap (λ (q : Packet). q .member) (this ∙ ap (packet-at before) here-is) ∙ mine)))
+          let here-is : k ≡ at = omega arith in
+          rw here-is
+          (sym (own-no id (packet-at words at) (λ mine. other (member-word words at start start-is ∙ mine)))
+          ∙ here .alike at inside)
 
-  pub owned-all : count ≤ at → Holds (length before) words count (each (own-packet id) (packets count before))
-  owned-all past =
-      record {
-        length-kept = here .long;
-        is =
-            tab-same count (λ i. own-packet id (packet-at before i)) (packet-at words) (λ i inside. here .done i (omega arith))
-            ∙ sym (each-tab (own-packet id) count (packet-at before));
-      }
+pub owned-all : (id count : ℕ) (before words : List ℕ) (at : ℕ) → Owning id count before words at → count ≤ at
+    → Holds (length before) words count (each (own-packet id) (packets count before))
+owned-all id count before words at here past =
+    record {
+      length-kept = here .long;
+      is =
+          tab-same count (λ i. own-packet id (packet-at before i)) (packet-at words) (λ i inside. here .done i (omega arith))
+          ∙ sym (each-tab (own-packet id) count (packet-at before));
+    }
 
 -- ---- the farthest of the group's own
-
-pub owned-word : (words : List ℕ) (at : ℕ) → getD words (at * 9 + 8) 0 ≡ packet-at words at .owned
-unfolding packet-at packet-of
-owned-word words at = sym (row-word 9 words at 8 (omega arith))
 
 -- a place that was found is in use
 pub at-in-use : (count : ℕ) (best : Found) (place : ℕ) → in-use count best → best ≡ At place → place < count
 at-in-use count best place used is = subst (in-use count) is used
 
 module _ (words : List ℕ) (count base at : ℕ) (inside : at < count) where
-  pub farther-not-owned : (best : Found) → in-use count best → (getD words (at * 9 + 8) 0 ≡ 1 → ⊥)
+  pub farther-not-owned : (best : Found) → in-use count best → is-owned (packet-at words at) ≡ false
       → FoundPacket words count best (with-owned-packet base (packet-at words at) (packet-found words best))
   unfolding with-owned-packet if_then_else_
   farther-not-owned best used other =
       record {
         within = used;
-        is = sym (rw (ne-eqb (packet-at words at .owned) 1 (λ mine. other (owned-word words at ∙ mine))));
+        is = sym (rw other);
       }
 
-  module _ (mine : getD words (at * 9 + 8) 0 ≡ 1) where
+  module _ (mine : is-owned (packet-at words at) ≡ true) where
     pub farther-first : (best : Found) → best ≡ Nothing
         → FoundPacket words count (At at) (with-owned-packet base (packet-at words at) (packet-found words best))
     unfolding with-owned-packet if_then_else_ if-some_give_otherwise_
     farther-first best none-yet =
         record {
           within = inside;
-          is = sym (rw (eq-eqb (packet-at words at .owned) 1 (sym (owned-word words at) ∙ mine), none-yet));
+          is = sym (rw (mine, none-yet));
         }
 
     module _ (best : Found) (place : ℕ) (is-at : best ≡ At place) (here there : ℕ)
-        (here-is : here ≡ sequence-distance base (getD words (at * 9) 0))
-        (there-is : there ≡ sequence-distance base (getD words (place * 9) 0)) where
+        (here-is : here ≡ sequence-distance base (sequence-of (packet-at words at)))
+        (there-is : there ≡ sequence-distance base (sequence-of (packet-at words place))) where
       chosen : with-owned-packet base (packet-at words at) (packet-found words best)
           ≡ some (farther base (packet-at words at) (packet-at words place))
       unfolding with-owned-packet if_then_else_ if-some_give_otherwise_
-      chosen = rw (eq-eqb (packet-at words at .owned) 1 (sym (owned-word words at) ∙ mine), is-at)
-
-      here-distance : sequence-distance base (sequence-of (packet-at words at)) ≡ here
-      here-distance = ap (sequence-distance base) (sym (first-word words at)) ∙ sym here-is
-
-      there-distance : sequence-distance base (sequence-of (packet-at words place)) ≡ there
-      there-distance = ap (sequence-distance base) (sym (first-word words place)) ∙ sym there-is
+      chosen = rw (mine, is-at)
 
       pub farther-here : there < here
           → FoundPacket words count (At at) (with-owned-packet base (packet-at words at) (packet-found words best))
       unfolding farther if_then_else_
       farther-here less =
-          record { within = inside; is = sym (chosen ∙ ap some (rw (there-distance, here-distance, lt-ltb there here less))) }
+          record { within = inside; is = sym (chosen ∙ ap some (rw (← there-is, ← here-is, lt-ltb there here less))) }
 
       pub farther-there : here ≤ there → in-use count best
           → FoundPacket words count (At place) (with-owned-packet base (packet-at words at) (packet-found words best))
@@ -636,10 +644,10 @@ module _ (words : List ℕ) (count base at : ℕ) (inside : at < count) where
       farther-there less used =
           record {
             within = at-in-use count best place used is-at;
-            is = sym (chosen ∙ ap some (rw (there-distance, here-distance, le-ltb there here less)));
+            is = sym (chosen ∙ ap some (rw (← there-is, ← here-is, le-ltb there here less)));
           }
 
--- the rows from `left` on were looked at
+-- the packets from `left` on were looked at
 pub record Looking (words : List ℕ) (count base left : ℕ) (best : Found) : Type 0 where
   pub within : left ≤ count
   pub found-so-far : FoundPacket words count best (farthest base (such-that is-owned (drop left (packets count words))))

@@ -1,10 +1,10 @@
--- The pending packets as rows of nine words, and what a search for a sequence finds. The list of the first `count` rows is the
--- model's list of pending packets. Assumes nothing.
+-- The pending packets as an index of one word each, with a row of eight words for each cell, and what a search for a sequence
+-- finds. The list of what the first `count` index words show is the model's list of pending packets. Assumes nothing.
 use mathlib.Core.Path.{_≡_, refl}
 use mathlib.Core.Bool.{Bool, not, _&&_}
 use mathlib.Core.List.{List, [], _∷_}
 use mathlib.Core.Option.{Option, none, some}
-use Prim.Native.Nat.{ℕ, _≤_, _<_}
+use Prim.Native.Nat.{ℕ, _+_, _/_, _%_, _≤_, _<_}
 use lib.Dec.{eqb}
 use lib.ListN.{length, getD}
 use Rattle.word_rows.specs.Tab.{tab}
@@ -16,33 +16,34 @@ use Rattle.srt_group_model.specs.Removal.{is-owned}
 use Rattle.srt_tables.specs.declared.pending.Found.{Found}
 use Rattle.srt_tables.specs.declared.pending.Found.the-variants.{At, Nothing}
 
--- the packet of a row's words, and the words of a packet's row
-unfoldable pub packet-of : List ℕ → Packet
-packet-of row =
+-- the packet of an index word, `sequence * 2048 + cell`, and the row of its cell; and the words of a packet's row
+unfoldable pub packet-of : ℕ → List ℕ → Packet
+packet-of word row =
     record {
-      member = getD row 7 0;
-      owned = getD row 8 0;
+      member = getD row 5 0;
+      owned = getD row 6 0;
       content =
           record {
-            sequence = getD row 0 0;
-            count = getD row 1 0;
-            message = getD row 2 0;
-            timestamp = getD row 3 0;
-            source = record { 0 = getD row 4 0 };
-            cell = getD row 5 0;
-            length = getD row 6 0;
+            sequence = word / 2048;
+            count = getD row 0 0;
+            message = getD row 1 0;
+            timestamp = getD row 2 0;
+            source = record { 0 = getD row 3 0 };
+            cell = word % 2048;
+            length = getD row 4 0;
           };
     }
 
-unfoldable pub packet-words : Packet → List ℕ
-packet-words p =
-    p .content .sequence ∷ p .content .count ∷ p .content .message ∷ p .content .timestamp ∷ p .content .source .0
-    ∷ p .content .cell ∷ p .content .length ∷ p .member ∷ p .owned ∷ []
+unfoldable pub row-words : Packet → List ℕ
+row-words p =
+    p .content .count ∷ p .content .message ∷ p .content .timestamp ∷ p .content .source .0 ∷ p .content .length
+    ∷ p .member ∷ p .owned ∷ 0 ∷ []
 
+-- the index takes as many words as 256 rows, and the rows of the cells stand behind it
 unfoldable pub packet-at : List ℕ → ℕ → Packet
-packet-at words i = packet-of (row-at 9 words i)
+packet-at words i = packet-of (getD words i 0) (row-at 8 words (256 + getD words i 0 % 2048))
 
--- the packets of the first `count` rows
+-- the packets of the first `count` index words
 abbrev pub packets : ℕ → List ℕ → List Packet
 packets count words = tab count (packet-at words)
 
@@ -70,7 +71,7 @@ abbrev pub packet-found : List ℕ → Found → Option Packet
 packet-found words Nothing = none
 packet-found words (At i) = some (packet-at words i)
 
--- a place that was found is that of a row in use
+-- a place that was found is that of an index word in use
 abbrev pub in-use : ℕ → Found → Type 0
 in-use count Nothing = Unit {0}
 in-use count (At i) = i < count

@@ -1,29 +1,44 @@
-// Complete payloads waiting behind a sequence gap: rows of nine words in a lent table, ascending by sequence. The first
-// `count` rows are in use; what the others hold is free.
+// Complete payloads waiting behind a sequence gap, in a lent table. Its first 2,048 words are an index that ascends: a word is
+// a sequence times 2,048, plus a cell. Behind the index each cell has a row of eight words with the rest of its packet. The
+// first `count` index words are in use; what the others hold is free, and so is the row of a cell that none of them names.
+// A packet put in or taken out moves one word of each packet above it, and no row.
 ghost use mathlib.Core.Path.{_≡_};
 ghost use mathlib.Core.Bool.{true, false};
 ghost use Prim.Native.Nat.{_+_, _-_, _*_, _≤_, _<_};
 ghost use lib.ListN.{length};
 ghost use lib.Dec.{ltb};
 ghost use Rattle.word_rows.specs.Tab.{removed};
-ghost use Rattle.word_rows.specs.Rows.{row-at};
 ghost use Rattle.srt_protocol.specs.Sequence.{sequence-distance};
 ghost use Rattle.srt_protocol.specs.Cells.{overwritten};
-ghost use Rattle.srt_group_model.specs.Nearest.{insert, is-held, nearest, not-covered, farthest};
+ghost use Rattle.srt_group_model.specs.Cells.{is-among};
+ghost use Rattle.srt_group_model.specs.CellsKept.{pending-cells};
+ghost use Rattle.srt_group_model.specs.Nearest.{sequence-of, insert, is-held, nearest, not-covered, farthest};
 ghost use Rattle.srt_group_model.specs.Tools.{each, such-that, total};
 ghost use Rattle.srt_group_model.specs.Removal.{own-packet, is-owned};
 ghost use Rattle.srt_group_model.specs.Validity.{ascends, held-count};
-ghost use Rattle.srt_tables.specs.Packets.{packet-of, packet-words, packet-at, packets, Placed, Holds, place-found, packet-found, in-use, FoundPacket, by-group, with-owned-packet, count-if, is-held-for, CountsFit};
+ghost use Rattle.srt_tables.specs.Packets.{packet-of, row-words, packet-at, packets, Placed, Holds, place-found, packet-found, in-use, FoundPacket, with-owned-packet, count-if, is-held-for, CountsFit};
 use srt_group_model::Data;
 use srt_group_model::Packet;
 use srt_protocol::srt_packet::sequence_distance;
 use srt_protocol::time::Timestamp;
 
-// The words of a row.
-pub const PACKET_WORDS: usize = 9;
-
 // The most packets that are held: as many as a store has cells.
 pub const MAX_PENDING: usize = 2048;
+
+// The words of the index.
+pub const INDEX_WORDS: usize = 2048;
+
+// The words of a row.
+pub const ROW_WORDS: usize = 8;
+
+// The word of a row that holds the packet's member.
+const MEMBER: usize = 5;
+
+// The word of a row that is 1 if the group holds the packet itself.
+const OWNED: usize = 6;
+
+// The most cells that a store has: an index word is a sequence times this, plus a cell.
+const CELLS: u64 = 2048;
 
 // How many sequence numbers there are.
 const SEQUENCE_SPACE: u64 = 0x8000_0000;
@@ -31,61 +46,87 @@ const SEQUENCE_SPACE: u64 = 0x8000_0000;
 // Half of the sequence space.
 const HALF_SPACE: u64 = 0x4000_0000;
 
-// The place of a row, or that there is none.
+// The place of a packet, or that there is none.
 pub enum Found {
     At(usize),
     Nothing,
 }
 
-fn read_packet(row: &[u64]) -> Packet
-    requires { ⌜ length (now row) ≡ 9 ⌝ }
-    ensures { λ r. ⌜ r ≡ packet-of (now (row .entry)) ⌝ }
+// Where the row of a cell starts.
+fn row_start(cell: usize) -> usize
+    requires { ⌜ cell < 2048 ⌝ }
+    ensures { λ r. ⌜ r ≡ (256 + cell) * 8 ⌝ }
+{
+    INDEX_WORDS + cell * ROW_WORDS
+}
+
+// The packet of an index word and the row of its cell.
+fn read_packet(word: u64, row: &[u64]) -> Packet
+    requires { ⌜ length (now row) ≡ 8 ⌝ }
+    ensures { λ r. ⌜ r ≡ packet-of word (now (row .entry)) ⌝ }
 {
     Packet {
-        member: row[7],
-        owned: row[8],
+        member: row[MEMBER],
+        owned: row[OWNED],
         content: Data {
-            sequence: row[0],
-            count: row[1],
-            message: row[2],
-            timestamp: row[3],
-            source: Timestamp(row[4]),
-            cell: row[5],
-            length: row[6],
+            sequence: word / CELLS,
+            count: row[0],
+            message: row[1],
+            timestamp: row[2],
+            source: Timestamp(row[3]),
+            cell: word % CELLS,
+            length: row[4],
         },
     }
 }
 
-fn write_packet(row: &mut [u64], packet: Packet)
-    requires { ⌜ length (now row) ≡ 9 ⌝ }
-    ensures { λ _. ⌜ now (row .exit) ≡ packet-words packet ⌝ }
+// All of a packet but its sequence and its cell. The last word is free.
+fn write_row(row: &mut [u64], packet: Packet)
+    requires { ⌜ length (now row) ≡ 8 ⌝ }
+    ensures { λ _. ⌜ now (row .exit) ≡ row-words packet ⌝ }
 {
-    row[0] = packet.content.sequence;
-    row[1] = packet.content.count;
-    row[2] = packet.content.message;
-    row[3] = packet.content.timestamp;
-    row[4] = packet.content.source.0;
-    row[5] = packet.content.cell;
-    row[6] = packet.content.length;
-    row[7] = packet.member;
-    row[8] = packet.owned;
+    row[0] = packet.content.count;
+    row[1] = packet.content.message;
+    row[2] = packet.content.timestamp;
+    row[3] = packet.content.source.0;
+    row[4] = packet.content.length;
+    row[MEMBER] = packet.member;
+    row[OWNED] = packet.owned;
+    row[7] = 0;
 }
 
-// The packet of a row.
+// The sequence of the packet at a place.
+pub fn sequence_at(pending: &[u64], at: usize) -> u64
+    requires { ⌜ (18432 ≤ length (now pending)) × (at < 2048) ⌝ }
+    ensures { λ r. ⌜ r ≡ sequence-of (packet-at (now (pending .entry)) at) ⌝ }
+{
+    pending[at] / CELLS
+}
+
+// The cell of the packet at a place.
+pub fn cell_at(pending: &[u64], at: usize) -> usize
+    requires { ⌜ (18432 ≤ length (now pending)) × (at < 2048) ⌝ }
+    ensures { λ r. ⌜ (r ≡ packet-at (now (pending .entry)) at .content .cell) × (r < 2048) ⌝ }
+{
+    (pending[at] % CELLS) as usize
+}
+
+// The packet at a place.
 pub fn packet(pending: &[u64], at: usize) -> Packet
     requires { ⌜ (18432 ≤ length (now pending)) × (at < 2048) ⌝ }
     ensures { λ r. ⌜ r ≡ packet-at (now (pending .entry)) at ⌝ }
 {
-    let start = at * PACKET_WORDS;
-    read_packet(&pending[start..start + PACKET_WORDS])
+    let start = row_start(cell_at(pending, at));
+    read_packet(pending[at], &pending[start..start + ROW_WORDS])
 }
 
-fn put_packet(pending: &mut [u64], at: usize, packet: Packet)
-    requires { ⌜ (18432 ≤ length (now pending)) × (at < 2048) ⌝ }
-    ensures { λ _. ⌜ now (pending .exit) ≡ overwritten (at * 9) (packet-words packet) (now (pending .entry)) ⌝ }
+// A packet's row is written at its cell.
+fn put_row(pending: &mut [u64], packet: Packet)
+    requires { ⌜ (18432 ≤ length (now pending)) × (packet .content .cell < 2048) ⌝ }
+    ensures { λ _. ⌜ now (pending .exit) ≡ overwritten ((256 + packet .content .cell) * 8) (row-words packet) (now (pending .entry)) ⌝ }
 {
-    let start = at * PACKET_WORDS;
-    write_packet(&mut pending[start..start + PACKET_WORDS], packet);
+    let start = row_start(packet.content.cell as usize);
+    write_row(&mut pending[start..start + ROW_WORDS], packet);
 }
 
 // The first place whose packet's sequence is not below `sequence`, by halving.
@@ -98,7 +139,7 @@ fn place(pending: &[u64], count: usize, sequence: u64) -> usize
     let mut high: usize = count;
     while low < high {
         let middle = low + (high - low) / 2;
-        if pending[middle * PACKET_WORDS] < sequence {
+        if sequence_at(pending, middle) < sequence {
             low = middle + 1;
         } else {
             high = middle;
@@ -115,28 +156,27 @@ pub fn find(pending: &[u64], count: usize, sequence: u64) -> Found
 {
     let at = place(pending, count, sequence);
     if at < count {
-        if pending[at * PACKET_WORDS] == sequence {
+        if sequence_at(pending, at) == sequence {
             return Found::At(at);
         }
     }
     Found::Nothing
 }
 
-// A packet into its place in ascending order.
+// A packet into its place in ascending order. No held packet has its cell, so no row in use is written over.
 pub fn insert(pending: &mut [u64], count: usize, packet: Packet)
     requires { ⌜ (18432 ≤ length (now pending)) × (count < 2048) ⌝ }
     requires { ⌜ ascends (packets count (now pending)) ≡ true ⌝ }
     requires { ⌜ is-held (packet .content .sequence) (packets count (now pending)) ≡ false ⌝ }
+    requires { ⌜ (packet .content .sequence ≤ 2147483647) × (packet .content .cell < 2048) ⌝ }
+    requires { ⌜ is-among (packet .content .cell) (pending-cells (packets count (now pending))) ≡ false ⌝ }
     ensures { λ _. ⌜ Holds (length (now (pending .entry))) (now (pending .exit)) (count + 1) (insert packet (packets count (now (pending .entry)))) ⌝ }
 {
-    let at = place(pending, count, packet.content.sequence);
-    word_rows::open_gap(
-        pending,
-        at * PACKET_WORDS,
-        count * PACKET_WORDS,
-        PACKET_WORDS,
-    );
-    put_packet(pending, at, packet);
+    let sequence = packet.content.sequence;
+    let at = place(pending, count, sequence);
+    word_rows::open_gap(&mut pending[0..INDEX_WORDS], at, count, 1);
+    pending[at] = sequence * CELLS + packet.content.cell;
+    put_row(pending, packet);
 }
 
 // The packet at a place is taken out.
@@ -144,12 +184,7 @@ pub fn remove(pending: &mut [u64], count: usize, at: usize)
     requires { ⌜ (18432 ≤ length (now pending)) × (at < count) × (count ≤ 2048) ⌝ }
     ensures { λ _. ⌜ Holds (length (now (pending .entry))) (now (pending .exit)) (count - 1) (removed at (packets count (now (pending .entry)))) ⌝ }
 {
-    word_rows::close_gap(
-        pending,
-        at * PACKET_WORDS,
-        count * PACKET_WORDS,
-        PACKET_WORDS,
-    );
+    word_rows::close_gap(&mut pending[0..INDEX_WORDS], at, count, 1);
 }
 
 // The nearest packet in wrapping order. Pending sequences span less than half the sequence space, so either none lies half a
@@ -162,10 +197,7 @@ pub fn nearest(pending: &[u64], count: usize) -> Found
     if count == 0 {
         return Found::Nothing;
     }
-    let lowest = pending[0];
-    if u64::MAX - HALF_SPACE < lowest {
-        return Found::At(0);
-    }
+    let lowest = sequence_at(pending, 0);
     let wrapped = place(pending, count, lowest + HALF_SPACE);
     if wrapped < count {
         return Found::At(wrapped);
@@ -187,15 +219,6 @@ fn is_covered(first: u32, run: u64, sequence: u64) -> bool
     (distance_ahead(first, sequence) as u64) < run
 }
 
-// The row at a place also stands at a lower one.
-fn copy_row(pending: &mut [u64], from: usize, to: usize)
-    requires { ⌜ (18432 ≤ length (now pending)) × (from < 2048) × (to < 2048) ⌝ }
-    ensures { λ _. ⌜ now (pending .exit) ≡ overwritten (to * 9) (packet-words (packet-at (now (pending .entry)) from)) (now (pending .entry)) ⌝ }
-{
-    let moved = packet(pending, from);
-    put_packet(pending, to, moved);
-}
-
 // The packets that start inside a run are taken out, in one pass. Answers how many are left.
 pub fn remove_covered(pending: &mut [u64], count: usize, first: u32, run: u64) -> usize
     requires { ⌜ (18432 ≤ length (now pending)) × (count ≤ 2048) ⌝ }
@@ -204,10 +227,10 @@ pub fn remove_covered(pending: &mut [u64], count: usize, first: u32, run: u64) -
     let mut kept: usize = 0;
     let mut at: usize = 0;
     while at < count {
-        if is_covered(first, run, pending[at * PACKET_WORDS]) {
+        if is_covered(first, run, sequence_at(pending, at)) {
             at += 1;
         } else {
-            copy_row(pending, at, kept);
+            pending[kept] = pending[at];
             kept += 1;
             at += 1;
         }
@@ -223,24 +246,12 @@ pub fn is_ascending(pending: &[u64], count: usize) -> bool
     let mut next: usize = 1;
     while next < count {
         let at = next - 1;
-        if pending[next * PACKET_WORDS] <= pending[at * PACKET_WORDS] {
+        if sequence_at(pending, next) <= sequence_at(pending, at) {
             return false;
         }
         next += 1;
     }
     true
-}
-
-// A packet that the group holds itself.
-fn owned_by_group(packet: Packet) -> Packet
-    ensures { λ r. ⌜ r ≡ by-group packet ⌝ }
-{
-    let content = packet.content;
-    Packet {
-        member: packet.member,
-        owned: 1,
-        content,
-    }
 }
 
 // The packets of a member become the group's own.
@@ -250,14 +261,23 @@ pub fn own_packets(pending: &mut [u64], count: usize, member: u64)
 {
     let mut at: usize = 0;
     while at < count {
-        let held = packet(pending, at);
-        if held.member == member {
-            put_packet(pending, at, owned_by_group(held));
+        let start = row_start(cell_at(pending, at));
+        if pending[start + MEMBER] == member {
+            pending[start + OWNED] = 1;
             at += 1;
         } else {
             at += 1;
         }
     }
+}
+
+// Whether the group holds the packet at a place itself.
+fn is_owned(pending: &[u64], at: usize) -> bool
+    requires { ⌜ (18432 ≤ length (now pending)) × (at < 2048) ⌝ }
+    ensures { λ r. ⌜ r ≡ is-owned (packet-at (now (pending .entry)) at) ⌝ }
+{
+    let start = row_start(cell_at(pending, at));
+    pending[start + OWNED] == 1
 }
 
 // The farther of the packet at a place, if the group holds it itself, and the farthest of those behind it.
@@ -266,14 +286,14 @@ fn farther(pending: &[u64], count: usize, base: u32, at: usize, best: Found) -> 
     requires { ⌜ in-use count best ⌝ }
     ensures { λ r. ⌜ FoundPacket (now (pending .entry)) count r (with-owned-packet base (packet-at (now (pending .entry)) at) (packet-found (now (pending .entry)) best)) ⌝ }
 {
-    if pending[at * PACKET_WORDS + 8] != 1 {
+    if !is_owned(pending, at) {
         return best;
     }
     let Found::At(farthest) = best else {
         return Found::At(at);
     };
-    let here = distance_ahead(base, pending[at * PACKET_WORDS]);
-    let there = distance_ahead(base, pending[farthest * PACKET_WORDS]);
+    let here = distance_ahead(base, sequence_at(pending, at));
+    let there = distance_ahead(base, sequence_at(pending, farthest));
     if there < here {
         return Found::At(at);
     }

@@ -1,4 +1,4 @@
--- `is_ascending` meets its contract. The loop's invariant: the rows before `next` ascend. Assumes nothing.
+-- `is_ascending` meets its contract. The loop's invariant: the packets before `next` ascend. Assumes nothing.
 use Prim.Native.Nat.{_-_}
 use native.Mathlib.Omega.{arith}
 use Rattle.srt_tables.specs.PacketLaws.{Ascending, ascending-start, ascending-one, ascending-all, ascending-not}
@@ -17,26 +17,14 @@ loop-holds c = ascending-start _
 sub-at : tie.Need-sub-at Inv-loop μ-loop
 sub-at c = omega arith
 
-mul-if1 : tie.Need-mul-if1 Inv-loop μ-loop
-mul-if1 c = omega arith
+sequence-at-requires : tie.Need-sequence-at-requires Inv-loop μ-loop
+sequence-at-requires c κs = omega arith
 
-mul-if1-2 : tie.Need-mul-if1-2 Inv-loop μ-loop
-mul-if1-2 c = omega arith
-
-shared-slice-read-if1 : tie.Need-shared-slice-read-if1 Inv-loop μ-loop
-shared-slice-read-if1 c = omega arith
-
-mul-if1-3 : tie.Need-mul-if1-3 Inv-loop μ-loop
-mul-if1-3 c = omega arith
-
-mul-if1-4 : tie.Need-mul-if1-4 Inv-loop μ-loop
-mul-if1-4 c = omega arith
-
-shared-slice-read-if1-2 : tie.Need-shared-slice-read-if1-2 Inv-loop μ-loop
-shared-slice-read-if1-2 c = omega arith
+sequence-at-requires-2 : tie.Need-sequence-at-requires-2 Inv-loop μ-loop
+sequence-at-requires-2 c κs = omega arith
 
 returns : tie.Need-returns Inv-loop μ-loop
-returns c = ascending-not _ _ _ (c .before .before .before .before .loop .inv) (c .before .before .before .loop-test .taken) (c .if1 .taken)
+returns c = ascending-not _ _ _ (c .before .before .before .before .loop .inv) (c .before .before .before .loop-test .taken) (omega arith)
 
 add-next : tie.Need-add-next Inv-loop μ-loop
 add-next c = omega arith
@@ -45,7 +33,7 @@ loop-less : tie.Need-loop-less Inv-loop μ-loop
 loop-less c = omega arith
 
 loop-again : tie.Need-loop-again Inv-loop μ-loop
-loop-again c = ascending-one _ 0 _ (c .before .before .before .before .loop .inv) (c .if1 .left)
+loop-again c = ascending-one _ 0 _ (c .before .before .before .before .loop .inv) (omega arith)
 
 returns-2 : tie.Need-returns-2 Inv-loop μ-loop
 returns-2 c = ascending-all _ _ _ (c .before .loop .inv) (c .loop-test .left)
@@ -58,12 +46,8 @@ is-ascending-spec =
     μ-loop
     loop-holds
     sub-at
-    mul-if1
-    mul-if1-2
-    shared-slice-read-if1
-    mul-if1-3
-    mul-if1-4
-    shared-slice-read-if1-2
+    sequence-at-requires
+    sequence-at-requires-2
     returns
     add-next
     loop-less

@@ -26,14 +26,8 @@ sub-middle c = omega arith
 add-middle : tie.Need-add-middle Inv-loop μ-loop
 add-middle c = omega arith
 
-mul-if1 : tie.Need-mul-if1 Inv-loop μ-loop
-mul-if1 c = omega arith
-
-mul-if1-2 : tie.Need-mul-if1-2 Inv-loop μ-loop
-mul-if1-2 c = omega arith
-
-shared-slice-read-if1 : tie.Need-shared-slice-read-if1 Inv-loop μ-loop
-shared-slice-read-if1 c = omega arith
+sequence-at-requires : tie.Need-sequence-at-requires Inv-loop μ-loop
+sequence-at-requires c κs = omega arith
 
 add-low : tie.Need-add-low Inv-loop μ-loop
 add-low c = omega arith
@@ -43,18 +37,18 @@ loop-less c = omega arith
 
 loop-again : tie.Need-loop-again Inv-loop μ-loop
 loop-again c =
-    let args = c .before .before .before .before .args in
-    between-above (args .pending .now) (args .count) (args .sequence) (c .before .before .before .before .pre .1)
-    (c .before .before .before .loop .inv) _ (omega arith) (c .if1 .taken)
+    let entry = c .before .before .before .before .before in
+    between-above (entry .args .pending .now) (entry .args .count) (entry .args .sequence) (entry .pre .1)
+    (c .before .before .before .loop .inv) _ (omega arith) (omega (arith, c .before .sequence-at .ensures, c .if1 .taken))
 
 loop-less-2 : tie.Need-loop-less-2 Inv-loop μ-loop
 loop-less-2 c = omega arith
 
 loop-again-2 : tie.Need-loop-again-2 Inv-loop μ-loop
 loop-again-2 c =
-    let args = c .before .before .before .before .args in
-    between-below (args .pending .now) (args .count) (args .sequence) (c .before .before .before .before .pre .1)
-    (c .before .before .before .loop .inv) _ (omega arith) (omega arith) (c .if1 .left)
+    let entry = c .before .before .before .before .before in
+    between-below (entry .args .pending .now) (entry .args .count) (entry .args .sequence) (entry .pre .1)
+    (c .before .before .before .loop .inv) _ (omega arith) (omega arith) (omega (arith, c .before .sequence-at .ensures, c .if1 .left))
 
 returns : tie.Need-returns Inv-loop μ-loop
 returns c =
@@ -70,9 +64,7 @@ place-spec =
     loop-holds
     sub-middle
     add-middle
-    mul-if1
-    mul-if1-2
-    shared-slice-read-if1
+    sequence-at-requires
     add-low
     loop-less
     loop-again

@@ -1,15 +1,18 @@
--- `remove` meets its contract: the rows behind the place move down by one. Assumes nothing.
+-- `remove` meets its contract: the index words behind the place move down by one. Assumes nothing.
 use native.Mathlib.Omega.{arith}
-use borrow.Author.Needs.{needs}
 use Rattle.srt_tables.specs.PacketLaws.{packet-removed}
+use borrow.Author.Needs.{needs}
 use Rattle.srt_tables.proofs.pending.remove.Statement.{statement}
 use Rattle.srt_tables.proofs.pending.remove.Tie as tie
 
-mul-close-gap : tie.Need-mul-close-gap
-mul-close-gap c = search needs
+sub-close-gap : tie.Need-sub-close-gap
+sub-close-gap c = search needs
 
-mul-close-gap-2 : tie.Need-mul-close-gap-2
-mul-close-gap-2 c = search needs
+part-close-gap-start : tie.Need-part-close-gap-start
+part-close-gap-start c = search needs
+
+part-close-gap-end : tie.Need-part-close-gap-end
+part-close-gap-end c = search needs
 
 close-gap-requires : tie.Need-close-gap-requires
 close-gap-requires c κs = search needs
@@ -25,4 +28,11 @@ returns c =
 
 pub remove-spec : {M : Type 1} → statement M
 remove-spec =
-    tie.close (tie.spec mul-close-gap mul-close-gap-2 close-gap-requires same-length returns)
+    tie.close
+    (tie.spec
+    sub-close-gap
+    part-close-gap-start
+    part-close-gap-end
+    close-gap-requires
+    same-length
+    returns)

@@ -1,12 +1,11 @@
--- `remove_covered` meets its contract. The loop's invariant: of the rows before `at` those that are not covered stand first, and
--- the rows from there on are as they were. Assumes nothing.
+-- `remove_covered` meets its contract. The loop's invariant: of the packets before `at` those that are not covered stand first,
+-- and the packets from there on are as they were. Assumes nothing.
 use mathlib.Core.Bool.{not}
 use Prim.Native.Nat.{_-_}
 use native.Mathlib.Omega.{arith}
 use Rattle.srt_group_model.specs.declared.Packet.{Packet}
 use Rattle.srt_group_model.specs.Nearest.{is-covered}
-use Rattle.srt_tables.specs.PacketLaws.{Keeping, keeping-start, kept-not, kept-one, kept-all, covered-row}
-use borrow.Author.Needs.{needs}
+use Rattle.srt_tables.specs.PacketLaws.{Keeping, keeping-start, kept-not, kept-one, kept-all, covered-packet}
 use Rattle.srt_tables.proofs.pending.remove_covered.Statement.{statement}
 use Rattle.srt_tables.proofs.pending.remove_covered.Tie as tie
 
@@ -19,14 +18,8 @@ abbrev μ-loop : tie.MeasureT-loop
 loop-holds : tie.Need-loop-holds Inv-loop μ-loop
 loop-holds c = keeping-start _ _ _
 
-mul-is-covered : tie.Need-mul-is-covered Inv-loop μ-loop
-mul-is-covered c = omega arith
-
-mul-is-covered-2 : tie.Need-mul-is-covered-2 Inv-loop μ-loop
-mul-is-covered-2 c = omega arith
-
-slice-read-is-covered : tie.Need-slice-read-is-covered Inv-loop μ-loop
-slice-read-is-covered c = omega arith
+sequence-at-requires : tie.Need-sequence-at-requires Inv-loop μ-loop
+sequence-at-requires c κs = omega arith
 
 is-covered-requires : tie.Need-is-covered-requires Inv-loop μ-loop
 is-covered-requires c κs = omega arith
@@ -39,11 +32,20 @@ loop-less c = omega arith
 
 loop-again : tie.Need-loop-again Inv-loop μ-loop
 loop-again c =
-    kept-not _ _ _ _ _ _ (c .before .before .before .before .loop .inv) (omega arith)
-    (covered-row _ _ _ _ _ _ (c .before .is-covered .ensures) (c .if1 .taken))
+    kept-not _ _ _ _ _ _ (c .before .before .before .before .before .loop .inv) (omega arith)
+    (covered-packet _ _ _ _ _ _ _ (c .before .before .sequence-at .ensures) (c .before .is-covered .ensures) (c .if1 .taken))
 
-copy-row-requires : tie.Need-copy-row-requires Inv-loop μ-loop
-copy-row-requires c κs = omega arith
+mul-pending : tie.Need-mul-pending Inv-loop μ-loop
+mul-pending c = omega arith
+
+slice-read-pending : tie.Need-slice-read-pending Inv-loop μ-loop
+slice-read-pending c = omega arith
+
+mul-pending-2 : tie.Need-mul-pending-2 Inv-loop μ-loop
+mul-pending-2 c = omega arith
+
+slice-write-pending : tie.Need-slice-write-pending Inv-loop μ-loop
+slice-write-pending c = omega arith
 
 add-kept : tie.Need-add-kept Inv-loop μ-loop
 add-kept c = omega arith
@@ -56,10 +58,9 @@ loop-less-2 c = omega arith
 
 loop-again-2 : tie.Need-loop-again-2 Inv-loop μ-loop
 loop-again-2 c =
-    let loop = c .before .before .before .before .before .before .before .before .loop in
-    rw (c .before .before .copy-row .ensures)
-    (kept-one _ _ _ _ _ _ (loop .inv) (omega arith) (omega arith)
-    (covered-row _ _ _ _ _ _ (c .before .before .before .before .before .is-covered .ensures) (c .before .before .before .before .if1 .left)))
+    kept-one _ _ _ _ _ _ (c .before .before .before .before .before .before .loop .inv) (omega arith) (omega arith) (omega arith)
+    (covered-packet _ _ _ _ _ _ _ (c .before .before .before .sequence-at .ensures) (c .before .before .is-covered .ensures)
+    (c .before .if1 .left))
 
 same-length : tie.Need-same-length Inv-loop μ-loop
 same-length c = omega arith
@@ -77,14 +78,15 @@ remove-covered-spec =
     Inv-loop
     μ-loop
     loop-holds
-    mul-is-covered
-    mul-is-covered-2
-    slice-read-is-covered
+    sequence-at-requires
     is-covered-requires
     add-at
     loop-less
     loop-again
-    copy-row-requires
+    mul-pending
+    slice-read-pending
+    mul-pending-2
+    slice-write-pending
     add-kept
     add-at-2
     loop-less-2

@@ -1,11 +1,11 @@
--- `write_packet` meets its contract: every word of the row is stored. Assumes nothing.
+-- `write_row` meets its contract: every word of the row is stored. Assumes nothing.
 use native.Mathlib.Omega.{arith}
-use borrow.Author.Needs.{needs}
 use lib.ListN.{length-set}
-use Rattle.srt_tables.specs.Packets.{packet-words}
-use Rattle.srt_tables.specs.PacketLaws.{all-stored}
-use Rattle.srt_tables.proofs.pending.write_packet.Statement.{statement}
-use Rattle.srt_tables.proofs.pending.write_packet.Tie as tie
+use Rattle.srt_tables.specs.Packets.{row-words}
+use Rattle.srt_tables.specs.PacketIndex.{all-stored}
+use borrow.Author.Needs.{needs}
+use Rattle.srt_tables.proofs.pending.write_row.Statement.{statement}
+use Rattle.srt_tables.proofs.pending.write_row.Tie as tie
 
 slice-write-row : tie.Need-slice-write-row
 slice-write-row c = search needs
@@ -31,18 +31,15 @@ slice-write-row-7 c = simp length-set (omega arith)
 slice-write-row-8 : tie.Need-slice-write-row-8
 slice-write-row-8 c = simp length-set (omega arith)
 
-slice-write-row-9 : tie.Need-slice-write-row-9
-slice-write-row-9 c = simp length-set (omega arith)
-
 same-length : tie.Need-same-length
 same-length c = search needs
 
 returns : tie.Need-returns
-unfolding packet-words
-returns c = all-stored (c .args .row .now) (packet-words (c .args .packet)) (omega arith)
+unfolding row-words
+returns c = all-stored (c .args .row .now) (row-words (c .args .packet)) (omega arith)
 
-pub write-packet-spec : {M : Type 1} → statement M
-write-packet-spec =
+pub write-row-spec : {M : Type 1} → statement M
+write-row-spec =
     tie.close
     (tie.spec
     slice-write-row
@@ -53,6 +50,5 @@ write-packet-spec =
     slice-write-row-6
     slice-write-row-7
     slice-write-row-8
-    slice-write-row-9
     same-length
     returns)
