@@ -15,7 +15,6 @@ use Rattle.srt_group_model.specs.declared.Packet.{Packet}
 use Rattle.srt_group_model.specs.Nearest.{sequence-of}
 use Rattle.srt_tables.specs.Packets.{packet-of, row-words, packet-at, by-group}
 
--- the cell of an index word's packet
 abbrev pub cell-of : Packet → ℕ
 cell-of p = p .content .cell
 
@@ -43,7 +42,8 @@ pub cell-small : (words : List ℕ) (at : ℕ) → cell-of (packet-at words at) 
 cell-small words at = omega (arith, index-cell words at)
 
 -- the sequence of a word fits where half the sequence space is added
-pub sequence-small : (words : List ℕ) (at : ℕ) → getD words at 0 < 18446744073709551616 → sequence-of (packet-at words at) < 9007199254740992
+pub sequence-small : (words : List ℕ) (at : ℕ) → getD words at 0 < 18446744073709551616
+    → sequence-of (packet-at words at) < 9007199254740992
 sequence-small words at small = omega (arith, index-sequence words at)
 
 -- the row of a packet's cell, as a part of the words
@@ -78,7 +78,15 @@ pub shown-same : (words others : List ℕ) (i j : ℕ) → getD others j 0 ≡ g
 unfolding packet-at packet-of
 shown-same words others i j same row =
     ap (λ (w : ℕ). packet-of w (row-at 8 others (256 + w % 2048))) same
-    ∙ cc (field 0 (omega arith), field 1 (omega arith), field 2 (omega arith), field 3 (omega arith), field 4 (omega arith), field 5 (omega arith), field 6 (omega arith))
+    ∙ cc (
+      field 0 (omega arith),
+      field 1 (omega arith),
+      field 2 (omega arith),
+      field 3 (omega arith),
+      field 4 (omega arith),
+      field 5 (omega arith),
+      field 6 (omega arith),
+    )
   where
     number : ℕ
     number = 256 + getD words i 0 % 2048
@@ -124,7 +132,8 @@ module _ (words : List ℕ) (to word : ℕ) (low : to < 2048) where
       shown-same words (set words to word) i i (getD-set-other words to i word 0 other)
       (λ k below. getD-set-other words to ((256 + cell-of (packet-at words i)) * 8 + k) word 0 (λ q. omega arith))
 
-  pub indexed-there : (from : ℕ) → to < length words → word ≡ getD words from 0 → packet-at (set words to word) to ≡ packet-at words from
+  pub indexed-there : (from : ℕ) → to < length words → word ≡ getD words from 0
+      → packet-at (set words to word) to ≡ packet-at words from
   indexed-there from inside is =
       shown-same words (set words to word) from to (getD-set-same words to word 0 inside ∙ is)
       (λ k below. getD-set-other words to ((256 + cell-of (packet-at words from)) * 8 + k) word 0 (λ q. omega arith))
@@ -177,7 +186,8 @@ module _ (words index : List ℕ) (count place : ℕ) (enough : 18432 ≤ length
       (back-index words enough index (gap .long) i (omega arith) ∙ gap .high i higher inside ∙ lent-word words enough (i + 1) (omega arith))
       (λ k below. back-rows words enough index (gap .long) ((256 + cell-of (packet-at words (i + 1))) * 8 + k) (omega arith))
 
-  pub opened-enough : Opened 1 (index-lent words) place count index → (to word : ℕ) → 18432 ≤ length (set (index-back words index) to word)
+  pub opened-enough : Opened 1 (index-lent words) place count index → (to word : ℕ)
+      → 18432 ≤ length (set (index-back words index) to word)
   opened-enough gap to word =
       omega (arith, length-set (index-back words index) to word, back-length words enough index (gap .long))
 
@@ -212,9 +222,11 @@ module _ (words : List ℕ) (to : ℕ) (p : Packet) (enough : 18432 ≤ length w
       overwritten-length ((256 + cell-of p) * 8) (row-words p) (indexed words to p) (omega (arith, room, eight-words p))
       ∙ length-set words to (sequence-of p * 2048 + cell-of p)
 
-  elsewhere : (k : ℕ) → (k < (256 + cell-of p) * 8) ⊎ ((256 + cell-of p) * 8 + 8 ≤ k) → getD (put-in words to p) k 0 ≡ getD (indexed words to p) k 0
+  elsewhere : (k : ℕ) → (k < (256 + cell-of p) * 8) ⊎ ((256 + cell-of p) * 8 + 8 ≤ k)
+      → getD (put-in words to p) k 0 ≡ getD (indexed words to p) k 0
   elsewhere k apart =
-      overwritten-elsewhere ((256 + cell-of p) * 8) (row-words p) (indexed words to p) (omega (arith, room, eight-words p)) k 0 (by-length apart)
+      overwritten-elsewhere ((256 + cell-of p) * 8) (row-words p) (indexed words to p) (omega (arith, room, eight-words p)) k 0
+      (by-length apart)
     where
       by-length : (k < (256 + cell-of p) * 8) ⊎ ((256 + cell-of p) * 8 + 8 ≤ k)
           → (k < (256 + cell-of p) * 8) ⊎ ((256 + cell-of p) * 8 + length (row-words p) ≤ k)
@@ -228,7 +240,8 @@ module _ (words : List ℕ) (to : ℕ) (p : Packet) (enough : 18432 ≤ length w
       (row-there 8 (indexed words to p) (row-words p) (256 + cell-of p) room (eight-words p))
 
   -- a packet of another cell is as it was
-  pub put-elsewhere : (i : ℕ) → i < 2048 → (i ≡ to → ⊥) → (cell-of (packet-at words i) ≡ cell-of p → ⊥) → packet-at (put-in words to p) i ≡ packet-at words i
+  pub put-elsewhere : (i : ℕ) → i < 2048 → (i ≡ to → ⊥) → (cell-of (packet-at words i) ≡ cell-of p → ⊥)
+      → packet-at (put-in words to p) i ≡ packet-at words i
   put-elsewhere i inside other free =
       shown-same words (put-in words to p) i i
       (elsewhere i (inl (omega arith)) ∙ getD-set-other words to i (sequence-of p * 2048 + cell-of p) 0 other)
@@ -250,8 +263,10 @@ module _ (words : List ℕ) (to : ℕ) (p : Packet) (enough : 18432 ≤ length w
 
 -- ---- the owned word of a packet's row set: every index word that names the cell shares the row
 
-module _ (words : List ℕ) (at start : ℕ) (start-is : start ≡ (256 + cell-of (packet-at words at)) * 8) (enough : 18432 ≤ length words) where
-  pub same-member : (i : ℕ) → cell-of (packet-at words i) ≡ cell-of (packet-at words at) → packet-at words i .member ≡ packet-at words at .member
+module _ (words : List ℕ) (at start : ℕ) (start-is : start ≡ (256 + cell-of (packet-at words at)) * 8)
+    (enough : 18432 ≤ length words) where
+  pub same-member : (i : ℕ) → cell-of (packet-at words i) ≡ cell-of (packet-at words at)
+      → packet-at words i .member ≡ packet-at words at .member
   same-member i same =
       sym (member-word words i start (omega (arith, start-is, same))) ∙ member-word words at start start-is
 
@@ -261,7 +276,15 @@ module _ (words : List ℕ) (at start : ℕ) (start-is : start ≡ (256 + cell-o
   owned-same-cell i low same =
       ap (λ (w : ℕ). packet-of w (row-at 8 (set words (start + 6) 1) (256 + w % 2048)))
       (getD-set-other words (start + 6) i 1 0 (λ q. omega (arith, start-is)))
-      ∙ cc (field 0 (omega arith), field 1 (omega arith), field 2 (omega arith), field 3 (omega arith), field 4 (omega arith), field 5 (omega arith), owned)
+      ∙ cc (
+        field 0 (omega arith),
+        field 1 (omega arith),
+        field 2 (omega arith),
+        field 3 (omega arith),
+        field 4 (omega arith),
+        field 5 (omega arith),
+        owned,
+      )
     where
       number : ℕ
       number = 256 + getD words i 0 % 2048

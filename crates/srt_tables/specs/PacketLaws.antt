@@ -481,7 +481,8 @@ module _ (words : List ℕ) (count next : ℕ) (here : Ascending words next) whe
           let back : suc k - 1 ≡ k = omega arith in
           rw back at (here .up (suc k) (omega arith) (omega arith))
 
-  pub ascending-not : next < count → sequence-of (packet-at words next) ≤ sequence-of (packet-at words (next - 1)) → false ≡ ascends (packets count words)
+  pub ascending-not : next < count → sequence-of (packet-at words next) ≤ sequence-of (packet-at words (next - 1))
+      → false ≡ ascends (packets count words)
   ascending-not inside down = by-test (ascends (packets count words)) refl
     where
       by-test : (b : Bool) → ascends (packets count words) ≡ b → false ≡ b

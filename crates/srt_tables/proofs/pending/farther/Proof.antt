@@ -12,7 +12,9 @@ is-owned-requires : tie.Need-is-owned-requires
 is-owned-requires c κs = search needs
 
 returns : tie.Need-returns
-returns c = farther-not-owned _ _ _ _ (omega arith) _ (c .before .before .before .pre .1) (sym (c .before .is-owned .ensures) ∙ not-true (c .before .is-owned .result) (c .if1 .taken))
+returns c =
+    let other = sym (c .before .is-owned .ensures) ∙ not-true (c .before .is-owned .result) (c .if1 .taken) in
+    farther-not-owned _ _ _ _ (omega arith) _ (c .before .before .before .pre .1) other
 
 enum-known-best : tie.Need-enum-known-best
 enum-known-best c = search needs
@@ -21,7 +23,10 @@ enum-told : tie.Need-enum-told
 enum-told c = search needs
 
 returns-2 : tie.Need-returns-2
-returns-2 c = farther-first _ _ _ _ (omega arith) (sym (c .before .before .before .is-owned .ensures) ∙ not-false (c .before .before .before .is-owned .result) (c .before .before .if1 .left)) _ (c .enum-told .given .1)
+returns-2 c =
+    let tested = c .before .before in
+    let mine = sym (tested .before .is-owned .ensures) ∙ not-false (tested .before .is-owned .result) (tested .if1 .left) in
+    farther-first _ _ _ _ (omega arith) mine _ (c .enum-told .given .1)
 
 sequence-at-requires : tie.Need-sequence-at-requires
 sequence-at-requires c κs = search needs
@@ -30,22 +35,30 @@ distance-ahead-requires : tie.Need-distance-ahead-requires
 distance-ahead-requires c κs = search needs
 
 sequence-at-requires-2 : tie.Need-sequence-at-requires-2
-sequence-at-requires-2 c κs = (omega arith, omega (arith, at-in-use _ _ _ (c .before .before .before .before .before .before .before .before .pre .1) (c .before .before .before .best .given .1)))
+sequence-at-requires-2 c κs =
+    let entry = c .before .before .before .before .before .before .before .before in
+    (omega arith, omega (arith, at-in-use _ _ _ (entry .pre .1) (c .before .before .before .best .given .1)))
 
 distance-ahead-requires-2 : tie.Need-distance-ahead-requires-2
 distance-ahead-requires-2 c κs = search needs
 
 returns-3 : tie.Need-returns-3
 returns-3 c =
-    farther-here _ _ _ _ (omega arith) (sym (c .before .before .before .before .before .before .before .before .before .is-owned .ensures) ∙ not-false (c .before .before .before .before .before .before .before .before .before .is-owned .result) (c .before .before .before .before .before .before .before .before .if1 .left)) _ _ (c .before .before .before .before .before .before .best .given .1) _ _
+    let tested = c .before .before .before .before .before .before .before .before in
+    let mine = sym (tested .before .is-owned .ensures) ∙ not-false (tested .before .is-owned .result) (tested .if1 .left) in
+    farther-here _ _ _ _ (omega arith) mine _ _ (c .before .before .before .before .before .before .best .given .1) _ _
     (c .before .before .before .distance-ahead .ensures ∙ ap (sequence-distance _) (c .before .before .before .before .sequence-at .ensures))
-    (c .before .distance-ahead2 .ensures ∙ ap (sequence-distance _) (c .before .before .sequence-at2 .ensures)) (c .if2 .taken)
+    (c .before .distance-ahead2 .ensures ∙ ap (sequence-distance _) (c .before .before .sequence-at2 .ensures))
+    (c .if2 .taken)
 
 returns-4 : tie.Need-returns-4
 returns-4 c =
-    farther-there _ _ _ _ (omega arith) (sym (c .before .before .before .before .before .before .before .before .before .is-owned .ensures) ∙ not-false (c .before .before .before .before .before .before .before .before .before .is-owned .result) (c .before .before .before .before .before .before .before .before .if1 .left)) _ _ (c .before .before .before .before .before .before .best .given .1) _ _
+    let tested = c .before .before .before .before .before .before .before .before in
+    let mine = sym (tested .before .is-owned .ensures) ∙ not-false (tested .before .is-owned .result) (tested .if1 .left) in
+    farther-there _ _ _ _ (omega arith) mine _ _ (c .before .before .before .before .before .before .best .given .1) _ _
     (c .before .before .before .distance-ahead .ensures ∙ ap (sequence-distance _) (c .before .before .before .before .sequence-at .ensures))
-    (c .before .distance-ahead2 .ensures ∙ ap (sequence-distance _) (c .before .before .sequence-at2 .ensures)) (c .if2 .left) (c .before .before .before .before .before .before .before .before .before .before .before .pre .1)
+    (c .before .distance-ahead2 .ensures ∙ ap (sequence-distance _) (c .before .before .sequence-at2 .ensures))
+    (c .if2 .left) (tested .before .before .before .pre .1)
 
 pub farther-spec : {M : Type 1} → statement M
 farther-spec =
