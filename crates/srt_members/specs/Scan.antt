@@ -16,6 +16,9 @@ use Rattle.srt_group_model.specs.Legs.{is-disconnected}
 use Rattle.srt_group_model.specs.declared.Membership.{Membership}
 use Rattle.srt_connection.specs.Tab.{tab-found, tab-not-found, place-below}
 use Rattle.srt_connection.specs.Members.{member-at, members-of, members-length, found-of, found-some, found-none, Changed}
+use Rattle.srt_connection.specs.Answers.{sequence-of}
+use Rattle.srt_connection.specs.declared.legs.OptionalSequence.{OptionalSequence}
+use Rattle.srt_connection.specs.declared.legs.OptionalSequence.the-variants.{Some, None}
 use Rattle.srt_connection.specs.declared.members.Found.{Found}
 use Rattle.srt_connection.specs.declared.members.Found.the-variants.{At, Nothing}
 
@@ -31,6 +34,15 @@ leg-disconnected m = is-disconnected (m .leg)
 abbrev pub with-state : ℕ → Membership → Membership
 with-state n x =
     record { id = x .id; weight = x .weight; state = n; admitted = x .admitted; reserved = x .reserved; collision = x .collision }
+
+-- an answer, as the option that it stands for
+pub sequence-some : (o : Option ℕ) (n : ℕ) → Some n ≡ sequence-of o → o ≡ some n
+sequence-some none n e = cc e
+sequence-some (some m) n e = cc e
+
+pub sequence-none : (o : Option ℕ) → None ≡ sequence-of o → o ≡ none
+sequence-none none e = refl
+sequence-none (some m) e = cc e
 
 -- ---- what a call makes of the first n members of a table, t before and u after
 

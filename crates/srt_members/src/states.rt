@@ -38,7 +38,7 @@ pub fn is_backup(mode: GroupMode) -> bool
 
 // ---- one row
 
-fn is_connected_at(members: &[u64], index: usize) -> bool
+pub fn is_connected_at(members: &[u64], index: usize) -> bool
     requires { ⌜ has-row index (now members) ⌝ }
     ensures { λ r. ⌜ r ≡ is-connected (member-at (now (members .entry)) index .leg) ⌝ }
 {
