@@ -1,3 +1,4 @@
 pub mod Scan
 pub mod Rank
 pub mod Admission
+pub mod Alignment
