@@ -2,3 +2,4 @@ pub mod Scan
 pub mod Rank
 pub mod Admission
 pub mod Alignment
+pub mod Refresh

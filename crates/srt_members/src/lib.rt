@@ -5,3 +5,4 @@ pub mod states; // states.rt: what state a member is in, and a member that turns
 pub mod promotion; // promotion.rt: the Backup member that is promoted
 pub mod admission; // admission.rt: admission to the peer group
 pub mod alignment; // alignment.rt: a member's send sequence is aligned with the group's
+pub mod refresh; // refresh.rt: the refresh of the members' states
