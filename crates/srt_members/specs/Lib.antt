@@ -3,3 +3,4 @@ pub mod Rank
 pub mod Admission
 pub mod Alignment
 pub mod Refresh
+pub mod Turns

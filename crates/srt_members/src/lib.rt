@@ -6,3 +6,5 @@ pub mod promotion; // promotion.rt: the Backup member that is promoted
 pub mod admission; // admission.rt: admission to the peer group
 pub mod alignment; // alignment.rt: a member's send sequence is aligned with the group's
 pub mod refresh; // refresh.rt: the refresh of the members' states
+pub mod collecting; // collecting.rt: whose queue is next
+pub mod removal; // removal.rt: what a removal asks of the members that are left
