@@ -1,23 +1,22 @@
 -- Admission to the peer group, member after member. Assumes nothing.
 use mathlib.Core.Path.{_≡_, refl, ap, sym, _∙_}
-use mathlib.Core.Bool.{Bool, true, false, not, _&&_, _||_}
+use mathlib.Core.Bool.{Bool, true, false, _&&_, _||_}
 use mathlib.Core.List.{List, [], _∷_}
-use mathlib.Core.Option.{Option, none, some}
+use mathlib.Core.Option.{Option, none}
 use Prim.Native.Nat.{ℕ, _+_, _≤_, _<_}
 use native.Mathlib.Omega.{arith}
-use borrow.Author.Tests.{eq-eqb, ne-eqb, eqb-true}
+use borrow.Author.Tests.{eq-eqb, ne-eqb}
 use lib.Dec.{eqb}
-use lib.ListN.{length, drop}
+use lib.ListN.{drop}
 use Rattle.srt_group_model.specs.Tools.{if_then_else_, or-else, flagged, each}
 use Rattle.srt_group_model.specs.State.{Member, on-membership, with-admitted, with-collision, broken-state}
 use Rattle.srt_group_model.specs.Legs.{is-connected, peer-initial-sequence}
-use Rattle.srt_group_model.specs.Members.{in-state, arrives, base-after, peer-after, admit-peer-group}
+use Rattle.srt_group_model.specs.Members.{arrives, base-after, peer-after, admit-peer-group}
 use Rattle.srt_group_model.specs.declared.Leg.{Leg}
 use Rattle.srt_group_model.specs.declared.Membership.{Membership}
 use Rattle.srt_connection.specs.Answers.{sequence-of}
 use Rattle.srt_connection.specs.Rows.{with-membership}
 use Rattle.srt_connection.specs.Members.{member-at, members-of, Changed, changed-by, unchanged, ChangedAll, Changing, changing-start, changing-on, changing-done}
-use Rattle.srt_connection.specs.declared.legs.OptionalSequence.{OptionalSequence}
 use Rattle.srt_connection.specs.declared.legs.OptionalSequence.the-variants.{Some, None}
 use Rattle.srt_members.specs.Scan.{left-next, left-none, Became, sequence-some, sequence-none}
 use Rattle.srt_members.specs.declared.admission.Admission.{Admission}
@@ -206,7 +205,9 @@ module _ (n peer : ℕ) (t : List ℕ) where
   admitting-on i before after u v h so-far step =
       record {
         within = omega arith;
-        peer = ap (λ (p : ℕ). peer-after p rest) (step .peer ∙ ap (λ (m : Member). peer-after (before .peer) (m ∷ [])) same) ∙ all-peer;
+        peer =
+            ap (λ (p : ℕ). peer-after p rest) (step .peer ∙ ap (λ (m : Member). peer-after (before .peer) (m ∷ [])) same)
+            ∙ all-peer;
         base =
             ap (λ (b : Option ℕ). base-after b rest)
             (step .base ∙ ap (λ (m : Member). base-after (base-in before) (m ∷ [])) same)

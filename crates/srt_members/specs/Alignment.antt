@@ -1,29 +1,23 @@
 -- Alignment of a member's send sequence with the group's. Assumes nothing.
-use mathlib.Core.Path.{_≡_, refl, ap, sym, subst, _∙_}
-use mathlib.Core.Bool.{Bool, true, false, not, _&&_, _||_}
+use mathlib.Core.Path.{_≡_, refl, ap, sym, _∙_}
+use mathlib.Core.Bool.{Bool, true, false, not, _&&_}
 use mathlib.Core.List.{List, [], _∷_}
 use mathlib.Core.Option.{Option, none, some}
-use Prim.Native.Nat.{ℕ, zero, suc, _+_, _≤_, _<_}
-use native.Mathlib.Omega.{arith}
+use Prim.Native.Nat.{ℕ, zero, suc, _≤_, _<_}
 use borrow.Author.Tests.{eq-eqb, ne-eqb}
 use lib.Dec.{eqb}
-use lib.ListN.{length}
-use Rattle.word_rows.specs.Tab.{tab}
 use Rattle.srt_group_model.specs.Tools.{if_then_else_, if-some_give_otherwise_, or-else, flagged, first-such, place-of, at-place, change}
 use Rattle.srt_group_model.specs.State.{Member, with-leg}
-use Rattle.srt_group_model.specs.Legs.{is-connected, has-sender, next-sequence-number}
-use Rattle.srt_group_model.specs.Members.{id-of, has-id, alignment-source, align-leg, align-member-sequence}
+use Rattle.srt_group_model.specs.Legs.{is-connected, has-sender}
+use Rattle.srt_group_model.specs.Members.{has-id, alignment-source, align-leg, align-member-sequence}
 use Rattle.srt_group_model.specs.declared.Leg.{Leg}
 use Rattle.srt_group_model.specs.declared.Membership.{Membership}
 use Rattle.srt_group_model.specs.declared.Sender.{Sender}
 use Rattle.srt_connection.specs.Answers.{sequence-of, result-of}
 use Rattle.srt_connection.specs.Tab.{tab-past, tab-passes}
 use Rattle.srt_connection.specs.Members.{member-at, members-of, members-place, found-of, found-some, found-none, Changed, changed-by, unchanged}
-use Rattle.srt_connection.specs.declared.legs.LegResult.{LegResult}
 use Rattle.srt_connection.specs.declared.legs.LegResult.the-variants.{Ok, Err}
-use Rattle.srt_connection.specs.declared.legs.OptionalSequence.{OptionalSequence}
 use Rattle.srt_connection.specs.declared.legs.OptionalSequence.the-variants.{Some, None}
-use Rattle.srt_connection.specs.declared.members.Found.{Found}
 use Rattle.srt_connection.specs.declared.members.Found.the-variants.{At, Nothing}
 use Rattle.srt_members.specs.Scan.{is-some, Tried, found-row, sequence-some, sequence-none}
 

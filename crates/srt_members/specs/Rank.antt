@@ -1,9 +1,9 @@
 -- The first in rank among the connected Standby members, found from the last row to the first. Assumes nothing.
-use mathlib.Core.Path.{_≡_, refl, ap, sym, _∙_}
-use mathlib.Core.Bool.{Bool, true, false, not, _&&_, _||_}
+use mathlib.Core.Path.{_≡_, refl, ap, sym}
+use mathlib.Core.Bool.{Bool, true, false, not, _&&_}
 use mathlib.Core.List.{List, [], _∷_}
 use mathlib.Core.Option.{Option, none, some}
-use Prim.Native.Nat.{ℕ, zero, suc, _+_, _-_, _*_, _≤_, _<_}
+use Prim.Native.Nat.{ℕ, suc, _+_, _-_, _*_, _≤_, _<_}
 use native.Mathlib.Omega.{arith}
 use borrow.Author.Tests.{lt-ltb, le-ltb, eq-eqb, ne-eqb}
 use lib.Dec.{ltb}
@@ -72,9 +72,10 @@ module _ (n : ℕ) (t : List ℕ) where
           then record { place = 0; member = member-at t i }
           else record { place = suc (b - (i + 1)); member = member-at t b }))
       go true = ((omega arith, h), ap (λ (p : ℕ). some record { place = p; member = member-at t i }) (omega arith))
-      go false =
-          ((omega (arith, there), omega (arith, there)),
-          ap (λ (p : ℕ). some record { place = p; member = member-at t b }) (omega (arith, there)))
+      go false = (
+        (omega (arith, there), omega (arith, there)),
+        ap (λ (p : ℕ). some record { place = p; member = member-at t b }) (omega (arith, there)),
+      )
 
   pub ranking-on : (left i : ℕ) (best r : Found) → Ranking n t left best → 0 < left → i ≡ left - 1 → r ≡ first-with t i best
       → Ranking n t i r
@@ -119,7 +120,8 @@ module _ (a b : Member) {x y : Membership} (first : x ≡ a .membership) (second
       sym (rw (← first, ← second, le-ltb (y .weight) (x .weight) (omega arith), eq-eqb (x .weight) (y .weight) same))
 
 module _ (t : List ℕ) (i : ℕ) where
-  pub first-unless-standby : {answer : Bool} (best : Found) → answer ≡ is-standby (member-at t i) → answer ≡ false → best ≡ first-with t i best
+  pub first-unless-standby : {answer : Bool} (best : Found) → answer ≡ is-standby (member-at t i) → answer ≡ false
+      → best ≡ first-with t i best
   unfolding first-with if_then_else_
   first-unless-standby Nothing is no-standby = sym (rw (← is, no-standby))
   first-unless-standby (At b) is no-standby = sym (rw (← is, no-standby))
@@ -130,7 +132,8 @@ module _ (t : List ℕ) (i : ℕ) where
   first-alone best none-before is standby = sym (rw (none-before, ← is, standby))
 
   module _ (b : ℕ) (best : Found) (found : best ≡ At b) where
-    pub first-still : {outranked : Bool} → outranked ≡ outranks (member-at t b) (member-at t i) → outranked ≡ true → At b ≡ first-with t i best
+    pub first-still : {outranked : Bool} → outranked ≡ outranks (member-at t b) (member-at t i) → outranked ≡ true
+        → At b ≡ first-with t i best
     unfolding first-with if_then_else_
     first-still is higher = sym (rw (found, ← is, higher) (go (is-standby (member-at t i))))
       where

@@ -1,23 +1,22 @@
 -- The refresh of the members' states: a step at each place, of which one turns the member there if it can be aligned. Assumes
 -- nothing.
 use mathlib.Core.Path.{_≡_, refl, ap, sym, _∙_}
-use mathlib.Core.Bool.{Bool, true, false, not, _&&_, _||_}
-use mathlib.Core.List.{List, [], _∷_}
+use mathlib.Core.Bool.{Bool, true, false, _&&_}
+use mathlib.Core.List.{List}
 use mathlib.Core.Option.{Option, none, some}
-use Prim.Native.Nat.{ℕ, zero, suc, _+_, _-_, _≤_, _<_}
+use Prim.Native.Nat.{ℕ, suc, _+_, _-_, _≤_, _<_}
 use native.Mathlib.Numerals.{add-one}
 use native.Mathlib.Omega.{arith}
-use borrow.Author.Tests.{eq-eqb, ne-eqb}
 use lib.ListN.{length}
 use Rattle.srt_group_model.specs.Tools.{if_then_else_, if-some_give_otherwise_, change, each}
 use Rattle.srt_group_model.specs.State.{Member, is-backup, turned, pending-state, active-state, standby-state, unstable-state, broken-state}
 use Rattle.srt_group_model.specs.Legs.{is-connected, is-disconnected, can-send}
-use Rattle.srt_group_model.specs.Members.{in-state, has-active-member, align-member-sequence, turn-aligned, steps-from, at-each-place, break-disconnected}
+use Rattle.srt_group_model.specs.Members.{in-state, has-active-member, align-member-sequence, turn-aligned, steps-from, at-each-place, settle, requalify, break-disconnected, promote-if-none, settle-members, requalify-members}
 use Rattle.srt_group_model.specs.declared.GroupMode.{GroupMode}
 use Rattle.srt_group_model.specs.declared.Leg.{Leg}
 use Rattle.srt_group_model.specs.declared.Membership.{Membership}
 use Rattle.srt_connection.specs.Members.{member-at, members-of, members-length, members-place, Changed, ChangedAll, changed-by, unchanged}
-use Rattle.srt_members.specs.Scan.{is-some, Became, became-same, Tried}
+use Rattle.srt_members.specs.Scan.{is-some, Became, became-same, became-then, Tried}
 
 -- ---- definitions: the tests and the states of the model's `settle` and `requalify`
 
@@ -59,13 +58,13 @@ module _ (m : Member) {connected : Bool} (is : connected ≡ (in-state unstable-
 -- ---- the member at a place turns, if it can be aligned
 
 module _ (test : Member → Bool) (state : List Member → ℕ) (number : Option ℕ) (n i : ℕ) (t : List ℕ) (there : i < n)
-  {answer : Bool} (is : answer ≡ test (member-at t i)) where
+    {answer : Bool} (is : answer ≡ test (member-at t i)) where
   pub turn-left-out : answer ≡ false → Became n (turn-aligned test state number i (members-of n t)) t t
   unfolding turn-aligned if_then_else_ if-some_give_otherwise_
   turn-left-out fails = rw (members-place n t i there, ← is, fails) (became-same n t (members-of n t) refl)
 
-  pub turn-refused : {u : List ℕ} {aligned : Bool} → answer ≡ true → Tried n (align-member-sequence number i (members-of n t)) t aligned u
-      → aligned ≡ false → Became n (turn-aligned test state number i (members-of n t)) t u
+  pub turn-refused : {u : List ℕ} {aligned : Bool} → answer ≡ true
+      → Tried n (align-member-sequence number i (members-of n t)) t aligned u → aligned ≡ false → Became n (turn-aligned test state number i (members-of n t)) t u
   unfolding turn-aligned is-some if_then_else_ if-some_give_otherwise_
   turn-refused {u} passes tried fails =
       rw (members-place n t i there, ← is, passes)
@@ -151,13 +150,14 @@ module _ (i : ℕ) (t : List ℕ) where
   pub broken-already : {x : Membership} → x ≡ member-at t i .membership → x .state ≡ broken-state → Changed i break-disconnected t t
   unfolding break-disconnected if_then_else_
   broken-already membership broken =
-      changed-by i t t break-disconnected (unchanged i t)
-      (go (is-disconnected (member-at t i .leg)) (turned-already (member-at t i) (ap (λ (x : Membership). x .state) (sym membership) ∙ broken)))
+      changed-by i t t break-disconnected (unchanged i t) (go (is-disconnected (member-at t i .leg)))
     where
-      go : (b : Bool) → member-at t i ≡ turned broken-state (member-at t i)
-          → member-at t i ≡ (if b then turned broken-state (member-at t i) else member-at t i)
-      go true e = e
-      go false e = refl
+      same : member-at t i ≡ turned broken-state (member-at t i)
+      same = turned-already (member-at t i) (ap (λ (x : Membership). x .state) (sym membership) ∙ broken)
+
+      go : (b : Bool) → member-at t i ≡ (if b then turned broken-state (member-at t i) else member-at t i)
+      go true = same
+      go false = refl
 
   module _ {answer : Bool} (is : answer ≡ is-disconnected (member-at t i .leg)) where
     pub not-broken : answer ≡ false → Changed i break-disconnected t t
@@ -170,3 +170,18 @@ module _ (i : ℕ) (t : List ℕ) where
 
 pub became-each : {f : Member → Member} (n : ℕ) (t u : List ℕ) → ChangedAll n f t u → Became n (each f (members-of n t)) t u
 became-each n t u c = record { long = c .long; is = c .members }
+
+-- ---- the two calls
+
+module _ (n : ℕ) (mode : GroupMode) (number : Option ℕ) (t u v : List ℕ) where
+  pub settled : Became n (at-each-place (settle mode number) (members-of n t)) t u
+      → Became n (promote-if-none mode (members-of n u)) u v → Became n (settle-members mode number (members-of n t)) t v
+  unfolding settle-members
+  settled a b = became-then n (promote-if-none mode) t u v a b
+
+  pub requalified : (w : List ℕ) → Became n (each break-disconnected (members-of n t)) t u
+      → Became n (at-each-place (requalify mode number) (members-of n u)) u v → Became n (promote-if-none mode (members-of n v)) v w
+      → Became n (requalify-members mode number (members-of n t)) t w
+  unfolding requalify-members
+  requalified w a b c =
+      became-then n (promote-if-none mode) t v w (became-then n (at-each-place (requalify mode number)) t u v a b) c

@@ -1,7 +1,7 @@
 -- Loops over the rows of the lent table: what is left of the members from a place on, the first that passes a test, and what a
 -- call makes of the members. Assumes nothing.
 use mathlib.Core.Path.{_≡_, refl, ap, sym, _∙_}
-use mathlib.Core.Bool.{Bool, true, false, not, _&&_, _||_}
+use mathlib.Core.Bool.{Bool, true, false, _||_}
 use mathlib.Core.List.{List, [], _∷_}
 use mathlib.Core.Option.{Option, none, some}
 use Prim.Native.Nat.{ℕ, zero, suc, _+_, _-_, _≤_, _<_}
@@ -17,9 +17,7 @@ use Rattle.srt_group_model.specs.declared.Membership.{Membership}
 use Rattle.srt_connection.specs.Tab.{tab-found, tab-not-found, place-below}
 use Rattle.srt_connection.specs.Members.{member-at, members-of, members-length, found-of, found-some, found-none, Changed}
 use Rattle.srt_connection.specs.Answers.{sequence-of}
-use Rattle.srt_connection.specs.declared.legs.OptionalSequence.{OptionalSequence}
 use Rattle.srt_connection.specs.declared.legs.OptionalSequence.the-variants.{Some, None}
-use Rattle.srt_connection.specs.declared.members.Found.{Found}
 use Rattle.srt_connection.specs.declared.members.Found.the-variants.{At, Nothing}
 
 -- ---- definitions

@@ -1,14 +1,14 @@
 -- The first member from a place on that has an event, and the largest window of those from a place on. Assumes nothing.
-use mathlib.Core.Path.{_≡_, refl, ap, sym, subst, _∙_}
-use mathlib.Core.Bool.{Bool, true, false, not}
-use mathlib.Core.List.{List, [], _∷_}
+use mathlib.Core.Path.{_≡_, refl, ap, sym, _∙_}
+use mathlib.Core.Bool.{Bool, true, not}
+use mathlib.Core.List.{List}
 use mathlib.Core.Option.{Option, none, some}
 use Prim.Native.Nat.{ℕ, zero, suc, _+_, _-_, _≤_, _<_, min, max}
 use native.Mathlib.Decide.{decLe}
 use native.Mathlib.Omega.{arith}
-use lib.ListN.{length, drop}
+use lib.ListN.{drop}
 use Rattle.word_rows.specs.Tab.{tab}
-use Rattle.srt_group_model.specs.Tools.{if_then_else_, if-some_give_otherwise_, is-empty, place-of}
+use Rattle.srt_group_model.specs.Tools.{if-some_give_otherwise_, is-empty, place-of}
 use Rattle.srt_group_model.specs.State.{Member}
 use Rattle.srt_group_model.specs.Collecting.{in-turn}
 use Rattle.srt_group_model.specs.Removal.{largest-window}

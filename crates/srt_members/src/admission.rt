@@ -1,11 +1,9 @@
 // Admission of the members whose handshake completed since the last look. As in the Rust, the first of them fixes the receive base
 // before it is compared, and the first peer group that one answers from binds the group.
 ghost use mathlib.Core.Path.{_≡_};
-ghost use mathlib.Core.Bool.{_||_};
 ghost use Prim.Native.Nat.{_*_, _≤_};
 ghost use lib.ListN.{length};
 ghost use lib.Dec.{eqb};
-ghost use Rattle.srt_group_model.specs.State.{with-admitted, with-collision};
 ghost use Rattle.srt_group_model.specs.Tools.{if_then_else_};
 ghost use Rattle.srt_group_model.specs.Members.{arrives};
 ghost use Rattle.srt_connection.specs.Rows.{row-size};

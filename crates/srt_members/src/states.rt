@@ -22,9 +22,13 @@ use srt_group_model::Leg;
 
 // `GroupMemberState` as the numbers that a row holds.
 pub const PENDING: u64 = 0;
+
 pub const ACTIVE: u64 = 1;
+
 pub const STANDBY: u64 = 2;
+
 pub const UNSTABLE: u64 = 3;
+
 pub const BROKEN: u64 = 4;
 
 pub fn is_backup(mode: GroupMode) -> bool

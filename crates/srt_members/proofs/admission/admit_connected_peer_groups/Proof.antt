@@ -1,4 +1,5 @@
--- `admit_connected_peer_groups` meets its contract. The loop's invariant: the rows passed are done, and what is left gives the rest (`Admitting`). Assumes nothing.
+-- `admit_connected_peer_groups` meets its contract. The loop's invariant: the rows passed are done, and what is left gives the
+-- rest (`Admitting`). Assumes nothing.
 use mathlib.Core.Path.{refl}
 use Prim.Native.Nat.{_-_}
 use Rattle.srt_members.specs.Admission.{Admitting, admitting-start, admitting-on, admitting-done}
@@ -25,7 +26,9 @@ loop-less : tie.Need-loop-less Inv-loop μ-loop
 loop-less c = omega (arith, c .before .before .before .before .loop-test .taken)
 
 loop-again : tie.Need-loop-again Inv-loop μ-loop
-loop-again c = admitting-on _ _ _ _ _ _ _ _ (c .before .before .before .before .loop-test .taken) (c .before .before .before .before .before .loop .inv) (c .before .before .admit-peer-group .ensures)
+loop-again c =
+    admitting-on _ _ _ _ _ _ _ _ (c .before .before .before .before .loop-test .taken)
+    (c .before .before .before .before .before .loop .inv) (c .before .before .admit-peer-group .ensures)
 
 same-length : tie.Need-same-length Inv-loop μ-loop
 same-length c = omega (arith, c .before .loop .inv .changing .long)

@@ -12,7 +12,8 @@ same-length : tie.Need-same-length
 same-length c = search needs
 
 returns : tie.Need-returns
-returns c = admitted-not-arriving _ _ _ (c .before .arrives-at .ensures) (not-true (c .before .arrives-at .result) (c .if1 .taken))
+returns c =
+    admitted-not-arriving _ _ _ (c .before .arrives-at .ensures) (not-true (c .before .arrives-at .result) (c .if1 .taken))
 
 leg-at-requires : tie.Need-leg-at-requires
 leg-at-requires c κs = search needs
@@ -33,7 +34,15 @@ same-length-2 : tie.Need-same-length-2
 same-length-2 c = search needs
 
 returns-2 : tie.Need-returns-2
-returns-2 c = admitted-arriving _ _ _ (c .before .before .before .before .before .before .before .before .before .before .before .arrives-at .ensures) _ (not-false (c .before .before .before .before .before .before .before .before .before .before .before .arrives-at .result) (c .before .before .before .before .before .before .before .before .before .before .if1 .left)) (c .before .before .before .before .before .before .before .before .leg-at .ensures) (c .before .before .before .before .before .before .before .answered .ensures) (c .before .before .before .before .before .membership-at .ensures) (c .before .before .before .before .membership-after .ensures) (c .before .before .put-membership-at .ensures)
+returns-2 c =
+    admitted-arriving _ _ _
+    (c .before .before .before .before .before .before .before .before .before .before .before .arrives-at .ensures) _
+    (not-false (c .before .before .before .before .before .before .before .before .before .before .before .arrives-at .result)
+    (c .before .before .before .before .before .before .before .before .before .before .if1 .left))
+    (c .before .before .before .before .before .before .before .before .leg-at .ensures)
+    (c .before .before .before .before .before .before .before .answered .ensures)
+    (c .before .before .before .before .before .membership-at .ensures)
+    (c .before .before .before .before .membership-after .ensures) (c .before .before .put-membership-at .ensures)
 
 pub admit-peer-group-spec : {M : Type 1} → statement M
 admit-peer-group-spec =

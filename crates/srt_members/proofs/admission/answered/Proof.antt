@@ -21,10 +21,15 @@ enum-told : tie.Need-enum-told
 enum-told c = search needs
 
 returns-2 : tie.Need-returns-2
-returns-2 c = answered-first _ _ _ (c .before .before .before .before .before .bound-peer .ensures) (c .before .before .before .before .if1 .left) refl (sym (c .before .first .given .1) ∙ c .before .before .before .peer-initial-sequence .ensures)
+returns-2 c =
+    answered-first _ _ _ (c .before .before .before .before .before .bound-peer .ensures)
+    (c .before .before .before .before .if1 .left) refl
+    (sym (c .before .first .given .1) ∙ c .before .before .before .peer-initial-sequence .ensures)
 
 returns-3 : tie.Need-returns-3
-returns-3 c = answered-nothing _ _ _ (c .before .before .before .before .bound-peer .ensures) (c .before .before .before .if1 .left) refl (sym (c .enum-told .given .1) ∙ c .before .before .peer-initial-sequence .ensures)
+returns-3 c =
+    answered-nothing _ _ _ (c .before .before .before .before .bound-peer .ensures) (c .before .before .before .if1 .left) refl
+    (sym (c .enum-told .given .1) ∙ c .before .before .peer-initial-sequence .ensures)
 
 pub answered-spec : {M : Type 1} → statement M
 answered-spec =

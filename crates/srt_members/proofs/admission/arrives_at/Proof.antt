@@ -17,7 +17,9 @@ is-connected-at-requires : tie.Need-is-connected-at-requires
 is-connected-at-requires c κs = search needs
 
 returns-3 : tie.Need-returns-3
-returns-3 c = arrives-if-connected _ (c .before .before .before .before .before .membership-at .ensures) (c .before .before .before .if1 .left) (c .before .if2 .left) (c .is-connected-at .ensures)
+returns-3 c =
+    arrives-if-connected _ (c .before .before .before .before .before .membership-at .ensures)
+    (c .before .before .before .if1 .left) (c .before .if2 .left) (c .is-connected-at .ensures)
 
 pub arrives-at-spec : {M : Type 1} → statement M
 arrives-at-spec =

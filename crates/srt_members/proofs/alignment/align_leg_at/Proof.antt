@@ -21,7 +21,9 @@ same-length : tie.Need-same-length
 same-length c = search needs
 
 returns : tie.Need-returns
-returns c = leg-not-aligned _ _ _ (c .before .before .before .leg-at .ensures) (sym (c .enum-told .given .1) ∙ c .before .before .align-leg .ensures)
+returns c =
+    leg-not-aligned _ _ _ (c .before .before .before .leg-at .ensures)
+    (sym (c .enum-told .given .1) ∙ c .before .before .align-leg .ensures)
 
 put-leg-at-requires : tie.Need-put-leg-at-requires
 put-leg-at-requires c κs = search needs
@@ -30,7 +32,10 @@ same-length-2 : tie.Need-same-length-2
 same-length-2 c = search needs
 
 returns-2 : tie.Need-returns-2
-returns-2 c = leg-aligned _ _ _ (c .before .before .before .before .before .before .before .before .leg-at .ensures) _ (sym (c .before .before .before .before .before .result .given .1) ∙ c .before .before .before .before .before .before .before .align-leg .ensures) (c .before .before .put-leg-at .ensures)
+returns-2 c =
+    leg-aligned _ _ _ (c .before .before .before .before .before .before .before .before .leg-at .ensures) _ (sym
+    (c .before .before .before .before .before .result .given .1) ∙
+    c .before .before .before .before .before .before .before .align-leg .ensures) (c .before .before .put-leg-at .ensures)
 
 pub align-leg-at-spec : {M : Type 1} → statement M
 align-leg-at-spec =

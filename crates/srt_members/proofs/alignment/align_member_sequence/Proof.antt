@@ -25,7 +25,10 @@ same-length : tie.Need-same-length
 same-length c = search needs
 
 returns-2 : tie.Need-returns-2
-returns-2 c = align-no-source _ _ _ _ (c .before .before .before .before .before .before .if1 .left) (c .before .before .before .before .membership-at .ensures) (sym (c .enum-told .given .1) ∙ c .before .before .alignment-source .ensures)
+returns-2 c =
+    align-no-source _ _ _ _ (c .before .before .before .before .before .before .if1 .left)
+    (c .before .before .before .before .membership-at .ensures)
+    (sym (c .enum-told .given .1) ∙ c .before .before .alignment-source .ensures)
 
 align-leg-at-requires : tie.Need-align-leg-at-requires
 align-leg-at-requires c κs = omega (arith, c .before .before .before .before .before .before .before .before .if1 .left)
@@ -34,7 +37,12 @@ same-length-2 : tie.Need-same-length-2
 same-length-2 c = search needs
 
 returns-3 : tie.Need-returns-3
-returns-3 c = align-with _ _ _ _ (c .before .before .before .before .before .before .before .before .before .before .before .if1 .left) (c .before .before .before .before .before .before .before .before .before .membership-at .ensures) _ (sym (c .before .before .before .before .before .source .given .1) ∙ c .before .before .before .before .before .before .before .alignment-source .ensures) (c .before .before .align-leg-at .ensures)
+returns-3 c =
+    align-with _ _ _ _ (c .before .before .before .before .before .before .before .before .before .before .before .if1 .left)
+    (c .before .before .before .before .before .before .before .before .before .membership-at .ensures) _ (sym
+    (c .before .before .before .before .before .source .given .1) ∙
+    c .before .before .before .before .before .before .before .alignment-source .ensures)
+    (c .before .before .align-leg-at .ensures)
 
 pub align-member-sequence-spec : {M : Type 1} → statement M
 align-member-sequence-spec =

@@ -20,13 +20,23 @@ enum-told : tie.Need-enum-told
 enum-told c = search needs
 
 returns-2 : tie.Need-returns-2
-returns-2 c = source-none _ _ _ _ (c .before .before .before .if1 .left) (sym (c .enum-told .given .1) ∙ c .before .before .first-other-sender .ensures)
+returns-2 c =
+    source-none _ _ _ _ (c .before .before .before .if1 .left)
+    (sym (c .enum-told .given .1) ∙ c .before .before .first-other-sender .ensures)
 
 sender-at-requires : tie.Need-sender-at-requires
-sender-at-requires c κs = omega (arith, found-row (is-other-sender (c .before .before .before .before .before .before .args .id)) _ _ _ (sym (c .before .found .given .1) ∙ c .before .before .before .first-other-sender .ensures))
+sender-at-requires c κs =
+    omega (
+      arith,
+      found-row (is-other-sender (c .before .before .before .before .before .before .args .id)) _ _ _
+          (sym (c .before .found .given .1) ∙ c .before .before .before .first-other-sender .ensures),
+    )
 
 returns-3 : tie.Need-returns-3
-returns-3 c = source-other _ _ _ _ _ (c .before .before .before .before .before .if1 .left) (sym (c .before .before .found .given .1) ∙ c .before .before .before .before .first-other-sender .ensures) (c .sender-at .ensures)
+returns-3 c =
+    source-other _ _ _ _ _ (c .before .before .before .before .before .if1 .left)
+    (sym (c .before .before .found .given .1) ∙ c .before .before .before .before .first-other-sender .ensures)
+    (c .sender-at .ensures)
 
 pub alignment-source-spec : {M : Type 1} → statement M
 alignment-source-spec =

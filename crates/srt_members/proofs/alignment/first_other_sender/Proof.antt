@@ -14,13 +14,16 @@ abbrev μ-loop : tie.MeasureT-loop
 μ-loop members count id i₀ i = count - i
 
 loop-holds : tie.Need-loop-holds Inv-loop μ-loop
-loop-holds c = (omega arith, passed-start (is-other-sender (c .before .args .id)) (c .before .args .members .now) 0)
+loop-holds c = (omega arith, passed-start _ _ _)
 
 is-other-sender-at-requires : tie.Need-is-other-sender-at-requires Inv-loop μ-loop
 is-other-sender-at-requires c κs = omega arith
 
 returns : tie.Need-returns Inv-loop μ-loop
-returns c = found-first (is-other-sender (c .before .before .before .before .before .args .id)) (c .before .before .before .before .before .args .members .now) (c .before .before .before .before .before .args .count) (c .before .before .before .loop .i) (c .before .before .loop-test .taken) (c .before .before .before .loop .inv .1) (c .before .is-other-sender-at .ensures) (c .if1 .taken)
+returns c =
+    found-first (is-other-sender (c .before .before .before .before .before .args .id)) _ _ _
+    (c .before .before .loop-test .taken) (c .before .before .before .loop .inv .1) (c .before .is-other-sender-at .ensures)
+    (c .if1 .taken)
 
 add-i : tie.Need-add-i Inv-loop μ-loop
 add-i c = search needs
@@ -29,10 +32,14 @@ loop-less : tie.Need-loop-less Inv-loop μ-loop
 loop-less c = search needs
 
 loop-again : tie.Need-loop-again Inv-loop μ-loop
-loop-again c = (omega arith, passed-on (is-other-sender (c .before .before .before .before .before .args .id)) (c .before .before .before .before .before .args .members .now) 0 (c .before .before .before .loop .i) (c .before .before .before .loop .inv .1) (c .before .is-other-sender-at .ensures) (c .if1 .left))
+loop-again c = (
+  omega arith,
+  passed-on _ _ _ _ (c .before .before .before .loop .inv .1) (c .before .is-other-sender-at .ensures) (c .if1 .left),
+)
 
 returns-2 : tie.Need-returns-2 Inv-loop μ-loop
-returns-2 c = found-nowhere (is-other-sender (c .before .before .before .args .id)) (c .before .before .before .args .members .now) (c .before .before .before .args .count) (c .before .loop .i) (c .loop-test .left) (c .before .loop .inv .1)
+returns-2 c =
+    found-nowhere (is-other-sender (c .before .before .before .args .id)) _ _ _ (c .loop-test .left) (c .before .loop .inv .1)
 
 pub first-other-sender-spec : {M : Type 1} → statement M
 first-other-sender-spec =

@@ -15,13 +15,19 @@ is-connected-at-requires : tie.Need-is-connected-at-requires
 is-connected-at-requires c κs = search needs
 
 returns-2 : tie.Need-returns-2
-returns-2 c = unconnected-is-no-sender _ _ (c .before .is-connected-at .ensures) (not-true (c .before .is-connected-at .result) (c .if2 .taken))
+returns-2 c =
+    unconnected-is-no-sender _ _ (c .before .is-connected-at .ensures)
+    (not-true (c .before .is-connected-at .result) (c .if2 .taken))
 
 sender-at-requires : tie.Need-sender-at-requires
 sender-at-requires c κs = search needs
 
 returns-3 : tie.Need-returns-3
-returns-3 c = other-if-started _ _ (c .before .before .before .before .before .before .membership-at .ensures) (c .before .before .before .before .if1 .left) (c .before .before .before .is-connected-at .ensures) (not-false (c .before .before .before .is-connected-at .result) (c .before .before .if2 .left)) (c .before .sender-at .ensures)
+returns-3 c =
+    other-if-started _ _ (c .before .before .before .before .before .before .membership-at .ensures)
+    (c .before .before .before .before .if1 .left) (c .before .before .before .is-connected-at .ensures)
+    (not-false (c .before .before .before .is-connected-at .result) (c .before .before .if2 .left))
+    (c .before .sender-at .ensures)
 
 pub is-other-sender-at-spec : {M : Type 1} → statement M
 is-other-sender-at-spec =

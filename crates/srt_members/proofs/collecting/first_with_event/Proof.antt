@@ -20,7 +20,9 @@ has-event-at-requires : tie.Need-has-event-at-requires Inv-loop μ-loop
 has-event-at-requires c κs = omega arith
 
 returns : tie.Need-returns Inv-loop μ-loop
-returns c = found-from has-event _ (c .before .before .before .before .before .args .start) (c .before .before .before .before .before .args .end) (c .before .before .before .loop .i) (c .before .before .before .loop .inv .1) (c .before .before .before .loop .inv .0) (c .before .before .loop-test .taken) (c .before .has-event-at .ensures) (c .if1 .taken)
+returns c =
+    found-from has-event _ _ _ _ (c .before .before .before .loop .inv .1) (c .before .before .before .loop .inv .0)
+    (c .before .before .loop-test .taken) (c .before .has-event-at .ensures) (c .if1 .taken)
 
 add-i : tie.Need-add-i Inv-loop μ-loop
 add-i c = search needs
@@ -29,10 +31,13 @@ loop-less : tie.Need-loop-less Inv-loop μ-loop
 loop-less c = search needs
 
 loop-again : tie.Need-loop-again Inv-loop μ-loop
-loop-again c = (omega arith, passed-on has-event _ _ _ (c .before .before .before .loop .inv .1) (c .before .has-event-at .ensures) (c .if1 .left))
+loop-again c = (
+  omega arith,
+  passed-on has-event _ _ _ (c .before .before .before .loop .inv .1) (c .before .has-event-at .ensures) (c .if1 .left),
+)
 
 returns-2 : tie.Need-returns-2 Inv-loop μ-loop
-returns-2 c = found-from-nowhere has-event _ (c .before .before .before .args .start) (c .before .before .before .args .end) (c .before .loop .i) (c .before .loop .inv .1) (c .loop-test .left)
+returns-2 c = found-from-nowhere has-event _ _ _ _ (c .before .loop .inv .1) (c .loop-test .left)
 
 pub first-with-event-spec : {M : Type 1} → statement M
 first-with-event-spec =

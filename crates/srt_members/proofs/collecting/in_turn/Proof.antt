@@ -22,7 +22,10 @@ first-with-event-requires-2 : tie.Need-first-with-event-requires-2
 first-with-event-requires-2 c κs = omega (arith, c .smaller .ensures)
 
 returns : tie.Need-returns
-returns c = turn-again _ _ _ _ (sym (c .before .before .enum-told .given .1) ∙ c .before .before .before .before .first-with-event .ensures) (c .before .smaller .ensures) (c .first-with-event2 .ensures)
+returns c =
+    turn-again _ _ _ _
+    (sym (c .before .before .enum-told .given .1) ∙ c .before .before .before .before .first-with-event .ensures)
+    (c .before .smaller .ensures) (c .first-with-event2 .ensures)
 
 returns-2 : tie.Need-returns-2
 returns-2 c = turn-later _ _ _ _ (sym (c .before .later .given .1) ∙ c .before .before .before .first-with-event .ensures)

@@ -22,13 +22,20 @@ returns : tie.Need-returns
 returns c = promoted-none _ _ (sym (c .enum-told .given .1) ∙ c .before .before .promotion .ensures)
 
 turn-at-requires : tie.Need-turn-at-requires
-turn-at-requires c κs = omega (arith, promotion-below _ _ _ (sym (c .before .before .found .given .1) ∙ c .before .before .before .before .promotion .ensures))
+turn-at-requires c κs =
+    omega (
+      arith,
+      promotion-below _ _ _
+          (sym (c .before .before .found .given .1) ∙ c .before .before .before .before .promotion .ensures),
+    )
 
 same-length-2 : tie.Need-same-length-2
 same-length-2 c = search needs
 
 returns-2 : tie.Need-returns-2
-returns-2 c = promoted _ _ _ (sym (c .before .before .before .before .before .found .given .1) ∙ c .before .before .before .before .before .before .before .promotion .ensures) (c .before .before .turn-at .ensures)
+returns-2 c =
+    promoted _ _ _ (sym (c .before .before .before .before .before .found .given .1) ∙
+    c .before .before .before .before .before .before .before .promotion .ensures) (c .before .before .turn-at .ensures)
 
 pub promote-backup-member-spec : {M : Type 1} → statement M
 promote-backup-member-spec =

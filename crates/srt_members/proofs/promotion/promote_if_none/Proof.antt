@@ -9,7 +9,8 @@ is-backup-requires : tie.Need-is-backup-requires
 is-backup-requires c κs = search needs
 
 returns : tie.Need-returns
-returns c = promoted-not-in-backup _ _ _ (c .before .is-backup .ensures) (not-true (c .before .is-backup .result) (c .if1 .taken))
+returns c =
+    promoted-not-in-backup _ _ _ (c .before .is-backup .ensures) (not-true (c .before .is-backup .result) (c .if1 .taken))
 
 has-active-member-requires : tie.Need-has-active-member-requires
 has-active-member-requires c κs = search needs
@@ -18,7 +19,9 @@ same-length : tie.Need-same-length
 same-length c = search needs
 
 returns-2 : tie.Need-returns-2
-returns-2 c = promoted-not-needed _ _ _ (c .before .before .before .before .is-backup .ensures) (c .before .has-active-member .ensures) (c .if2 .taken)
+returns-2 c =
+    promoted-not-needed _ _ _ (c .before .before .before .before .is-backup .ensures) (c .before .has-active-member .ensures)
+    (c .if2 .taken)
 
 promote-backup-member-requires : tie.Need-promote-backup-member-requires
 promote-backup-member-requires c κs = search needs
@@ -27,7 +30,12 @@ same-length-2 : tie.Need-same-length-2
 same-length-2 c = search needs
 
 returns-3 : tie.Need-returns-3
-returns-3 c = promoted-if-none _ _ _ (c .before .before .before .before .before .before .before .before .is-backup .ensures) (not-false (c .before .before .before .before .before .before .before .before .is-backup .result) (c .before .before .before .before .before .before .before .if1 .left)) (c .before .before .before .before .before .has-active-member .ensures) (c .before .before .before .before .if2 .left) (c .before .before .promote-backup-member .ensures)
+returns-3 c =
+    promoted-if-none _ _ _ (c .before .before .before .before .before .before .before .before .is-backup .ensures) (not-false
+    (c .before .before .before .before .before .before .before .before .is-backup .result)
+    (c .before .before .before .before .before .before .before .if1 .left))
+    (c .before .before .before .before .before .has-active-member .ensures) (c .before .before .before .before .if2 .left)
+    (c .before .before .promote-backup-member .ensures)
 
 pub promote-if-none-spec : {M : Type 1} → statement M
 promote-if-none-spec =

@@ -19,13 +19,17 @@ sub-index : tie.Need-sub-index Inv-loop μ-loop
 sub-index c = search needs
 
 first-in-rank-with-requires : tie.Need-first-in-rank-with-requires Inv-loop μ-loop
-first-in-rank-with-requires c κs = (omega (arith, c .before .loop .inv .within), ranking-row _ _ _ _ (c .before .before .before .pre) (c .before .loop .inv))
+first-in-rank-with-requires c κs = (
+  omega (arith, c .before .loop .inv .within),
+  ranking-row _ _ _ _ (c .before .before .before .pre) (c .before .loop .inv),
+)
 
 loop-less : tie.Need-loop-less Inv-loop μ-loop
 loop-less c = search needs
 
 loop-again : tie.Need-loop-again Inv-loop μ-loop
-loop-again c = ranking-on _ _ _ _ _ _ (c .before .before .loop .inv) (c .before .loop-test .taken) refl (c .first-in-rank-with .ensures)
+loop-again c =
+    ranking-on _ _ _ _ _ _ (c .before .before .loop .inv) (c .before .loop-test .taken) refl (c .first-in-rank-with .ensures)
 
 returns : tie.Need-returns Inv-loop μ-loop
 returns c = ranking-done _ _ _ _ (c .before .loop .inv) (omega arith)

@@ -1,4 +1,5 @@
--- `break_disconnected` meets its contract. The loop's invariant: the rows passed are changed, the others not yet (`Changing`). Assumes nothing.
+-- `break_disconnected` meets its contract. The loop's invariant: the rows passed are changed, the others not yet (`Changing`).
+-- Assumes nothing.
 use Prim.Native.Nat.{_≤_, _-_}
 use Rattle.srt_group_model.specs.Members.{break-disconnected}
 use Rattle.srt_connection.specs.Members.{Changing, changing-start, changing-on, changing-done}
@@ -27,13 +28,19 @@ loop-less : tie.Need-loop-less Inv-loop μ-loop
 loop-less c = search needs
 
 loop-again : tie.Need-loop-again Inv-loop μ-loop
-loop-again c = (omega (arith, c .before .before .before .before .loop-test .taken), changing-on _ break-disconnected _ _ _ (c .before .before .before .before .before .loop .inv .1) (c .before .before .break-disconnected-at .ensures))
+loop-again c = (
+  omega (arith, c .before .before .before .before .loop-test .taken),
+  changing-on _ break-disconnected _ _ _ (c .before .before .before .before .before .loop .inv .1)
+      (c .before .before .break-disconnected-at .ensures),
+)
 
 same-length : tie.Need-same-length Inv-loop μ-loop
 same-length c = omega (arith, c .before .loop .inv .1 .long)
 
 returns : tie.Need-returns Inv-loop μ-loop
-returns c = became-each _ _ _ (changing-done (c .before .loop .i) (c .before .before .before .args .count) break-disconnected _ _ (omega arith) (omega arith) (c .before .loop .inv .1))
+returns c =
+    became-each _ _ _ (changing-done (c .before .loop .i) (c .before .before .before .args .count) break-disconnected _ _
+    (omega arith) (omega arith) (c .before .loop .inv .1))
 
 pub break-disconnected-spec : {M : Type 1} → statement M
 break-disconnected-spec =

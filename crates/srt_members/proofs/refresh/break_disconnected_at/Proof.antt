@@ -21,7 +21,8 @@ same-length-2 : tie.Need-same-length-2
 same-length-2 c = search needs
 
 returns-2 : tie.Need-returns-2
-returns-2 c = not-broken _ _ (c .before .is-disconnected-at .ensures) (not-true (c .before .is-disconnected-at .result) (c .if2 .taken))
+returns-2 c =
+    not-broken _ _ (c .before .is-disconnected-at .ensures) (not-true (c .before .is-disconnected-at .result) (c .if2 .taken))
 
 turn-at-requires : tie.Need-turn-at-requires
 turn-at-requires c κs = search needs
@@ -30,7 +31,10 @@ same-length-3 : tie.Need-same-length-3
 same-length-3 c = search needs
 
 returns-3 : tie.Need-returns-3
-returns-3 c = broken-now _ _ (c .before .before .before .before .before .is-disconnected-at .ensures) (not-false (c .before .before .before .before .before .is-disconnected-at .result) (c .before .before .before .before .if2 .left)) (c .before .before .turn-at .ensures)
+returns-3 c =
+    broken-now _ _ (c .before .before .before .before .before .is-disconnected-at .ensures) (not-false
+    (c .before .before .before .before .before .is-disconnected-at .result) (c .before .before .before .before .if2 .left))
+    (c .before .before .turn-at .ensures)
 
 pub break-disconnected-at-spec : {M : Type 1} → statement M
 break-disconnected-at-spec =

@@ -18,11 +18,23 @@ has-active-member-requires c κs = search needs
 
 returns-2 : tie.Need-returns-2
 unfolding requalified-state if_then_else_
-returns-2 c = rw (← c .before .before .before .is-backup .ensures, not-false (c .before .before .before .is-backup .result) (c .before .before .if1 .left), ← c .before .has-active-member .ensures, c .if2 .taken)
+returns-2 c =
+    rw (
+      ← c .before .before .before .is-backup .ensures,
+      not-false (c .before .before .before .is-backup .result) (c .before .before .if1 .left),
+      ← c .before .has-active-member .ensures,
+      c .if2 .taken,
+    )
 
 returns-3 : tie.Need-returns-3
 unfolding requalified-state if_then_else_
-returns-3 c = rw (← c .before .before .before .is-backup .ensures, not-false (c .before .before .before .is-backup .result) (c .before .before .if1 .left), ← c .before .has-active-member .ensures, c .if2 .left)
+returns-3 c =
+    rw (
+      ← c .before .before .before .is-backup .ensures,
+      not-false (c .before .before .before .is-backup .result) (c .before .before .if1 .left),
+      ← c .before .has-active-member .ensures,
+      c .if2 .left,
+    )
 
 pub requalified-state-spec : {M : Type 1} → statement M
 requalified-state-spec =

@@ -1,7 +1,5 @@
 -- `requalify_members` meets its contract: members break, requalify, and one may be promoted. Assumes nothing.
-use Rattle.srt_group_model.specs.Tools.{flagged}
-use Rattle.srt_group_model.specs.Members.{requalify, at-each-place, requalify-members, promote-if-none}
-use Rattle.srt_members.specs.Scan.{became-then}
+use Rattle.srt_members.specs.Refresh.{requalified}
 use borrow.Author.Needs.{needs}
 use native.Mathlib.Omega.{arith}
 use Rattle.srt_members.proofs.refresh.requalify_members.Statement.{statement}
@@ -11,17 +9,37 @@ break-disconnected-requires : tie.Need-break-disconnected-requires
 break-disconnected-requires c κs = search needs
 
 requalify-unstable-members-requires : tie.Need-requalify-unstable-members-requires
-requalify-unstable-members-requires c κs = omega (arith, c .before .before .before .break-disconnected .ensures .long, c .before .before .before .before .before .before .pre)
+requalify-unstable-members-requires c κs =
+    omega (
+      arith,
+      c .before .before .before .break-disconnected .ensures .long,
+      c .before .before .before .before .before .before .pre,
+    )
 
 promote-if-none-requires : tie.Need-promote-if-none-requires
-promote-if-none-requires c κs = omega (arith, c .before .before .before .requalify-unstable-members .ensures .long, c .before .before .before .before .before .before .before .break-disconnected .ensures .long, c .before .before .before .before .before .before .before .before .before .before .pre)
+promote-if-none-requires c κs =
+    omega (
+      arith,
+      c .before .before .before .requalify-unstable-members .ensures .long,
+      c .before .before .before .before .before .before .before .break-disconnected .ensures .long,
+      c .before .before .before .before .before .before .before .before .before .before .pre,
+    )
 
 same-length : tie.Need-same-length
-same-length c = omega (arith, c .before .before .promote-if-none .ensures .long, c .before .before .before .before .before .before .requalify-unstable-members .ensures .long, c .before .before .before .before .before .before .before .before .before .before .break-disconnected .ensures .long)
+same-length c =
+    omega (
+      arith,
+      c .before .before .promote-if-none .ensures .long,
+      c .before .before .before .before .before .before .requalify-unstable-members .ensures .long,
+      c .before .before .before .before .before .before .before .before .before .before .break-disconnected .ensures .long,
+    )
 
 returns : tie.Need-returns
-unfolding requalify-members
-returns c = became-then _ (promote-if-none (c .before .before .before .before .before .before .before .before .before .before .before .before .before .args .mode)) _ _ _ (became-then _ (at-each-place (requalify (c .before .before .before .before .before .before .before .before .before .before .before .before .before .args .mode) (flagged (c .before .before .before .before .before .before .before .before .before .before .before .before .before .args .numbered) (c .before .before .before .before .before .before .before .before .before .before .before .before .before .args .number)))) _ _ _ (c .before .before .before .before .before .before .before .before .before .before .break-disconnected .ensures) (c .before .before .before .before .before .before .requalify-unstable-members .ensures)) (c .before .before .promote-if-none .ensures)
+returns c =
+    requalified _ _ _ _ _ _ _
+    (c .before .before .before .before .before .before .before .before .before .before .break-disconnected .ensures)
+    (c .before .before .before .before .before .before .requalify-unstable-members .ensures)
+    (c .before .before .promote-if-none .ensures)
 
 pub requalify-members-spec : {M : Type 1} → statement M
 requalify-members-spec =

@@ -1,6 +1,5 @@
 -- `settle_members` meets its contract: the members settle, then one may be promoted. Assumes nothing.
-use Rattle.srt_group_model.specs.Members.{settle-members, promote-if-none}
-use Rattle.srt_members.specs.Scan.{became-then}
+use Rattle.srt_members.specs.Refresh.{settled}
 use borrow.Author.Needs.{needs}
 use native.Mathlib.Omega.{arith}
 use Rattle.srt_members.proofs.refresh.settle_members.Statement.{statement}
@@ -10,14 +9,25 @@ settle-pending-members-requires : tie.Need-settle-pending-members-requires
 settle-pending-members-requires c κs = search needs
 
 promote-if-none-requires : tie.Need-promote-if-none-requires
-promote-if-none-requires c κs = omega (arith, c .before .before .before .settle-pending-members .ensures .long, c .before .before .before .before .before .before .pre)
+promote-if-none-requires c κs =
+    omega (
+      arith,
+      c .before .before .before .settle-pending-members .ensures .long,
+      c .before .before .before .before .before .before .pre,
+    )
 
 same-length : tie.Need-same-length
-same-length c = omega (arith, c .before .before .promote-if-none .ensures .long, c .before .before .before .before .before .before .settle-pending-members .ensures .long)
+same-length c =
+    omega (
+      arith,
+      c .before .before .promote-if-none .ensures .long,
+      c .before .before .before .before .before .before .settle-pending-members .ensures .long,
+    )
 
 returns : tie.Need-returns
-unfolding settle-members
-returns c = became-then _ (promote-if-none (c .before .before .before .before .before .before .before .before .before .args .mode)) _ _ _ (c .before .before .before .before .before .before .settle-pending-members .ensures) (c .before .before .promote-if-none .ensures)
+returns c =
+    settled _ _ _ _ _ _ (c .before .before .before .before .before .before .settle-pending-members .ensures)
+    (c .before .before .promote-if-none .ensures)
 
 pub settle-members-spec : {M : Type 1} → statement M
 settle-members-spec =

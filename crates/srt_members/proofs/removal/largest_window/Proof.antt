@@ -1,4 +1,5 @@
--- `largest_window` meets its contract. The loop's invariant: `largest` is the largest of the rows from `left` on. Assumes nothing.
+-- `largest_window` meets its contract. The loop's invariant: `largest` is the largest of the rows from `left` on. Assumes
+-- nothing.
 use mathlib.Core.Path.{_≡_, refl}
 use Prim.Native.Nat.{_≤_}
 use lib.ListN.{drop}
@@ -11,7 +12,8 @@ use Rattle.srt_members.proofs.removal.largest_window.Statement.{stateme
 use Rattle.srt_members.proofs.removal.largest_window.Tie as tie
 
 abbrev Inv-loop : tie.InvT-loop
-Inv-loop members count window largest₀ left₀ largest left = (left ≤ count) × (largest ≡ largest-window window (drop left (members-of count members)))
+Inv-loop members count window largest₀ left₀ largest left =
+    (left ≤ count) × (largest ≡ largest-window window (drop left (members-of count members)))
 
 abbrev μ-loop : tie.MeasureT-loop
 μ-loop members count window largest₀ left₀ largest left = left
@@ -32,10 +34,18 @@ loop-less : tie.Need-loop-less Inv-loop μ-loop
 loop-less c = search needs
 
 loop-again : tie.Need-loop-again Inv-loop μ-loop
-loop-again c = (omega arith, window-on (c .before .before .before .before .before .args .count) (c .before .before .before .before .before .args .members .now) (c .before .before .before .before .before .args .window) (c .before .before .before .loop .left) _ (c .before .before .loop-test .taken) (c .before .before .before .loop .inv .0) refl (c .before .before .before .loop .inv .1) (c .before .receiver-at .ensures) (c .larger .ensures))
+loop-again c = (
+  omega arith,
+  window-on (c .before .before .before .before .before .args .count)
+      (c .before .before .before .before .before .args .members .now) (c .before .before .before .before .before .args .window)
+      (c .before .before .before .loop .left) _ (c .before .before .loop-test .taken) (c .before .before .before .loop .inv .0) refl
+      (c .before .before .before .loop .inv .1) (c .before .receiver-at .ensures) (c .larger .ensures),
+)
 
 returns : tie.Need-returns Inv-loop μ-loop
-returns c = window-done (c .before .before .before .args .count) (c .before .before .before .args .members .now) (c .before .before .before .args .window) (c .before .loop .left) (omega arith) (c .before .loop .inv .1)
+returns c =
+    window-done (c .before .before .before .args .count) (c .before .before .before .args .members .now)
+    (c .before .before .before .args .window) (c .before .loop .left) (omega arith) (c .before .loop .inv .1)
 
 pub largest-window-spec : {M : Type 1} → statement M
 largest-window-spec =

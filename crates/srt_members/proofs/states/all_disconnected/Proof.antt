@@ -12,7 +12,8 @@ use Rattle.srt_members.proofs.states.all_disconnected.Statement.{statem
 use Rattle.srt_members.proofs.states.all_disconnected.Tie as tie
 
 abbrev Inv-loop : tie.InvT-loop
-Inv-loop members count i₀ i = (i ≤ count) × (all leg-disconnected (members-of count members) ≡ all leg-disconnected (drop i (members-of count members)))
+Inv-loop members count i₀ i =
+    (i ≤ count) × (all leg-disconnected (members-of count members) ≡ all leg-disconnected (drop i (members-of count members)))
 
 abbrev μ-loop : tie.MeasureT-loop
 μ-loop members count i₀ i = count - i
@@ -24,7 +25,9 @@ is-disconnected-at-requires : tie.Need-is-disconnected-at-requires Inv-loop μ-l
 is-disconnected-at-requires c κs = omega arith
 
 returns : tie.Need-returns Inv-loop μ-loop
-returns c = all-fails leg-disconnected (c .before .before .before .before .before .args .count) (c .before .before .before .before .before .args .members .now) (c .before .before .before .loop .i) (c .before .before .loop-test .taken) (c .before .before .before .loop .inv .1) (c .before .is-disconnected-at .ensures) (not-true (c .before .is-disconnected-at .result) (c .if1 .taken))
+returns c =
+    all-fails leg-disconnected _ _ _ (c .before .before .loop-test .taken) (c .before .before .before .loop .inv .1)
+    (c .before .is-disconnected-at .ensures) (not-true (c .before .is-disconnected-at .result) (c .if1 .taken))
 
 add-i : tie.Need-add-i Inv-loop μ-loop
 add-i c = search needs
@@ -33,10 +36,14 @@ loop-less : tie.Need-loop-less Inv-loop μ-loop
 loop-less c = search needs
 
 loop-again : tie.Need-loop-again Inv-loop μ-loop
-loop-again c = (omega arith, all-on leg-disconnected (c .before .before .before .before .before .args .count) (c .before .before .before .before .before .args .members .now) (c .before .before .before .loop .i) (c .before .before .loop-test .taken) (c .before .before .before .loop .inv .1) (c .before .is-disconnected-at .ensures) (not-false (c .before .is-disconnected-at .result) (c .if1 .left)))
+loop-again c = (
+  omega arith,
+  all-on leg-disconnected _ _ _ (c .before .before .loop-test .taken) (c .before .before .before .loop .inv .1)
+      (c .before .is-disconnected-at .ensures) (not-false (c .before .is-disconnected-at .result) (c .if1 .left)),
+)
 
 returns-2 : tie.Need-returns-2 Inv-loop μ-loop
-returns-2 c = all-done leg-disconnected (c .before .before .before .args .count) (c .before .before .before .args .members .now) (c .before .loop .i) (c .loop-test .left) (c .before .loop .inv .1)
+returns-2 c = all-done leg-disconnected _ _ _ (c .loop-test .left) (c .before .loop .inv .1)
 
 pub all-disconnected-spec : {M : Type 1} → statement M
 all-disconnected-spec =

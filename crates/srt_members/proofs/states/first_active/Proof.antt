@@ -14,13 +14,15 @@ abbrev μ-loop : tie.MeasureT-loop
 μ-loop members count i₀ i = count - i
 
 loop-holds : tie.Need-loop-holds Inv-loop μ-loop
-loop-holds c = (omega arith, passed-start is-active (c .before .args .members .now) 0)
+loop-holds c = (omega arith, passed-start _ _ _)
 
 is-active-at-requires : tie.Need-is-active-at-requires Inv-loop μ-loop
 is-active-at-requires c κs = omega arith
 
 returns : tie.Need-returns Inv-loop μ-loop
-returns c = found-first is-active (c .before .before .before .before .before .args .members .now) (c .before .before .before .before .before .args .count) (c .before .before .before .loop .i) (c .before .before .loop-test .taken) (c .before .before .before .loop .inv .1) (c .before .is-active-at .ensures) (c .if1 .taken)
+returns c =
+    found-first is-active _ _ _ (c .before .before .loop-test .taken) (c .before .before .before .loop .inv .1)
+    (c .before .is-active-at .ensures) (c .if1 .taken)
 
 add-i : tie.Need-add-i Inv-loop μ-loop
 add-i c = search needs
@@ -29,10 +31,13 @@ loop-less : tie.Need-loop-less Inv-loop μ-loop
 loop-less c = search needs
 
 loop-again : tie.Need-loop-again Inv-loop μ-loop
-loop-again c = (omega arith, passed-on is-active (c .before .before .before .before .before .args .members .now) 0 (c .before .before .before .loop .i) (c .before .before .before .loop .inv .1) (c .before .is-active-at .ensures) (c .if1 .left))
+loop-again c = (
+  omega arith,
+  passed-on _ _ _ _ (c .before .before .before .loop .inv .1) (c .before .is-active-at .ensures) (c .if1 .left),
+)
 
 returns-2 : tie.Need-returns-2 Inv-loop μ-loop
-returns-2 c = found-nowhere is-active (c .before .before .before .args .members .now) (c .before .before .before .args .count) (c .before .loop .i) (c .loop-test .left) (c .before .loop .inv .1)
+returns-2 c = found-nowhere is-active _ _ _ (c .loop-test .left) (c .before .loop .inv .1)
 
 pub first-active-spec : {M : Type 1} → statement M
 first-active-spec =

@@ -11,7 +11,12 @@ is-connected-at-requires : tie.Need-is-connected-at-requires
 is-connected-at-requires c κs = search needs
 
 returns : tie.Need-returns
-returns c = rw (← c .before .before .before .membership-at .ensures, eq-eqb _ _ (c .before .if1 .taken), c .is-connected-at .ensures)
+returns c =
+    rw (
+      ← c .before .before .before .membership-at .ensures,
+      eq-eqb _ _ (c .before .if1 .taken),
+      c .is-connected-at .ensures,
+    )
 
 returns-2 : tie.Need-returns-2
 returns-2 c = rw (← c .before .before .membership-at .ensures, ne-eqb _ _ (c .if1 .left))

@@ -14,29 +14,63 @@ is-backup-requires c κs = search needs
 
 returns : tie.Need-returns
 unfolding state-at-addition if_then_else_
-returns c = rw (← c .before .is-backup .ensures, c .if2 .taken, ← c .before .before .before .is-connected .ensures, not-true (c .before .before .before .is-connected .result) (c .before .before .if1 .taken))
+returns c =
+    rw (
+      ← c .before .is-backup .ensures,
+      c .if2 .taken,
+      ← c .before .before .before .is-connected .ensures,
+      not-true (c .before .before .before .is-connected .result) (c .before .before .if1 .taken),
+    )
 
 returns-2 : tie.Need-returns-2
 unfolding state-at-addition if_then_else_
-returns-2 c = rw (← c .before .is-backup .ensures, c .if2 .left, ← c .before .before .before .is-connected .ensures, not-true (c .before .before .before .is-connected .result) (c .before .before .if1 .taken))
+returns-2 c =
+    rw (
+      ← c .before .is-backup .ensures,
+      c .if2 .left,
+      ← c .before .before .before .is-connected .ensures,
+      not-true (c .before .before .before .is-connected .result) (c .before .before .if1 .taken),
+    )
 
 is-backup-requires-2 : tie.Need-is-backup-requires-2
 is-backup-requires-2 c κs = search needs
 
 returns-3 : tie.Need-returns-3
 unfolding state-at-addition if_then_else_
-returns-3 c = rw (← c .before .is-backup2 .ensures, not-true (c .before .is-backup2 .result) (c .if3 .taken), ← c .before .before .before .is-connected .ensures, not-false (c .before .before .before .is-connected .result) (c .before .before .if1 .left))
+returns-3 c =
+    rw (
+      ← c .before .is-backup2 .ensures,
+      not-true (c .before .is-backup2 .result) (c .if3 .taken),
+      ← c .before .before .before .is-connected .ensures,
+      not-false (c .before .before .before .is-connected .result) (c .before .before .if1 .left),
+    )
 
 has-active-member-requires : tie.Need-has-active-member-requires
 has-active-member-requires c κs = search needs
 
 returns-4 : tie.Need-returns-4
 unfolding state-at-addition if_then_else_
-returns-4 c = rw (← c .before .before .before .is-backup2 .ensures, not-false (c .before .before .before .is-backup2 .result) (c .before .before .if3 .left), ← c .before .before .before .before .before .is-connected .ensures, not-false (c .before .before .before .before .before .is-connected .result) (c .before .before .before .before .if1 .left), ← c .before .has-active-member .ensures, c .if4 .taken)
+returns-4 c =
+    rw (
+      ← c .before .before .before .is-backup2 .ensures,
+      not-false (c .before .before .before .is-backup2 .result) (c .before .before .if3 .left),
+      ← c .before .before .before .before .before .is-connected .ensures,
+      not-false (c .before .before .before .before .before .is-connected .result) (c .before .before .before .before .if1 .left),
+      ← c .before .has-active-member .ensures,
+      c .if4 .taken,
+    )
 
 returns-5 : tie.Need-returns-5
 unfolding state-at-addition if_then_else_
-returns-5 c = rw (← c .before .before .before .is-backup2 .ensures, not-false (c .before .before .before .is-backup2 .result) (c .before .before .if3 .left), ← c .before .before .before .before .before .is-connected .ensures, not-false (c .before .before .before .before .before .is-connected .result) (c .before .before .before .before .if1 .left), ← c .before .has-active-member .ensures, c .if4 .left)
+returns-5 c =
+    rw (
+      ← c .before .before .before .is-backup2 .ensures,
+      not-false (c .before .before .before .is-backup2 .result) (c .before .before .if3 .left),
+      ← c .before .before .before .before .before .is-connected .ensures,
+      not-false (c .before .before .before .before .before .is-connected .result) (c .before .before .before .before .if1 .left),
+      ← c .before .has-active-member .ensures,
+      c .if4 .left,
+    )
 
 pub state-at-addition-spec : {M : Type 1} → statement M
 state-at-addition-spec =

@@ -16,7 +16,11 @@ same-length : tie.Need-same-length
 same-length c = search needs
 
 returns : tie.Need-returns
-returns c = membership-changed (with-state (c .before .before .before .before .before .before .before .args .state)) (c .before .before .put-membership-at .ensures) (ap (with-state (c .before .before .before .before .before .before .before .args .state)) (c .before .before .before .before .membership-at .ensures))
+returns c =
+    membership-changed (with-state (c .before .before .before .before .before .before .before .args .state))
+    (c .before .before .put-membership-at .ensures) (ap
+    (with-state (c .before .before .before .before .before .before .before .args .state))
+    (c .before .before .before .before .membership-at .ensures))
 
 pub turn-at-spec : {M : Type 1} → statement M
 turn-at-spec =
