@@ -1,6 +1,6 @@
 -- The state that the group record and the lent tables show: document 01's lent state. Rows past a count are free and show in
 -- nothing. Assumes nothing.
-use mathlib.Core.Path.{_≡_, ap}
+use mathlib.Core.Path.{_≡_, ap₂}
 use mathlib.Core.Bool.{true, false}
 use mathlib.Core.List.{List, []}
 use Prim.Native.Nat.{ℕ}
@@ -13,8 +13,7 @@ use Rattle.word_rows.specs.Tab.{tab}
 use Rattle.srt_connection.specs.Members.{members-of}
 use Rattle.srt_tables.specs.Packets.{packets}
 use Rattle.srt_tables.specs.Waitings.{waitings}
-use Rattle.srt_tables.specs.Ring.{entries-of}
-use Rattle.srt_tables.specs.declared.history.History.{History}
+use Rattle.srt_tables.specs.Ring.{Arrays, entry-at, entries-of}
 use Rattle.srt_state.specs.declared.group.Group.{Group}
 
 -- over a history that is given as a list: what touches no history speaks of every one
@@ -30,8 +29,12 @@ shown core history members pending waiting =
       waiting = waitings (core .counts .waiting) waiting;
     }
 
+-- the history's arrays in the record
+abbrev pub arrays-of : Group → Arrays
+arrays-of g = record { sequences = g .sequences; cells = g .cells; lengths = g .lengths; sources = g .sources }
+
 abbrev pub state-of : Group → (members pending waiting : List ℕ) → State
-state-of g members pending waiting = shown (g .core) (entries-of (g .history)) members pending waiting
+state-of g members pending waiting = shown (g .core) (entries-of (g .ring) (arrays-of g)) members pending waiting
 
 -- a group of which no row is in use: it shows the same over any tables
 pub record Fresh (g : Group) (s : State) : Type 0 where
@@ -49,9 +52,13 @@ core-of-new id mode store-length =
       owned = 0;
     }
 
--- with no row of any table in use
-pub shows-new : (h : History) (id : ℕ) (mode : GroupMode) (store-length : ℕ) → entries-of h ≡ []
-    → Fresh record { core = core-of-new id mode store-length; history = h } (new id mode store-length)
+-- with no row of any table in use, and no entry
+pub shows-new : (g : Group) (id : ℕ) (mode : GroupMode) (store-length : ℕ) → g .core ≡ core-of-new id mode store-length
+    → g .ring .length ≡ 0 → Fresh g (new id mode store-length)
 unfolding new tab members-of
-shows-new h id mode store-length empty =
-    record { shows = λ members pending waiting. ap (λ (es : List Entry). shown (core-of-new id mode store-length) es members pending waiting) empty }
+shows-new g id mode store-length core empty =
+    record {
+      shows =
+          λ members pending waiting.
+          ap₂ (λ (c : Core) (n : ℕ). shown c (tab n (entry-at (g .ring) (arrays-of g))) members pending waiting) core empty;
+    }

@@ -8,11 +8,16 @@ use srt_group_model::Identity;
 use srt_group_model::Receiving;
 use srt_group_model::Sending;
 use srt_group_model::Visit;
-use srt_tables::history::History;
+use srt_tables::history::Ring;
 
+// The history (`backup_history`) is a ring over arrays, one for each part of an entry.
 pub struct Group {
     pub core: Core,
-    pub history: History,
+    pub ring: Ring,
+    pub sequences: [u32; 512],
+    pub cells: [u16; 512],
+    pub lengths: [u16; 512],
+    pub sources: [u64; 512],
 }
 
 impl Group {
@@ -57,7 +62,16 @@ impl Group {
             },
             owned: 0,
         };
-        let history = History::new();
-        Self { core, history }
+        Self {
+            core,
+            ring: Ring {
+                start: 0,
+                length: 0,
+            },
+            sequences: [0; 512],
+            cells: [0; 512],
+            lengths: [0; 512],
+            sources: [0; 512],
+        }
     }
 }
