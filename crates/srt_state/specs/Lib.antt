@@ -1,1 +1,3 @@
+pub mod CellPass
+pub mod CellPassLaws
 pub mod Shown
