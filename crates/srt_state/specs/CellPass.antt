@@ -5,18 +5,19 @@ use mathlib.Core.Path.{_≡_}
 use mathlib.Core.Bool.{Bool, true, false, not, _||_}
 use mathlib.Core.List.{List, [], _∷_, _++_}
 use mathlib.Core.Option.{Option, none, some}
-use Prim.Native.Nat.{ℕ, _+_, _≤_, _<_}
+use Prim.Native.Nat.{ℕ, _+_, _%_, _≤_, _<_}
 use lib.Dec.{leb}
 use lib.ListN.{length, getD}
 use Rattle.srt_group_model.specs.Tools.{if_then_else_, any}
 use Rattle.srt_group_model.specs.Cells.{is-data, queued-cells, is-among, lowest-free}
 use Rattle.srt_group_model.specs.Validity.{one-twice}
-use Rattle.srt_group_model.specs.CellsKept.{occurs, room, pending-cells, history-cells}
+use Rattle.srt_group_model.specs.CellsKept.{occurs, room, pending-cells}
 use Rattle.srt_group_model.specs.declared.Counts.{Counts}
-use Rattle.srt_group_model.specs.declared.Entry.{Entry}
 use Rattle.srt_group_model.specs.declared.Event.{Event}
+use Rattle.word_rows.specs.Tab.{tab}
 use Rattle.srt_connection.specs.Members.{members-of}
 use Rattle.srt_tables.specs.Packets.{packets}
+use Rattle.srt_tables.specs.declared.history.HistoryRing.{HistoryRing}
 use Rattle.srt_state.specs.declared.cells.FreeCell.{FreeCell}
 use Rattle.srt_state.specs.declared.cells.FreeCell.the-variants.{Cell, Full}
 
@@ -51,10 +52,13 @@ abbrev pub table-cells : Counts → (members pending : List ℕ) → List ℕ
 table-cells counts members pending =
     queued-cells (members-of (counts .members) members) ++ pending-cells (packets (counts .pending) pending)
 
-abbrev pub named-cells : Counts → (members pending : List ℕ) → List Entry → List ℕ
-named-cells counts members pending history =
-    queued-cells (members-of (counts .members) members)
-    ++ (pending-cells (packets (counts .pending) pending) ++ history-cells history)
+-- the cells of the history's entries, by the array of cells
+unfoldable pub sent-cells : HistoryRing → List ℕ → List ℕ
+sent-cells r sent = tab (r .length) (λ i. getD sent ((r .start + i) % 512) 0)
+
+abbrev pub named-cells : Counts → (members pending sent : List ℕ) → List ℕ
+named-cells counts members pending sent =
+    queued-cells (members-of (counts .members) members) ++ (pending-cells (packets (counts .pending) pending) ++ sent)
 
 -- no cell is named twice, and none lies beyond the store
 abbrev pub are-apart : ℕ → List ℕ → Bool

@@ -22,16 +22,16 @@ use Rattle.srt_group_model.specs.declared.Counts.{Counts}
 use Rattle.srt_group_model.specs.declared.Entry.{Entry}
 use Rattle.srt_group_model.specs.declared.Event.{Event}
 use Rattle.srt_group_model.specs.declared.Packet.{Packet}
-use Rattle.word_rows.specs.Tab.{tab, tab-length, tab-none}
+use Rattle.word_rows.specs.Tab.{tab, tab-length}
 use Rattle.srt_connection.specs.declared.rows.Ring.{Ring}
 use Rattle.srt_connection.specs.Tab.{tab-place}
 use Rattle.srt_connection.specs.Rows.{part, ring-of, event-of, event-in, queue-of, member-parts, member-of}
 use Rattle.srt_connection.specs.Members.{member-at, members-of}
 use Rattle.srt_tables.specs.Packets.{packet-at, packets}
-use Rattle.srt_tables.specs.Ring.{no-entry, entry-at, entries-of}
-use Rattle.srt_tables.specs.declared.history.History.{History}
+use Rattle.srt_tables.specs.Ring.{Arrays, entry-at, entries-of}
+use Rattle.srt_tables.specs.declared.history.HistoryRing.{HistoryRing}
 use Rattle.srt_state.specs.Shown.{shown}
-use Rattle.srt_state.specs.CellPass.{Represents, Flags, Marks, event-cells, table-cells, named-cells, are-apart, Marked, free-cell-of, LowestFree}
+use Rattle.srt_state.specs.CellPass.{Represents, Flags, Marks, event-cells, table-cells, sent-cells, named-cells, are-apart, Marked, free-cell-of, LowestFree}
 use Rattle.srt_state.specs.declared.cells.FreeCell.{FreeCell}
 use Rattle.srt_state.specs.declared.cells.FreeCell.the-variants.{Cell, Full}
 
@@ -190,8 +190,15 @@ queues-are n members = members-joined n (member-at members)
 pub pending-are : (n : ℕ) (pending : List ℕ) → joined n (λ i. packet-at pending i .content .cell ∷ []) ≡ pending-cells (packets n pending)
 pending-are n pending = rows-joined n (λ (p : Packet). p .content .cell) (packet-at pending)
 
-pub history-is : (h : History) → joined (h .length) (λ i. entry-at h i .cell ∷ []) ≡ history-cells (entries-of h)
-history-is h = rows-joined (h .length) (λ (e : Entry). e .cell) (entry-at h)
+-- one cell at each place, in a list
+singles-joined : (n : ℕ) (f : ℕ → ℕ) → joined n (λ i. f i ∷ []) ≡ tab n f
+unfolding joined tab
+singles-joined zero f = refl
+singles-joined (suc n) f = ap (λ (l : List ℕ). f 0 ∷ l) (singles-joined n (λ i. f (suc i)))
+
+pub sent-are : (r : HistoryRing) (sent : List ℕ) → joined (r .length) (λ i. getD sent ((r .start + i) % 512) 0 ∷ []) ≡ sent-cells r sent
+unfolding sent-cells
+sent-are r sent = singles-joined (r .length) (λ i. getD sent ((r .start + i) % 512) 0)
 
 -- ---- what is read at a place names what stands there
 
@@ -199,8 +206,8 @@ pub event-names : (q : List Event) (index : ℕ) (e : Event) → at-place index 
 unfolding if-some_give_otherwise_
 event-names q index e there = ap (λ (o : Option Event). if-some o give event-cells otherwise []) (sym there)
 
-pub entry-names : (h : History) (i : ℕ) → _≡_ {A = List ℕ} (getD (h .entries) ((h .start % 512 + i) % 512) no-entry .cell ∷ []) (entry-at h i .cell ∷ [])
-entry-names h i = ap (λ (n : ℕ). getD (h .entries) n no-entry .cell ∷ []) (omega arith)
+pub place-names : (sent : List ℕ) (at place : ℕ) → at ≡ place → _≡_ {A = List ℕ} (getD sent at 0 ∷ []) (getD sent place 0 ∷ [])
+place-names sent at place same = ap (λ (n : ℕ). getD sent n 0 ∷ []) same
 
 pub cell-names : (cell other : ℕ) → cell ≡ other → _≡_ {A = List ℕ} (cell ∷ []) (other ∷ [])
 cell-names cell other same = ap (λ (c : ℕ). c ∷ []) same
@@ -336,31 +343,30 @@ module _ (cells : ℕ) (used before : List ℕ) (r : Bool) (after : List ℕ) (f
         }
 
 -- the lent tables, and then the history
-module _ (counts : Counts) (members pending : List ℕ) (history : List Entry) (cells : ℕ) (before : List ℕ) (fresh : Represents before []) (r : Bool) (here : List ℕ) (tables : Marks cells (table-cells counts members pending) before r here)
+module _ (counts : Counts) (members pending : List ℕ) (sent : List ℕ) (cells : ℕ) (before : List ℕ) (fresh : Represents before []) (r : Bool) (here : List ℕ) (tables : Marks cells (table-cells counts members pending) before r here)
   where
-    in-order : table-cells counts members pending ++ history-cells history ≡ named-cells counts members pending history
+    in-order : table-cells counts members pending ++ sent ≡ named-cells counts members pending sent
     in-order =
-        append-assoc (queued-cells (members-of (counts .members) members)) (pending-cells (packets (counts .pending) pending)) (history-cells history)
+        append-assoc (queued-cells (members-of (counts .members) members)) (pending-cells (packets (counts .pending) pending)) sent
 
-    pub tables-refused : not r ≡ true → Marked cells (named-cells counts members pending history) false here
+    pub tables-refused : not r ≡ true → Marked cells (named-cells counts members pending sent) false here
     tables-refused refused =
-        all-marked cells (named-cells counts members pending history) before false here fresh
-        (marks-as in-order (marks-stopped cells (table-cells counts members pending) (history-cells history) before r here tables refused))
+        all-marked cells (named-cells counts members pending sent) before false here fresh
+        (marks-as in-order (marks-stopped cells (table-cells counts members pending) sent before r here tables refused))
 
-    pub history-marked : not r ≡ false → (s : Bool) (after : List ℕ) → Marks cells (history-cells history) here s after
-        → Marked cells (named-cells counts members pending history) s after
+    pub history-marked : not r ≡ false → (s : Bool) (after : List ℕ) → Marks cells sent here s after
+        → Marked cells (named-cells counts members pending sent) s after
     history-marked taken s after marks =
-        all-marked cells (named-cells counts members pending history) before s after fresh
-        (marks-as in-order (marks-then cells (table-cells counts members pending) (history-cells history) before r here tables taken s after marks))
+        all-marked cells (named-cells counts members pending sent) before s after fresh
+        (marks-as in-order (marks-then cells (table-cells counts members pending) sent before r here tables taken s after marks))
 
     -- with no history there is nothing more to mark
-    pub no-history : history ≡ [] → Marked cells (named-cells counts members pending history) r here
-    unfolding each
+    pub no-history : sent ≡ [] → Marked cells (named-cells counts members pending sent) r here
     no-history none-sent =
-        all-marked cells (named-cells counts members pending history) before r here fresh
+        all-marked cells (named-cells counts members pending sent) before r here fresh
         (marks-as
         (sym (append-nil (table-cells counts members pending))
-        ∙ ap (λ (es : List Entry). table-cells counts members pending ++ history-cells es) (sym none-sent) ∙ in-order)
+        ∙ ap (λ (l : List ℕ). table-cells counts members pending ++ l) (sym none-sent) ∙ in-order)
         tables)
 
 -- what a caller learns where it tested the answer
@@ -430,15 +436,22 @@ module _ (flags : List ℕ) (cells : ℕ) (store : cells ≤ 2048) where
 
 -- ---- of the state that is shown
 
-pub empty-history : (h : History) → h .length ≡ 0 → entries-of h ≡ []
-empty-history h none-sent = tab-none (h .length) (entry-at h) none-sent
+-- the cells of the entries are those of the array
+each-tab : {A B : Type 0} (n : ℕ) (f : A → B) (g : ℕ → A) → each f (tab n g) ≡ tab n (λ i. f (g i))
+unfolding each tab
+each-tab zero f g = refl
+each-tab (suc n) f g = ap {B = List _} (λ l. f (g 0) ∷ l) (each-tab n f (λ i. g (suc i)))
+
+pub sent-is-history : (r : HistoryRing) (a : Arrays) → sent-cells r (a .cells) ≡ history-cells (entries-of r a)
+unfolding sent-cells
+sent-is-history r a = sym (each-tab (r .length) (λ (e : Entry). e .cell) (entry-at r a))
 
 module _ (cells : ℕ) (core : Core) (history : List Entry) (members pending waiting : List ℕ) where
   abbrev state : State
   state = shown core history members pending waiting
 
   abbrev named : List ℕ
-  named = named-cells (core .counts) members pending history
+  named = named-cells (core .counts) members pending (history-cells history)
 
   pub named-are-used : named ≡ used-cells state
   unfolding used-cells

@@ -7,12 +7,11 @@ ghost use Prim.Native.Nat.{_*_, _≤_, _<_};
 ghost use lib.ListN.{length};
 ghost use Rattle.srt_group_model.specs.Tools.{at-place};
 ghost use Rattle.srt_group_model.specs.Cells.{queue-cells, queued-cells};
-ghost use Rattle.srt_group_model.specs.CellsKept.{pending-cells, history-cells};
+ghost use Rattle.srt_group_model.specs.CellsKept.{pending-cells};
 ghost use Rattle.srt_connection.specs.Rows.{row-size, member-of};
 ghost use Rattle.srt_connection.specs.Members.{member-at, members-of, has-row};
-ghost use Rattle.srt_tables.specs.Packets.{packet-at, packets};
-ghost use Rattle.srt_tables.specs.Ring.{entries-of, InRing};
-ghost use Rattle.srt_state.specs.CellPass.{Flags, Represents, Marks, event-cells, table-cells, named-cells, Marked, LowestFree};
+ghost use Rattle.srt_tables.specs.Packets.{packets};
+ghost use Rattle.srt_state.specs.CellPass.{Flags, Represents, Marks, event-cells, table-cells, sent-cells, named-cells, Marked, LowestFree};
 use srt_connection::queue::MAX_EVENTS;
 use srt_connection::queue::queue_length;
 use srt_connection::rows::ROW;
@@ -20,8 +19,9 @@ use srt_connection::rows::event_part;
 use srt_connection::rows::ring_of;
 use srt_group_model::Counts;
 use srt_group_model::Event;
-use srt_tables::history::History;
-use srt_tables::pending::packet;
+use srt_tables::history::HistoryRing;
+use srt_tables::history::place;
+use srt_tables::pending::cell_at;
 
 // The first part of a member's row that is an event.
 const FIRST_EVENT: u64 = 4;
@@ -113,15 +113,6 @@ fn mark_members(flags: &mut [u8], cells: usize, members: &[u64], count: usize) -
     true
 }
 
-// The cell of a held packet.
-fn pending_cell(pending: &[u64], at: usize) -> u64
-    requires { ⌜ (18432 ≤ length (now pending)) × (at < 2048) ⌝ }
-    ensures { λ r. ⌜ r ≡ packet-at (now (pending .entry)) at .content .cell ⌝ }
-{
-    let held = packet(pending, at);
-    held.content.cell
-}
-
 // Marks the cells of the first `count` held packets.
 fn mark_pending(flags: &mut [u8], cells: usize, pending: &[u64], count: usize) -> bool
     requires { ⌜ (18432 ≤ length (now pending)) × (count ≤ 2048) ⌝ }
@@ -130,8 +121,8 @@ fn mark_pending(flags: &mut [u8], cells: usize, pending: &[u64], count: usize) -
 {
     let mut at: usize = 0;
     while at < count {
-        let cell = pending_cell(pending, at);
-        if !mark_cell(flags, cells, cell) {
+        let cell = cell_at(pending, at);
+        if !mark_cell(flags, cells, cell as u64) {
             return false;
         }
         at += 1;
@@ -158,17 +149,17 @@ pub fn mark_tables(
     mark_pending(flags, cells, pending, counts.pending)
 }
 
-// Marks the cells of the history. It comes by value, 8 KB of it: where it is empty, a caller does better not to call.
-pub fn mark_history(flags: &mut [u8], cells: usize, history: History) -> bool
-    requires { ⌜ InRing history ⌝ }
+// Marks the cells of the history: `sent` is its array of cells.
+pub fn mark_history(flags: &mut [u8], cells: usize, ring: HistoryRing, sent: &[u16]) -> bool
+    requires { ⌜ (ring .length ≤ 512) × (length (now sent) ≡ 512) ⌝ }
     requires { ⌜ Flags cells (now flags) ⌝ }
-    ensures { λ r. ⌜ Marks cells (history-cells (entries-of history)) (now (flags .entry)) r (now (flags .exit)) ⌝ }
+    ensures { λ r. ⌜ Marks cells (sent-cells ring (now (sent .entry))) (now (flags .entry)) r (now (flags .exit)) ⌝ }
 {
     let mut index: usize = 0;
-    while index < history.length {
-        let at = (history.start % 512 + index) % 512;
-        let entry = history.entries[at];
-        if !mark_cell(flags, cells, entry.cell as u64) {
+    while index < ring.length {
+        let at = place(ring, index);
+        let cell = sent[at];
+        if !mark_cell(flags, cells, cell as u64) {
             return false;
         }
         index += 1;
@@ -183,18 +174,19 @@ pub fn mark_cells(
     counts: Counts,
     members: &[u64],
     pending: &[u64],
-    history: History,
+    ring: HistoryRing,
+    sent: &[u16],
 ) -> bool
     requires { ⌜ counts .members * row-size ≤ length (now members) ⌝ }
     requires { ⌜ (18432 ≤ length (now pending)) × (counts .pending ≤ 2048) ⌝ }
-    requires { ⌜ InRing history ⌝ }
+    requires { ⌜ (ring .length ≤ 512) × (length (now sent) ≡ 512) ⌝ }
     requires { ⌜ (cells ≤ 2048) × Represents (now flags) [] ⌝ }
-    ensures { λ r. ⌜ Marked cells (named-cells counts (now (members .entry)) (now (pending .entry)) (entries-of history)) r (now (flags .exit)) ⌝ }
+    ensures { λ r. ⌜ Marked cells (named-cells counts (now (members .entry)) (now (pending .entry)) (sent-cells ring (now (sent .entry)))) r (now (flags .exit)) ⌝ }
 {
     if !mark_tables(flags, cells, counts, members, pending) {
         return false;
     }
-    mark_history(flags, cells, history)
+    mark_history(flags, cells, ring, sent)
 }
 
 // The lowest cell of the store that has no mark.

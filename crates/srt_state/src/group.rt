@@ -8,12 +8,12 @@ use srt_group_model::Identity;
 use srt_group_model::Receiving;
 use srt_group_model::Sending;
 use srt_group_model::Visit;
-use srt_tables::history::Ring;
+use srt_tables::history::HistoryRing;
 
 // The history (`backup_history`) is a ring over arrays, one for each part of an entry.
 pub struct Group {
     pub core: Core,
-    pub ring: Ring,
+    pub ring: HistoryRing,
     pub sequences: [u32; 512],
     pub cells: [u16; 512],
     pub lengths: [u16; 512],
@@ -64,7 +64,7 @@ impl Group {
         };
         Self {
             core,
-            ring: Ring {
+            ring: HistoryRing {
                 start: 0,
                 length: 0,
             },

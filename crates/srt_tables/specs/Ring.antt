@@ -15,7 +15,7 @@ use Rattle.srt_protocol.specs.Sequence.{sequence-before}
 use Rattle.srt_group_model.specs.declared.Entry.{Entry}
 use Rattle.srt_group_model.specs.Tools.{if_then_else_}
 use Rattle.srt_group_model.specs.Backup.{max-history, drop-before}
-use Rattle.srt_tables.specs.declared.history.Ring.{Ring}
+use Rattle.srt_tables.specs.declared.history.HistoryRing.{HistoryRing}
 use Rattle.word_rows.specs.Tab.{tab, tab-length, tab-front, tab-none, tab-pop, tab-push}
 
 -- the arrays of the group record
@@ -43,11 +43,11 @@ entry-in a k =
     }
 
 -- the entry i places after the start, round the ring
-abbrev pub entry-at : Ring → Arrays → ℕ → Entry
+abbrev pub entry-at : HistoryRing → Arrays → ℕ → Entry
 entry-at r a i = entry-in a ((r .start + i) % 512)
 
 -- the entries in use, oldest first
-abbrev pub entries-of : Ring → Arrays → List Entry
+abbrev pub entries-of : HistoryRing → Arrays → List Entry
 entries-of r a = tab (r .length) (entry-at r a)
 
 -- the model's history after a send: the entry is the newest, and a full history loses its oldest
@@ -65,21 +65,21 @@ with-entry k e a =
     }
 
 -- the place behind the newest: over the oldest one, if the ring is full
-abbrev pub next-place : Ring → ℕ
+abbrev pub next-place : HistoryRing → ℕ
 next-place r = (r .start + r .length) % 512
 
-unfoldable pub after-push : Ring → Ring
+unfoldable pub after-push : HistoryRing → HistoryRing
 after-push r =
     if ltb (r .length) 512
     then record { start = r .start; length = r .length + 1 }
     else record { start = (r .start % 512 + 1) % 512; length = r .length }
 
 -- the ring without its oldest entry
-abbrev pub popped : Ring → Ring
+abbrev pub popped : HistoryRing → HistoryRing
 popped r = record { start = (r .start % 512 + 1) % 512; length = r .length - 1 }
 
 -- a ring from which the front was dropped, over arrays with these sequences and any others
-pub record Trimmed (sequence : ℕ) (sequences : List ℕ) (before after : Ring) : Type 0 where
+pub record Trimmed (sequence : ℕ) (sequences : List ℕ) (before after : HistoryRing) : Type 0 where
   pub fits : after .length ≤ 512
   pub is : (a : Arrays) → a .sequences ≡ sequences → entries-of after a ≡ drop-before sequence (entries-of before a)
 
@@ -94,11 +94,11 @@ newest-of-full : (e : Entry) (entries : List Entry) → max-history ≤ length e
 unfolding with-newest if_then_else_
 newest-of-full e entries full = simp (le-leb max-history (length entries) full)
 
-pub push-with-room : (r : Ring) → r .length < 512 → after-push r ≡ record { start = r .start; length = r .length + 1 }
+pub push-with-room : (r : HistoryRing) → r .length < 512 → after-push r ≡ record { start = r .start; length = r .length + 1 }
 unfolding after-push if_then_else_
 push-with-room r room = simp (lt-ltb (r .length) 512 room)
 
-pub push-of-full : (r : Ring) → 512 ≤ r .length → after-push r ≡ record { start = (r .start % 512 + 1) % 512; length = r .length }
+pub push-of-full : (r : HistoryRing) → 512 ≤ r .length → after-push r ≡ record { start = (r .start % 512 + 1) % 512; length = r .length }
 unfolding after-push if_then_else_
 push-of-full r full = simp (le-ltb (r .length) 512 full)
 
@@ -123,7 +123,7 @@ module _ (a : Arrays) (k : ℕ) (e : Entry) where
         source = record { 0 = getD-set-same (a .sources) k (e .source .0) 0 (omega (arith, long .sources)) i };
       }
 
-module _ (r : Ring) (a : Arrays) where
+module _ (r : HistoryRing) (a : Arrays) where
   front-popped : 0 < r .length → entries-of (popped r) a ≡ drop 1 (entries-of r a)
   front-popped some =
       tab-pop (r .length - 1) (entry-at r a) (entry-at (popped r) a) (λ i below. ap (entry-in a) (omega arith))
@@ -146,18 +146,18 @@ module _ (r : Ring) (a : Arrays) where
 
     pushed-with-room : r .length < 512 → entries-of (after-push r) stored ≡ with-newest e (entries-of r a)
     pushed-with-room room =
-        ap (λ (x : Ring). entries-of x stored) (push-with-room r room)
+        ap (λ (x : HistoryRing). entries-of x stored) (push-with-room r room)
         ∙ ap (λ (n : ℕ). tab n (λ i. entry-in stored ((r .start + i) % 512))) (add-one (r .length))
         ∙ tab-push (r .length) (entry-at r a) (λ i. entry-in stored ((r .start + i) % 512)) e (λ i below. kept i (inr room) below) there
         ∙ sym (newest-with-room e (entries-of r a) (omega (arith, tab-length (r .length) (entry-at r a))))
 
-    turned : Ring
+    turned : HistoryRing
     turned = record { start = (r .start % 512 + 1) % 512; length = r .length }
 
     pushed-full : 512 ≤ r .length → entries-of (after-push r) stored ≡ with-newest e (entries-of r a)
     unfolding turned
     pushed-full full =
-        ap (λ (x : Ring). entries-of x stored) (push-of-full r full)
+        ap (λ (x : HistoryRing). entries-of x stored) (push-of-full r full)
         ∙ ap (λ (n : ℕ). tab n (entry-at turned stored)) one-more
         ∙ tab-push (r .length - 1) (entry-at (popped r) a) (entry-at turned stored) e same last
         ∙ ap (λ (es : List Entry). es ++ (e ∷ [])) (front-popped (omega arith))
@@ -181,12 +181,12 @@ module _ (r : Ring) (a : Arrays) where
         by (yes room) = pushed-with-room room
         by (no full) = pushed-full (omega arith)
 
-pub push-fits : (r : Ring) → r .length ≤ 512 → after-push r .length ≤ 512
+pub push-fits : (r : HistoryRing) → r .length ≤ 512 → after-push r .length ≤ 512
 push-fits r fits = by (decLt (r .length) 512)
   where
     by : Dec (r .length < 512) → after-push r .length ≤ 512
-    by (yes room) = omega (arith, ap (λ (x : Ring). x .length) (push-with-room r room))
-    by (no full) = omega (arith, ap (λ (x : Ring). x .length) (push-of-full r (omega arith)))
+    by (yes room) = omega (arith, ap (λ (x : HistoryRing). x .length) (push-with-room r room))
+    by (no full) = omega (arith, ap (λ (x : HistoryRing). x .length) (push-of-full r (omega arith)))
 
 -- ---- the front is dropped
 
@@ -200,7 +200,7 @@ first-stays : (sequence : ℕ) (e : Entry) (es : List Entry) → sequence-before
 unfolding drop-before if_then_else_
 first-stays sequence e es first = rw first
 
-module _ (r : Ring) (sequence : ℕ) (sequences : List ℕ) (a : Arrays) (is : a .sequences ≡ sequences) where
+module _ (r : HistoryRing) (sequence : ℕ) (sequences : List ℕ) (a : Arrays) (is : a .sequences ≡ sequences) where
   front-and-rest : 0 < r .length → entries-of r a ≡ entry-at r a 0 ∷ entries-of (popped r) a
   front-and-rest some =
       tab-front (r .length) (entry-at r a) some ∙ ap (λ (es : List Entry). entry-at r a 0 ∷ es) (sym (front-popped r a some))
@@ -233,13 +233,13 @@ module _ (r : Ring) (sequence : ℕ) (sequences : List ℕ) (a : Arrays) (is : a
       tab-none (r .length) (entry-at r a) none ∙ sym (ap (drop-before sequence) (tab-none (r .length) (entry-at r a) none))
 
 -- where the loop of `drop_before` stands: what is left to drop gives what all of it gives
-pub record Trimming (sequence : ℕ) (sequences : List ℕ) (before : Ring) (start left : ℕ) : Type 0 where
+pub record Trimming (sequence : ℕ) (sequences : List ℕ) (before : HistoryRing) (start left : ℕ) : Type 0 where
   pub fits : left ≤ 512
   pub same : (a : Arrays) → a .sequences ≡ sequences
       → drop-before sequence (entries-of record { start = start; length = left } a) ≡ drop-before sequence (entries-of before a)
 
-module _ (sequence : ℕ) (sequences : List ℕ) (before : Ring) (start left : ℕ) (here : Trimming sequence sequences before start left) where
-  abbrev ring : Ring
+module _ (sequence : ℕ) (sequences : List ℕ) (before : HistoryRing) (start left : ℕ) (here : Trimming sequence sequences before start left) where
+  abbrev ring : HistoryRing
   ring = record { start = start; length = left }
 
   pub trimmed-one : 0 < left → sequence-before (getD sequences (start % 512) 0) sequence ≡ true

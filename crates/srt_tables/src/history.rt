@@ -11,13 +11,13 @@ use srt_protocol::srt_packet::sequence_less_than;
 pub const MAX_HISTORY: usize = 512;
 
 // The places in use: so many from the start on, which is read modulo 512. The oldest entry stands at the start.
-pub struct Ring {
+pub struct HistoryRing {
     pub start: usize,
     pub length: usize,
 }
 
 // The place of the entry so many behind the oldest; behind the newest is where the next one goes.
-pub fn place(ring: Ring, index: usize) -> usize
+pub fn place(ring: HistoryRing, index: usize) -> usize
     requires { ⌜ index ≤ 512 ⌝ }
     ensures { λ r. ⌜ (r ≡ (ring .start + index) % 512) × (r < 512) ⌝ }
 {
@@ -25,23 +25,23 @@ pub fn place(ring: Ring, index: usize) -> usize
 }
 
 // The ring once an entry was stored behind the newest. A full one loses its oldest.
-pub fn push_back(ring: Ring) -> Ring
+pub fn push_back(ring: HistoryRing) -> HistoryRing
     ensures { λ r. ⌜ r ≡ after-push ring ⌝ }
 {
     if ring.length < MAX_HISTORY {
-        return Ring {
+        return HistoryRing {
             start: ring.start,
             length: ring.length + 1,
         };
     }
-    Ring {
+    HistoryRing {
         start: (ring.start % 512 + 1) % 512,
         length: ring.length,
     }
 }
 
 // The ring without the entries at the front that are before `oldest`.
-pub fn drop_before(ring: Ring, sequences: &[u32], oldest: u32) -> Ring
+pub fn drop_before(ring: HistoryRing, sequences: &[u32], oldest: u32) -> HistoryRing
     requires { ⌜ (ring .length ≤ 512) × (length (now sequences) ≡ 512) ⌝ }
     ensures { λ r. ⌜ Trimmed oldest (now (sequences .entry)) ring r ⌝ }
 {
@@ -50,10 +50,10 @@ pub fn drop_before(ring: Ring, sequences: &[u32], oldest: u32) -> Ring
     while 0 < length {
         let at = start % 512;
         if !sequence_less_than(sequences[at], oldest) {
-            return Ring { start, length };
+            return HistoryRing { start, length };
         }
         start = (at + 1) % 512;
         length -= 1;
     }
-    Ring { start, length }
+    HistoryRing { start, length }
 }

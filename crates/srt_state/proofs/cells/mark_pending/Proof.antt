@@ -18,8 +18,8 @@ abbrev μ-loop : tie.MeasureT-loop
 loop-holds : tie.Need-loop-holds Inv-loop μ-loop
 loop-holds c = marking-start _ _ _ _ (c .before .before .pre .1)
 
-pending-cell-requires : tie.Need-pending-cell-requires Inv-loop μ-loop
-pending-cell-requires c κs = search needs
+cell-at-requires : tie.Need-cell-at-requires Inv-loop μ-loop
+cell-at-requires c κs = search needs
 
 mark-cell-requires : tie.Need-mark-cell-requires Inv-loop μ-loop
 mark-cell-requires c κs = c .before .before .before .loop .inv .flags
@@ -30,7 +30,7 @@ same-length c = search needs
 returns : tie.Need-returns Inv-loop μ-loop
 returns c =
     marking-stopped _ _ _ _ _ _ (c .before .before .before .before .before .before .before .loop .inv) _ _ _ _ (pending-are _ _)
-    (cell-names _ _ (c .before .before .before .before .before .pending-cell .ensures)) (omega arith) (c .if1 .taken)
+    (cell-names _ _ (c .before .before .before .before .before .cell-at .ensures .0)) (omega arith) (c .if1 .taken)
     (c .before .before .before .mark-cell .ensures)
 
 add-at : tie.Need-add-at Inv-loop μ-loop
@@ -42,7 +42,7 @@ loop-less c = search needs
 loop-again : tie.Need-loop-again Inv-loop μ-loop
 loop-again c =
     marking-on _ _ _ _ _ _ (c .before .before .before .before .before .before .before .loop .inv) _ _ _
-    (cell-names _ _ (c .before .before .before .before .before .pending-cell .ensures)) (omega arith) (c .if1 .left)
+    (cell-names _ _ (c .before .before .before .before .before .cell-at .ensures .0)) (omega arith) (c .if1 .left)
     (c .before .before .before .mark-cell .ensures)
 
 same-length-2 : tie.Need-same-length-2 Inv-loop μ-loop
@@ -58,7 +58,7 @@ mark-pending-spec =
     Inv-loop
     μ-loop
     loop-holds
-    pending-cell-requires
+    cell-at-requires
     mark-cell-requires
     same-length
     returns
