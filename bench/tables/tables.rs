@@ -11,7 +11,29 @@ extern "C" {
     fn table_remove(pending: *mut u64, length: usize, count: usize, at: usize);
     fn table_push(members: *mut u64, length: usize, index: usize, sequence: u64, cell: u64) -> u32;
     fn table_pop(members: *mut u64, length: usize, index: usize);
-    fn table_history(rounds: u32, kept: u32) -> usize;
+    fn table_history(
+        sequences: *mut u32,
+        sequences_length: usize,
+        cells: *mut u16,
+        cells_length: usize,
+        lengths: *mut u16,
+        lengths_length: usize,
+        sources: *mut u64,
+        sources_length: usize,
+        rounds: u32,
+        kept: u32,
+    ) -> usize;
+    fn table_cells(
+        members: *const u64,
+        members_length: usize,
+        pending: *const u64,
+        pending_length: usize,
+        sent: *const u16,
+        sent_length: usize,
+        many: usize,
+        held: usize,
+        entries: usize,
+    ) -> usize;
 }
 
 const RUNS: usize = 15;
@@ -171,7 +193,25 @@ fn history(kept: u32) {
     let rounds = 100_000u32;
     let (mut a, mut b) = (f64::MAX, f64::MAX);
     for _ in 0..RUNS {
-        a = a.min(best(|| unsafe { table_history(black_box(rounds), kept) } as u64, rounds as u64));
+        let mut arrays = ([0u32; 512], [0u16; 512], [0u16; 512], [0u64; 512]);
+        a = a.min(best(
+            || unsafe {
+                let (sequences, cells, lengths, sources) = (&mut arrays.0, &mut arrays.1, &mut arrays.2, &mut arrays.3);
+                table_history(
+                    sequences.as_mut_ptr(),
+                    512,
+                    cells.as_mut_ptr(),
+                    512,
+                    lengths.as_mut_ptr(),
+                    512,
+                    sources.as_mut_ptr(),
+                    512,
+                    black_box(rounds),
+                    kept,
+                ) as u64
+            },
+            rounds as u64,
+        ));
         b = b.min(best(
             || {
                 let mut deque: VecDeque<(u32, u16, u16, u64)> = VecDeque::with_capacity(512);
@@ -192,6 +232,79 @@ fn history(kept: u32) {
     report(&format!("history: push and trim, {kept} kept"), a, b);
 }
 
+// Every named cell marked, and the lowest free one: 4 legs with `queued` events each, `held` packets, `entries` sends. Beside it the
+// same in plain Rust over vectors of cells.
+fn cells(queued: u64, held: u64, entries: usize) {
+    let rounds = 20_000u64;
+    let mut members = vec![0u64; MEMBERS_WORDS];
+    let mut pending = vec![0u64; PENDING_WORDS];
+    let mut sent = [0u16; 512];
+    let mut free = 0u64;
+    let mut named = [Vec::new(), Vec::new(), Vec::new()];
+    for leg in 0..4 {
+        for _ in 0..queued {
+            unsafe { table_push(members.as_mut_ptr(), MEMBERS_WORDS, leg, free, free) };
+            named[0].push(free as u16);
+            free += 1;
+        }
+    }
+    for i in 0..held {
+        unsafe { table_insert(pending.as_mut_ptr(), PENDING_WORDS, i as usize, 2 * i, free) };
+        named[1].push(free as u16);
+        free += 1;
+    }
+    for place in sent.iter_mut().take(entries) {
+        *place = free as u16;
+        named[2].push(free as u16);
+        free += 1;
+    }
+    let (mut a, mut b) = (f64::MAX, f64::MAX);
+    for _ in 0..RUNS {
+        a = a.min(best(
+            || {
+                let mut sum = 0;
+                for _ in 0..rounds {
+                    sum += unsafe {
+                        table_cells(
+                            black_box(members.as_ptr()),
+                            MEMBERS_WORDS,
+                            pending.as_ptr(),
+                            PENDING_WORDS,
+                            sent.as_ptr(),
+                            512,
+                            4,
+                            held as usize,
+                            entries,
+                        )
+                    } as u64;
+                }
+                assert_eq!(sum, rounds * free);
+                sum
+            },
+            rounds,
+        ));
+        b = b.min(best(
+            || {
+                let mut sum = 0;
+                for _ in 0..rounds {
+                    let mut flags = [false; 2048];
+                    let mut fine = true;
+                    for &cell in black_box(&named).iter().flatten() {
+                        let cell = cell as usize;
+                        fine &= cell < 2048 && !flags[cell];
+                        flags[cell % 2048] = true;
+                    }
+                    sum += flags.iter().position(|f| !f).filter(|_| fine).unwrap_or(2048) as u64;
+                }
+                assert_eq!(sum, rounds * free);
+                sum
+            },
+            rounds,
+        ));
+    }
+    report(&format!("cells: {} queued, {held} held, {entries} sent", 4 * queued), a, b);
+}
+
 fn main() {
     println!("{:<58}{:>12} {:>12} {:>7}", "", "ours", "Rust", "ratio");
     for held in [20, 200, 2000] {
@@ -200,4 +313,8 @@ fn main() {
     insertion(2000);
     queue();
     history(100);
+    cells(0, 0, 0);
+    cells(4, 20, 0);
+    cells(8, 200, 100);
+    cells(16, 1400, 500);
 }

@@ -35,3 +35,11 @@ Insertable pending count d =
 pub insertable-made : (pending : List ℕ) (count sequence cell : ℕ) (d : Data) → d ≡ data-of sequence cell
     → Insertable pending count (data-of sequence cell) → Insertable pending count d
 insertable-made pending count sequence cell d is made = subst (Insertable pending count) (sym is) made
+
+-- a ring over four arrays of 512 places
+pub record InArrays (entries : ℕ) (sequences cells lengths sources : List ℕ) : Type 0 where
+  pub fits : entries ≤ 512
+  pub sequences-long : length sequences ≡ 512
+  pub cells-long : length cells ≡ 512
+  pub lengths-long : length lengths ≡ 512
+  pub sources-long : length sources ≡ 512

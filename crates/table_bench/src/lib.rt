@@ -10,17 +10,23 @@ ghost use Rattle.srt_group_model.specs.Nearest.{is-held};
 ghost use Rattle.srt_group_model.specs.Validity.{ascends};
 ghost use Rattle.srt_connection.specs.Members.{has-row};
 ghost use Rattle.srt_tables.specs.Packets.{packets};
-ghost use Rattle.srt_tables.specs.Ring.{InRing};
-ghost use Rattle.table_bench.specs.Made.{data-of};
+ghost use Rattle.srt_connection.specs.Rows.{row-size};
+ghost use Rattle.table_bench.specs.Made.{data-of, InArrays};
 use srt_connection::members::pop_at;
 use srt_connection::members::push_at;
+use srt_group_model::Counts;
 use srt_group_model::Data;
-use srt_group_model::Entry;
 use srt_group_model::Event;
 use srt_group_model::Packet;
 use srt_protocol::error::Outcome;
 use srt_protocol::time::Timestamp;
-use srt_tables::history::History;
+use srt_state::cells::FreeCell;
+use srt_state::cells::lowest_free;
+use srt_state::cells::mark_cells;
+use srt_tables::history::HistoryRing;
+use srt_tables::history::drop_before;
+use srt_tables::history::place;
+use srt_tables::history::push_back;
 use srt_tables::pending;
 use srt_tables::pending::Found;
 
@@ -96,34 +102,85 @@ pub extern "C" fn table_pop(members: &mut [u64], index: usize)
 }
 
 // One entry in, and the acknowledged ones out.
-fn sent(history: History, sequence: u32, kept: u32) -> History
-    requires { ⌜ InRing history ⌝ }
+fn sent(
+    ring: HistoryRing,
+    sequences: &mut [u32],
+    cells: &mut [u16],
+    lengths: &mut [u16],
+    sources: &mut [u64],
+    sequence: u32,
+    kept: u32,
+) -> HistoryRing
+    requires { ⌜ InArrays (ring .length) (now sequences) (now cells) (now lengths) (now sources) ⌝ }
     requires { ⌜ sequence < 2147483647 ⌝ }
-    ensures { λ r. ⌜ InRing r ⌝ }
+    ensures { λ r. ⌜ InArrays (r .length) (now (sequences .exit)) (now (cells .exit)) (now (lengths .exit)) (now (sources .exit)) ⌝ }
 {
-    let entry = Entry {
-        sequence,
-        cell: 0,
-        length: 1316,
-        source: Timestamp(sequence as u64),
-    };
-    let longer = history.push_back(entry);
+    let at = place(ring, ring.length);
+    sequences[at] = sequence;
+    cells[at] = 0;
+    lengths[at] = 1316;
+    sources[at] = sequence as u64;
+    let longer = push_back(ring);
     if sequence < kept {
         return longer;
     }
-    longer.drop_before(sequence - kept)
+    drop_before(longer, sequences, sequence - kept)
 }
 
 // So many times an entry goes into a history, and those more than `kept` sequences older than it go out. Answers the length.
 #[no_mangle]
-pub extern "C" fn table_history(rounds: u32, kept: u32) -> usize
+pub extern "C" fn table_history(
+    sequences: &mut [u32],
+    cells: &mut [u16],
+    lengths: &mut [u16],
+    sources: &mut [u64],
+    rounds: u32,
+    kept: u32,
+) -> usize
+    requires { ⌜ InArrays 0 (now sequences) (now cells) (now lengths) (now sources) ⌝ }
     requires { ⌜ (rounds ≤ 2147483647) × (kept ≤ rounds) ⌝ }
 {
-    let mut history = History::new();
+    let mut ring = HistoryRing {
+        start: 0,
+        length: 0,
+    };
     let mut sequence: u32 = 0;
     while sequence < rounds {
-        history = sent(history, sequence, kept);
+        ring = sent(ring, sequences, cells, lengths, sources, sequence, kept);
         sequence += 1;
     }
-    history.length
+    ring.length
+}
+
+// The cells that members, held packets and a history of so many sends name, and the lowest free one; 2,048 if there is none.
+#[no_mangle]
+pub extern "C" fn table_cells(
+    members: &[u64],
+    pending: &[u64],
+    sent: &[u16],
+    many: usize,
+    held: usize,
+    entries: usize,
+) -> usize
+    requires { ⌜ (many * row-size ≤ length (now members)) × (18432 ≤ length (now pending)) × (held ≤ 2048) ⌝ }
+    requires { ⌜ (entries ≤ 512) × (length (now sent) ≡ 512) ⌝ }
+{
+    let counts = Counts {
+        members: many,
+        pending: held,
+        waiting: 0,
+    };
+    let ring = HistoryRing {
+        start: 0,
+        length: entries,
+    };
+    let mut flags = [0u8; 2048];
+    if !mark_cells(&mut flags, 2048, counts, members, pending, ring, sent) {
+        return 2048;
+    }
+    let free = lowest_free(&flags, 2048);
+    match free {
+        FreeCell::Cell(cell) => cell,
+        FreeCell::Full => 2048,
+    }
 }

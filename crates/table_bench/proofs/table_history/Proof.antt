@@ -1,21 +1,20 @@
 -- `table_history` keeps to the ring. Assumes nothing.
 use Prim.Native.Nat.{_-_}
-use Rattle.srt_tables.specs.Ring.{InRing}
+use Rattle.table_bench.specs.Made.{InArrays}
 use borrow.Author.Needs.{needs}
 use Rattle.table_bench.proofs.table_history.Statement.{statement}
 use Rattle.table_bench.proofs.table_history.Tie as tie
 
 abbrev Inv-loop : tie.InvT-loop
-Inv-loop rounds kept history₀ sequence₀ history sequence = InRing history
+Inv-loop sequences₀ cells₀ lengths₀ sources₀ rounds kept ring₀ sequence₀ sequences cells lengths sources ring sequence =
+    InArrays (ring .length) sequences cells lengths sources
 
 abbrev μ-loop : tie.MeasureT-loop
-μ-loop rounds kept history₀ sequence₀ history sequence = rounds - sequence
-
-new-requires : tie.Need-new-requires Inv-loop μ-loop
-new-requires c κs = search needs
+μ-loop sequences₀ cells₀ lengths₀ sources₀ rounds kept ring₀ sequence₀ sequences cells lengths sources ring sequence =
+    rounds - sequence
 
 loop-holds : tie.Need-loop-holds Inv-loop μ-loop
-loop-holds c = c .new .ensures .ring
+loop-holds c = search needs
 
 sent-requires : tie.Need-sent-requires Inv-loop μ-loop
 sent-requires c κs = search needs
@@ -29,6 +28,18 @@ loop-less c = search needs
 loop-again : tie.Need-loop-again Inv-loop μ-loop
 loop-again c = search needs
 
+same-length : tie.Need-same-length Inv-loop μ-loop
+same-length c = search needs
+
+same-length-2 : tie.Need-same-length-2 Inv-loop μ-loop
+same-length-2 c = search needs
+
+same-length-3 : tie.Need-same-length-3 Inv-loop μ-loop
+same-length-3 c = search needs
+
+same-length-4 : tie.Need-same-length-4 Inv-loop μ-loop
+same-length-4 c = search needs
+
 returns : tie.Need-returns Inv-loop μ-loop
 returns c = search needs
 
@@ -38,10 +49,13 @@ table-history-spec =
     (tie.spec
     Inv-loop
     μ-loop
-    new-requires
     loop-holds
     sent-requires
     add-sequence
     loop-less
     loop-again
+    same-length
+    same-length-2
+    same-length-3
+    same-length-4
     returns)
