@@ -1,3 +1,9 @@
 pub mod CellPass
 pub mod CellPassLaws
+pub mod Ids
+pub mod Outside
+pub mod Rules
 pub mod Shown
+pub mod Sums
+pub mod Tested
+pub mod Walks

@@ -29,9 +29,13 @@ shown core history members pending waiting =
       waiting = waitings (core .counts .waiting) waiting;
     }
 
--- the history's arrays in the record
+-- the history's arrays, lent one by one, and as they stand in the record
+abbrev pub arrays : (sequences cells lengths sources : List ℕ) → Arrays
+arrays sequences cells lengths sources =
+    record { sequences = sequences; cells = cells; lengths = lengths; sources = sources }
+
 abbrev pub arrays-of : Group → Arrays
-arrays-of g = record { sequences = g .sequences; cells = g .cells; lengths = g .lengths; sources = g .sources }
+arrays-of g = arrays (g .sequences) (g .cells) (g .lengths) (g .sources)
 
 abbrev pub state-of : Group → (members pending waiting : List ℕ) → State
 state-of g members pending waiting = shown (g .core) (entries-of (g .ring) (arrays-of g)) members pending waiting

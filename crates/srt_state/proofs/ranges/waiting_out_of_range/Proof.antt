@@ -1,0 +1,11 @@
+-- `waiting_out_of_range` meets its contract. Assumes nothing.
+use Rattle.srt_state.specs.Rules.{waiting-out-of-range, or-assoc}
+use Rattle.srt_state.proofs.ranges.waiting_out_of_range.Statement.{statement}
+use Rattle.srt_state.proofs.ranges.waiting_out_of_range.Tie as tie
+
+returns : tie.Need-returns
+unfolding waiting-out-of-range
+returns c = simp or-assoc
+
+pub waiting-out-of-range-spec : {M : Type 1} → statement M
+waiting-out-of-range-spec = tie.close (tie.spec returns)

@@ -1,0 +1,119 @@
+-- Document 01's rules of a valid state, row by row of the lent tables: the tests that stand inside the model's `any`, named.
+-- Assumes nothing.
+use mathlib.Core.Path.{_≡_, refl, sym, ap, ap₂, _∙_}
+use mathlib.Core.Bool.{Bool, true, false, _&&_, _||_}
+use mathlib.Core.List.{List, []}
+use Prim.Native.Nat.{ℕ, zero, suc, _^_, _<_}
+use native.Mathlib.Omega.{arith}
+use borrow.Author.Tests.{le-ltb}
+use lib.Dec.{eqb}
+use lib.ListN.{length}
+use Rattle.srt_protocol.specs.Cells.{cell-size}
+use Rattle.srt_group_model.specs.Tools.{if_then_else_, any}
+use Rattle.srt_group_model.specs.State.{Member}
+use Rattle.srt_group_model.specs.Backup.{max-history}
+use Rattle.srt_group_model.specs.Legs.{largest-16, largest-32, largest-64}
+use Rattle.srt_group_model.specs.Cells.{is-data}
+use Rattle.srt_group_model.specs.Validity.{above, max-events, is-too-large, leg-sequence-too-large, data-out-of-range, event-out-of-range, leg-out-of-range}
+use Rattle.srt_group_model.specs.declared.Event.{Event}
+use Rattle.srt_group_model.specs.declared.Leg.{Leg}
+use Rattle.srt_group_model.specs.declared.Membership.{Membership}
+use Rattle.srt_group_model.specs.declared.Packet.{Packet}
+use Rattle.srt_group_model.specs.declared.Sender.{Sender}
+use Rattle.srt_group_model.specs.declared.Entry.{Entry}
+use Rattle.srt_group_model.specs.declared.Waiting.{Waiting}
+use Rattle.word_rows.specs.Tab.{tab, tab-length}
+use Rattle.srt_tables.specs.declared.history.HistoryRing.{HistoryRing}
+use Rattle.srt_tables.specs.Ring.{Arrays, entry-at, entries-of}
+
+-- ---- the tests
+
+-- only data has a sequence
+unfoldable pub event-sequence-too-large : Event → Bool
+event-sequence-too-large e = is-data e && is-too-large (e .content .sequence)
+
+unfoldable pub flight-out-of-range : Sender → Bool
+flight-out-of-range x = above (if eqb (x .started) 1 then largest-16 else 0) (x .flight)
+
+-- a member without its leg and its queue
+unfoldable pub membership-out-of-range : Membership → Bool
+membership-out-of-range x =
+    above largest-32 (x .id)
+    || (above largest-16 (x .weight)
+    || (above 4 (x .state)
+    || (above 1 (x .admitted)
+    || (above largest-32 (x .collision .expected) || above largest-32 (x .collision .actual)))))
+
+unfoldable pub packet-out-of-range : Packet → Bool
+packet-out-of-range p = above largest-32 (p .member) || (above 1 (p .owned) || data-out-of-range (p .content))
+
+unfoldable pub entry-out-of-range : Entry → Bool
+entry-out-of-range e = above cell-size (e .length) || above largest-64 (e .source .0)
+
+unfoldable pub waiting-out-of-range : Waiting → Bool
+waiting-out-of-range w =
+    above largest-32 (w .member) || (above 3 (w .kind) || (eqb (w .kind) 0 || above largest-32 (w .reason)))
+
+-- ---- a whole row
+
+unfoldable pub event-breaks-rule : Event → Bool
+event-breaks-rule e = event-sequence-too-large e || event-out-of-range e
+
+unfoldable pub queue-breaks-rule : List Event → Bool
+queue-breaks-rule q = above max-events (length q) || any event-breaks-rule q
+
+unfoldable pub leg-breaks-rule : Leg → Bool
+leg-breaks-rule l = leg-sequence-too-large l || leg-out-of-range l
+
+unfoldable pub member-breaks-rule : Member → Bool
+member-breaks-rule m = membership-out-of-range (m .membership) || (leg-breaks-rule (m .leg) || queue-breaks-rule (m .queue))
+
+unfoldable pub packet-breaks-rule : Packet → Bool
+packet-breaks-rule p = is-too-large (p .content .sequence) || packet-out-of-range p
+
+unfoldable pub entry-breaks-rule : Entry → Bool
+entry-breaks-rule e = is-too-large (e .sequence) || entry-out-of-range e
+
+unfoldable pub history-breaks-rule : List Entry → Bool
+history-breaks-rule es = above max-history (length es) || any entry-breaks-rule es
+
+-- the history's arrays as far as these rules read them: no cell
+abbrev pub without-cells : (sequences lengths sources : List ℕ) → Arrays
+without-cells sequences lengths sources = record { sequences = sequences; cells = []; lengths = lengths; sources = sources }
+
+same-tested : {A : Type 0} (test : A → Bool) (n : ℕ) (f g : ℕ → A) → ((i : ℕ) → test (f i) ≡ test (g i))
+    → any test (tab n f) ≡ any test (tab n g)
+unfolding any tab
+same-tested test zero f g same = refl
+same-tested test (suc n) f g same = ap₂ _||_ (same 0) (same-tested test n (λ i. f (suc i)) (λ i. g (suc i)) (λ i. same (suc i)))
+
+pub tested-without-cells : (r : HistoryRing) (a : Arrays)
+    → history-breaks-rule (entries-of r (without-cells (a .sequences) (a .lengths) (a .sources))) ≡ history-breaks-rule (entries-of r a)
+unfolding history-breaks-rule entry-breaks-rule entry-out-of-range
+tested-without-cells r a =
+    let b = without-cells (a .sequences) (a .lengths) (a .sources) in
+    ap₂ _||_
+    (ap (above max-history) (tab-length (r .length) (entry-at r b) ∙ sym (tab-length (r .length) (entry-at r a))))
+    (same-tested entry-breaks-rule (r .length) (entry-at r b) (entry-at r a) (λ i. refl))
+
+-- ---- laws of a choice
+
+pub or-assoc : (a b c : Bool) → ((a || b) || c) ≡ (a || (b || c))
+or-assoc true b c = refl
+or-assoc false b c = refl
+
+pub or-no : (a : Bool) → (a || false) ≡ a
+or-no true = refl
+or-no false = refl
+
+-- a member's three parts, as they are read and tested
+pub member-tested : (m : Member) (x : Membership) (l : Leg) (a b q : Bool) → x ≡ m .membership → a ≡ membership-out-of-range x
+    → l ≡ m .leg → b ≡ leg-breaks-rule l → q ≡ queue-breaks-rule (m .queue) → ((a || b) || q) ≡ member-breaks-rule m
+unfolding member-breaks-rule
+member-tested m x l a b q x-is a-is l-is b-is q-is =
+    or-assoc a b q ∙ ap₂ _||_ (a-is ∙ ap membership-out-of-range x-is) (ap₂ _||_ (b-is ∙ ap leg-breaks-rule l-is) q-is)
+
+-- ---- a word is never above 64 bits
+
+pub no-word-above : (n : ℕ) → n < 2 ^ 64 → above largest-64 n ≡ false
+no-word-above n below = le-ltb largest-64 n (omega arith)
