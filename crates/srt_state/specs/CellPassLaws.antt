@@ -233,7 +233,7 @@ module _ (cells : ℕ) (before : List ℕ) (e : Event) where
 
 -- the event that is read stands at that place of the queue
 pub event-read : (row : List ℕ) (ring : Ring) (index : ℕ) (e : Event) → ring ≡ ring-of (part row 3) → index < length (member-of row .queue)
-    → e ≡ event-of (part row (4 + (ring .start % 16 + index % 16) % 16)) → at-place index (member-of row .queue) ≡ some e
+    → e ≡ event-in row ((ring .start + index % 16) % 16) → at-place index (member-of row .queue) ≡ some e
 unfolding member-of member-parts queue-of event-in
 event-read row ring index e is below read =
     let event : ℕ → Event = λ j. event-of (part row (4 + (ring-of (part row 3) .start + j) % 16)) in

@@ -12,19 +12,16 @@ ghost use Rattle.srt_connection.specs.Rows.{row-size, member-of};
 ghost use Rattle.srt_connection.specs.Members.{member-at, members-of, has-row};
 ghost use Rattle.srt_tables.specs.Packets.{packets};
 ghost use Rattle.srt_state.specs.CellPass.{Flags, Represents, Marks, event-cells, table-cells, sent-cells, named-cells, Marked, LowestFree};
+use crate::rows::queue_event;
 use srt_connection::queue::MAX_EVENTS;
 use srt_connection::queue::queue_length;
 use srt_connection::rows::ROW;
-use srt_connection::rows::event_part;
 use srt_connection::rows::ring_of;
 use srt_group_model::Counts;
 use srt_group_model::Event;
 use srt_tables::history::HistoryRing;
 use srt_tables::history::place;
 use srt_tables::pending::cell_at;
-
-// The first part of a member's row that is an event.
-const FIRST_EVENT: u64 = 4;
 
 // The lowest free cell, or that the store is full.
 pub enum FreeCell {
@@ -54,8 +51,7 @@ fn queued_event(row: &[u64], index: u64) -> Event
     ensures { λ r. ⌜ at-place index (member-of (now (row .entry)) .queue) ≡ some r ⌝ }
 {
     let ring = ring_of(row);
-    let slot = (FIRST_EVENT + (ring.start % MAX_EVENTS + index % MAX_EVENTS) % MAX_EVENTS) as usize;
-    event_part(row, slot)
+    queue_event(row, ring, index % MAX_EVENTS)
 }
 
 // Marks the cell of a queued event: only data has one.
