@@ -1,0 +1,111 @@
+-- `take_front` meets its contract, for each answer of the leg. Assumes nothing.
+use mathlib.Core.Path.{ap, sym, _∙_}
+use Rattle.srt_group_model.specs.declared.Membership.{Membership}
+use Rattle.srt_receiving.specs.VisitLaws.{visits-nothing, visits-spent, visits-event, collectable}
+use borrow.Author.Needs.{needs}
+use Rattle.srt_receiving.proofs.collecting.take_front.Statement.{statement}
+use Rattle.srt_receiving.proofs.collecting.take_front.Tie as tie
+
+membership-at-requires : tie.Need-membership-at-requires
+membership-at-requires c κs = search needs
+
+poll-event-for-group-at-requires : tie.Need-poll-event-for-group-at-requires
+poll-event-for-group-at-requires c κs = search needs
+
+enum-told : tie.Need-enum-told
+enum-told c = search needs
+
+enum-told-2 : tie.Need-enum-told-2
+enum-told-2 c = search needs
+
+turn-past-requires : tie.Need-turn-past-requires
+turn-past-requires c κs = search needs
+
+ask-to-continue-requires : tie.Need-ask-to-continue-requires
+ask-to-continue-requires c κs = search needs
+
+enum-known-polled : tie.Need-enum-known-polled
+enum-known-polled c = search needs
+
+turn-past-requires-2 : tie.Need-turn-past-requires-2
+turn-past-requires-2 c κs = search needs
+
+collect-member-event-requires : tie.Need-collect-member-event-requires
+collect-member-event-requires c κs =
+    let pre = c .before .before .before .before .before .before .before .before .before .before .before .before .before .before .before .before .pre in
+    let args = c .before .before .before .before .before .before .before .before .before .before .before .before .before .before .before .before .args in
+    let poll-event-for-group-at = c .before .before .before .before .before .before .before .before .before .poll-event-for-group-at in
+    let polled = c .before .before .before .before .before .polled in
+    let turn-past2 = c .before .before .before .turn-past2 in
+    collectable (args .core) (args .members .now) (args .pending .now) (args .waiting .now) (pre .0) (args .index) (pre .1 .0) (args .budget)
+    _ _ _ _ _ _ (turn-past2 .ensures) (poll-event-for-group-at .ensures .changed)
+    (sym (polled .given .1) ∙ poll-event-for-group-at .ensures .gave) (pre .1 .1)
+
+same-length : tie.Need-same-length
+same-length c = search needs
+
+returns : tie.Need-returns
+returns c =
+    let args = c .before .before .before .before .before .before .before .before .before .before .before .args in
+    let poll-event-for-group-at = c .before .before .before .before .poll-event-for-group-at in
+    let enum-told = c .enum-told in
+    visits-nothing (args .core) (args .budget) (args .members .now) (args .pending .now) (args .waiting .now) (args .index) _
+    (poll-event-for-group-at .ensures .changed) (sym (enum-told .given .1) ∙ poll-event-for-group-at .ensures .gave)
+
+same-length-2 : tie.Need-same-length-2
+same-length-2 c = search needs
+
+returns-2 : tie.Need-returns-2
+returns-2 c =
+    let args = c .before .before .before .before .before .before .before .before .before .before .before .before .before .args in
+    let poll-event-for-group-at = c .before .before .before .before .before .before .poll-event-for-group-at in
+    let enum-told2 = c .before .before .enum-told2 in
+    let turn-past = c .before .turn-past in
+    let ask-to-continue = c .ask-to-continue in
+    visits-spent (args .core) (args .budget) (args .members .now) (args .pending .now) (args .waiting .now) (args .index) _
+    (poll-event-for-group-at .ensures .changed) _ _ (turn-past .ensures) (ask-to-continue .ensures)
+    (sym (enum-told2 .given .1) ∙ poll-event-for-group-at .ensures .gave)
+
+same-length-3 : tie.Need-same-length-3
+same-length-3 c = search needs
+
+same-length-4 : tie.Need-same-length-4
+same-length-4 c = search needs
+
+same-length-5 : tie.Need-same-length-5
+same-length-5 c = search needs
+
+returns-3 : tie.Need-returns-3
+returns-3 c =
+    let args = c .before .before .before .before .before .before .before .before .before .before .before .before .before .before .before .before .before .before .before .before .before .before .before .args in
+    let membership-at = c .before .before .before .before .before .before .before .before .before .before .before .before .before .before .before .before .before .before .membership-at in
+    let poll-event-for-group-at = c .before .before .before .before .before .before .before .before .before .before .before .before .before .before .before .before .poll-event-for-group-at in
+    let polled = c .before .before .before .before .before .before .before .before .before .before .before .before .polled in
+    let turn-past2 = c .before .before .before .before .before .before .before .before .before .before .turn-past2 in
+    let collect-member-event = c .before .before .before .before .before .before .collect-member-event in
+    visits-event (args .core) (args .budget) (args .members .now) (args .pending .now) (args .waiting .now) (args .index) _
+    (poll-event-for-group-at .ensures .changed) _ _ _ _ _ _ _ _ (turn-past2 .ensures)
+    (sym (polled .given .1) ∙ poll-event-for-group-at .ensures .gave) (ap (λ (x : Membership). x .id) (membership-at .ensures))
+    (collect-member-event .ensures)
+
+pub take-front-spec : {M : Type 1} → statement M
+take-front-spec =
+    tie.close
+    (tie.spec
+    membership-at-requires
+    poll-event-for-group-at-requires
+    enum-told
+    enum-told-2
+    turn-past-requires
+    ask-to-continue-requires
+    enum-known-polled
+    turn-past-requires-2
+    collect-member-event-requires
+    same-length
+    returns
+    same-length-2
+    returns-2
+    same-length-3
+    same-length-4
+    same-length-5
+    returns-3)

@@ -1,0 +1,54 @@
+-- `deliver_packet` meets its contract: what is released, advanced and removed are its parts. Assumes nothing.
+use mathlib.Core.Path.{ap}
+use native.Mathlib.Omega.{arith}
+use Rattle.srt_group_model.specs.declared.Core.{Core}
+use Rattle.srt_receiving.specs.DeliveryLaws.{delivered-all}
+use borrow.Author.Needs.{needs}
+use Rattle.srt_receiving.proofs.delivery.deliver_packet.Statement.{statement}
+use Rattle.srt_receiving.proofs.delivery.deliver_packet.Tie as tie
+
+release-covered-requires : tie.Need-release-covered-requires
+release-covered-requires c κs = search needs
+
+cast-steps : tie.Need-cast-steps
+cast-steps c = search needs
+
+sequence-further-requires : tie.Need-sequence-further-requires
+sequence-further-requires c κs = search needs
+
+cast-advance-receive-sequence-of-all : tie.Need-cast-advance-receive-sequence-of-all
+cast-advance-receive-sequence-of-all c = search needs
+
+advance-receive-sequence-of-all-requires : tie.Need-advance-receive-sequence-of-all-requires
+advance-receive-sequence-of-all-requires c κs = omega (arith, c .before .before .before .before .release-covered .ensures .long, ap (λ (x : Core). x .counts .members) (c .before .before .before .before .release-covered .ensures .rest))
+
+remove-covered-requires : tie.Need-remove-covered-requires
+remove-covered-requires c κs = (omega arith, omega (arith, ap (λ (x : Core). x .counts .pending) (c .before .before .before .before .before .before .before .before .release-covered .ensures .rest)))
+
+same-length : tie.Need-same-length
+same-length c = search needs
+
+same-length-2 : tie.Need-same-length-2
+same-length-2 c = search needs
+
+returns : tie.Need-returns
+returns c = delivered-all _ _ _ _ _ _ _ _ _ _ _ (c .before .before .before .before .before .before .before .before .before .before .before .sequence-further .ensures)
+    record {
+      released = c .before .before .before .before .before .before .before .before .before .before .before .before .before .before .release-covered .ensures;
+      advanced = c .before .before .before .before .before .before .before .before .before .advance-receive-sequence-of-all .ensures;
+      removed = c .before .before .before .before .before .remove-covered .ensures .1;
+    }
+
+pub deliver-packet-spec : {M : Type 1} → statement M
+deliver-packet-spec =
+    tie.close
+    (tie.spec
+    release-covered-requires
+    cast-steps
+    sequence-further-requires
+    cast-advance-receive-sequence-of-all
+    advance-receive-sequence-of-all-requires
+    remove-covered-requires
+    same-length
+    same-length-2
+    returns)

@@ -1,0 +1,481 @@
+-- What a visit of the legs leaves: one event, of the first member in turn, is held, discarded or reported. Assumes nothing.
+use mathlib.Core.Path.{_≡_, refl, ap, ap₂, sym, subst, _∙_}
+use mathlib.Core.Bool.{Bool, true, false}
+use mathlib.Core.List.{List, [], _∷_}
+use mathlib.Core.Option.{Option, none, some}
+use Prim.Native.Nat.{ℕ, suc, _+_, _-_, _*_, _%_, _≤_, _<_}
+use native.Mathlib.Omega.{arith}
+use borrow.Author.Tests.{eq-eqb, ne-eqb}
+use lib.Dec.{eqb}
+use lib.ListN.{length, drop}
+use Rattle.word_rows.specs.Tab.{tab-length}
+use Rattle.srt_group_model.specs.declared.Core.{Core}
+use Rattle.srt_group_model.specs.declared.Entry.{Entry}
+use Rattle.srt_group_model.specs.declared.Event.{Event}
+use Rattle.srt_group_model.specs.declared.Packet.{Packet}
+use Rattle.srt_group_model.specs.declared.Visit.{Visit}
+use Rattle.srt_group_model.specs.declared.Waiting.{Waiting}
+use Rattle.srt_group_model.specs.Tools.{if_then_else_, if-some_give_otherwise_, at-place, change}
+use Rattle.srt_group_model.specs.State.{Member, State, with-members, with-round, with-continuation, with-queue}
+use Rattle.srt_group_model.specs.Members.{id-of}
+use Rattle.srt_group_model.specs.Run.{Mark, Run}
+use Rattle.srt_group_model.specs.Queues.{pop}
+use Rattle.srt_group_model.specs.Collecting.{retain-group-packet, report-event, collect-member-event, in-turn, Visited as VisitedRun, take-front, collect-one-event}
+use Rattle.srt_group_model.specs.Sound.{Sound, sound-law, Front-data, front-data}
+use Rattle.srt_group_model.specs.Steps.{collect-one-has}
+use Rattle.srt_connection.specs.Rows.{row-size}
+use Rattle.srt_connection.specs.Members.{member-at, members-of, members-length, members-place, has-row, Changed, changed-by, unchanged, found-of, found-some, found-none}
+use Rattle.srt_connection.specs.Queue.{leg-poll, queue-after, budget-after}
+use Rattle.srt_connection.specs.declared.members.Found.the-variants.{At, Nothing as Nowhere}
+use Rattle.srt_connection.specs.declared.queue.LegPoll.the-variants.{Nothing, Continuation, Event as PolledEvent}
+use Rattle.srt_tables.specs.Packets.{packet-at}
+use Rattle.srt_state.specs.Shown.{shown}
+use Rattle.srt_receiving.specs.declared.collecting.Visited.{Visited}
+use Rattle.srt_receiving.specs.Leaves.{Usable, Leaves}
+use Rattle.srt_receiving.specs.CollectLaws.{Holdable, Retained, Reported}
+
+-- ---- definitions
+
+abbrev pub with-visit : Visit → Core → Core
+with-visit v c =
+    record {
+      counts = c .counts;
+      identity = c .identity;
+      receiving = c .receiving;
+      sending = c .sending;
+      visit = v;
+      owned = c .owned;
+    }
+
+-- the round goes on at a place
+abbrev pub with-next : ℕ → Core → Core
+with-next n c = with-visit record { continuation = c .visit .continuation; round = n } c
+
+abbrev pub continued : Bool → Core → Core
+continued b c = with-visit record { continuation = b; round = c .visit .round } c
+
+abbrev pub packet-from : ℕ → Event → Packet
+packet-from id e = record { member = id; owned = 0; content = e .content }
+
+abbrev pub waiting-from : ℕ → Event → Waiting
+waiting-from id e = record { member = id; kind = e .kind; reason = e .reason }
+
+-- what an event of the member at a place makes of a state
+unfoldable pub collect-event : (place id : ℕ) → Event → State → State
+collect-event i id e s =
+    if eqb (e .kind) 0 then retain-group-packet i (packet-from id e) s else report-event i (waiting-from id e) s
+
+-- a call under way, at this record and these tables
+abbrev pub run-at : Core → List Entry → (members pending waiting : List ℕ) → List Mark → ℕ → Run
+run-at core history ms ps ws log budget = record { state = shown core history ms ps ws; log = log; budget = budget }
+
+-- ---- what a call may rely on, and what it leaves
+
+pub record Collectable (i id : ℕ) (e : Event) (core : Core) (ms ps ws : List ℕ) : Type 0 where
+  pub there : has-row i ms
+  pub members-long : core .counts .members * row-size ≤ length ms
+  pub waiting-long : 192 ≤ length ws
+  pub waiting-few : core .counts .waiting < 64
+  pub holdable : e .kind ≡ 0 → Holdable (core .counts .pending) ps (packet-from id e) (member-at ms i)
+
+pub record Collected (i id : ℕ) (e : Event) (core : Core) (ms ps ws : List ℕ) (after : Core) (ms′ ps′ ws′ : List ℕ) : Type 0 where
+  pub waiting-more : after .counts .waiting ≤ core .counts .waiting + 1
+  pub leaves : Leaves (collect-event i id e) core ms ps ws after ms′ ps′ ws′
+
+-- a step that visits legs: over every history and every log the answer, the state and the budget are the definition's, and at most
+-- so many events wait
+pub record Visits (most : ℕ) (f : Run → VisitedRun) (core : Core) (budget : ℕ) (ms ps ws : List ℕ) (r : Visited) (ms′ ps′ ws′ : List ℕ) : Type 0 where
+  pub members-long : length ms′ ≡ length ms
+  pub pending-long : length ps′ ≡ length ps
+  pub waiting-long : length ws′ ≡ length ws
+  pub members-same : r .core .counts .members ≡ core .counts .members
+  pub waiting-most : r .core .counts .waiting ≤ most
+  pub went : (history : List Entry) (log : List Mark) → f (run-at core history ms ps ws log budget) .went ≡ r .went
+  pub state : (history : List Entry) (log : List Mark) → f (run-at core history ms ps ws log budget) .run .state ≡ shown (r .core) history ms′ ps′ ws′
+  pub left : (history : List Entry) (log : List Mark) → f (run-at core history ms ps ws log budget) .run .budget ≡ r .budget
+
+-- and the next step may rely on what it leaves
+pub record Collects (most : ℕ) (f : Run → VisitedRun) (core : Core) (budget : ℕ) (ms ps ws : List ℕ) (r : Visited) (ms′ ps′ ws′ : List ℕ) : Type 0 where
+  pub visits : Visits most f core budget ms ps ws r ms′ ps′ ws′
+  pub usable : Usable (r .core) ms′ ps′ ws′
+
+-- ---- an event of a member
+
+data-collected : (i id : ℕ) (e : Event) (s : State) → eqb (e .kind) 0 ≡ true
+    → collect-event i id e s ≡ retain-group-packet i (packet-from id e) s
+unfolding collect-event if_then_else_
+data-collected i id e s is = rw is
+
+other-collected : (i id : ℕ) (e : Event) (s : State) → eqb (e .kind) 0 ≡ false
+    → collect-event i id e s ≡ report-event i (waiting-from id e) s
+unfolding collect-event if_then_else_
+other-collected i id e s is = rw is
+
+module _ (i id : ℕ) (e : Event) (core : Core) (ms ps ws : List ℕ) {after : Core} {ms′ : List ℕ} where
+  pub collected-data : {ps′ : List ℕ} → e .kind ≡ 0 → Retained i (packet-from id e) core ms ps after ms′ ps′
+      → Collected i id e core ms ps ws after ms′ ps′ ws
+  collected-data is h =
+      let left = h .leaves ws in
+      record {
+        waiting-more = omega (arith, h .waiting-same);
+        leaves =
+            record {
+              members-long = left .members-long;
+              pending-long = left .pending-long;
+              waiting-long = left .waiting-long;
+              members-same = left .members-same;
+              state =
+                  λ history.
+                  data-collected i id e (shown core history ms ps ws) (eq-eqb (e .kind) 0 is) ∙ left .state history;
+            };
+      }
+
+  pub collected-other : {ws′ : List ℕ} → (e .kind ≡ 0 → ⊥) → Reported i (waiting-from id e) core ms ws after ms′ ws′
+      → Collected i id e core ms ps ws after ms′ ps ws′
+  collected-other is h =
+      let left = h .leaves ps in
+      record {
+        waiting-more = omega (arith, h .waiting-more);
+        leaves =
+            record {
+              members-long = left .members-long;
+              pending-long = left .pending-long;
+              waiting-long = left .waiting-long;
+              members-same = left .members-same;
+              state =
+                  λ history.
+                  other-collected i id e (shown core history ms ps ws) (ne-eqb (e .kind) 0 is) ∙ left .state history;
+            };
+      }
+
+-- ---- what a leg gives
+
+pub record Gave (budget : ℕ) (q : List Event) (e : Event) (left : ℕ) : Type 0 where
+  pub front : at-place 0 q ≡ some e
+  pub unspent : eqb budget 0 ≡ false
+  pub lowered : left ≡ budget-after e budget
+
+gave-nothing : (budget : ℕ) (q : List Event) → Nothing ≡ leg-poll budget q → q ≡ []
+unfolding leg-poll if_then_else_
+gave-nothing budget [] is = refl
+gave-nothing budget (e ∷ q) is = go (eqb budget 0) is
+  where
+    go : (b : Bool) → Nothing ≡ (if b then Continuation else PolledEvent e (budget-after e budget)) → e ∷ q ≡ []
+    go true h = cc h
+    go false h = cc h
+
+-- the continuation is asked for if the budget is spent and an event is in front
+pub record Spent (budget : ℕ) (q : List Event) : Type 0 where
+  pub event : Event
+  pub front : at-place 0 q ≡ some event
+  pub spent : eqb budget 0 ≡ true
+
+gave-continuation : (budget : ℕ) (q : List Event) → Continuation ≡ leg-poll budget q → Spent budget q
+unfolding leg-poll if_then_else_ at-place
+gave-continuation budget [] is = absurd (let z : _≡_ {A = ℕ} 0 1 = cc is in omega (arith, z))
+gave-continuation budget (e ∷ q) is = go (eqb budget 0) refl is
+  where
+    go : (b : Bool) → eqb budget 0 ≡ b → Continuation ≡ (if b then Continuation else PolledEvent e (budget-after e budget)) → Spent budget (e ∷ q)
+    go true s h = record { event = e; front = refl; spent = s }
+    go false s h = absurd (let z : _≡_ {A = ℕ} 0 1 = cc h in omega (arith, z))
+
+pub gave-event : (budget : ℕ) (q : List Event) (e : Event) (left : ℕ) → PolledEvent e left ≡ leg-poll budget q → Gave budget q e left
+unfolding leg-poll if_then_else_ at-place
+gave-event budget [] e left is = absurd (let z : _≡_ {A = ℕ} 0 1 = cc is in omega (arith, z))
+gave-event budget (x ∷ q) e left is = go (eqb budget 0) refl is
+  where
+    go : (b : Bool) → eqb budget 0 ≡ b → PolledEvent e left ≡ (if b then Continuation else PolledEvent x (budget-after x budget))
+        → Gave budget (x ∷ q) e left
+    go true s h = absurd (let z : _≡_ {A = ℕ} 0 1 = cc h in omega (arith, z))
+    go false s h =
+        let same : x ≡ e = cc h in
+        let lowered : left ≡ budget-after x budget = cc h in
+        record { front = ap {B = Option Event} (λ (y : Event). some y) same; unspent = s; lowered = lowered ∙ ap (λ (y : Event). budget-after y budget) same }
+
+-- ---- the front event is taken
+
+module _ (i : ℕ) (m : Member) (r : Run) where
+  none-taken : m .queue ≡ [] → take-front i m r ≡ record { went = false; run = r }
+  unfolding take-front at-place if-some_give_otherwise_
+  none-taken empty = rw empty
+
+  abbrev next-state : State
+  next-state = with-round (suc i % length (r .state .members)) (r .state)
+
+  spent-taken : (e : Event) → at-place 0 (m .queue) ≡ some e → eqb (r .budget) 0 ≡ true
+      → take-front i m r ≡ record { went = false; run = record { state = with-continuation true next-state; log = r .log; budget = 0 } }
+  unfolding take-front if-some_give_otherwise_ if_then_else_
+  spent-taken e in-front spent = rw (in-front, spent)
+
+  event-taken : (e : Event) → at-place 0 (m .queue) ≡ some e → eqb (r .budget) 0 ≡ false
+      → take-front i m r
+      ≡ record {
+        went = true;
+        run =
+            collect-member-event i (id-of m) e
+            record { state = with-members (change i pop (r .state .members)) next-state; log = r .log; budget = r .budget };
+      }
+  unfolding take-front if-some_give_otherwise_ if_then_else_
+  event-taken e in-front unspent = rw (in-front, unspent)
+
+if-ap : {A B : Type 0} (f : A → B) (t : Bool) (a b : A) → f (if t then a else b) ≡ (if t then f a else f b)
+unfolding if_then_else_
+if-ap f true a b = refl
+if-ap f false a b = refl
+
+member-state : (i id : ℕ) (e : Event) (r : Run) → collect-member-event i id e r .state ≡ collect-event i id e (r .state)
+unfolding collect-member-event collect-event
+member-state i id e r = if-ap (λ (x : Run). x .state) (eqb (e .kind) 0) _ _
+
+member-budget : (i id : ℕ) (e : Event) (r : Run) → collect-member-event i id e r .budget ≡ budget-after e (r .budget)
+unfolding collect-member-event
+member-budget i id e r = if-ap (λ (x : Run). x .budget) (eqb (e .kind) 0) _ _
+
+queue-goes : (budget : ℕ) (q : List Event) → eqb budget 0 ≡ false → queue-after budget q ≡ drop 1 q
+unfolding queue-after if_then_else_
+queue-goes budget q unspent = rw unspent
+
+queue-stays : (budget : ℕ) (q : List Event) → eqb budget 0 ≡ true → queue-after budget q ≡ q
+unfolding queue-after if_then_else_
+queue-stays budget q spent = rw spent
+
+none-goes : (budget : ℕ) → queue-after budget [] ≡ []
+unfolding queue-after if_then_else_
+none-goes budget = go (eqb budget 0)
+  where
+    go : (b : Bool) → _≡_ {A = List Event} (if b then [] else drop 1 []) []
+    go true = refl
+    go false = refl
+
+next-round : (i n : ℕ) (ms : List ℕ) → suc i % length (members-of n ms) ≡ (i + 1) % n
+next-round i n ms = ap₂ (λ (a b : ℕ). a % b) (omega arith) (members-length n ms)
+
+module _ (core : Core) (budget : ℕ) (ms ps ws : List ℕ) (i : ℕ) (ms₁ : List ℕ)
+    (changed : Changed i (λ m. with-queue (queue-after budget (m .queue)) m) ms ms₁) where
+  -- a leg that keeps its queue leaves the members as they are
+  members-stay : queue-after budget (member-at ms i .queue) ≡ member-at ms i .queue
+      → members-of (core .counts .members) ms ≡ members-of (core .counts .members) ms₁
+  members-stay same =
+      unchanged i ms .members (core .counts .members)
+      ∙ sym
+      (changed-by i ms ms₁ (λ m. m) changed
+      (ap (λ (q : List Event). with-queue q (member-at ms i)) same)
+      .members (core .counts .members))
+
+  pub visits-nothing : Nothing ≡ leg-poll budget (member-at ms i .queue)
+      → Visits (core .counts .waiting + 1) (take-front i (member-at ms i)) core budget ms ps ws
+      record { went = false; core = core; budget = budget } ms₁ ps ws
+  visits-nothing is =
+      let empty = gave-nothing budget (member-at ms i .queue) is in
+      let taken : (r : Run) → take-front i (member-at ms i) r ≡ record { went = false; run = r } = λ r. none-taken i (member-at ms i) r empty in
+      let stay = members-stay (ap (queue-after budget) empty ∙ none-goes budget ∙ sym empty) in
+      record {
+        members-long = changed .long;
+        pending-long = refl;
+        waiting-long = refl;
+        members-same = refl;
+        waiting-most = omega arith;
+        went = λ history log. ap (λ (v : VisitedRun). v .went) (taken (run-at core history ms ps ws log budget));
+        state =
+            λ history log.
+            ap (λ (v : VisitedRun). v .run .state) (taken (run-at core history ms ps ws log budget))
+            ∙ ap (λ (l : List Member). with-members l (shown core history ms ps ws)) stay;
+        left = λ history log. ap (λ (v : VisitedRun). v .run .budget) (taken (run-at core history ms ps ws log budget));
+      }
+
+  visits-spent-at : Continuation ≡ leg-poll budget (member-at ms i .queue)
+      → Visits (core .counts .waiting + 1) (take-front i (member-at ms i)) core budget ms ps ws
+      record { went = false; core = continued true (with-next ((i + 1) % core .counts .members) core); budget = 0 } ms₁ ps ws
+  visits-spent-at is =
+      let s = gave-continuation budget (member-at ms i .queue) is in
+      let stay = members-stay (queue-stays budget (member-at ms i .queue) (s .spent)) in
+      record {
+        members-long = changed .long;
+        pending-long = refl;
+        waiting-long = refl;
+        members-same = refl;
+        waiting-most = omega arith;
+        went =
+            λ history log.
+            ap (λ (v : VisitedRun). v .went)
+            (spent-taken i (member-at ms i) (run-at core history ms ps ws log budget) (s .event) (s .front) (s .spent));
+        state =
+            λ history log.
+            ap (λ (v : VisitedRun). v .run .state)
+            (spent-taken i (member-at ms i) (run-at core history ms ps ws log budget) (s .event) (s .front) (s .spent))
+            ∙ ap₂
+            (λ (k : ℕ) (l : List Member). with-members l (with-continuation true (with-round k (shown core history ms ps ws))))
+            (next-round i (core .counts .members) ms) stay;
+        left =
+            λ history log.
+            ap (λ (v : VisitedRun). v .run .budget)
+            (spent-taken i (member-at ms i) (run-at core history ms ps ws log budget) (s .event) (s .front) (s .spent));
+      }
+
+  pub visits-spent : (turned next : Core) → turned ≡ with-next ((i + 1) % core .counts .members) core → next ≡ continued true turned
+      → Continuation ≡ leg-poll budget (member-at ms i .queue)
+      → Visits (core .counts .waiting + 1) (take-front i (member-at ms i)) core budget ms ps ws
+      record { went = false; core = next; budget = 0 } ms₁ ps ws
+  visits-spent turned next t c is =
+      subst
+      (λ (x : Core).
+      Visits (core .counts .waiting + 1) (take-front i (member-at ms i)) core budget ms ps ws
+      record { went = false; core = x; budget = 0 } ms₁ ps ws)
+      (sym (c ∙ ap (continued true) t)) (visits-spent-at is)
+
+  visits-event-at : (e : Event) (left id : ℕ) (after : Core) (ms′ ps′ ws′ : List ℕ) → PolledEvent e left ≡ leg-poll budget (member-at ms i .queue)
+      → id ≡ member-at ms i .membership .id
+      → Collected i id e (with-next ((i + 1) % core .counts .members) core) ms₁ ps ws after ms′ ps′ ws′
+      → Visits (core .counts .waiting + 1) (take-front i (member-at ms i)) core budget ms ps ws
+      record { went = true; core = after; budget = left } ms′ ps′ ws′
+  visits-event-at e left id after ms′ ps′ ws′ is named h =
+      let g = gave-event budget (member-at ms i .queue) e left is in
+      let popped = changed-by i ms ms₁ pop changed (ap (λ (q : List Event). with-queue q (member-at ms i)) (queue-goes budget (member-at ms i .queue) (g .unspent))) in
+      record {
+        members-long = h .leaves .members-long ∙ changed .long;
+        pending-long = h .leaves .pending-long;
+        waiting-long = h .leaves .waiting-long;
+        members-same = h .leaves .members-same;
+        waiting-most = h .waiting-more;
+        went = λ history log. ap (λ (v : VisitedRun). v .went) (event-taken i (member-at ms i) (run-at core history ms ps ws log budget) e (g .front) (g .unspent));
+        state =
+            λ history log.
+            ap (λ (v : VisitedRun). v .run .state) (event-taken i (member-at ms i) (run-at core history ms ps ws log budget) e (g .front) (g .unspent))
+            ∙ member-state i (member-at ms i .membership .id) e _
+            ∙ ap₂ (λ (x : ℕ) (s : State). collect-event i x e s) (sym named)
+            (ap₂
+            (λ (k : ℕ) (l : List Member). with-members l (with-round k (shown core history ms ps ws)))
+            (next-round i (core .counts .members) ms) (sym (popped .members (core .counts .members))))
+            ∙ h .leaves .state history;
+        left =
+            λ history log.
+            ap (λ (v : VisitedRun). v .run .budget) (event-taken i (member-at ms i) (run-at core history ms ps ws log budget) e (g .front) (g .unspent))
+            ∙ member-budget i (member-at ms i .membership .id) e _ ∙ sym (g .lowered);
+      }
+
+  pub visits-event : (turned : Core) (e : Event) (left id : ℕ) (after : Core) (ms′ ps′ ws′ : List ℕ)
+      → turned ≡ with-next ((i + 1) % core .counts .members) core → PolledEvent e left ≡ leg-poll budget (member-at ms i .queue)
+      → id ≡ member-at ms i .membership .id → Collected i id e turned ms₁ ps ws after ms′ ps′ ws′
+      → Visits (core .counts .waiting + 1) (take-front i (member-at ms i)) core budget ms ps ws
+      record { went = true; core = after; budget = left } ms′ ps′ ws′
+  visits-event turned e left id after ms′ ps′ ws′ t is named h =
+      visits-event-at e left id after ms′ ps′ ws′ is named
+      (subst (λ (x : Core). Collected i id e x ms₁ ps ws after ms′ ps′ ws′) t h)
+
+-- ---- the event in front can be collected
+
+module _ (core : Core) (ms ps ws : List ℕ) (usable : Usable core ms ps ws) (i : ℕ) (inside : i < core .counts .members) where
+  pub row-there : has-row i ms
+  row-there = omega (arith, usable .members-long, usable .members-few, inside)
+
+  data-front : (e : Event) → at-place 0 (member-at ms i .queue) ≡ some e → e .kind ≡ 0 → Front-data (shown core [] ms ps ws) (member-at ms i) e
+  data-front e in-front is =
+      front-data (shown core [] ms ps ws) i (member-at ms i) e (usable .sound) (members-place (core .counts .members) ms i inside) in-front
+      (eq-eqb (e .kind) 0 is)
+
+  collectable-past : (budget left k id : ℕ) (ms₁ : List ℕ) (e : Event)
+      → Changed i (λ m. with-queue (queue-after budget (m .queue)) m) ms ms₁
+      → PolledEvent e left ≡ leg-poll budget (member-at ms i .queue) → core .counts .waiting < 64
+      → Collectable i id e (with-next k core) ms₁ ps ws
+  collectable-past budget left k id ms₁ e changed gave few =
+      let g = gave-event budget (member-at ms i .queue) e left gave in
+      record {
+        there = omega (arith, row-there, changed .long);
+        members-long = omega (arith, usable .members-long, usable .members-few, changed .long);
+        waiting-long = usable .waiting-long;
+        waiting-few = few;
+        holdable =
+            λ is.
+            let f = data-front e (g .front) is in
+            let same : member-at ms₁ i .membership .reserved ≡ member-at ms i .membership .reserved = ap (λ (m : Member). m .membership .reserved) (changed .here) in
+            record {
+              long = usable .pending-long;
+              few = omega (arith, f .held, tab-length (core .counts .pending) (packet-at ps));
+              ascending = usable .sound .ascending;
+              sequence = f .sequence;
+              cell = f .cell;
+              apart = f .apart;
+              reserved = omega (arith, same, f .reserved, f .count);
+            };
+      }
+
+  pub collectable : (budget left k id : ℕ) (ms₁ : List ℕ) (e : Event) (next : Core) → next ≡ with-next k core
+      → Changed i (λ m. with-queue (queue-after budget (m .queue)) m) ms ms₁
+      → PolledEvent e left ≡ leg-poll budget (member-at ms i .queue) → core .counts .waiting < 64 → Collectable i id e next ms₁ ps ws
+  collectable budget left k id ms₁ e next turned changed gave few =
+      subst (λ (x : Core). Collectable i id e x ms₁ ps ws) (sym turned) (collectable-past budget left k id ms₁ e changed gave few)
+
+-- ---- one event, in turn
+
+module _ (r : Run) where
+  none-in-turn : in-turn (r .state .visit .round) (r .state .members) ≡ none → collect-one-event r ≡ record { went = false; run = r }
+  unfolding collect-one-event if-some_give_otherwise_
+  none-in-turn is = rw is
+
+  one-in-turn : (i : ℕ) (m : Member) → in-turn (r .state .visit .round) (r .state .members) ≡ some i → at-place i (r .state .members) ≡ some m
+      → collect-one-event r ≡ take-front i m r
+  unfolding collect-one-event if-some_give_otherwise_
+  one-in-turn i m is there = rw (is, there)
+
+-- what is left of a sound state is sound, and may be relied on
+usable-after : (core : Core) (budget : ℕ) (ms ps ws : List ℕ) (r : Visited) (ms′ ps′ ws′ : List ℕ) → Usable core ms ps ws → core .counts .waiting < 64
+    → Visits (core .counts .waiting + 1) collect-one-event core budget ms ps ws r ms′ ps′ ws′ → Usable (r .core) ms′ ps′ ws′
+usable-after core budget ms ps ws r ms′ ps′ ws′ u few v =
+    record {
+      members-long = omega (arith, u .members-long, v .members-long);
+      pending-long = omega (arith, u .pending-long, v .pending-long);
+      waiting-long = omega (arith, u .waiting-long, v .waiting-long);
+      members-few = omega (arith, u .members-few, v .members-same);
+      waiting-few = omega (arith, v .waiting-most, few);
+      sound = subst Sound (v .state [] []) (collect-one-has Sound sound-law (run-at core [] ms ps ws [] budget) (u .sound));
+    }
+
+module _ (core : Core) (budget : ℕ) (ms ps ws : List ℕ) (usable : Usable core ms ps ws) (few : core .counts .waiting < 64) where
+  pub collects-none : Nowhere ≡ found-of (in-turn (core .visit .round) (members-of (core .counts .members) ms))
+      → Collects (core .counts .waiting + 1) collect-one-event core budget ms ps ws record { went = false; core = core; budget = budget } ms ps ws
+  collects-none is =
+      let none-there = found-none (in-turn (core .visit .round) (members-of (core .counts .members) ms)) is in
+      record {
+        visits =
+            record {
+              members-long = refl;
+              pending-long = refl;
+              waiting-long = refl;
+              members-same = refl;
+              waiting-most = omega arith;
+              went = λ history log. ap (λ (v : VisitedRun). v .went) (none-in-turn (run-at core history ms ps ws log budget) none-there);
+              state = λ history log. ap (λ (v : VisitedRun). v .run .state) (none-in-turn (run-at core history ms ps ws log budget) none-there);
+              left = λ history log. ap (λ (v : VisitedRun). v .run .budget) (none-in-turn (run-at core history ms ps ws log budget) none-there);
+            };
+        usable = usable;
+      }
+
+  pub collects-one : (i : ℕ) (r : Visited) (ms′ ps′ ws′ : List ℕ) → i < core .counts .members
+      → At i ≡ found-of (in-turn (core .visit .round) (members-of (core .counts .members) ms))
+      → Visits (core .counts .waiting + 1) (take-front i (member-at ms i)) core budget ms ps ws r ms′ ps′ ws′
+      → Collects (core .counts .waiting + 1) collect-one-event core budget ms ps ws r ms′ ps′ ws′
+  collects-one i r ms′ ps′ ws′ inside is v =
+      let there = found-some (in-turn (core .visit .round) (members-of (core .counts .members) ms)) i is in
+      let at = members-place (core .counts .members) ms i inside in
+      let visits : Visits (core .counts .waiting + 1) collect-one-event core budget ms ps ws r ms′ ps′ ws′ =
+      record {
+        members-long = v .members-long;
+        pending-long = v .pending-long;
+        waiting-long = v .waiting-long;
+        members-same = v .members-same;
+        waiting-most = v .waiting-most;
+        went =
+            λ history log.
+            ap (λ (x : VisitedRun). x .went) (one-in-turn (run-at core history ms ps ws log budget) i (member-at ms i) there at)
+            ∙ v .went history log;
+        state =
+            λ history log.
+            ap (λ (x : VisitedRun). x .run .state) (one-in-turn (run-at core history ms ps ws log budget) i (member-at ms i) there at)
+            ∙ v .state history log;
+        left =
+            λ history log.
+            ap (λ (x : VisitedRun). x .run .budget) (one-in-turn (run-at core history ms ps ws log budget) i (member-at ms i) there at)
+            ∙ v .left history log;
+      }
+      in
+      record { visits = visits; usable = usable-after core budget ms ps ws r ms′ ps′ ws′ usable few visits }
