@@ -1,0 +1,18 @@
+-- `replay_outcome` meets its contract. Assumes nothing.
+use mathlib.Core.Path.{ap, sym}
+use mathlib.Core.Bool.{Bool}
+use Rattle.srt_group_model.specs.Tools.{if_then_else_}
+use borrow.Author.Needs.{needs}
+use Rattle.srt_backup.proofs.takeover.replay_outcome.Statement.{statement}
+use Rattle.srt_backup.proofs.takeover.replay_outcome.Tie as tie
+
+returns : tie.Need-returns
+unfolding if_then_else_
+returns c = sym (ap (λ (whole : Bool). if whole then 0 else 28) (c .if1 .taken))
+
+returns-2 : tie.Need-returns-2
+unfolding if_then_else_
+returns-2 c = sym (ap (λ (whole : Bool). if whole then 0 else 28) (c .if1 .left))
+
+pub replay-outcome-spec : {M : Type 1} → statement M
+replay-outcome-spec = tie.close (tie.spec returns returns-2)

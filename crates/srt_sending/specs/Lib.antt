@@ -1,0 +1,4 @@
+pub mod SentList
+pub mod Broadcast
+pub mod Readiness
+pub mod BackupReadiness
