@@ -58,7 +58,7 @@ count-fits : (d : Data) → data-out-of-range d ≡ false → d .count ≤ large
 unfolding data-out-of-range
 count-fits d h = ltb-false largest-16 (d .count) (or-left (above largest-16 (d .count)) _ (or-right (eqb (d .count) 0) _ h))
 
-all-tab : {A : Type 0} (P : A → Type 0) (n : ℕ) (f : ℕ → A) → All P (tab n f) → (k : ℕ) → k < n → P (f k)
+pub all-tab : {A : Type 0} (P : A → Type 0) (n : ℕ) (f : ℕ → A) → All P (tab n f) → (k : ℕ) → k < n → P (f k)
 unfolding tab
 all-tab P zero f h k below = absurd (omega arith)
 all-tab P (suc n) f h zero below = h .0

@@ -43,17 +43,17 @@ module _ {A : Type 0} where
   tab-empty zero f = refl
   tab-empty (suc n) f = sym (ne-eqb (suc n) 0 (λ h. omega arith))
 
-  tab-full : (n : ℕ) (f : ℕ → A) → 0 < n → not (is-empty (tab n f)) ≡ true
+  pub tab-full : (n : ℕ) (f : ℕ → A) → 0 < n → not (is-empty (tab n f)) ≡ true
   unfolding tab is-empty
   tab-full zero f h = absurd (omega arith)
   tab-full (suc n) f h = refl
 
-  tab-spent : (n : ℕ) (f : ℕ → A) → n ≤ 0 → not (is-empty (tab n f)) ≡ false
+  pub tab-spent : (n : ℕ) (f : ℕ → A) → n ≤ 0 → not (is-empty (tab n f)) ≡ false
   unfolding tab is-empty
   tab-spent zero f h = refl
   tab-spent (suc n) f h = absurd (omega arith)
 
-neither : (a b c : Bool) → a ≡ false → b ≡ false → (a || (b || c)) ≡ c
+pub neither : (a b c : Bool) → a ≡ false → b ≡ false → (a || (b || c)) ≡ c
 neither a b c e g = rw (e, g)
 
 or-false : (a b : Bool) → b ≡ false → (a || b) ≡ a
@@ -123,7 +123,7 @@ held-most core ms ps ws u =
       tab-length (core .counts .pending) (packet-at ps),
     )
 
-usable-continued : (core : Core) (ms ps ws : List ℕ) (b : Bool) → Usable core ms ps ws → Usable (continued b core) ms ps ws
+pub usable-continued : (core : Core) (ms ps ws : List ℕ) (b : Bool) → Usable core ms ps ws → Usable (continued b core) ms ps ws
 usable-continued core ms ps ws b u =
     record {
       members-long = u .members-long;
@@ -150,7 +150,7 @@ if-not true a b = refl
 if-not false a b = refl
 
 -- a run, by its state and its budget
-run-is : (x : Run) (s : State) (b : ℕ) → x .state ≡ s → x .budget ≡ b → x ≡ record { state = s; log = x .log; budget = b }
+pub run-is : (x : Run) (s : State) (b : ℕ) → x .state ≡ s → x .budget ≡ b → x ≡ record { state = s; log = x .log; budget = b }
 run-is x s b p q = λ i. record { state = p i; log = x .log; budget = q i }
 
 -- ---- a visit until something is held

@@ -5,4 +5,3 @@ pub mod VisitLaws
 pub mod GatherLaws
 pub mod DeliveryLaws
 pub mod PollLaws
-pub mod RefreshLaws

@@ -83,7 +83,7 @@ fn reserve_at(members: &mut [u64], index: usize, count: u64)
 }
 
 // Whether the packet of a sequence is held already.
-fn is_held(pending: &[u64], held: usize, sequence: u64) -> bool
+pub fn is_held(pending: &[u64], held: usize, sequence: u64) -> bool
     requires { ⌜ (18432 ≤ length (now pending)) × (held ≤ 2048) ⌝ }
     requires { ⌜ ascends (packets held (now pending)) ≡ true ⌝ }
     ensures { λ r. ⌜ r ≡ is-held sequence (packets held (now (pending .entry))) ⌝ }

@@ -1,0 +1,4 @@
+pub mod RefreshLaws
+pub mod SkipLaws
+pub mod EventPollLaws
+pub mod DataPollLaws

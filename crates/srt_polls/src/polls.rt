@@ -1,0 +1,306 @@
+// The polls: what is collected is given in order. A gap is skipped once it is given up and every queue was found empty.
+ghost use mathlib.Core.Path.{_≡_};
+ghost use mathlib.Core.List.{List};
+ghost use Prim.Native.Nat.{ℕ};
+ghost use Rattle.srt_group_model.specs.declared.Entry.{Entry};
+ghost use Rattle.srt_group_model.specs.State.{State};
+ghost use Rattle.srt_group_model.specs.Delivery.{skip-given-up-gap};
+ghost use Rattle.srt_group_model.specs.Polls.{deliver-next, poll-event, poll-until-data, poll-data-bounded};
+ghost use Rattle.srt_state.specs.Shown.{shown};
+ghost use Rattle.srt_receiving.specs.Leaves.{Usable};
+ghost use Rattle.srt_receiving.specs.PollLaws.{Polls};
+ghost use Rattle.srt_polls.specs.EventPollLaws.{give-next};
+ghost use Rattle.srt_polls.specs.DataPollLaws.{PollsData, Passes};
+ghost use Rattle.srt_polls.specs.SkipLaws.{Skippable, skip-nearest, deliver-nearest, skip-from, base-stays, PollsFrom};
+use crate::refresh::refresh_pending_states;
+use crate::refresh::refresh_states;
+use srt_group_model::Core;
+use srt_group_model::Packet;
+use srt_protocol::time::Timestamp;
+use srt_receiving::collecting::Gathered;
+use srt_receiving::collecting::Visited;
+use srt_receiving::collecting::collect_until_empty;
+use srt_receiving::collecting::collect_until_held;
+use srt_receiving::collecting::has_pending_data;
+use srt_receiving::collecting::is_held;
+use srt_receiving::delivery::Poll;
+use srt_receiving::delivery::Polled;
+use srt_receiving::delivery::deliver;
+use srt_receiving::delivery::gap_given_up;
+use srt_receiving::delivery::give_waiting;
+use srt_receiving::delivery::set_base;
+use srt_receiving::delivery::skip_to;
+use srt_tables::pending;
+
+// A packet or none.
+pub enum OptionalPacket {
+    Some(Packet),
+    None,
+}
+
+// What a data poll gives: a packet or none, whether it should be called again at once, and the group's record after it.
+pub struct DataPoll {
+    pub gave: OptionalPacket,
+    pub continuation: bool,
+    pub core: Core,
+}
+
+// Whether an event poll gave an event, and the data poll that ends with it.
+struct Passed {
+    event: bool,
+    answer: DataPoll,
+}
+
+// The packets that one event poll collects, at most.
+const DELIVERY_BUDGET: u64 = 32;
+
+// The event polls of one data poll, at most.
+const MAX_EVENTS: usize = 64;
+
+// ---- the skip
+
+// The nearest held packet becomes the base, the distance counts as skipped, and the packet is delivered.
+fn skip_to_nearest(core: Core, members: &mut [u64], pending: &mut [u64], base: u32) -> Poll
+    requires { ⌜ Skippable core (now members) (now pending) ⌝ }
+    ensures { λ r. ⌜ ((waiting : List ℕ) (tested : State) (time : ℕ) → Polls (skip-nearest tested time base) core (now (members .entry)) (now (pending .entry)) waiting r (now (members .exit)) (now (pending .exit)) waiting) ⌝ }
+{
+    let held = core.counts.pending;
+    let nearest = pending::nearest(pending, held);
+    let pending::Found::At(at) = nearest else {
+        return Poll {
+            gave: Polled::Nothing,
+            core,
+        };
+    };
+    let packet = pending::packet(pending, at);
+    let next = packet.content.sequence as u32;
+    let skipped = skip_to(core, base, next);
+    deliver(skipped, members, pending, next)
+}
+
+// What is given after the queues were collected: a waiting event first. The gap is skipped only if they ended empty.
+fn skip_after(
+    collected: Visited,
+    members: &mut [u64],
+    pending: &mut [u64],
+    waiting: &mut [u64],
+    base: u32,
+) -> Poll
+    requires { ⌜ Usable (collected .core) (now members) (now pending) (now waiting) ⌝ }
+    ensures { λ r. ⌜ ((tested : State) (time : ℕ) → Polls (skip-from (collected .went) tested time base) (collected .core) (now (members .entry)) (now (pending .entry)) (now (waiting .entry)) r (now (members .exit)) (now (pending .exit)) (now (waiting .exit))) ⌝ }
+{
+    let core = collected.core;
+    if 0 < core.counts.waiting {
+        return give_waiting(core, waiting);
+    }
+    if collected.went {
+        return skip_to_nearest(core, members, pending, base);
+    }
+    deliver(core, members, pending, base)
+}
+
+// The base stays where it is if it is held, if the continuation is asked for, or while the gap is not given up.
+fn base_stays(core: Core, members: &[u64], pending: &[u64], time: Timestamp, base: u32) -> bool
+    requires { ⌜ Skippable core (now members) (now pending) ⌝ }
+    ensures { λ r. ⌜ ((history : List Entry) (waiting : List ℕ) → r ≡ base-stays (time .0) base (shown core history (now (members .entry)) (now (pending .entry)) waiting)) ⌝ }
+{
+    if is_held(pending, core.counts.pending, base as u64) {
+        return true;
+    }
+    if core.visit.continuation {
+        return true;
+    }
+    !gap_given_up(core, members, pending, time)
+}
+
+// The give-up test is made once, before the queues are collected: what they bring does not take it back.
+fn skip_given_up_gap(
+    core: Core,
+    members: &mut [u64],
+    pending: &mut [u64],
+    waiting: &mut [u64],
+    time: Timestamp,
+    base: u32,
+    budget: u64,
+) -> Poll
+    requires { ⌜ Usable core (now members) (now pending) (now waiting) ⌝ }
+    requires { ⌜ core .counts .waiting ≡ 0 ⌝ }
+    ensures { λ r. ⌜ PollsFrom (skip-given-up-gap (time .0) base) core budget (now (members .entry)) (now (pending .entry)) (now (waiting .entry)) r (now (members .exit)) (now (pending .exit)) (now (waiting .exit)) ⌝ }
+{
+    if base_stays(core, members, pending, time, base) {
+        return deliver(core, members, pending, base);
+    }
+    let collected = collect_until_empty(core, members, pending, waiting, budget, base as u64);
+    skip_after(collected, members, pending, waiting, base)
+}
+
+// ---- the event poll
+
+// The nearest held packet sets the base, and is delivered.
+fn deliver_nearest(core: Core, members: &mut [u64], pending: &mut [u64]) -> Poll
+    requires { ⌜ Skippable core (now members) (now pending) ⌝ }
+    ensures { λ r. ⌜ ((waiting : List ℕ) → Polls deliver-nearest core (now (members .entry)) (now (pending .entry)) waiting r (now (members .exit)) (now (pending .exit)) waiting) ⌝ }
+{
+    let held = core.counts.pending;
+    let nearest = pending::nearest(pending, held);
+    let pending::Found::At(at) = nearest else {
+        return Poll {
+            gave: Polled::Nothing,
+            core,
+        };
+    };
+    let packet = pending::packet(pending, at);
+    let first = packet.content.sequence;
+    let based = set_base(core, true, first);
+    let base = first as u32;
+    deliver(based, members, pending, base)
+}
+
+// The packet at the base; while none is set, the nearest packet sets it.
+fn deliver_next(
+    core: Core,
+    members: &mut [u64],
+    pending: &mut [u64],
+    waiting: &mut [u64],
+    time: Timestamp,
+    budget: u64,
+) -> Poll
+    requires { ⌜ Usable core (now members) (now pending) (now waiting) ⌝ }
+    requires { ⌜ core .counts .waiting ≡ 0 ⌝ }
+    ensures { λ r. ⌜ PollsFrom (deliver-next (time .0)) core budget (now (members .entry)) (now (pending .entry)) (now (waiting .entry)) r (now (members .exit)) (now (pending .exit)) (now (waiting .exit)) ⌝ }
+{
+    if core.receiving.based {
+        let base = core.receiving.base;
+        return skip_given_up_gap(core, members, pending, waiting, time, base, budget);
+    }
+    deliver_nearest(core, members, pending)
+}
+
+// A waiting event; if none waits, the next packet.
+fn give_next(
+    gathered: Gathered,
+    members: &mut [u64],
+    pending: &mut [u64],
+    waiting: &mut [u64],
+    time: Timestamp,
+) -> Poll
+    requires { ⌜ Usable (gathered .core) (now members) (now pending) (now waiting) ⌝ }
+    ensures { λ r. ⌜ PollsFrom (give-next (time .0)) (gathered .core) (gathered .budget) (now (members .entry)) (now (pending .entry)) (now (waiting .entry)) r (now (members .exit)) (now (pending .exit)) (now (waiting .exit)) ⌝ }
+{
+    let here = gathered.core;
+    if 0 < here.counts.waiting {
+        return give_waiting(here, waiting);
+    }
+    let refreshed = refresh_states(here, members);
+    deliver_next(refreshed, members, pending, waiting, time, gathered.budget)
+}
+
+// The states are refreshed, events collected, and a waiting event or the next packet given.
+pub fn poll_event(
+    mut core: Core,
+    members: &mut [u64],
+    pending: &mut [u64],
+    waiting: &mut [u64],
+    time: Timestamp,
+) -> Poll
+    requires { ⌜ Usable core (now members) (now pending) (now waiting) ⌝ }
+    ensures { λ r. ⌜ ((budget : ℕ) → PollsFrom (poll-event (time .0)) core budget (now (members .entry)) (now (pending .entry)) (now (waiting .entry)) r (now (members .exit)) (now (pending .exit)) (now (waiting .exit))) ⌝ }
+{
+    core.visit.continuation = false;
+    let begun = refresh_pending_states(core, members);
+    let gathered = collect_until_held(begun, members, pending, waiting, DELIVERY_BUDGET);
+    give_next(gathered, members, pending, waiting, time)
+}
+
+// ---- the data poll
+
+// An event is passed over: with no event poll left there is no packet, and the continuation is asked for.
+fn pass_event(poll: Poll) -> Passed
+    ensures { λ r. ⌜ Passes poll r ⌝ }
+{
+    let core = poll.core;
+    let gave = poll.gave;
+    match gave {
+        Polled::Nothing => Passed {
+            event: false,
+            answer: DataPoll {
+                gave: OptionalPacket::None,
+                continuation: core.visit.continuation,
+                core,
+            },
+        },
+        Polled::Event(_) => Passed {
+            event: true,
+            answer: DataPoll {
+                gave: OptionalPacket::None,
+                continuation: true,
+                core,
+            },
+        },
+        Polled::Packet(packet) => Passed {
+            event: false,
+            answer: DataPoll {
+                gave: OptionalPacket::Some(packet),
+                continuation: false,
+                core,
+            },
+        },
+    }
+}
+
+// Event polls until one gives no event, at most so many.
+fn poll_until_data(
+    core: Core,
+    members: &mut [u64],
+    pending: &mut [u64],
+    waiting: &mut [u64],
+    time: Timestamp,
+    visits: usize,
+) -> DataPoll
+    requires { ⌜ Usable core (now members) (now pending) (now waiting) ⌝ }
+    ensures { λ r. ⌜ PollsData (poll-until-data (time .0) visits) core (now (members .entry)) (now (pending .entry)) (now (waiting .entry)) r (now (members .exit)) (now (pending .exit)) (now (waiting .exit)) ⌝ }
+{
+    let mut answer = DataPoll {
+        gave: OptionalPacket::None,
+        continuation: true,
+        core,
+    };
+    let mut left = visits;
+    while 0 < left {
+        let here = answer.core;
+        let poll = poll_event(here, members, pending, waiting, time);
+        let passed = pass_event(poll);
+        answer = passed.answer;
+        if !passed.event {
+            return answer;
+        }
+        left -= 1;
+    }
+    answer
+}
+
+// A packet, passing over at most so many events; with none allowed there is no packet, and nothing changes.
+pub fn poll_data_bounded(
+    core: Core,
+    members: &mut [u64],
+    pending: &mut [u64],
+    waiting: &mut [u64],
+    time: Timestamp,
+    max_events: usize,
+) -> DataPoll
+    requires { ⌜ Usable core (now members) (now pending) (now waiting) ⌝ }
+    ensures { λ r. ⌜ PollsData (poll-data-bounded (time .0) «max_events») core (now (members .entry)) (now (pending .entry)) (now (waiting .entry)) r (now (members .exit)) (now (pending .exit)) (now (waiting .exit)) ⌝ }
+{
+    if max_events == 0 {
+        let continuation = has_pending_data(core);
+        return DataPoll {
+            gave: OptionalPacket::None,
+            continuation,
+            core,
+        };
+    }
+    if MAX_EVENTS < max_events {
+        return poll_until_data(core, members, pending, waiting, time, MAX_EVENTS);
+    }
+    poll_until_data(core, members, pending, waiting, time, max_events)
+}
