@@ -193,7 +193,7 @@ popped-data n (suc i) m e (x ∷ ms) at f d =
     shift : (a b c : ℕ) → a + (b + c) ≡ b + (a + c)
     shift a b c = omega arith
 
-popped-event : (i : ℕ) (m : Member) (e : Event) (ms : List Member) → at-place i ms ≡ some m → front (m .queue) ≡ some e → eqb (e .kind) 0 ≡ false
+pub popped-event : (i : ℕ) (m : Member) (e : Event) (ms : List Member) → at-place i ms ≡ some m → front (m .queue) ≡ some e → eqb (e .kind) 0 ≡ false
     → queued-cells ms ≡ queued-cells (change i pop ms)
 unfolding queued-cells queue-cells at-place change
 popped-event zero m e [] at f d = none-some at
@@ -203,7 +203,7 @@ popped-event zero m e (x ∷ ms) at f d =
     (front-event (x .queue) e (ap (λ (y : Member). front (y .queue)) (some-inj at) ∙ f) d)
 popped-event (suc i) m e (x ∷ ms) at f d = ap (λ (l : List ℕ). queue-cells x ++ l) (popped-event i m e ms at f d)
 
-inserted : (n : ℕ) (p : Packet) (ps : List Packet) → occurs n (pending-cells (insert p ps)) ≡ one (p .content .cell) n + occurs n (pending-cells ps)
+pub inserted : (n : ℕ) (p : Packet) (ps : List Packet) → occurs n (pending-cells (insert p ps)) ≡ one (p .content .cell) n + occurs n (pending-cells ps)
 unfolding insert each occurs
 inserted n p [] = refl
 inserted n p (q ∷ qs) =
@@ -229,7 +229,7 @@ own-cells id (p ∷ ps) =
     (if-elim (λ (q : Packet). q .content .cell ≡ p .content .cell) _ _ _ (λ e. refl) (λ e. refl))
     (own-cells id ps)
 
-release-cells : (ps : List Packet) (s : State) → queued-cells (release-all ps s .members) ≡ queued-cells (s .members)
+pub release-cells : (ps : List Packet) (s : State) → queued-cells (release-all ps s .members) ≡ queued-cells (s .members)
 unfolding release-all
 release-cells [] s = refl
 release-cells (p ∷ ps) s =
@@ -244,16 +244,9 @@ set-base-parts o r =
     if-some-elim (λ (x : Run). (x .state .receive .pending ≡ r .state .receive .pending) × (x .state .send ≡ r .state .send)) _ _ _
     (λ b g. (refl, refl)) (λ g. (refl, refl)))
 
-retain-send : (i : ℕ) (p : Packet) (s : State) → retain-group-packet i p s .send ≡ s .send
+pub retain-send : (i : ℕ) (p : Packet) (s : State) → retain-group-packet i p s .send ≡ s .send
 unfolding retain-group-packet
 retain-send i p s = if-elim (λ (t : State). t .send ≡ s .send) _ _ _ (λ e. refl) (λ e. refl)
-
-retain-pending : (n i : ℕ) (p : Packet) (s : State)
-    → occurs n (pending-cells (retain-group-packet i p s .receive .pending)) ≤ one (p .content .cell) n + occurs n (pending-cells (s .receive .pending))
-unfolding retain-group-packet
-retain-pending n i p s =
-    if-elim (λ (t : State). occurs n (pending-cells (t .receive .pending)) ≤ one (p .content .cell) n + occurs n (pending-cells (s .receive .pending))) _ _ _
-    (λ e. omega arith) (λ e. omega (arith, inserted n p (s .receive .pending)))
 
 release-send : (p : Packet) (s : State) → release-pending-reservation p s .send ≡ s .send
 unfolding release-pending-reservation
@@ -261,80 +254,11 @@ release-send p s =
     if-elim (λ (t : State). t .send ≡ s .send) _ _ _ (λ e. refl)
     (λ e. if-some-elim (λ (t : State). t .send ≡ s .send) _ _ _ (λ i g. refl) (λ g. refl))
 
-release-all-send : (ps : List Packet) (s : State) → release-all ps s .send ≡ s .send
+pub release-all-send : (ps : List Packet) (s : State) → release-all ps s .send ≡ s .send
 unfolding release-all
 release-all-send [] s = refl
 release-all-send (p ∷ ps) s = release-all-send ps (release-pending-reservation p s) ∙ release-send p s
 
-advance-send : (sequence : ℕ) (s : State) → advance-legs sequence s .send ≡ s .send
+pub advance-send : (sequence : ℕ) (s : State) → advance-legs sequence s .send ≡ s .send
 unfolding advance-legs
 advance-send sequence s = refl
-
--- ---- the law
-
-module _ (bound : ℕ → ℕ) where
-  pub within-same : (ms ns : List Member) (ps qs : List Packet) (hs gs : List Entry) → queued-cells ns ≡ queued-cells ms → qs ≡ ps → gs ≡ hs
-      → ((n : ℕ) → uses n ms ps hs ≤ bound n) → (n : ℕ) → uses n ns qs gs ≤ bound n
-  within-same ms ns ps qs hs gs a b c h n =
-      subst (λ (k : ℕ). k ≤ bound n)
-      (sym
-      (ap₂ (λ (x y : ℕ). x + y) (ap (occurs n) a)
-      (ap₂ (λ (x y : ℕ). x + y) (ap (λ (l : List Packet). occurs n (pending-cells l)) b) (ap (λ (l : List Entry). occurs n (history-cells l)) c))))
-      (h n)
-
-  pub carried-within : (ms ns : List Member) (ps : List Packet) (hs : List Entry) → All-carried ms ns → ((n : ℕ) → uses n ms ps hs ≤ bound n) → (n : ℕ) → uses n ns ps hs ≤ bound n
-  carried-within ms ns ps hs h =
-      within-same ms ns ps ps hs hs (relabelled-cells ms ns (all-carried-relabelled ms ns h)) refl refl
-
-  -- a collected packet's cell goes from the queue to the held packets, or is free
-  retain-within : (s : State) (i : ℕ) (m : Member) (e : Event) → at-place i (s .members) ≡ some m → front (m .queue) ≡ some e → eqb (e .kind) 0 ≡ true
-      → Within bound s → Within bound (retain-group-packet i (packet-of m e) (popped i s))
-  retain-within s i m e at f d h n =
-      let p = packet-of m e in
-      let queued : occurs n (queued-cells (retain-group-packet i p (popped i s) .members)) ≡ occurs n (queued-cells (change i pop (s .members))) =
-      ap (occurs n) (relabelled-cells (change i pop (s .members)) _ (retain-relabelled i p (popped i s)))
-      in
-      let history : occurs n (history-cells (retain-group-packet i p (popped i s) .send .history)) ≡ occurs n (history-cells (s .send .history)) =
-      ap (λ (x : Send). occurs n (history-cells (x .history))) (retain-send i p (popped i s))
-      in
-      omega (arith, h n, queued, history, retain-pending n i p (popped i s), popped-data n i m e (s .members) at f d)
-
-  deliver-within : (s : State) (base : ℕ) (p : Packet) → Within bound s → Within bound (deliver-packet base p s)
-  unfolding deliver-packet pass-run
-  deliver-within s base p h n =
-      let parts = release-all (covered base (p .content .count) (s .receive .pending)) s in
-      let queued : occurs n (queued-cells (advance-legs (sequence-further base (p .content .count)) parts .members)) ≡ occurs n (queued-cells (s .members)) =
-      ap (occurs n) (relabelled-cells (parts .members) _ (advance-relabelled (sequence-further base (p .content .count)) parts) ∙ release-cells _ s)
-      in
-      let history : occurs n (history-cells (advance-legs (sequence-further base (p .content .count)) parts .send .history)) ≡ occurs n (history-cells (s .send .history)) =
-      ap (λ (x : Send). occurs n (history-cells (x .history))) (advance-send (sequence-further base (p .content .count)) parts ∙ release-all-send _ s)
-      in
-      omega (arith, h n, queued, history, fewer-held n (λ q. not (is-covered base (p .content .count) q)) (s .receive .pending))
-
-  report-within : (s : State) (i : ℕ) (w : Waiting) → Within bound (popped i s) → Within bound (report-event i w (popped i s))
-  unfolding report-event
-  report-within s i w h = carried-within (change i pop (s .members)) _ (s .receive .pending) (s .send .history) (report-carried i w (popped i s)) h
-
-  pub within-law : State-law (Within bound)
-  unfolding admit-connected-peer-groups skip-to
-  within-law =
-      record {
-        admits =
-            λ r h.
-            let parts = set-base-parts (base-after none (r .state .members)) r in
-            within-same (r .state .members) _ (r .state .receive .pending) _ (r .state .send .history) _
-            (relabelled-cells (r .state .members) _ (all-carried-relabelled (r .state .members) _ (admit-all-carried _ (r .state .members))))
-            (parts .0) (ap (λ (x : Send). x .history) (parts .1)) h;
-        settles = λ s h. carried-within (s .members) _ (s .receive .pending) (s .send .history) (settle-carried _ _ (s .members)) h;
-        requalifies = λ s h. carried-within (s .members) _ (s .receive .pending) (s .send .history) (requalify-carried _ _ (s .members)) h;
-        continues = λ s b h. h;
-        turns = λ s i m at h. h;
-        takes = λ s i m e at f d h. retain-within s i m e at f d h;
-        reports =
-            λ s i m e at f d h.
-            report-within s i _ (within-same (s .members) (change i pop (s .members)) (s .receive .pending) _ (s .send .history) _ (sym (popped-event i m e (s .members) at f d)) refl refl h);
-        delivers = λ s base p g h. deliver-within s base p h;
-        skips = λ s base p g h. h;
-        bases = λ s p g h. h;
-        gives = λ s h. h;
-      }

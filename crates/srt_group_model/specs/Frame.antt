@@ -133,7 +133,7 @@ unfolding synchronize-send-sequence
 synchronize-gives sequence l =
     if-elim (Gives l) _ _ _ (λ e. gives-some l _ record { receiver = refl; link = refl }) (λ e. gives-none l)
 
-align-gives : (sequence : ℕ) (l : Leg) → Gives l (align-leg sequence l)
+pub align-gives : (sequence : ℕ) (l : Leg) → Gives l (align-leg sequence l)
 unfolding align-leg
 align-gives sequence l =
     if-elim (Gives l) _ _ _ (λ e. gives-some l l (same-leg l)) (λ e. synchronize-gives sequence l)
@@ -491,11 +491,11 @@ take-over-framed time i s =
 abbrev pub Active-at : ℕ → State → Type 0
 Active-at i s = (m : Member) → at-place i (s .members) ≡ some m → is-active m ≡ true
 
-first-active-at : (s : State) (i : ℕ) → place-of is-active (s .members) ≡ some i → Active-at i s
+pub first-active-at : (s : State) (i : ℕ) → place-of is-active (s .members) ≡ some i → Active-at i s
 first-active-at s i e m at = place-passes is-active (s .members) i e m at
 
 -- a take-over leaves the member active
-take-over-active : (i : ℕ) (s t : State) → Framed Kept s t → Active-at i s → Active-at i t
+pub take-over-active : (i : ℕ) (s t : State) → Framed Kept s t → Active-at i s → Active-at i t
 unfolding is-active
 take-over-active i s t h active n at =
     each-to-before Kept (s .members) (t .members) (h .members) i n at

@@ -20,7 +20,8 @@ use Rattle.srt_group_model.specs.Guards.{Step, Check, guard}
 use Rattle.srt_group_model.specs.Calls.{event-poll-body, poll-event-call, data-poll-body, poll-data-call}
 use Rattle.srt_group_model.specs.Lent.{Lent, event-poll, data-poll, with-bytes, step-of, perform}
 use Rattle.srt_group_model.specs.Refusals.{guard-elim}
-use Rattle.srt_group_model.specs.Queues.{Relabelled, All-relabelled, pop, packet-of, is-collected, Queue-law, poll-event-kept, poll-data-kept}
+use Rattle.srt_group_model.specs.Queues.{Relabelled, All-relabelled, pop, packet-of, is-collected, Queue-law}
+use Rattle.srt_group_model.specs.Walk.{poll-event-kept, poll-data-kept}
 use Rattle.srt_group_model.specs.declared.Data.{Data}
 use Rattle.srt_group_model.specs.declared.Event.{Event}
 

@@ -41,6 +41,8 @@ pub mod Ascending
 pub mod Steps
 pub mod CellsKept
 pub mod CellsCalls
+pub mod Fixed
+pub mod CellsMoved
 pub mod Unique
 pub mod Sums
 pub mod SumsRemoval
@@ -51,5 +53,9 @@ pub mod Acknowledging
 pub mod RangesCalls
 pub mod Counts
 pub mod Rounds
+pub mod CallLaw
+pub mod Waits
+pub mod EveryCall
+pub mod MemberMoves
 pub mod Valid
 pub mod Sound

@@ -103,7 +103,7 @@ until-empty-numbers (suc n) sequence r =
 abbrev pub Not-held : ℕ → Visited → Type 0
 Not-held sequence v = v .went ≡ true → is-held sequence (v .run .state .receive .pending) ≡ false
 
-until-empty-not-held : (n sequence : ℕ) (r : Run) → Not-held sequence (collect-until-empty n sequence r)
+pub until-empty-not-held : (n sequence : ℕ) (r : Run) → Not-held sequence (collect-until-empty n sequence r)
 unfolding collect-until-empty
 until-empty-not-held zero sequence r = λ k. not-both k refl
 until-empty-not-held (suc n) sequence r =
@@ -114,143 +114,20 @@ until-empty-not-held (suc n) sequence r =
     ap (λ (x : Receive). is-held sequence (x .pending)) (collect-one-idle r g)
     ∙ or-right (r .state .visit .continuation) (is-held sequence (r .state .receive .pending)) h))
 
-until-empty-base : (n sequence : ℕ) (r : Run)
+pub until-empty-base : (n sequence : ℕ) (r : Run)
     → next-receive-sequence (collect-until-empty n sequence r .run .state .receive) ≡ next-receive-sequence (r .state .receive)
 until-empty-base n sequence r = ap (λ (x : Receiving). flagged (x .based) (x .base)) (until-empty-numbers n sequence r)
 
 -- after a skip, and after the base was set, it is where it was put
-skip-base : (base next : ℕ) (x : Receive) → next-receive-sequence (skip-to base next x) ≡ some next
+pub skip-base : (base next : ℕ) (x : Receive) → next-receive-sequence (skip-to base next x) ≡ some next
 unfolding skip-to flagged
 skip-base base next x = refl
 
 abbrev pub At-base : ℕ → Run → Type 0
 At-base n r = next-receive-sequence (r .state .receive) ≡ some n
 
-set-base-base : (n : ℕ) (r : Run) → next-receive-sequence (r .state .receive) ≡ none → At-base n (set-base (some n) r)
+pub set-base-base : (n : ℕ) (r : Run) → next-receive-sequence (r .state .receive) ≡ none → At-base n (set-base (some n) r)
 unfolding set-base flagged
 set-base-base n r e =
     if-some-elim (At-base n) _ _ _ (λ b g. none-some (sym e ∙ g))
     (λ g. if-some-elim (At-base n) (some n) _ _ (λ b k. sym k) (λ k. none-some (sym k)))
-
--- ---- the walk
-
-module _ (I : Receive → List Mark → Type 0) (law : Law I) where
-  abbrev pub Holds : Run → Type 0
-  Holds r = I (r .state .receive) (r .log)
-
-  pub set-base-holds : (o : Option ℕ) (r : Run) → Holds r → Holds (set-base o r)
-  unfolding set-base
-  set-base-holds o r h =
-      if-some-elim Holds _ _ _ (λ b e. h) (λ e. if-some-elim Holds _ _ _ (λ b g. law .sets-base _ _ b e h) (λ g. h))
-
-  pub refresh-pending-holds : (r : Run) → Holds r → Holds (refresh-pending-states r)
-  unfolding refresh-pending-states admit-connected-peer-groups
-  refresh-pending-holds r h = set-base-holds _ r h
-
-  pub refresh-holds : (r : Run) → Holds r → Holds (refresh-states r)
-  unfolding refresh-states
-  refresh-holds r h = refresh-pending-holds r h
-
-  retain-holds : (i : ℕ) (p : Packet) (s : State) (log : List Mark) → I (s .receive) log → I (retain-group-packet i p s .receive) (collected p ∷ log)
-  unfolding retain-group-packet
-  retain-holds i p s log h =
-      if-elim (λ (t : State). I (t .receive) (collected p ∷ log)) _ _ _ (λ e. law .discards _ _ p e h) (λ e. law .retains _ _ p e h)
-
-  collect-member-holds : (i id : ℕ) (e : Event) (r : Run) → Holds r → Holds (collect-member-event i id e r)
-  unfolding collect-member-event report-event
-  collect-member-holds i id e r h = if-elim Holds _ _ _ (λ k. retain-holds i _ (r .state) (r .log) h) (λ k. h)
-
-  take-front-holds : (i : ℕ) (m : Member) (r : Run) → Holds r → Holds (take-front i m r .run)
-  unfolding take-front
-  take-front-holds i m r h =
-      if-some-elim (λ (v : Visited). Holds (v .run)) _ _ _
-      (λ e g. if-elim (λ (v : Visited). Holds (v .run)) _ _ _ (λ k. h) (λ k. collect-member-holds i _ e _ h))
-      (λ g. h)
-
-  pub collect-one-holds : (r : Run) → Holds r → Holds (collect-one-event r .run)
-  unfolding collect-one-event
-  collect-one-holds r h =
-      if-some-elim (λ (v : Visited). Holds (v .run)) _ _ _
-      (λ i g. if-some-elim (λ (v : Visited). Holds (v .run)) _ _ _ (λ m k. take-front-holds i m r h) (λ k. h))
-      (λ g. h)
-
-  pub until-held-holds : (n : ℕ) (r : Run) → Holds r → Holds (collect-until-held n r)
-  unfolding collect-until-held
-  until-held-holds zero r h = h
-  until-held-holds (suc n) r h =
-      if-elim Holds _ _ _ (λ e. h)
-      (λ e.
-      if-elim Holds _ _ _ (λ g. collect-one-holds r h)
-      (λ g. if-elim Holds _ _ _ (λ k. collect-one-holds r h) (λ k. until-held-holds n _ (collect-one-holds r h))))
-
-  pub until-empty-holds : (n sequence : ℕ) (r : Run) → Holds r → Holds (collect-until-empty n sequence r .run)
-  unfolding collect-until-empty
-  until-empty-holds zero sequence r h = h
-  until-empty-holds (suc n) sequence r h =
-      if-elim (λ (v : Visited). Holds (v .run)) _ _ _ (λ e. h)
-      (λ e.
-      if-elim (λ (v : Visited). Holds (v .run)) _ _ _ (λ g. until-empty-holds n sequence _ (collect-one-holds r h))
-      (λ g. collect-one-holds r h))
-
-  pub deliver-holds : (base : ℕ) (r : Run) → next-receive-sequence (r .state .receive) ≡ some base → Holds r → Holds (deliver base r .run)
-  unfolding deliver deliver-packet advance-legs
-  deliver-holds base r b h =
-      if-some-elim (λ (q : Poll). Holds (q .run)) _ _ _ (λ p g. law .delivers _ _ base p b g h) (λ g. h)
-
-  give-waiting-holds : (r : Run) → Holds r → Holds (give-waiting r .run)
-  unfolding give-waiting
-  give-waiting-holds r h = if-some-elim (λ (q : Poll). Holds (q .run)) _ _ _ (λ w g. h) (λ g. h)
-
-  skip-after-holds : (time : ℕ) (tested : State) (base : ℕ) (c : Visited) → next-receive-sequence (c .run .state .receive) ≡ some base
-      → Not-held base c → Holds (c .run) → Holds (skip-after time tested base c .run)
-  unfolding skip-after
-  skip-after-holds time tested base c b n h =
-      if-elim (λ (q : Poll). Holds (q .run)) _ _ _ (λ e. give-waiting-holds (c .run) h)
-      (λ e.
-      if-elim (λ (q : Poll). Holds (q .run)) _ _ _
-      (λ g.
-      if-some-elim (λ (q : Poll). Holds (q .run)) _ _ _
-      (λ p k. deliver-holds (sequence-of p) _ (skip-base base (sequence-of p) _) (law .skips _ _ base p tested time b (n g) k h))
-      (λ k. h))
-      (λ g. deliver-holds base (c .run) b h))
-
-  pub skip-holds : (time base : ℕ) (r : Run) → next-receive-sequence (r .state .receive) ≡ some base → Holds r → Holds (skip-given-up-gap time base r .run)
-  unfolding skip-given-up-gap
-  skip-holds time base r b h =
-      if-elim (λ (q : Poll). Holds (q .run)) _ _ _ (λ e. deliver-holds base r b h)
-      (λ e.
-      skip-after-holds time (r .state) base (collect-until-empty max-visits base r) (until-empty-base max-visits base r ∙ b)
-      (until-empty-not-held max-visits base r) (until-empty-holds max-visits base r h))
-
-  pub deliver-next-holds : (time : ℕ) (r : Run) → Holds r → Holds (deliver-next time r .run)
-  unfolding deliver-next
-  deliver-next-holds time r h =
-      if-some-elim (λ (q : Poll). Holds (q .run)) _ _ _ (λ base b. skip-holds time base r b h)
-      (λ b.
-      if-some-elim (λ (q : Poll). Holds (q .run)) _ _ _
-      (λ p g. deliver-holds (sequence-of p) _ (set-base-base (sequence-of p) r b) (set-base-holds (some (sequence-of p)) r h))
-      (λ g. h))
-
-  pub poll-event-holds : (time : ℕ) (r : Run) → Holds r → Holds (poll-event time r .run)
-  unfolding poll-event
-  poll-event-holds time r h =
-      let gathered = until-held-holds max-visits _ (refresh-pending-holds _ h) in
-      if-elim (λ (q : Poll). Holds (q .run)) _ _ _ (λ e. give-waiting-holds _ gathered)
-      (λ e. deliver-next-holds time _ (refresh-holds _ gathered))
-
-  pass-events-holds : (gave : Polled) (r : Run) (later : DataPoll) → Holds r → Holds (later .run) → Holds (pass-events gave r later .run)
-  unfolding pass-events
-  pass-events-holds nothing r later h k = h
-  pass-events-holds (event w) r later h k = k
-  pass-events-holds (packet p) r later h k = h
-
-  pub poll-until-holds : (time n : ℕ) (r : Run) → Holds r → Holds (poll-until-data time n r .run)
-  unfolding poll-until-data
-  poll-until-holds time zero r h = h
-  poll-until-holds time (suc n) r h =
-      let polled = poll-event-holds time r h in pass-events-holds _ _ _ polled (poll-until-holds time n _ polled)
-
-  pub poll-data-holds : (time max-events : ℕ) (r : Run) → Holds r → Holds (poll-data-bounded time max-events r .run)
-  unfolding poll-data-bounded
-  poll-data-holds time max-events r h =
-      if-elim (λ (q : DataPoll). Holds (q .run)) _ _ _ (λ e. h) (λ e. poll-until-holds time _ r h)

@@ -14,15 +14,14 @@ use Rattle.srt_protocol.specs.Circle.{further, distance}
 use Rattle.srt_protocol.specs.Sequence.{half, sequence-further}
 use Rattle.srt_group_model.specs.Tools.{if_then_else_, if-some_give_otherwise_, or-else, flagged, any, such-that, first-such, place-of, at-place, change, each}
 use Rattle.srt_group_model.specs.Reason.{if-elim, if-some-elim, by-test, not-both, none-some, some-inj, and-left, and-right, or-left, or-right, All, all-map, all-append}
-use Rattle.srt_group_model.specs.State.{Member, Receive, Send, State, is-backup, next-send-sequence, turned, with-leg, with-members, on-leg, on-membership, with-admitted, with-collision, with-reserved, pending-state, active-state, standby-state, unstable-state, broken-state}
+use Rattle.srt_group_model.specs.State.{Member, turned, with-leg, on-membership, with-admitted, with-collision}
 use Rattle.srt_group_model.specs.Legs.{is-connected, has-sender, can-send, no-sequence, next-sequence-number, peer-initial-sequence, send-shared-with-sequence, synchronize-send-sequence, release-data-reservation, advance-receive-sequence, largest-sequence, largest-16, largest-32, largest-64}
-use Rattle.srt_group_model.specs.Members.{id-of, has-id, promotion, promote-backup-member, promote-if-none, arrives, base-after, peer-after, admit-peer-group, alignment-source, align-leg, align-member-sequence, steps-from, turn-aligned, settle, requalify, settle-members, break-disconnected, requalify-members}
+use Rattle.srt_group_model.specs.Members.{id-of, arrives, base-after, peer-after, alignment-source, align-leg}
 use Rattle.srt_group_model.specs.Validity.{above, max-events, is-too-large, event-out-of-range}
 use Rattle.srt_group_model.specs.Cells.{is-data}
 use Rattle.srt_protocol.specs.declared.time.Timestamp.{Timestamp}
 use Rattle.srt_group_model.specs.declared.Leg.{Leg}
 use Rattle.srt_group_model.specs.declared.Event.{Event}
-use Rattle.srt_group_model.specs.declared.GroupMode.{GroupMode}
 
 -- ---- legs
 
@@ -209,96 +208,31 @@ unfolding flagged
 flagged-fit true n h k e = subst (λ (x : ℕ). x ≤ largest-sequence) (some-inj e) h
 flagged-fit false n h k e = none-some e
 
-source-fit : (number : Option ℕ) (id : ℕ) (ms : List Member) → Option-fit number → All-fit ms → Option-fit (alignment-source number id ms)
+pub source-fit : (number : Option ℕ) (id : ℕ) (ms : List Member) → Option-fit number → All-fit ms → Option-fit (alignment-source number id ms)
 unfolding alignment-source or-else
 source-fit (some n) id ms b h = b
 source-fit none id ms b h =
     if-some-elim Option-fit _ _ _
     (λ m e. flagged-fit (has-sender (m .leg)) (m .leg .sender .next) (first-such-fit _ m ms e h .leg .next)) (λ e n g. none-some g)
 
-abbrev pub Members-give : Option (List Member) → Type 0
-Members-give o = (ns : List Member) → o ≡ some ns → All-fit ns
-
-pub align-fit : (number : Option ℕ) (i : ℕ) (ms : List Member) → Option-fit number → All-fit ms → Members-give (align-member-sequence number i ms)
-unfolding align-member-sequence
-align-fit number i ms b h =
-    if-some-elim Members-give _ _ _
-    (λ m at.
-    if-some-elim Members-give _ _ _
-    (λ sequence g.
-    if-some-elim Members-give _ _ _
-    (λ l k ns e.
-    subst All-fit (some-inj e)
-    (change-fit i (with-leg l) ms
-    (λ x f. with-leg-fit l x (align-leg-fit sequence (m .leg) (source-fit number (id-of m) ms b h sequence g) (at-fit i m ms at h .leg) l k) f) h))
-    (λ k ns e. none-some e))
-    (λ g ns e. subst All-fit (some-inj e) h))
-    (λ at ns e. none-some e)
-
-pub promote-fit : (ms : List Member) → All-fit ms → All-fit (promote-backup-member ms)
-unfolding promote-backup-member
-promote-fit ms h =
-    if-some-elim All-fit _ _ _ (λ i e. change-fit i (turned active-state) ms (λ m f. turned-fit active-state m (omega arith) f) h) (λ e. h)
-
-pub promote-if-none-fit : (mode : GroupMode) (ms : List Member) → All-fit ms → All-fit (promote-if-none mode ms)
-unfolding promote-if-none
-promote-if-none-fit mode ms h = if-elim All-fit _ _ _ (λ e. promote-fit ms h) (λ e. h)
-
-turn-aligned-fit : (test : Member → Bool) (state : List Member → ℕ) (number : Option ℕ) → ((ms : List Member) → state ms ≤ 4) → Option-fit number
-    → (i : ℕ) (ms : List Member) → All-fit ms → All-fit (turn-aligned test state number i ms)
-unfolding turn-aligned
-turn-aligned-fit test state number low b i ms h =
-    if-some-elim All-fit _ _ _
-    (λ m at.
-    if-elim All-fit _ _ _
-    (λ t.
-    if-some-elim All-fit _ _ _
-    (λ ns g. change-fit i (turned (state ns)) ns (λ x f. turned-fit (state ns) x (low ns) f) (align-fit number i ms b h ns g)) (λ g. h))
-    (λ t. h))
-    (λ at. h)
-
-steps-fit : (step : ℕ → List Member → List Member) → ((i : ℕ) (ms : List Member) → All-fit ms → All-fit (step i ms)) → (k i : ℕ) (ms : List Member) → All-fit ms → All-fit (steps-from step k i ms)
-unfolding steps-from
-steps-fit step g zero i ms h = h
-steps-fit step g (suc k) i ms h = steps-fit step g k (suc i) (step i ms) (g i ms h)
-
-pub settle-fit : (mode : GroupMode) (number : Option ℕ) (ms : List Member) → Option-fit number → All-fit ms → All-fit (settle-members mode number ms)
-unfolding settle-members settle
-settle-fit mode number ms b h =
-    promote-if-none-fit mode (steps-from (settle mode number) (length ms) 0 ms)
-    (steps-fit (settle mode number)
-    (turn-aligned-fit _ _ number (λ ns. if-elim (λ (n : ℕ). n ≤ 4) (is-backup mode) standby-state active-state (λ e. omega arith) (λ e. omega arith)) b)
-    (length ms) 0 ms h)
-
-pub requalify-fit : (mode : GroupMode) (number : Option ℕ) (ms : List Member) → Option-fit number → All-fit ms → All-fit (requalify-members mode number ms)
-unfolding requalify-members requalify break-disconnected
-requalify-fit mode number ms b h =
-    let parted = each break-disconnected ms in
-    promote-if-none-fit mode (steps-from (requalify mode number) (length parted) 0 parted)
-    (steps-fit (requalify mode number)
-    (turn-aligned-fit _ _ number (λ ns. if-elim (λ (n : ℕ). n ≤ 4) _ standby-state active-state (λ e. omega arith) (λ e. omega arith)) b)
-    (length parted) 0 parted
-    (each-fit break-disconnected ms (λ m f. if-elim Member-fit _ _ _ (λ e. turned-fit broken-state m (omega arith) f) (λ e. f)) h))
-
 -- ---- admission
 
-pub base-after-fit : (o : Option ℕ) (ms : List Member) → Option-fit o → All-fit ms → Option-fit (base-after o ms)
-unfolding base-after or-else flagged
-base-after-fit o [] b h = b
-base-after-fit none (m ∷ ms) b h =
-    base-after-fit _ ms
-    (if-elim Option-fit (arrives m) _ _ (λ e. first-fit (m .leg) (h .0 .leg)) (λ e. b)) (h .1)
+pub first-fit : (l : Leg) → Leg-fit l → Option-fit (peer-initial-sequence l)
+unfolding flagged
+first-fit l f n e = first-of (eqb (l .receiver .first) no-sequence) (l .receiver .first) (f .first) n e
   where
-    first-fit : (l : Leg) → Leg-fit l → Option-fit (peer-initial-sequence l)
-    first-fit l f n e = first-of (eqb (l .receiver .first) no-sequence) (l .receiver .first) (f .first) n e
+    first-of : (none-there : Bool) (k : ℕ) → (is-too-large k && not none-there) ≡ false → Option-fit (flagged (not none-there) k)
+    first-of true k g n e = none-some e
+    first-of false k g n e = subst (λ (x : ℕ). x ≤ largest-sequence) (some-inj e) (ltb-false largest-sequence k (and-true (is-too-large k) g))
       where
-        first-of : (none-there : Bool) (k : ℕ) → (is-too-large k && not none-there) ≡ false → Option-fit (flagged (not none-there) k)
-        first-of true k g n e = none-some e
-        first-of false k g n e = subst (λ (x : ℕ). x ≤ largest-sequence) (some-inj e) (ltb-false largest-sequence k (and-true (is-too-large k) g))
-          where
-            and-true : (b : Bool) → b && true ≡ false → b ≡ false
-            and-true true g = g
-            and-true false g = refl
+        and-true : (b : Bool) → b && true ≡ false → b ≡ false
+        and-true true g = g
+        and-true false g = refl
+
+pub base-after-fit : (o : Option ℕ) (ms : List Member) → Option-fit o → All-fit ms → Option-fit (base-after o ms)
+unfolding base-after or-else
+base-after-fit o [] b h = b
+base-after-fit none (m ∷ ms) b h = base-after-fit _ ms (if-elim Option-fit (arrives m) _ _ (λ e. first-fit (m .leg) (h .0 .leg)) (λ e. b)) (h .1)
 base-after-fit (some n) (m ∷ ms) b h =
     base-after-fit _ ms (if-elim Option-fit (arrives m) _ _ (λ e. b) (λ e. b)) (h .1)
 
@@ -308,13 +242,8 @@ peer-after-fit peer [] b h = b
 peer-after-fit peer (m ∷ ms) b h =
     peer-after-fit _ ms (if-elim (λ (n : ℕ). n ≤ largest-32) _ _ _ (λ e. h .0 .leg .peer) (λ e. b)) (h .1)
 
-pub admit-fit : (peer : ℕ) (m : Member) → peer ≤ largest-32 → Member-fit m → Member-fit (admit-peer-group peer m)
-unfolding admit-peer-group
-admit-fit peer m b h =
-    if-elim Member-fit _ _ _
-    (λ e.
-    if-elim Member-fit _ _ _
-    (λ g.
+pub admitted-fit : (m : Member) → Member-fit m → Member-fit (on-membership with-admitted m)
+admitted-fit m h =
     record {
       leg = h .leg;
       id = h .id;
@@ -325,8 +254,10 @@ admit-fit peer m b h =
       actual = h .actual;
       queue = h .queue;
       short = h .short;
-    })
-    (λ g.
+    }
+
+pub collided-fit : (peer : ℕ) (m : Member) → peer ≤ largest-32 → Member-fit m → Member-fit (on-membership (with-collision peer (m .leg .link .peer)) m)
+collided-fit peer m b h =
     record {
       leg = h .leg;
       id = h .id;
@@ -337,5 +268,4 @@ admit-fit peer m b h =
       actual = h .leg .peer;
       queue = h .queue;
       short = h .short;
-    }))
-    (λ e. h)
+    }

@@ -9,7 +9,7 @@ use native.Mathlib.Omega.{arith}
 use borrow.Author.Tests.{eqb-true, ltb-false, ltb-true}
 use lib.Dec.{leb, ltb, eqb}
 use lib.ListN.{length}
-use Rattle.srt_group_model.specs.Tools.{if_then_else_, if-some_give_otherwise_, such-that, at-place, change, each, any}
+use Rattle.srt_group_model.specs.Tools.{if_then_else_, if-some_give_otherwise_, such-that, at-place, change, each, any, total}
 use Rattle.srt_group_model.specs.Reason.{if-elim, if-some-elim, by-test, not-both, none-some, some-inj, or-left, or-right, All}
 use Rattle.srt_group_model.specs.State.{Member, Receive, Send, State, with-send, with-history}
 use Rattle.srt_group_model.specs.Legs.{largest-sequence, largest-16, largest-32}
@@ -19,17 +19,20 @@ use Rattle.srt_group_model.specs.Run.{Run, set-base, admit-connected-pee
 use Rattle.srt_group_model.specs.Collecting.{front, is-late, is-discarded, retain-group-packet, report-event}
 use Rattle.srt_group_model.specs.Delivery.{deliver-packet, pass-run, skip-to}
 use Rattle.srt_group_model.specs.Cells.{is-data, is-among, used-cells, queued-cells}
-use Rattle.srt_group_model.specs.Validity.{above, ascends, is-too-large, data-out-of-range, event-out-of-range, held-sequence-twice, id-twice, cell-twice, cell-beyond-store, is-invalid}
+use Rattle.srt_group_model.specs.Validity.{above, ascends, is-too-large, data-out-of-range, event-out-of-range, held-sequence-twice, id-twice, cell-twice, cell-beyond-store, is-invalid, queued-count}
 use Rattle.srt_group_model.specs.Queues.{pop, packet-of}
 use Rattle.srt_group_model.specs.Steps.{State-law, popped}
 use Rattle.srt_group_model.specs.Ascending.{insert-ascends, such-that-ascends}
-use Rattle.srt_group_model.specs.CellsKept.{Apart, Within, room, room-inside, room-most, one, one-same, occurs, absent, present, uses, pending-cells, history-cells, popped-data, set-base-parts, within-law, apart-of-rules, uses-used}
+use Rattle.srt_group_model.specs.CellsKept.{Apart, Within, room, room-inside, room-most, one, one-same, occurs, absent, present, uses, pending-cells, history-cells, popped-data, apart-of-rules, uses-used}
+use Rattle.srt_group_model.specs.CellsCalls.{within-law}
 use Rattle.srt_group_model.specs.Counts.{apart-few}
 use Rattle.srt_group_model.specs.Rounds.{In-round, round-law}
 use Rattle.srt_group_model.specs.Ranges.{Event-fit, Member-fit, at-fit}
-use Rattle.srt_group_model.specs.RangesKept.{Packet-fit, Fit, fit-law}
-use Rattle.srt_group_model.specs.Sums.{Sums-right, Summed, held-for, for-member, sums-law}
-use Rattle.srt_group_model.specs.SumsKept.{sums-of-rule}
+use Rattle.srt_group_model.specs.RangesKept.{Packet-fit, Fit}
+use Rattle.srt_group_model.specs.RangesCalls.{fit-law}
+use Rattle.srt_group_model.specs.Sums.{Sums-right, Summed, held-for, for-member}
+use Rattle.srt_group_model.specs.SumsRemoval.{Right}
+use Rattle.srt_group_model.specs.SumsKept.{sums-of-rule, right-law}
 use Rattle.srt_group_model.specs.Valid.{Valid, valid-of, counted-of, fit-of}
 use Rattle.srt_group_model.specs.declared.Data.{Data}
 use Rattle.srt_group_model.specs.declared.Event.{Event}
@@ -50,32 +53,6 @@ pub record Sound (s : State) : Type 0 where
 
 -- ---- the steps keep it
 
-Ascending : State → Type 0
-Ascending s = ascends (s .receive .pending) ≡ true
-
-retain-ascends : (i : ℕ) (p : Packet) (s : State) → Ascending s → Ascending (retain-group-packet i p s)
-unfolding retain-group-packet is-discarded Ascending
-retain-ascends i p s h =
-    if-elim (λ (t : State). ascends (t .receive .pending) ≡ true) _ _ _ (λ e. h)
-    (λ e. insert-ascends p (s .receive .pending) (or-right (is-late p (s .receive)) (is-held (sequence-of p) (s .receive .pending)) e) h)
-
-ascending-law : State-law Ascending
-unfolding admit-connected-peer-groups report-event deliver-packet pass-run skip-to Ascending
-ascending-law =
-    record {
-      admits = λ r h. ap ascends (set-base-parts _ r .0) ∙ h;
-      settles = λ s h. h;
-      requalifies = λ s h. h;
-      continues = λ s b h. h;
-      turns = λ s i m at h. h;
-      takes = λ s i m e at f d h. retain-ascends i (packet-of m e) (popped i s) h;
-      reports = λ s i m e at f d h. h;
-      delivers = λ s base p g h. such-that-ascends _ (s .receive .pending) h;
-      skips = λ s base p g h. h;
-      bases = λ s p g h. h;
-      gives = λ s h. h;
-    }
-
 -- laws that hold together
 module _ (P Q : State → Type 0) (p : State-law P) (q : State-law Q) where
   pub both-laws : State-law (λ s. P s × Q s)
@@ -94,37 +71,36 @@ module _ (P Q : State → Type 0) (p : State-law P) (q : State-law Q) where
         gives = λ s h. (p .gives s (h .0), q .gives s (h .1));
       }
 
-All-five : State → Type 0
-All-five s = Ascending s × (Within (room most-cells) s × (Fit s × (Sums-right s × In-round s)))
+All-four : State → Type 0
+All-four s = Right s × (Within (room most-cells) s × (Fit s × In-round s))
 
-five-law : State-law All-five
-unfolding All-five
-five-law =
-    both-laws _ _ ascending-law
-    (both-laws _ _ (within-law (room most-cells)) (both-laws _ _ fit-law (both-laws _ _ sums-law round-law)))
+four-law : State-law All-four
+unfolding All-four
+four-law =
+    both-laws _ _ right-law (both-laws _ _ (within-law most-cells) (both-laws _ _ fit-law round-law))
 
-of-sound : (s : State) → Sound s → All-five s
-unfolding All-five Ascending
-of-sound s h = (h .ascending, (h .cells, (h .fit, (h .sums, h .round))))
+of-sound : (s : State) → Sound s → All-four s
+unfolding All-four
+of-sound s h = (record { sums = h .sums; ascending = h .ascending }, (h .cells, (h .fit, h .round)))
 
-to-sound : (s : State) → All-five s → Sound s
-unfolding All-five Ascending
-to-sound s h = record { ascending = h .0; cells = h .1 .0; fit = h .1 .1 .0; sums = h .1 .1 .1 .0; round = h .1 .1 .1 .1 }
+to-sound : (s : State) → All-four s → Sound s
+unfolding All-four
+to-sound s h = record { ascending = h .0 .ascending; cells = h .1 .0; fit = h .1 .1 .0; sums = h .0 .sums; round = h .1 .1 .1 }
 
 pub sound-law : State-law Sound
 sound-law =
     record {
-      admits = λ r h. to-sound _ (five-law .admits r (of-sound _ h));
-      settles = λ s h. to-sound _ (five-law .settles s (of-sound _ h));
-      requalifies = λ s h. to-sound _ (five-law .requalifies s (of-sound _ h));
-      continues = λ s b h. to-sound _ (five-law .continues s b (of-sound _ h));
-      turns = λ s i m at h. to-sound _ (five-law .turns s i m at (of-sound _ h));
-      takes = λ s i m e at f d h. to-sound _ (five-law .takes s i m e at f d (of-sound _ h));
-      reports = λ s i m e at f d h. to-sound _ (five-law .reports s i m e at f d (of-sound _ h));
-      delivers = λ s base p g h. to-sound _ (five-law .delivers s base p g (of-sound _ h));
-      skips = λ s base p g h. to-sound _ (five-law .skips s base p g (of-sound _ h));
-      bases = λ s p g h. to-sound _ (five-law .bases s p g (of-sound _ h));
-      gives = λ s h. to-sound _ (five-law .gives s (of-sound _ h));
+      admits = λ r h. to-sound _ (four-law .admits r (of-sound _ h));
+      settles = λ s h. to-sound _ (four-law .settles s (of-sound _ h));
+      requalifies = λ s h. to-sound _ (four-law .requalifies s (of-sound _ h));
+      continues = λ s b h. to-sound _ (four-law .continues s b (of-sound _ h));
+      turns = λ s i m at h. to-sound _ (four-law .turns s i m at (of-sound _ h));
+      takes = λ s i m e at f d h. to-sound _ (four-law .takes s i m e at f d (of-sound _ h));
+      reports = λ s i m e at f d h. to-sound _ (four-law .reports s i m e at f d (of-sound _ h));
+      delivers = λ s base p g h. to-sound _ (four-law .delivers s base p g (of-sound _ h));
+      skips = λ s base p g h. to-sound _ (four-law .skips s base p g (of-sound _ h));
+      bases = λ s p g h. to-sound _ (four-law .bases s p g (of-sound _ h));
+      gives = λ s h. to-sound _ (four-law .gives s (of-sound _ h));
     }
 
 -- ---- a valid state has it
@@ -279,3 +255,30 @@ module _ (s : State) (i : ℕ) (m : Member) (e : Event) (sound : Sound s) (at : 
             );
         id = member-fits .id;
       }
+
+-- ---- a leg's reservation
+
+queued-most : (q : List Event) → All Event-fit q → queued-count q ≤ largest-16 * length q
+unfolding queued-count such-that total event-out-of-range if_then_else_
+queued-most [] h = omega arith
+queued-most (e ∷ q) h =
+    by-test (is-data e)
+    (λ d.
+    let fields = right-of (is-data e) _ d (or-right (above largest-32 (e .reason)) _ (or-right (above 3 (e .kind)) _ (h .0 .fields))) in
+    rw d (omega (arith, count-fits (e .content) fields, queued-most q (h .1))))
+    (λ d. rw d (omega (arith, queued-most q (h .1))))
+
+-- it is the counts of at most 2,048 held packets and 16 queued ones
+pub reservation-most : (s : State) (i : ℕ) (m : Member) → Sound s → at-place i (s .members) ≡ some m
+    → m .leg .receiver .reserved ≤ largest-16 * (most-cells + 16)
+reservation-most s i m sound at =
+    let fits = all-at Member-fit (s .members) i m (sound .fit .members) at in
+    omega (
+      arith,
+      all-at (Summed (s .receive .pending)) (s .members) i m (sound .sums .members) at .reservation,
+      held-for-most (id-of m) (s .receive .pending) (sound .fit .pending),
+      apart-few most-cells (pending-cells (s .receive .pending)) (λ n. omega (arith, sound .cells n)),
+      cells-length (s .receive .pending),
+      queued-most (m .queue) (fits .queue),
+      fits .short,
+    )

@@ -51,6 +51,14 @@ abbrev pub is-backup : GroupMode → Bool
 is-backup Broadcast = false
 is-backup Backup = true
 
+-- an identity with this peer; the rest is fixed at creation
+abbrev pub bound-to : ℕ → Identity → Identity
+bound-to n x = record { id = x .id; mode = x .mode; length = x .length; peer = n }
+
+-- what is fixed at creation
+abbrev pub fixed : Identity → Identity
+fixed = bound-to 0
+
 -- document 01's base, if it is set
 abbrev pub next-receive-sequence : Receive → Option ℕ
 next-receive-sequence x = flagged (x .numbers .based) (x .numbers .base)
@@ -138,7 +146,7 @@ with-waiting ws s =
 abbrev pub with-peer : ℕ → State → State
 with-peer n s =
     record {
-      identity = record { id = s .identity .id; mode = s .identity .mode; length = s .identity .length; peer = n };
+      identity = bound-to n (s .identity);
       receive = s .receive;
       send = s .send;
       visit = s .visit;

@@ -13,23 +13,22 @@ use lib.ListN.{length, drop}
 use Rattle.srt_group_model.specs.Tools.{if_then_else_, if-some_give_otherwise_, any, such-that, at-place, place-of, change, each, total}
 use Rattle.srt_group_model.specs.Reason.{if-elim, if-some-elim, by-test, not-both, none-some, some-inj, and-left, and-right, and-yes, or-left, or-right, or-cases, or-yes-left, or-yes-right, All, all-map, all-append, each-to-each}
 use Rattle.srt_protocol.specs.Sequence.{sequence-further}
-use Rattle.srt_group_model.specs.State.{Member, State, with-members, on-leg, on-membership, with-reserved}
+use Rattle.srt_group_model.specs.State.{Member, State, with-receive, with-members, with-waiting, with-pending, on-leg, on-membership, with-reserved}
 use Rattle.srt_group_model.specs.Legs.{release-data-reservation, advance-receive-sequence}
-use Rattle.srt_group_model.specs.Members.{id-of, has-id, find, base-after, admit-peer-group}
+use Rattle.srt_group_model.specs.Members.{id-of, has-id, find}
 use Rattle.srt_group_model.specs.Nearest.{insert, is-covered}
-use Rattle.srt_group_model.specs.Run.{Run, set-base, admit-connected-peer-groups}
-use Rattle.srt_group_model.specs.Collecting.{front, retain-group-packet, report-event}
-use Rattle.srt_group_model.specs.Delivery.{release-pending-reservation, release-all, advance-legs, deliver-packet, pass-run, skip-to}
+use Rattle.srt_group_model.specs.Collecting.{front}
+use Rattle.srt_group_model.specs.Delivery.{release-pending-reservation, release-all, advance-legs, deliver-packet, pass-run}
 use Rattle.srt_group_model.specs.Removal.{is-owned}
 use Rattle.srt_group_model.specs.Cells.{is-data, is-among}
 use Rattle.srt_group_model.specs.Validity.{one-twice, held-count, queued-count}
-use Rattle.srt_group_model.specs.Frame.{Carried, All-carried, place-passes, admit-all-carried, settle-carried, requalify-carried}
-use Rattle.srt_group_model.specs.Queues.{Relabelled, pop, packet-of, All-relabelled, all-carried-relabelled, report-carried}
-use Rattle.srt_group_model.specs.Steps.{State-law, popped}
+use Rattle.srt_group_model.specs.Frame.{place-passes}
+use Rattle.srt_group_model.specs.Queues.{Relabelled, pop, packet-of}
+use Rattle.srt_group_model.specs.CallLaw.{Member-move, In-front}
+use Rattle.srt_group_model.specs.MemberMoves.{Same-account, moved-account, moved-relabelled}
 use Rattle.srt_group_model.specs.HonestLog.{ids, relabelled-ids, among-ids}
-use Rattle.srt_group_model.specs.Unique.{among-any}
+use Rattle.srt_group_model.specs.Unique.{among-any, changed-ids}
 use Rattle.srt_group_model.specs.declared.Event.{Event}
-use Rattle.srt_group_model.specs.declared.Receiver.{Receiver}
 use Rattle.srt_group_model.specs.declared.Waiting.{Waiting}
 use Rattle.srt_group_model.specs.declared.Packet.{Packet}
 
@@ -171,53 +170,20 @@ front-no-count (x ∷ q) e f d =
 
 -- ---- members that are carried on, or changed at one place
 
-pub changed-ids : (i : ℕ) (f : Member → Member) (ms : List Member) → ((m : Member) → id-of (f m) ≡ id-of m) → ids (change i f ms) ≡ ids ms
-unfolding change each
-changed-ids zero f [] h = refl
-changed-ids (suc i) f [] h = refl
-changed-ids zero f (m ∷ ms) h = ap (λ (k : ℕ). k ∷ ids ms) (h m)
-changed-ids (suc i) f (m ∷ ms) h = ap (λ (l : List ℕ). id-of m ∷ l) (changed-ids i f ms h)
-
-change-twice : (i : ℕ) (f g : Member → Member) (ms : List Member) → change i f (change i g ms) ≡ change i (λ x. f (g x)) ms
-unfolding change
-change-twice zero f g [] = refl
-change-twice (suc i) f g [] = refl
-change-twice zero f g (m ∷ ms) = refl
-change-twice (suc i) f g (m ∷ ms) = ap (λ (l : List Member). m ∷ l) (change-twice i f g ms)
-
-pub carried-summed : (ps : List Packet) (ms ns : List Member) → All-carried ms ns → All (Summed ps) ms → All (Summed ps) ns
-carried-summed ps [] [] h k = tt
-carried-summed ps [] (n ∷ ns) h k = absurd h
-carried-summed ps (m ∷ ms) [] h k = absurd h
-carried-summed ps (m ∷ ms) (n ∷ ns) h k =
-    let same = ap (λ (id : ℕ). held-for id ps) (h .0 .id) in (
-      record {
-        reserved = h .0 .reserved ∙ k .0 .reserved ∙ sym same;
-        reservation =
-            ap (λ (x : Receiver). x .reserved) (h .0 .receiver)
-            ∙ k .0 .reservation
-            ∙ ap₂ (λ (a b : ℕ). a + b) (sym same) (ap queued-count (sym (h .0 .queue)));
-      },
-      carried-summed ps ms ns (h .1) (k .1),
-    )
-
--- the same sums where members are carried on and the group's own sum stays
-pub sums-carried : (ps : List Packet) (s t : State) → All-carried (s .members) (t .members) → t .owned ≡ s .owned → Sums ps s → Sums ps t
-sums-carried ps s t h o k =
-    let names = relabelled-ids (s .members) (t .members) (all-carried-relabelled (s .members) (t .members) h) in
+account-summed : (ps : List Packet) (m n : Member) → Same-account m n → Summed ps m → Summed ps n
+account-summed ps m n h k =
+    let same = ap (λ (id : ℕ). held-for id ps) (h .id) in
     record {
-      unique = ap one-twice names ∙ k .unique;
-      members = carried-summed ps (s .members) (t .members) h (k .members);
-      placed = subst (λ (l : List ℕ). All (Placed l) ps) (sym names) (k .placed);
-      own = o ∙ k .own;
+      reserved = h .reserved ∙ k .reserved ∙ sym same;
+      reservation = h .reservation ∙ k .reservation ∙ ap₂ (λ (a b : ℕ). a + b) (sym same) (ap queued-count (sym (h .queue)));
     }
 
--- the same where one member is changed
+-- the sums where one member is changed
 pub sums-changed : (ps qs : List Packet) (i : ℕ) (m : Member) (f : Member → Member) (s t : State) → t .members ≡ change i f (s .members) → at-place i (s .members) ≡ some m
-    → ((x : Member) → id-of (f x) ≡ id-of x) → Sums ps s → ((x : Member) → Summed ps x → (id-of x ≡ id-of m → ⊥) → Summed qs x)
+    → ids (change i f (s .members)) ≡ ids (s .members) → Sums ps s → ((x : Member) → Summed ps x → (id-of x ≡ id-of m → ⊥) → Summed qs x)
     → (Summed ps m → Summed qs (f m)) → All (Placed (ids (s .members))) qs → t .owned ≡ held-own qs → Sums qs t
 sums-changed ps qs i m f s t e at keeps k other same placed own =
-    let names : ids (t .members) ≡ ids (s .members) = ap ids e ∙ changed-ids i f (s .members) keeps in
+    let names : ids (t .members) ≡ ids (s .members) = ap ids e ∙ keeps in
     record {
       unique = ap one-twice names ∙ k .unique;
       members =
@@ -246,39 +212,48 @@ retain-member ps e m f d h =
       reservation = omega (arith, h .reservation, more, mine, front-count (m .queue) e f d);
     }
 
-pub takes-sums : (s : State) (i : ℕ) (m : Member) (e : Event) → at-place i (s .members) ≡ some m → front (m .queue) ≡ some e → eqb (e .kind) 0 ≡ true
-    → Sums-right s → Sums-right (retain-group-packet i (packet-of m e) (popped i s))
-unfolding retain-group-packet
-takes-sums s i m e at f d h =
+pub moves-sums : (s : State) (i : ℕ) (m : Member) (f : Member → Member) → at-place i (s .members) ≡ some m → Member-move s m (f m)
+    → Sums-right s → Sums-right (with-members (change i f (s .members)) s)
+moves-sums s i m f at move h =
+    let ps = s .receive .pending in
+    sums-changed ps ps i m f s _ refl at (relabelled-ids (s .members) _ (moved-relabelled i m f (s .members) at move)) h (λ x k n. k)
+    (account-summed ps m (f m) (moved-account move)) (h .placed) (h .own)
+
+-- one member is changed, its id is not, and its sums are right by themselves
+pub changes-sums : (s : State) (i : ℕ) (m : Member) (f : Member → Member) (t : State) → t .members ≡ change i f (s .members) → t .receive .pending ≡ s .receive .pending
+    → t .owned ≡ s .owned → at-place i (s .members) ≡ some m → ((x : Member) → id-of (f x) ≡ id-of x)
+    → (Summed (s .receive .pending) m → Summed (s .receive .pending) (f m)) → Sums-right s → Sums-right t
+changes-sums s i m f t e held owned at keeps g h =
+    let ps = s .receive .pending in
+    subst (λ (l : List Packet). Sums l t) (sym held)
+    (sums-changed ps ps i m f s t e at (changed-ids i f (s .members) keeps) h (λ x k n. k) g (h .placed) (owned ∙ h .own))
+
+pub discards-sums : (s : State) (i : ℕ) (m : Member) (e : Event) → In-front s i m e → eqb (e .kind) 0 ≡ true → Sums-right s
+    → Sums-right (with-members (change i (λ x. on-leg (release-data-reservation (e .content .count)) (pop x)) (s .members)) s)
+discards-sums s i m e f d h = changes-sums s i m _ _ refl refl refl (f .stands) (λ x. refl) (discard-member (s .receive .pending) e m (f .first) d) h
+
+pub holds-sums : (s : State) (i : ℕ) (m : Member) (e : Event) → In-front s i m e → eqb (e .kind) 0 ≡ true → Sums-right s
+    → Sums-right (with-receive (with-pending (insert (packet-of m e) (s .receive .pending)) (s .receive))
+    (with-members (change i (λ x. on-membership (λ y. with-reserved (y .reserved + e .content .count) y) (pop x)) (s .members)) s))
+holds-sums s i m e f d h =
     let ps = s .receive .pending in
     let p = packet-of m e in
-    if-elim Sums-right _ _ _
-    (λ g.
-    sums-changed ps ps i m (λ x. on-leg (release-data-reservation (e .content .count)) (pop x)) s _ (change-twice i _ pop (s .members)) at
-    (λ x. refl) h (λ x k n. k) (discard-member ps e m f d) (h .placed) (h .own))
-    (λ g.
     sums-changed ps (insert p ps) i m (λ x. on-membership (λ y. with-reserved (y .reserved + e .content .count) y) (pop x)) s _
-    (change-twice i _ pop (s .members)) at (λ x. refl) h
+    refl (f .stands) (changed-ids i _ (s .members) (λ x. refl)) h
     (λ x k n.
     let none-more : for-member (id-of x) p ≡ 0 = for-other (id-of x) p n in
     record {
       reserved = omega (arith, k .reserved, inserted-for (id-of x) p ps, none-more);
       reservation = omega (arith, k .reservation, inserted-for (id-of x) p ps, none-more);
     })
-    (retain-member ps e m f d) (inserted-all (Placed (ids (s .members))) p ps (among-ids i m (s .members) at) (h .placed))
-    (omega (arith, h .own, inserted-own p ps, own-no p refl)))
+    (retain-member ps e m (f .first) d) (inserted-all (Placed (ids (s .members))) p ps (among-ids i m (s .members) (f .stands)) (h .placed))
+    (omega (arith, h .own, inserted-own p ps, own-no p refl))
 
-pub reports-sums : (s : State) (i : ℕ) (m : Member) (e : Event) (w : Waiting) → at-place i (s .members) ≡ some m → front (m .queue) ≡ some e → eqb (e .kind) 0 ≡ false
-    → Sums-right s → Sums-right (report-event i w (popped i s))
-unfolding report-event
-reports-sums s i m e w at f d h =
-    let ps = s .receive .pending in
-    let taken : Sums ps (popped i s) =
-    sums-changed ps ps i m pop s (popped i s) refl at (λ x. refl) h (λ x k n. k)
-    (λ k. record { reserved = k .reserved; reservation = omega (arith, k .reservation, front-no-count (m .queue) e f d) })
-    (h .placed) (h .own)
-    in
-    sums-carried ps (popped i s) _ (report-carried i w (popped i s)) refl taken
+pub reports-sums : (s : State) (i : ℕ) (m : Member) (e : Event) (ws : List Waiting) → In-front s i m e → eqb (e .kind) 0 ≡ false → Sums-right s
+    → Sums-right (with-waiting ws (with-members (change i pop (s .members)) s))
+reports-sums s i m e ws f d h =
+    changes-sums s i m pop _ refl refl refl (f .stands) (λ x. refl)
+    (λ k. record { reserved = k .reserved; reservation = omega (arith, k .reservation, front-no-count (m .queue) e (f .first) d) }) h
 
 -- ---- releasing
 
@@ -341,7 +316,7 @@ release-sums p qs s h =
     let m = standing .member in
     let at = standing .at in
     let same : id-of m ≡ p .member = eqb-true (id-of m) (p .member) (place-passes (has-id (p .member)) (s .members) i g m at) in
-    sums-changed (p ∷ qs) qs i m _ s _ refl at (λ x. refl) h
+    sums-changed (p ∷ qs) qs i m _ s _ refl at (changed-ids i _ (s .members) (λ x. refl)) h
     (λ x k n. rest-summed p qs x (for-other (id-of x) p (λ e. n (e ∙ sym same))) k) (release-member p qs m same o)
     (h .placed .1) (omega (arith, h .own, own-no p o)))
     (λ g. not-both (placed-member p (ids (s .members)) o (h .placed .0)) (among-any (p .member) (s .members) ∙ not-found (p .member) (s .members) g)))
@@ -449,37 +424,4 @@ same-sums s t a b c h =
       members = subst (λ (ms : List Member). All (Summed (t .receive .pending)) ms) (sym a) (subst (λ (ps : List Packet). All (Summed ps) (s .members)) (sym b) (h .members));
       placed = subst (λ (ms : List Member). All (Placed (ids ms)) (t .receive .pending)) (sym a) (subst (λ (ps : List Packet). All (Placed (ids (s .members))) ps) (sym b) (h .placed));
       own = c ∙ h .own ∙ ap held-own (sym b);
-    }
-
-pub set-base-rest : (o : Option ℕ) (r : Run) → (set-base o r .state .members ≡ r .state .members) × (set-base o r .state .receive .pending ≡ r .state .receive .pending) × (set-base o r .state .owned ≡ r .state .owned)
-unfolding set-base
-set-base-rest o r =
-    if-some-elim (λ (x : Run). (x .state .members ≡ r .state .members) × (x .state .receive .pending ≡ r .state .receive .pending) × (x .state .owned ≡ r .state .owned)) _ _ _
-    (λ b e. (refl, refl, refl))
-    (λ e.
-    if-some-elim (λ (x : Run). (x .state .members ≡ r .state .members) × (x .state .receive .pending ≡ r .state .receive .pending) × (x .state .owned ≡ r .state .owned)) _ _ _
-    (λ b g. (refl, refl, refl)) (λ g. (refl, refl, refl)))
-
-pub sums-law : State-law Sums-right
-unfolding admit-connected-peer-groups skip-to
-sums-law =
-    record {
-      admits =
-          λ r h.
-          let rest = set-base-rest (base-after none (r .state .members)) r in
-          let carried =
-          sums-carried (r .state .receive .pending) (r .state) (with-members (each (admit-peer-group _) (r .state .members)) (r .state))
-          (admit-all-carried _ (r .state .members)) refl h
-          in
-          same-sums (with-members (each (admit-peer-group _) (r .state .members)) (r .state)) _ refl (rest .1) (rest .2) carried;
-      settles = λ s h. sums-carried (s .receive .pending) s _ (settle-carried _ _ (s .members)) refl h;
-      requalifies = λ s h. sums-carried (s .receive .pending) s _ (requalify-carried _ _ (s .members)) refl h;
-      continues = λ s b h. same-sums s _ refl refl refl h;
-      turns = λ s i m at h. same-sums s _ refl refl refl h;
-      takes = takes-sums;
-      reports = λ s i m e at f d h. reports-sums s i m e record { member = id-of m; kind = e .kind; reason = e .reason } at f d h;
-      delivers = λ s base p g h. delivers-sums s base p h;
-      skips = λ s base p g h. same-sums s _ refl refl refl h;
-      bases = λ s p g h. same-sums s _ refl refl refl h;
-      gives = λ s h. same-sums s _ refl refl refl h;
     }

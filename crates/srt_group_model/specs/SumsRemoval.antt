@@ -15,7 +15,7 @@ use Rattle.srt_group_model.specs.Reason.{if-elim, if-some-elim, by-test,
 use Rattle.srt_group_model.specs.State.{Member, State}
 use Rattle.srt_group_model.specs.Members.{id-of}
 use Rattle.srt_group_model.specs.Nearest.{sequence-of, has-sequence, farther, farthest}
-use Rattle.srt_group_model.specs.Removal.{is-owned, own-packet, retire, largest-window, retirement-base, bound-group-owned-pending, take-out, remove-member-at}
+use Rattle.srt_group_model.specs.Removal.{is-owned, own-packet, retire, take-out}
 use Rattle.srt_group_model.specs.Cells.{is-among}
 use Rattle.srt_group_model.specs.Validity.{one-twice, ascends}
 use Rattle.srt_group_model.specs.Ascending.{Above, ascends-rest, ascends-above, such-that-ascends, own-ascends}
@@ -99,10 +99,13 @@ pub record Right (s : State) : Type 0 where
   pub sums : Sums-right s
   pub ascending : ascends (s .receive .pending) ≡ true
 
-retire-right : (p : Packet) (s : State) → In p (s .receive .pending) → is-owned p ≡ true → Right s → Right (retire p s)
+pub retire-right : (base : ℕ) (p : Packet) (s : State) → farthest base (such-that is-owned (s .receive .pending)) ≡ some p → Right s → Right (retire p s)
 unfolding retire
-retire-right p s k o h =
+retire-right base p s far h =
     let ps = s .receive .pending in
+    let found = farthest-in base (such-that is-owned ps) p far in
+    let k = chosen-in p is-owned ps found in
+    let o = chosen-passes p is-owned ps found in
     let a = h .ascending in
     record {
       sums =
@@ -120,19 +123,6 @@ retire-right p s k o h =
           };
       ascending = such-that-ascends _ ps a;
     }
-
-bound-right : (left limit base : ℕ) (s : State) → Right s → Right (bound-group-owned-pending left limit base s)
-unfolding bound-group-owned-pending
-bound-right zero limit base s h = h
-bound-right (suc left) limit base s h =
-    if-some-elim Right _ _ _
-    (λ p e.
-    let found = farthest-in base (such-that is-owned (s .receive .pending)) p e in
-    if-elim Right _ _ _ (λ g. h)
-    (λ g.
-    bound-right left limit base (retire p s)
-    (retire-right p s (chosen-in p is-owned (s .receive .pending) found) (chosen-passes p is-owned (s .receive .pending) found) h)))
-    (λ e. h)
 
 -- ---- the packets of a removed leg
 
@@ -216,7 +206,7 @@ at-all P (suc i) m [] at h = none-some at
 at-all P zero m (x ∷ ms) at h = subst P (some-inj at) (h .0)
 at-all P (suc i) m (x ∷ ms) at h = at-all P i m ms at (h .1)
 
-take-out-right : (i : ℕ) (m : Member) (s : State) → at-place i (s .members) ≡ some m → Right s → Right (take-out i m s)
+pub take-out-right : (i : ℕ) (m : Member) (s : State) → at-place i (s .members) ≡ some m → Right s → Right (take-out i m s)
 unfolding take-out
 take-out-right i m s at h =
     let ps = s .receive .pending in
@@ -238,7 +228,3 @@ take-out-right i m s at h =
           };
       ascending = own-ascends (id-of m) ps ∙ h .ascending;
     }
-
-pub remove-right : (i : ℕ) (m : Member) (s : State) → at-place i (s .members) ≡ some m → Right s → Right (remove-member-at i m s)
-unfolding remove-member-at
-remove-right i m s at h = bound-right _ _ _ (take-out i m s) (take-out-right i m s at h)

@@ -18,6 +18,7 @@ use Rattle.srt_group_model.specs.Members.{id-of}
 use Rattle.srt_group_model.specs.Cells.{is-data, queued-cells, used-cells}
 use Rattle.srt_group_model.specs.Validity.{above, is-too-large, is-blank, max-members, max-events, max-pending, max-waiting, count-above-limit, leg-sequence-too-large, sequence-too-large, one-twice, id-twice, ascends, held-sequence-twice, cell-twice, cell-beyond-store, reserved-sum-wrong, data-out-of-range, event-out-of-range, leg-out-of-range, member-out-of-range, field-out-of-range, broken-rules, is-invalid}
 use Rattle.srt_group_model.specs.Lent.{Lent, Call, with-bytes, step-of, perform}
+use Rattle.srt_group_model.specs.Fixed.{identity-kept}
 use Rattle.srt_group_model.specs.Unique.{Named, names-kept}
 use Rattle.srt_group_model.specs.Ascending.{ascending-kept}
 use Rattle.srt_group_model.specs.CellsKept.{Apart, apart-of-rules}
@@ -26,11 +27,12 @@ use Rattle.srt_group_model.specs.SumsRemoval.{Right}
 use Rattle.srt_group_model.specs.SumsKept.{none-of, of-none, sums-of-rule, rule-of-sums, sums-kept}
 use Rattle.srt_group_model.specs.Ranges.{Leg-fit, Event-fit, Member-fit}
 use Rattle.srt_group_model.specs.RangesKept.{Packet-fit, Entry-fit, Waiting-fit, Fit}
-use Rattle.srt_group_model.specs.RangesCalls.{leg-of-rules, rules-of-leg, no-either, step-fit}
-use Rattle.srt_group_model.specs.Counts.{pending-few, step-waits}
-use Rattle.srt_group_model.specs.Rounds.{In-round, step-round}
+use Rattle.srt_group_model.specs.RangesCalls.{leg-of-rules, rules-of-leg, no-either, fit-kept}
+use Rattle.srt_group_model.specs.Counts.{pending-few, waiting-kept}
+use Rattle.srt_group_model.specs.Rounds.{In-round, round-kept}
 use Rattle.srt_group_model.specs.Calls.{new}
 use Rattle.srt_group_model.specs.declared.GroupMode.{GroupMode}
+use Rattle.srt_group_model.specs.declared.Identity.{Identity}
 use Rattle.srt_group_model.specs.declared.Event.{Event}
 use Rattle.srt_group_model.specs.declared.Packet.{Packet}
 use Rattle.srt_group_model.specs.declared.Entry.{Entry}
@@ -311,18 +313,6 @@ cells-most length = omega arith
 
 -- ---- the law
 
-kept-fit : (c : Call) (lent : Lent) (s : State) → Fit s → Fit (perform c lent s .state)
-unfolding perform with-bytes
-kept-fit c lent s h = step-fit _ _ _ c s h
-
-kept-waits : (c : Call) (lent : Lent) (s : State) → length (s .waiting) ≤ max-waiting → length (perform c lent s .state .waiting) ≤ max-waiting
-unfolding perform with-bytes
-kept-waits c lent s h = step-waits _ _ _ c s h
-
-kept-round : (c : Call) (lent : Lent) (s : State) → In-round s → In-round (perform c lent s .state)
-unfolding perform with-bytes
-kept-round c lent s h = step-round _ _ _ c s h
-
 -- The group's peer id is a 32-bit number, as its type says; it stays one.
 pub valid-kept : (c : Call) (lent : Lent) (s : State) → s .identity .peer ≤ largest-32 → is-invalid (cells-of (length (lent .store))) s ≡ false
     → (is-invalid (cells-of (length (lent .store))) (perform c lent s .state) ≡ false) × (perform c lent s .state .identity .peer ≤ largest-32)
@@ -332,25 +322,25 @@ valid-kept c lent s b invalid =
     let h = valid-of cells s invalid in
     let counts = counted-of s (h .counts) in
     let t = perform c lent s .state in
-    let named = names-kept c lent s record { group-same = refl; unique = h .ids-once; few = counts .members } in
+    let named = names-kept c lent s record { unique = h .ids-once; few = counts .members } in
     let apart = cells-kept c lent s (h .cells-once) (h .cells-inside) in
     let right =
     sums-kept c lent s
     record { sums = sums-of-rule s (h .ids-once) (h .sums); ascending = not-not (ascends (s .receive .pending)) (h .ascending) }
     in
-    let fit = kept-fit c lent s (fit-of cells s h b) in (
+    let fit = fit-kept c lent s (fit-of cells s h b) in (
       of-valid cells t
           record {
-            blank = ap (λ (id : ℕ). not (has-group-mask id)) (named .group-same) ∙ h .blank;
+            blank = ap (λ (x : Identity). not (has-group-mask (x .id))) (identity-kept c lent s) ∙ h .blank;
             counts =
                 of-counted t
                 record {
                   members = named .few;
                   queues = queues-of t fit;
                   pending = omega (arith, pending-few cells t (apart-of-rules cells (used-cells t) (apart .0) (apart .1)), cells-most (length (lent .store)));
-                  waiting = kept-waits c lent s (counts .waiting);
+                  waiting = waiting-kept c lent s (counts .waiting);
                   history = fit .remembered;
-                  round = kept-round c lent s (counts .round);
+                  round = round-kept c lent s (counts .round);
                 };
             sequences = sequences-of t fit;
             ids-once = named .unique;

@@ -4,7 +4,7 @@ use mathlib.Core.Path.{_≡_, refl, sym, ap, _∙_, subst}
 use mathlib.Core.Logic.{_⊎_, inl, inr}
 use mathlib.Core.List.{List, [], _∷_, _++_, append-nil}
 use mathlib.Core.Option.{Option, none, some}
-use Prim.Native.Nat.{ℕ, _+_, _-_, _%_, _<_, min}
+use Prim.Native.Nat.{ℕ, _+_, _%_, _<_, min}
 use native.Mathlib.Nat.{add-zero, add-assoc, mod-eq-of-lt, mod-lt, mod-add-mod}
 use native.Mathlib.Omega.{arith}
 use Rattle.srt_protocol.specs.Circle.{further, further-distance, distance-further}
@@ -19,13 +19,14 @@ use Rattle.srt_group_model.specs.Calls.{new}
 use Rattle.srt_group_model.specs.declared.Data.{Data}
 use Rattle.srt_group_model.specs.declared.Packet.{Packet}
 use Rattle.srt_group_model.specs.Reason.{All, none-some, some-inj}
+use Rattle.srt_history.specs.Statement.{first-base, total-skipped, total-delivered, place-after, BaseClaim, When, when-of}
 use Rattle.srt_history.specs.Cases.{each-at}
-use Rattle.srt_history.specs.Marks.{first-base, total-skipped, total-delivered, place-after, total-delivered-append}
+use Rattle.srt_history.specs.Marks.{total-delivered-append}
 use Rattle.srt_history.specs.Law.{OfContent, PutLaw}
 use Rattle.srt_history.specs.CallWalk.{Fits, Holds, calls-hold}
 use Rattle.srt_history.specs.Held.{insert-all, nearest-all, not-covered-all}
 use Rattle.srt_history.specs.Sides.{sides}
-use Rattle.srt_history.specs.Shape.{When, when-of, Quiet, Skip, Shape, call-shape}
+use Rattle.srt_history.specs.Shape.{Quiet, Skip, Shape, call-shape}
 use Rattle.srt_group_model.specs.Lent.{Result, delivered-by}
 use Rattle.srt_history.specs.Calls.{Asked, do-call, Making, made, state-after, log-after, skipped-in, Delivery, delivery-of, given-by, deliveries, counts-of}
 
@@ -192,11 +193,11 @@ quiet-skips-nothing (gap-skipped tested time distance ∷ m) log h = absurd (h .
 quiet-skips-nothing (delivered p ∷ m) log h = absurd (h .0)
 
 -- before the packet that a call gave: so many skipped, and nothing delivered
-pub before-delivery : (when : When) (s : State) (m log : List Mark) → Quiet m ⊎ Skip when s m
+pub before-delivery : (when : When) (p : Packet) (s : State) (m log : List Mark) → Quiet m ⊎ Skip when p s m
     → (rise : ℕ) × (total-delivered (m ++ log) ≡ total-delivered log) × (total-skipped (m ++ log) ≡ total-skipped log + rise)
 unfolding total-delivered total-skipped
-before-delivery when s m log (inl quiet) = (0, quiet-delivers-nothing m log quiet, quiet-skips-nothing m log quiet ∙ omega arith)
-before-delivery when s m log (inr skip) = (
+before-delivery when p s m log (inl quiet) = (0, quiet-delivers-nothing m log quiet, quiet-skips-nothing m log quiet ∙ omega arith)
+before-delivery when p s m log (inr skip) = (
   skip .distance,
   ap (λ (x : List Mark). total-delivered (x ++ log)) (skip .is) ∙ quiet-delivers-nothing (skip .before) log (skip .quiet),
   ap (λ (x : List Mark). total-skipped (x ++ log)) (skip .is)
@@ -219,7 +220,7 @@ given-count when r = go (delivered-by (r .answer))
     go (some p) h =
         ap total-delivered (h .is)
         ∙ ap (λ (n : ℕ). n + p .content .count)
-        (sym (ap total-delivered (append-nil (h .before))) ∙ before-delivery when (r .state) (h .before) [] (h .how) .1)
+        (sym (ap total-delivered (append-nil (h .before))) ∙ before-delivery when p (r .state) (h .before) [] (h .how) .1)
         ∙ omega arith
 
 pub delivered-counts : (calls : List Asked) (s : State) → total-delivered (log-after calls s) ≡ counts-of (deliveries calls s)
@@ -235,14 +236,6 @@ delivered-counts (call ∷ more) s =
     )
 
 -- ---- the first claim
-
--- Modulo 2^31, the receive base less its first value is the delivered packet counts plus the skipped count.
-pub record BaseClaim (g : Making) (calls : List Asked) (first : ℕ) : Type 0 where
-  pub base : ℕ
-  pub is : next-receive-sequence (state-after calls (made g) .receive) ≡ some base
-  pub moved :
-      sequence-distance first base
-      ≡ (counts-of (deliveries calls (made g)) + skipped-in (state-after calls (made g))) % (half + half)
 
 pub base-claim : (g : Making) (calls : List Asked) (first : ℕ) → first-base (log-after calls (made g)) ≡ some first
     → skipped-in (state-after calls (made g)) < last-moment → BaseClaim g calls first

@@ -7,7 +7,7 @@ use mathlib.Core.Bool.{Bool, true, false, not, _&&_}
 use mathlib.Core.Logic.{_⊎_, inl, inr}
 use mathlib.Core.List.{List, [], _∷_, _++_, append-assoc}
 use mathlib.Core.Option.{Option, none, some}
-use Prim.Native.Nat.{ℕ, _+_, _-_, _*_, _≤_, _<_}
+use Prim.Native.Nat.{ℕ, _+_, _*_, _≤_, _<_}
 use native.Mathlib.Decide.{decLt}
 use native.Mathlib.Omega.{arith}
 use lib.Dec.{eqb}
@@ -32,20 +32,21 @@ use Rattle.srt_group_model.specs.declared.Data.{Data}
 use Rattle.srt_group_model.specs.declared.Event.{Event}
 use Rattle.srt_group_model.specs.declared.Packet.{Packet}
 use Rattle.srt_group_model.specs.declared.Leg.{Leg}
-use Rattle.srt_group_model.specs.Reason.{if-elim, if-some-elim, by-test, All, not-both, or-right, and-left, and-right}
+use Rattle.srt_group_model.specs.Reason.{if-elim, if-some-elim, by-test, All, not-both, or-right, and-left, and-right, none-some}
+use Rattle.srt_history.specs.Statement.{last-put, LendsThis, OneStore, When}
 use Rattle.srt_history.specs.Cases.{each-at, ge-of, and-true-left, eqb-yes, eq-of}
-use Rattle.srt_history.specs.Marks.{last-put, last-put-elsewhere, last-put-there}
+use Rattle.srt_history.specs.Marks.{last-put-elsewhere, last-put-there}
 use Rattle.srt_history.specs.Sides.{Side, sides, Leaves}
 use Rattle.srt_history.specs.Law.{OfContent, ElsewhereThan, EventOk, SideOk, CallLaw}
 use Rattle.srt_history.specs.FreeCells.{AnyNumber, any-number, Unused, taken-cell-unused, taken-cell-within}
 use Rattle.srt_history.specs.PollWalk.{Good, refresh-states-good, poll-event-good, poll-data-bounded-good}
 use Rattle.srt_history.specs.CallWalk.{change-member-sides, change-member-receive, enqueue-ok, Kept, refresh-states-mode, send-flow-leaves, add-kept, mark-member-broken-kept, remove-kept, look-kept, refresh-kept, disconnect-kept, can-send-kept, can-send-with-pacing-kept, read-leg-kept, queue-event-kept}
 use Rattle.srt_history.specs.Held.{insert-all, held-at-all, not-covered-all}
-use Rattle.srt_history.specs.Shape.{When, Shape, polled-shape, poll-event-shape, poll-data-bounded-shape}
+use Rattle.srt_history.specs.Shape.{Shape, polled-shape, poll-event-shape, poll-data-bounded-shape}
 use Rattle.srt_history.specs.ClerkClaim.{given-as-queued, delivered-as-queued}
 use Rattle.srt_group_model.specs.Lent.{Call, addition, broken-mark, removal, member-look, refreshing, disconnection, event-poll, data-poll, sending, readiness, paced-readiness, send-wait, stability, group-look, members-look, mode-look, peer-look, skipped-look, pending-look, continuation-look, reading, queued-data, queued-event}
 use Rattle.srt_group_model.specs.Lent.{Lent, stored, delivered-by, shown, with-bytes, step-of, perform}
-use Rattle.srt_history.specs.Calls.{Asked, do-call, step, takes-store, store-left, Delivery, delivery-of, given-by, deliveries, Making, made, state-after, log-after}
+use Rattle.srt_history.specs.Calls.{Asked, do-call, step, takes-store, is-poll, store-left, Delivery, delivery-of, given-by, deliveries, Making, made, state-after, log-after}
 
 -- ---- a payload in its cell
 
@@ -119,12 +120,12 @@ module _ (P Q : Data → Type 0) (cell : ℕ) (f : (d : Data) → ElsewhereThan 
   events-change [] o h = tt
   events-change (e ∷ q) o h = ((λ t. f (e .content) (o .0 t) (h .0 t)), events-change q (o .1) (h .1))
 
-  sides-change : (vs : List Side) → All (SideOk (ElsewhereThan cell) AnyNumber) vs → All (SideOk P AnyNumber) vs
+  pub sides-change : (vs : List Side) → All (SideOk (ElsewhereThan cell) AnyNumber) vs → All (SideOk P AnyNumber) vs
       → All (SideOk Q AnyNumber) vs
   sides-change [] o h = tt
   sides-change (v ∷ vs) o h = ((events-change (v .queue) (o .0 .0) (h .0 .0), h .0 .1), sides-change vs (o .1) (h .1))
 
-  held-change : (ps : List Packet) → All (OfContent (ElsewhereThan cell)) ps → All (OfContent P) ps → All (OfContent Q) ps
+  pub held-change : (ps : List Packet) → All (OfContent (ElsewhereThan cell)) ps → All (OfContent P) ps → All (OfContent Q) ps
   held-change [] o h = tt
   held-change (p ∷ ps) o h = (f (p .content) (o .0) (h .0), held-change ps (o .1) (h .1))
 
@@ -687,16 +688,55 @@ unlent-puts-nothing store output list (reading id field n) s e = accept-silent _
 unlent-puts-nothing store output list (queued-data id content payload) s e = not-both {t = true} refl e
 unlent-puts-nothing store output list (queued-event id kind reason) s e = accept-silent _ _ s .no-put
 
+-- ---- only a poll delivers
+
+-- of what a call leaves
+abbrev GivesNone : Step → Type 0
+GivesNone step = delivered-by (step .answer) ≡ none
+
+queue-data-no-packet : (store id : ℕ) (d : Data) (payload : List ℕ) (s : State) → GivesNone (queue-data store id d payload s)
+unfolding queue-data queue-data-body delivered-by
+queue-data-no-packet store id d payload s = guard-passed GivesNone _ s _ (λ code. refl) (λ c. refl)
+
+send-no-packet : (store list time : ℕ) (payload : List ℕ) (s : State) → GivesNone (send store list time payload s)
+unfolding send send-body left-by-send delivered-by
+send-no-packet store list time payload s =
+    guard-passed GivesNone _ s _ (λ code. refl) (λ c. if-elim GivesNone _ _ _ (λ e. refl) (λ e. refl))
+
+others-deliver-nothing : (store output list : ℕ) (call : Call) (s : State) → is-poll call ≡ false
+    → GivesNone (step-of store output list call s)
+unfolding step-of is-poll mark-member-broken member disconnect time-until-send backup-stability-timeout-micros group-id members-call mode peer-group-id skipped-receive-packets has-pending-data-call has-receive-continuation read-leg queue-event delivered-by
+others-deliver-nothing store output list (addition id weight leg queue) s e = add-silent id weight leg queue s .no-packet
+others-deliver-nothing store output list (broken-mark id) s e = accept-silent _ _ s .no-packet
+others-deliver-nothing store output list (removal id) s e = remove-silent id s .no-packet
+others-deliver-nothing store output list (member-look id) s e = look-silent _ _ s (member-no-packet _) .no-packet
+others-deliver-nothing store output list refreshing s e = refresh-silent s .no-packet
+others-deliver-nothing store output list (disconnection time) s e = accept-silent _ _ s .no-packet
+others-deliver-nothing store output list (event-poll time) s e = not-both {t = true} refl e
+others-deliver-nothing store output list (data-poll time max-events) s e = not-both {t = true} refl e
+others-deliver-nothing store output list (sending time payload) s e = send-no-packet store list time payload s
+others-deliver-nothing store output list readiness s e = can-send-silent s .no-packet
+others-deliver-nothing store output list (paced-readiness time) s e = can-send-with-pacing-silent time s .no-packet
+others-deliver-nothing store output list (send-wait time) s e = look-silent _ _ s refl .no-packet
+others-deliver-nothing store output list (stability id) s e = look-silent _ _ s refl .no-packet
+others-deliver-nothing store output list group-look s e = look-silent _ _ s refl .no-packet
+others-deliver-nothing store output list members-look s e = look-silent _ _ s refl .no-packet
+others-deliver-nothing store output list mode-look s e = look-silent _ _ s refl .no-packet
+others-deliver-nothing store output list peer-look s e = look-silent _ _ s refl .no-packet
+others-deliver-nothing store output list skipped-look s e = look-silent _ _ s refl .no-packet
+others-deliver-nothing store output list pending-look s e = look-silent _ _ s refl .no-packet
+others-deliver-nothing store output list continuation-look s e = look-silent _ _ s refl .no-packet
+others-deliver-nothing store output list (reading id field n) s e = accept-silent _ _ s .no-packet
+others-deliver-nothing store output list (queued-data id content payload) s e = queue-data-no-packet store id content payload s
+others-deliver-nothing store output list (queued-event id kind reason) s e = accept-silent _ _ s .no-packet
+
+pub only-polls-deliver : (call : Asked) (s : State) (p : Packet) → delivered-by (do-call call s .answer) ≡ some p
+    → is-poll (call .call) ≡ true
+unfolding do-call perform with-bytes
+only-polls-deliver call s p e =
+    by-test (is-poll (call .call)) (λ t. t) (λ t. none-some (sym (others-deliver-nothing _ _ _ (call .call) s t) ∙ e))
+
 -- ---- lists of calls
-
--- an accepted call that is lent a store is lent this one
-abbrev pub LendsThis : List ℕ → Asked → State → Type 0
-LendsThis store call s = takes-store (call .call) ≡ true → do-call call s .code ≡ 0 → call .lent .store ≡ store
-
--- THE PREMISE on the store: each accepted call that is lent a store is lent the one that stands, as the calls before it left it.
-abbrev pub OneStore : List ℕ → List Asked → State → Type 0
-OneStore store [] s = Unit {0}
-OneStore store (call ∷ more) s = LendsThis store call s × OneStore (store-left store call s) more (do-call call s .state)
 
 -- the one store, after a call, is that with the payload that the call put
 store-left-is-stored : (store : List ℕ) (call : Asked) (s : State) → LendsThis store call s

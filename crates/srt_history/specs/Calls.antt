@@ -59,6 +59,32 @@ takes-store (reading id field n) = false
 takes-store (queued-data id content payload) = true
 takes-store (queued-event id kind reason) = false
 
+-- the polls: no other call delivers
+unfoldable pub is-poll : Call → Bool
+is-poll (addition id weight leg queue) = false
+is-poll (broken-mark id) = false
+is-poll (removal id) = false
+is-poll (member-look id) = false
+is-poll refreshing = false
+is-poll (disconnection time) = false
+is-poll (event-poll time) = true
+is-poll (data-poll time max-events) = true
+is-poll (sending time payload) = false
+is-poll readiness = false
+is-poll (paced-readiness time) = false
+is-poll (send-wait time) = false
+is-poll (stability id) = false
+is-poll group-look = false
+is-poll members-look = false
+is-poll mode-look = false
+is-poll peer-look = false
+is-poll skipped-look = false
+is-poll pending-look = false
+is-poll continuation-look = false
+is-poll (reading id field n) = false
+is-poll (queued-data id content payload) = false
+is-poll (queued-event id kind reason) = false
+
 -- the time of a poll; no other call can skip
 unfoldable pub time-of : Call → ℕ
 time-of (addition id weight leg queue) = 0

@@ -14,11 +14,12 @@ use Rattle.srt_group_model.specs.Run.{Mark, put, base-set, collected, gap-skipp
 use Rattle.srt_group_model.specs.Calls.{new}
 use Rattle.srt_group_model.specs.declared.Packet.{Packet}
 use Rattle.srt_group_model.specs.Lent.{delivered-by}
-use Rattle.srt_history.specs.Marks.{total-skipped, total-delivered, place-after, last-put, total-skipped-append}
-use Rattle.srt_history.specs.Shape.{When, when-of, Quiet, Given, Shape, call-shape}
+use Rattle.srt_history.specs.Statement.{total-skipped, total-delivered, place-after, last-put, Consecutive, pass-to, Told, told-by, give-next, clerk, AtPlace, FromSchedule, When, when-of}
+use Rattle.srt_history.specs.Marks.{total-skipped-append}
+use Rattle.srt_history.specs.Shape.{Quiet, Given, Shape, call-shape}
 use Rattle.srt_history.specs.Base.{sums-after, quiet-delivers-nothing, quiet-skips-nothing, before-delivery}
-use Rattle.srt_history.specs.Schedule.{Consecutive, pass-to, pass-to-zero, pass-to-next, pass-to-further, sequence-at-place, Told, told-by, give-next, clerk}
-use Rattle.srt_history.specs.Follows.{AtPlace, FromSchedule, AtPlaces, Follows, Following, call-following, new-following}
+use Rattle.srt_history.specs.Schedule.{pass-to-zero, pass-to-next, pass-to-further, sequence-at-place}
+use Rattle.srt_history.specs.Follows.{AtPlaces, Follows, Following, call-following, new-following}
 use Rattle.srt_history.specs.Calls.{Asked, do-call, skipped-in, Making, made, state-after, log-after, Delivery}
 
 -- ---- what was delivered, as it was queued
@@ -115,13 +116,13 @@ module _ (schedule : List Delivery) (first : ℕ) (runs : Consecutive first sche
         at = (subst (λ (z : List Mark). AtPlaces schedule (z ++ log)) (given .is) (follows-after .1 from .at-places)) .0
 
         distance : ℕ
-        distance = before-delivery when after (given .before) log (given .how) .0
+        distance = before-delivery when p after (given .before) log (given .how) .0
 
         nothing-delivered : total-delivered (given .before ++ log) ≡ total-delivered log
-        nothing-delivered = before-delivery when after (given .before) log (given .how) .1
+        nothing-delivered = before-delivery when p after (given .before) log (given .how) .1
 
         skipped-before : total-skipped (given .before ++ log) ≡ total-skipped log + distance
-        skipped-before = before-delivery when after (given .before) log (given .how) .2
+        skipped-before = before-delivery when p after (given .before) log (given .how) .2
 
         whole-skipped : total-skipped (m ++ log) ≡ total-skipped (given .before ++ log)
         whole-skipped = ap (λ (z : List Mark). total-skipped (z ++ log)) (given .is)

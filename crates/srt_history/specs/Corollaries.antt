@@ -2,7 +2,7 @@
 -- delivered before it, so none is delivered twice and all are in the schedule's order; where nothing is skipped, the delivered
 -- list is a prefix of the schedule; and a call that delivers nothing leaves the base where it is. Assumes nothing.
 use mathlib.Core.Path.{_≡_, refl, sym, ap, _∙_, subst}
-use mathlib.Core.Logic.{_⊎_, ⊎-elim}
+use mathlib.Core.Logic.{⊎-elim}
 use mathlib.Core.List.{List, [], _∷_, _++_}
 use mathlib.Core.Option.{Option, none, some}
 use Prim.Native.Nat.{ℕ, _+_, _-_, _≤_, min}
@@ -12,19 +12,19 @@ use Rattle.srt_group_model.specs.Tools.{if-some_give_otherwise_, or-else}
 use Rattle.srt_group_model.specs.State.{State, Receive, next-receive-sequence}
 use Rattle.srt_group_model.specs.Run.{Mark, put, base-set, collected, gap-skipped, delivered}
 use Rattle.srt_group_model.specs.Reason.{if-elim, none-some, some-inj}
+use Rattle.srt_history.specs.Statement.{first-base, total-skipped, place-after, Consecutive, pass-to, Told, told-by, give-next, clerk, Fair, when-of, RightSkip, Prefix}
 use Rattle.srt_history.specs.Cases.{by-option}
-use Rattle.srt_history.specs.Marks.{first-base, total-skipped, place-after}
 use Rattle.srt_protocol.specs.Time.{last-moment}
 use Rattle.srt_group_model.specs.Lent.{delivered-by}
 use Rattle.srt_group_model.specs.declared.Packet.{Packet}
 use Rattle.srt_history.specs.CallWalk.{Fits, Holds, call-holds}
-use Rattle.srt_history.specs.Shape.{when-of, Quiet, Skip, Given, Shape, call-shape}
-use Rattle.srt_history.specs.Skips.{RightSkip, right-skip}
-use Rattle.srt_history.specs.Base.{Stands, SequenceFits, Sums, sums-law, sums-hold, quiet-delivers-nothing, quiet-skips-nothing}
-use Rattle.srt_history.specs.Schedule.{Consecutive, pass-to, pass-to-zero, pass-to-next, pass-to-further, sequence-at-place, Told, told-by, give-next, clerk}
-use Rattle.srt_history.specs.Gateways.{Prefix, NoSkip, clerk-front, Fair}
+use Rattle.srt_history.specs.Shape.{Quiet, Skip, Given, Shape, call-shape}
+use Rattle.srt_history.specs.Skips.{right-skip}
+use Rattle.srt_history.specs.Base.{Stands, SequenceFits, Sums, sums-law, sums-hold, sums-after, delivered-counts, quiet-delivers-nothing, quiet-skips-nothing}
+use Rattle.srt_history.specs.Schedule.{pass-to-zero, pass-to-next, pass-to-further, sequence-at-place}
+use Rattle.srt_history.specs.Gateways.{NoSkip, clerk-front}
 use Rattle.srt_history.specs.HistoryTheorem.{history-theorem}
-use Rattle.srt_history.specs.Calls.{Asked, do-call, time-of, Making, made, state-after, log-after, skipped-in, Delivery, deliveries}
+use Rattle.srt_history.specs.Calls.{Asked, do-call, time-of, Making, made, state-after, log-after, skipped-in, Delivery, deliveries, counts-of}
 
 -- ---- each at a place of its own, in the schedule's order
 
@@ -88,7 +88,7 @@ module _ (schedule : List Delivery) (first : ℕ) (runs : Consecutive first sche
 -- ---- the base moves only by delivery and skip
 
 -- once set, the first value stays
-first-base-stays : (m log : List Mark) (first : ℕ) → first-base log ≡ some first → first-base (m ++ log) ≡ some first
+pub first-base-stays : (m log : List Mark) (first : ℕ) → first-base log ≡ some first → first-base (m ++ log) ≡ some first
 unfolding first-base or-else
 first-base-stays [] log first e = e
 first-base-stays (put cell payload ∷ m) log first e = first-base-stays m log first e
@@ -97,10 +97,37 @@ first-base-stays (collected p ∷ m) log first e = first-base-stays m log first 
 first-base-stays (gap-skipped tested time distance ∷ m) log first e = first-base-stays m log first e
 first-base-stays (delivered p ∷ m) log first e = first-base-stays m log first e
 
-stands-where : (o b : Option ℕ) (place base : ℕ) → b ≡ some base → Stands o b place
+pub stands-where : (o b : Option ℕ) (place base : ℕ) → b ≡ some base → Stands o b place
     → (first : ℕ) × (o ≡ some first) × (base ≡ sequence-further first place)
 stands-where none b place base e h = none-some (sym (h .0) ∙ e)
 stands-where (some first) b place base e h = (first, refl, some-inj (sym e ∙ h .1))
+
+-- Where the base is set, it has a first value, from which it went as far as was delivered and skipped.
+pub based-has-first : (g : Making) (calls : List Asked) (base : ℕ)
+    → next-receive-sequence (state-after calls (made g) .receive) ≡ some base
+    → (first : ℕ) × (first-base (log-after calls (made g)) ≡ some first)
+    × (base ≡ sequence-further first (place-after (log-after calls (made g))))
+based-has-first g calls base e =
+    stands-where (first-base (log-after calls (made g))) (next-receive-sequence (state-after calls (made g) .receive))
+    (place-after (log-after calls (made g))) base e
+    (sums-after g calls .stands)
+
+-- And where it is not set, nothing was delivered and nothing skipped.
+pub unbased-is-still : (g : Making) (calls : List Asked) → next-receive-sequence (state-after calls (made g) .receive) ≡ none
+    → (first-base (log-after calls (made g)) ≡ none) × (counts-of (deliveries calls (made g)) ≡ 0)
+    × (skipped-in (state-after calls (made g)) ≡ 0)
+unbased-is-still g calls e = go (first-base (log-after calls (made g))) refl (sums-after g calls .stands)
+  where
+    go : (o : Option ℕ) → first-base (log-after calls (made g)) ≡ o
+        → Stands o (next-receive-sequence (state-after calls (made g) .receive)) (place-after (log-after calls (made g)))
+        → (first-base (log-after calls (made g)) ≡ none) × (counts-of (deliveries calls (made g)) ≡ 0)
+        × (skipped-in (state-after calls (made g)) ≡ 0)
+    go none f h = (
+      f,
+      omega (arith, h .1, delivered-counts calls (made g)),
+      omega (arith, h .1, sums-after g calls .skipped),
+    )
+    go (some first) f h = none-some (sym e ∙ h .1)
 
 -- A call that delivers nothing leaves the base, once it is set: x and y are the receiving sides before and after it, m its marks.
 pub quiet-leaves-base : (x y : Receive) (m log : List Mark) (base : ℕ) → Sums x log → Sums y (m ++ log) → Quiet m
@@ -131,12 +158,21 @@ skips-under-delivery : (p : Packet) (m log : List Mark) → total-skipped (deliv
 unfolding total-skipped
 skips-under-delivery p m log = refl
 
--- Wherever a list of calls has come to: if a call then raises the skipped count, it made a skip, and the skip was right.
+skips-under-skip : (tested : State) (time distance : ℕ) (m z log : List Mark) → z ≡ gap-skipped tested time distance ∷ m
+    → total-skipped (z ++ log) ≡ total-skipped (m ++ log) + distance
+unfolding total-skipped
+skips-under-skip tested time distance m z log e = ap (λ (l : List Mark). total-skipped (l ++ log)) e
+
+-- Wherever a list of calls has come to: if a call then raises the skipped count, it made a skip, and the skip was right; the
+-- count rises by the distance, up to its ceiling.
 pub rise-is-right-skip : (g : Making) (calls : List Asked) (call : Asked)
     → (skipped-in (do-call call (state-after calls (made g)) .state) ≡ skipped-in (state-after calls (made g)) → ⊥)
-    → (tested : State)
-    × RightSkip (when-of (call .call) (state-after calls (made g))) (do-call call (state-after calls (made g)) .state) tested
-    (time-of (call .call))
+    → (tested : State) × (distance : ℕ)
+    × RightSkip (when-of (call .call) (state-after calls (made g)))
+    (delivered-by (do-call call (state-after calls (made g)) .answer)) (do-call call (state-after calls (made g)) .state) tested
+    (time-of (call .call)) distance
+    × (skipped-in (do-call call (state-after calls (made g)) .state)
+    ≡ min (skipped-in (state-after calls (made g)) + distance) last-moment)
 rise-is-right-skip g calls call risen = go (delivered-by (do-call call s .answer)) (call-shape call s)
   where
     s : State
@@ -157,11 +193,14 @@ rise-is-right-skip g calls call risen = go (delivered-by (do-call call s .answer
         (quiet-leaves-count (s .receive) (do-call call s .state .receive) (do-call call s .log) log (before .kept) (after .kept) e)
 
     go : (o : Option Packet) → Shape (when-of (call .call) s) o (do-call call s .state) (do-call call s .log)
-        → (tested : State) × RightSkip (when-of (call .call) s) (do-call call s .state) tested (time-of (call .call))
+        → (tested : State) × (distance : ℕ)
+        × RightSkip (when-of (call .call) s) o (do-call call s .state) tested (time-of (call .call)) distance
+        × (skipped-in (do-call call s .state) ≡ min (skipped-in s + distance) last-moment)
     go none quiet = absurd (same-count (quiet-skips-nothing (do-call call s .log) log quiet))
     go (some p) given =
         ⊎-elim (λ (quiet : Quiet (given .before)). absurd (same-count (delivered-skips-nothing given quiet)))
-        (λ (skip : Skip (when-of (call .call) s) (do-call call s .state) (given .before)). (skip .tested, right-skip skip))
+        (λ (skip : Skip (when-of (call .call) s) p (do-call call s .state) (given .before)).
+        (skip .tested, skip .distance, right-skip skip (given .past), risen-by given skip))
         (given .how)
       where
         delivered-skips-nothing : (given : Given (when-of (call .call) s) p (do-call call s .state) (do-call call s .log))
@@ -170,3 +209,14 @@ rise-is-right-skip g calls call risen = go (delivered-by (do-call call s .answer
         delivered-skips-nothing given quiet =
             ap (λ (z : List Mark). total-skipped (z ++ log)) (given .is) ∙ skips-under-delivery p (given .before) log
             ∙ quiet-skips-nothing (given .before) log quiet
+
+        risen-by : (given : Given (when-of (call .call) s) p (do-call call s .state) (do-call call s .log))
+            → (skip : Skip (when-of (call .call) s) p (do-call call s .state) (given .before))
+            → skipped-in (do-call call s .state) ≡ min (skipped-in s + skip .distance) last-moment
+        risen-by given skip = omega (arith, before .kept .skipped, after .kept .skipped, total)
+          where
+            total : total-skipped (do-call call s .log ++ log) ≡ total-skipped log + skip .distance
+            total =
+                ap (λ (z : List Mark). total-skipped (z ++ log)) (given .is) ∙ skips-under-delivery p (given .before) log
+                ∙ skips-under-skip (skip .tested) (time-of (call .call)) (skip .distance) (skip .before) (given .before) log (skip .is)
+                ∙ ap (λ (n : ℕ). n + skip .distance) (quiet-skips-nothing (skip .before) log (skip .quiet))

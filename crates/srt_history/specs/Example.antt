@@ -16,13 +16,9 @@ use Rattle.srt_group_model.specs.Lent.{Call, addition, broken-mark, removal, ev
 use Rattle.srt_group_model.specs.declared.Data.{Data}
 use Rattle.srt_group_model.specs.declared.Leg.{Leg}
 use Rattle.srt_group_model.specs.declared.GroupMode.the-variants.{Broadcast}
+use Rattle.srt_history.specs.Statement.{first-base, total-skipped, total-delivered, last-put, Consecutive, pass-to, told-by, clerk, FromSchedule, OneStore, Fair}
 use Rattle.srt_history.specs.Calls.{Asked, Delivery, Making, made, do-call, takes-store, given-by, state-after, log-after, deliveries, store-left}
-use Rattle.srt_history.specs.Marks.{first-base, total-skipped, total-delivered, last-put}
-use Rattle.srt_history.specs.Schedule.{Consecutive, pass-to, told-by, clerk}
-use Rattle.srt_history.specs.Follows.{FromSchedule}
 use Rattle.srt_group_model.specs.Reason.{not-both}
-use Rattle.srt_history.specs.Bytes.{OneStore}
-use Rattle.srt_history.specs.Gateways.{Fair}
 use Rattle.srt_history.specs.HistoryTheorem.{history-theorem}
 
 -- ---- what is lent

@@ -1,5 +1,6 @@
 -- Packets of one schedule, each less than 2^30 from the base on either side when it is collected, are delivered as they stand at
--- the base's place. The premise (FromSchedule) and what follows (AtPlaces) are both about the marks. Assumes nothing.
+-- the base's place. The premise (`FromSchedule` of Statement) and what follows (AtPlaces) are both about the marks. Assumes
+-- nothing.
 use mathlib.Core.Path.{_≡_, refl, sym, ap, _∙_, subst}
 use mathlib.Core.Bool.{true, false}
 use mathlib.Core.List.{List, [], _∷_, _++_}
@@ -20,44 +21,18 @@ use Rattle.srt_group_model.specs.Calls.{new}
 use Rattle.srt_group_model.specs.declared.Data.{Data}
 use Rattle.srt_group_model.specs.declared.Packet.{Packet}
 use Rattle.srt_group_model.specs.Reason.{All, all-map, none-some, some-inj, not-both, or-left}
+use Rattle.srt_history.specs.Statement.{first-base, total-skipped, total-delivered, place-after, last-put, Consecutive, pass-to, AtPlace, FromSchedule}
 use Rattle.srt_history.specs.Cases.{all-both, Each, each-at}
-use Rattle.srt_history.specs.Marks.{first-base, total-skipped, total-delivered, place-after, last-put, last-put-elsewhere}
+use Rattle.srt_history.specs.Marks.{last-put-elsewhere}
 use Rattle.srt_history.specs.Sides.{sides}
 use Rattle.srt_history.specs.Law.{OfContent, ElsewhereThan, PutLaw}
 use Rattle.srt_history.specs.CallWalk.{Fits, Holds, call-holds, calls-hold}
 use Rattle.srt_history.specs.Held.{insert-all, nearest-all, held-at-all, held-at-sequence, not-covered-all, not-covered-beyond}
 use Rattle.srt_history.specs.Base.{half-above-zero, further-fits, Stands, SequenceFits, Sums, sums-law}
-use Rattle.srt_history.specs.Schedule.{Consecutive, pass-to, pass-to-zero, pass-to-next, pass-to-further, sequence-at-place}
+use Rattle.srt_history.specs.Schedule.{pass-to-zero, pass-to-next, pass-to-further, sequence-at-place}
 use Rattle.srt_history.specs.Calls.{Asked, do-call, Making, made, state-after, log-after, Delivery}
 
 module _ (schedule : List Delivery) where
-  -- a packet, with the payload that `payloads` has for its cell, is the one at a place of the schedule
-  pub record AtPlace (payloads : ℕ → List ℕ) (place : ℕ) (d : Data) : Type 0 where
-    pub scheduled : Delivery
-    pub rest : List Delivery
-    pub here : pass-to schedule place ≡ some (scheduled ∷ rest)
-    pub sequence : d .sequence ≡ scheduled .sequence
-    pub count : d .count ≡ scheduled .count
-    pub payload : payloads (d .cell) ≡ scheduled .payload
-
-  -- it is of the schedule, less than half a circle from the base's place on either side
-  pub record Near (payloads : ℕ → List ℕ) (base : ℕ) (d : Data) : Type 0 where
-    pub place : ℕ
-    pub at : AtPlace payloads place d
-    pub not-far-ahead : place < base + half
-    pub not-far-behind : base < place + half
-
-  -- THE PREMISE, of all marks of a list of calls, newest first. The base is set to `first`, where the schedule starts, before a
-  -- packet is collected; each collected packet, as it was queued, is of the schedule and near the base's place.
-  abbrev pub FromSchedule : ℕ → List Mark → Type 0
-  FromSchedule first [] = Unit {0}
-  FromSchedule first (put cell payload ∷ log) = FromSchedule first log
-  FromSchedule first (base-set base ∷ log) = (base ≡ first) × FromSchedule first log
-  FromSchedule first (collected p ∷ log) =
-      (first-base log ≡ some first) × Near (last-put log) (place-after log) (p .content) × FromSchedule first log
-  FromSchedule first (gap-skipped tested time distance ∷ log) = FromSchedule first log
-  FromSchedule first (delivered p ∷ log) = FromSchedule first log
-
   -- what follows: each packet delivered stood at the base's place
   abbrev pub AtPlaces : List Mark → Type 0
   AtPlaces [] = Unit {0}
@@ -65,12 +40,12 @@ module _ (schedule : List Delivery) where
   AtPlaces (base-set base ∷ log) = AtPlaces log
   AtPlaces (collected p ∷ log) = AtPlaces log
   AtPlaces (gap-skipped tested time distance ∷ log) = AtPlaces log
-  AtPlaces (delivered p ∷ log) = AtPlace (last-put log) (place-after log) (p .content) × AtPlaces log
+  AtPlaces (delivered p ∷ log) = AtPlace schedule (last-put log) (place-after log) (p .content) × AtPlaces log
 
   -- of a held packet: it stands at the base's place or after, less than half a circle
   pub record Ahead (payloads : ℕ → List ℕ) (base : ℕ) (d : Data) : Type 0 where
     pub place : ℕ
-    pub at : AtPlace payloads place d
+    pub at : AtPlace schedule payloads place d
     pub ahead : place < base + half
     pub from : base ≤ place
 
@@ -82,9 +57,9 @@ module _ (schedule : List Delivery) where
   module _ (first : ℕ) (runs : Consecutive first schedule) where
     -- base arithmetic, and the schedule where the premise holds
     abbrev pub Follows : Receive → List Mark → Type 0
-    Follows x log = Sums x log × (FromSchedule first log → Followed x log)
+    Follows x log = Sums x log × (FromSchedule schedule first log → Followed x log)
 
-    first-is : (log : List Mark) → FromSchedule first log → Each (λ (b : ℕ). b ≡ first) (first-base log)
+    first-is : (log : List Mark) → FromSchedule schedule first log → Each (λ (b : ℕ). b ≡ first) (first-base log)
     unfolding first-base or-else
     first-is [] h = tt
     first-is (put cell payload ∷ log) h = first-is log h
@@ -103,7 +78,7 @@ module _ (schedule : List Delivery) where
     base-at none b place base k h e = none-some (sym (h .0) ∙ e)
     base-at (some a) b place base k h e = some-inj (sym e ∙ h .1) ∙ ap (λ (z : ℕ). sequence-further z place) k
 
-    sequence-of-place : (payloads : ℕ → List ℕ) (place : ℕ) (d : Data) → AtPlace payloads place d
+    sequence-of-place : (payloads : ℕ → List ℕ) (place : ℕ) (d : Data) → AtPlace schedule payloads place d
         → d .sequence ≡ sequence-further first place
     sequence-of-place payloads place d at =
         at .sequence ∙ sequence-at-place first 0 schedule place (at .scheduled) (at .rest) runs (at .here) .0
@@ -124,7 +99,7 @@ module _ (schedule : List Delivery) where
 
     -- a packet behind the base is discarded
     behind-is-before : (payloads : ℕ → List ℕ) (d : Data) (base place at : ℕ) → base ≡ sequence-further first place
-        → AtPlace payloads at d
+        → AtPlace schedule payloads at d
         → at < place → place < at + half → sequence-before (d .sequence) base ≡ true
     behind-is-before payloads d base place at e a l u =
         ap (sequence-before (d .sequence)) e ∙ ap (λ (z : ℕ). sequence-before z (sequence-further first place))
@@ -144,7 +119,7 @@ module _ (schedule : List Delivery) where
     AheadNow log p = Ahead (last-put log) (place-after log) (p .content)
 
     follow-retained : (x : Receive) (log : List Mark) (p : Packet) → is-discarded p x ≡ false → Follows x log
-        → FromSchedule first (collected p ∷ log)
+        → FromSchedule schedule first (collected p ∷ log)
         → Followed (with-pending (insert p (x .pending)) x) (collected p ∷ log)
     unfolding total-delivered total-skipped last-put
     follow-retained x log p kept h from =
@@ -168,7 +143,7 @@ module _ (schedule : List Delivery) where
 
     follow-skipped : (x : Receive) (log : List Mark) (base : ℕ) (n : Packet) (tested : State) (time : ℕ)
         → next-receive-sequence x ≡ some base
-        → nearest (x .pending) ≡ some n → Follows x log → FromSchedule first log
+        → nearest (x .pending) ≡ some n → Follows x log → FromSchedule schedule first log
         → Followed (skip-to base (sequence-of n) x) (gap-skipped tested time (sequence-distance base (sequence-of n)) ∷ log)
     unfolding total-delivered total-skipped last-put skip-to
     follow-skipped x log base n tested time e near h from =
@@ -229,7 +204,7 @@ module _ (schedule : List Delivery) where
 
     follow-delivered : (x : Receive) (log : List Mark) (base : ℕ) (p : Packet) → next-receive-sequence x ≡ some base
         → held-at base (x .pending) ≡ some p
-        → Follows x log → FromSchedule first log → Followed (pass-run base p x) (delivered p ∷ log)
+        → Follows x log → FromSchedule schedule first log → Followed (pass-run base p x) (delivered p ∷ log)
     unfolding total-delivered total-skipped last-put pass-run
     follow-delivered x log base p e found h from =
         record {
@@ -250,7 +225,7 @@ module _ (schedule : List Delivery) where
               (not-covered-all (AheadNow log) base (p .content .count) (x .pending) (k .held))
               (not-covered-beyond base (p .content .count) (x .pending)));
           here = (delivered-ahead .at .rest, there);
-          at-places = (subst (λ (z : ℕ). AtPlace (last-put log) z (p .content)) at-base (delivered-ahead .at), k .at-places);
+          at-places = (subst (λ (z : ℕ). AtPlace schedule (last-put log) z (p .content)) at-base (delivered-ahead .at), k .at-places);
         }
       where
         k : Followed x log
@@ -291,7 +266,7 @@ module _ (schedule : List Delivery) where
 
     -- a payload put into another cell leaves a packet where it is
     at-place-after-put : (cell : ℕ) (payload : List ℕ) (log : List Mark) (place : ℕ) (d : Data) → ElsewhereThan cell d
-        → AtPlace (last-put log) place d → AtPlace (last-put (put cell payload ∷ log)) place d
+        → AtPlace schedule (last-put log) place d → AtPlace schedule (last-put (put cell payload ∷ log)) place d
     at-place-after-put cell payload log place d elsewhere at =
         record {
           scheduled = at .scheduled;

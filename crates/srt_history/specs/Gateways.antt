@@ -5,27 +5,23 @@ use mathlib.Core.Path.{_≡_, refl, sym, ap, _∙_, subst}
 use mathlib.Core.Logic.{_⊎_, inl, inr, ⊎-elim}
 use mathlib.Core.List.{List, [], _∷_, _++_, append-assoc, append-nil}
 use mathlib.Core.Option.{Option, none, some}
-use Prim.Native.Nat.{ℕ, _+_, _-_, _<_}
+use Prim.Native.Nat.{ℕ, _-_, _<_}
 use native.Mathlib.Omega.{arith}
-use lib.Dec.{eqb}
 use Rattle.srt_protocol.specs.Time.{last-moment}
-use Rattle.srt_group_model.specs.Tools.{if_then_else_, if-some_give_otherwise_}
+use Rattle.srt_group_model.specs.Tools.{if-some_give_otherwise_}
 use Rattle.srt_group_model.specs.State.{State}
 use Rattle.srt_group_model.specs.Run.{Mark}
 use Rattle.srt_group_model.specs.Reason.{if-elim, none-some, some-inj}
+use Rattle.srt_history.specs.Statement.{total-skipped, place-after, last-put, Consecutive, pass-to, Told, told-by, give-next, clerk, FromSchedule, OneStore, Prefix, until-skip, Gateway, stands-at, delivers}
 use Rattle.srt_history.specs.Cases.{by-option, eq-of}
-use Rattle.srt_history.specs.Marks.{total-skipped, place-after, last-put}
 use Rattle.srt_history.specs.Base.{delivered-counts, sums-after}
-use Rattle.srt_history.specs.Schedule.{Consecutive, pass-to, pass-to-zero, Told, told-by, give-next, clerk}
-use Rattle.srt_history.specs.Follows.{FromSchedule, Following, calls-following, new-following}
+use Rattle.srt_history.specs.Schedule.{pass-to-zero}
+use Rattle.srt_history.specs.Follows.{Following, calls-following, new-following}
 use Rattle.srt_history.specs.ClerkClaim.{delivered-as-queued, from-schedule-before, skipped-rises, clerk-of-calls}
-use Rattle.srt_history.specs.Bytes.{Live, InCell, OneStore, delivered-is-as-queued, one-store-after, one-store-begins, new-alive}
-use Rattle.srt_history.specs.Calls.{Asked, do-call, skipped-in, Making, made, state-after, log-after, Delivery, deliveries, counts-of}
+use Rattle.srt_history.specs.Bytes.{Live, InCell, delivered-is-as-queued, one-store-after, one-store-begins, new-alive}
+use Rattle.srt_history.specs.Calls.{Asked, do-call, skipped-in, made, state-after, log-after, Delivery, given-by, deliveries}
 
 -- ---- a prefix
-
-abbrev pub Prefix : List Delivery → List Delivery → Type 0
-Prefix xs ys = (rest : List Delivery) × (xs ++ rest ≡ ys)
 
 -- two beginnings of one list
 pub two-prefixes : (xs ys whole : List Delivery) → Prefix xs whole → Prefix ys whole → Prefix xs ys ⊎ Prefix ys xs
@@ -104,12 +100,14 @@ log-after-both (call ∷ calls) more s =
     ∙ append-assoc (log-after more (state-after calls (do-call call s .state))) (log-after calls (do-call call s .state))
     (do-call call s .log)
 
--- the calls up to the next skip: up to the first that raises the skipped count, without it
-unfoldable pub until-skip : List Asked → State → List Asked
-until-skip [] s = []
-until-skip (call ∷ more) s =
-    let later = until-skip more (do-call call s .state) in
-    if eqb (skipped-in (do-call call s .state)) (skipped-in s) then call ∷ later else []
+pub deliveries-both : (calls more : List Asked) (s : State)
+    → deliveries (calls ++ more) s ≡ deliveries calls s ++ deliveries more (state-after calls s)
+unfolding state-after deliveries
+deliveries-both [] more s = refl
+deliveries-both (call ∷ calls) more s =
+    ap (λ (l : List Delivery). given-by (do-call call s) ++ l) (deliveries-both calls more (do-call call s .state))
+    ∙ sym (append-assoc (given-by (do-call call s)) (deliveries calls (do-call call s .state))
+    (deliveries more (state-after calls (do-call call s .state))))
 
 pub until-skip-no-skip : (calls : List Asked) (s : State) → NoSkip (skipped-in s) (told-by (until-skip calls s) s)
 unfolding until-skip told-by
@@ -137,38 +135,11 @@ until-skip-begins (call ∷ more) s =
 
 -- ---- a gateway
 
--- The premises of the second claim: the packets collected come from the schedule, near the base; the skipped count is below its
--- ceiling; and there is one store.
-pub record Fair (schedule : List Delivery) (first : ℕ) (g : Making) (calls : List Asked) : Type 0 where
-  pub store : List ℕ
-  pub from : FromSchedule schedule first (log-after calls (made g))
-  pub below : skipped-in (state-after calls (made g)) < last-moment
-  pub one-store : OneStore store calls (made g)
-
--- a group with its calls up to some time, and those after it
-pub record Gateway (schedule : List Delivery) (first : ℕ) : Type 0 where
-  pub making : Making
-  pub before : List Asked
-  pub after : List Asked
-  pub fair : Fair schedule first making (before ++ after)
-
--- the place at which a list of calls leaves the base, the clerk's place, counted unreduced
-abbrev pub place-of-base : Making → List Asked → ℕ
-place-of-base g calls = counts-of (deliveries calls (made g)) + skipped-in (state-after calls (made g))
-
 module _ (schedule : List Delivery) (first : ℕ) where
-  abbrev pub stands-at : Gateway schedule first → ℕ
-  stands-at w = place-of-base (w .making) (w .before)
-
-  -- what it delivers from then on, up to its next skip
-  abbrev pub delivers : Gateway schedule first → List Delivery
-  delivers w =
-      deliveries (until-skip (w .after) (state-after (w .before) (made (w .making)))) (state-after (w .before) (made (w .making)))
-
   module _ (runs : Consecutive first schedule) where
     -- it stands at the front of the schedule from its place on
     gateway-front : (w : Gateway schedule first)
-        → (ahead : List Delivery) × (pass-to schedule (stands-at w) ≡ some ahead) × Prefix (delivers w) ahead
+        → (ahead : List Delivery) × (pass-to schedule (stands-at schedule first w) ≡ some ahead) × Prefix (delivers schedule first w) ahead
     gateway-front w = (
       k .kept .1 from-before .here .0,
       ap (pass-to schedule) same-place ∙ k .kept .1 from-before .here .1,
@@ -223,7 +194,7 @@ module _ (schedule : List Delivery) (first : ℕ) where
             subst (Following schedule first runs reached) (append-nil log)
             (calls-following schedule first runs (w .before) (made (w .making)) [] (new-following schedule first runs (w .making)))
 
-        same-place : stands-at w ≡ place-after log
+        same-place : stands-at schedule first w ≡ place-after log
         same-place =
             omega (
               arith,
@@ -249,9 +220,9 @@ module _ (schedule : List Delivery) (first : ℕ) where
             (subst (λ (l : List Mark). Live (InCell (one .0) (last-put l)) reached) (append-nil log) (one .1)) one-on
 
     -- Two gateways that stand at one place deliver the same packets, one list a prefix of the other, each up to its next skip.
-    pub gateways-claim : (a b : Gateway schedule first) → stands-at a ≡ stands-at b
-        → Prefix (delivers a) (delivers b) ⊎ Prefix (delivers b) (delivers a)
+    pub gateways-claim : (a b : Gateway schedule first) → stands-at schedule first a ≡ stands-at schedule first b
+        → Prefix (delivers schedule first a) (delivers schedule first b) ⊎ Prefix (delivers schedule first b) (delivers schedule first a)
     gateways-claim a b e =
-        two-prefixes (delivers a) (delivers b) (gateway-front a .0) (gateway-front a .2)
-        (subst (Prefix (delivers b)) (some-inj (sym (gateway-front b .1) ∙ ap (pass-to schedule) (sym e) ∙ gateway-front a .1))
+        two-prefixes (delivers schedule first a) (delivers schedule first b) (gateway-front a .0) (gateway-front a .2)
+        (subst (Prefix (delivers schedule first b)) (some-inj (sym (gateway-front b .1) ∙ ap (pass-to schedule) (sym e) ∙ gateway-front a .1))
         (gateway-front b .2))

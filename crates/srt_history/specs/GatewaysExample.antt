@@ -4,19 +4,15 @@
 use mathlib.Core.Path.{_≡_, refl}
 use mathlib.Core.Logic.{_⊎_}
 use mathlib.Core.List.{List, [], _∷_, _++_}
-use Prim.Native.Nat.{ℕ, _+_}
+use Prim.Native.Nat.{ℕ}
 use lib.Dec.{lit<}
 use lib.ListN.{replicate, take, drop}
 use Rattle.srt_protocol.specs.Cells.{overwritten}
 use Rattle.srt_group_model.specs.Computed.{definitions}
 use Rattle.srt_group_model.specs.Lent.{addition, sending, queued-data, poll-data}
 use Rattle.srt_group_model.specs.declared.GroupMode.the-variants.{Backup}
+use Rattle.srt_history.specs.Statement.{first-base, total-skipped, total-delivered, last-put, pass-to, FromSchedule, OneStore, Prefix, until-skip, Gateway, stands-at, delivers}
 use Rattle.srt_history.specs.Calls.{Asked, Making, made, do-call, takes-store, given-by, state-after, log-after, deliveries, counts-of, store-left}
-use Rattle.srt_history.specs.Marks.{first-base, total-skipped, total-delivered, last-put}
-use Rattle.srt_history.specs.Schedule.{pass-to}
-use Rattle.srt_history.specs.Follows.{FromSchedule}
-use Rattle.srt_history.specs.Bytes.{OneStore}
-use Rattle.srt_history.specs.Gateways.{Prefix, Gateway, until-skip, stands-at, delivers}
 use Rattle.srt_history.specs.HistoryTheorem.{history-theorem}
 use Rattle.srt_history.specs.Example.{leg, content, plain, over, output, sends, planned, schedule, runs, never, store-0, store-1, store-2, store-3}
 use Rattle.srt_history.specs.Example.{group, calls, fair}

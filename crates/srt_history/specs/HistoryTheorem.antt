@@ -1,20 +1,19 @@
 -- Demand 3, whole: four claims about every list of calls from a new group, refused calls included, each call taking the state that
 -- the last one left and nobody else writing it. A planner compares each field with the customer's sentence above it. What the
--- words mean: Calls (a call, what it is lent, what it delivers), Marks (the first value of the base), Schedule (schedule, place,
--- clerk), Follows (the premise FromSchedule), Bytes (the premise OneStore), Skips (a right skip), Gateways. Assumes nothing.
+-- words mean: Calls (a call, what it is lent, what it delivers) and Statement (all else: the first value of the base, schedule,
+-- place, clerk, the premises, a right skip, gateways). Assumes nothing.
 use mathlib.Core.Path.{_≡_, sym, ap, _∙_}
 use mathlib.Core.Logic.{_⊎_}
 use mathlib.Core.List.{List, []}
 use mathlib.Core.Option.{Option, some}
 use Prim.Native.Nat.{ℕ, _<_}
 use Rattle.srt_protocol.specs.Time.{last-moment}
-use Rattle.srt_history.specs.Marks.{first-base}
-use Rattle.srt_history.specs.Base.{BaseClaim, base-claim}
-use Rattle.srt_history.specs.Skips.{SkipsRight, skips-claim}
-use Rattle.srt_history.specs.Schedule.{Consecutive, told-by, clerk}
+use Rattle.srt_history.specs.Statement.{first-base, BaseClaim, Consecutive, told-by, clerk, Fair, SkipsRight, Prefix, Gateway, stands-at, delivers}
+use Rattle.srt_history.specs.Base.{base-claim}
+use Rattle.srt_history.specs.Skips.{skips-claim}
 use Rattle.srt_history.specs.ClerkClaim.{clerk-as-queued}
 use Rattle.srt_history.specs.Bytes.{delivered-is-as-queued, new-alive}
-use Rattle.srt_history.specs.Gateways.{Prefix, Fair, Gateway, stands-at, delivers, gateways-claim}
+use Rattle.srt_history.specs.Gateways.{gateways-claim}
 use Rattle.srt_history.specs.Calls.{Asked, Making, made, state-after, log-after, skipped-in, Delivery, deliveries}
 
 pub record HistoryTheorem : Type 0 where
@@ -32,7 +31,8 @@ pub record HistoryTheorem : Type 0 where
       → clerk schedule 0 (told-by calls (made g)) ≡ some (deliveries calls (made g))
   -- "Every skip passes 01's give-up test and ends with empty leg queues." The test was made at the poll's time, of the state that
   -- the poll then had: its base was set and not held, it asked for no continuation, and the test was true for the packet
-  -- nearest in it. The call leaves every leg's queue empty.
+  -- nearest in it. After collecting the base was still not held, and the call delivers the packet then nearest. It leaves every
+  -- leg's queue empty and no event waiting.
   pub skips : (g : Making) (calls : List Asked) → SkipsRight calls (made g)
   -- "Two gateways with any such lists over one schedule, once both stand at one place of it, deliver the same packets, one list a
   -- prefix of the other, each up to its next skip." Places are counted unreduced, delivered plus skipped. The two may differ in

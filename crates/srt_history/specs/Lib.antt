@@ -1,5 +1,6 @@
 pub mod Cases
 pub mod Calls
+pub mod Statement
 pub mod Marks
 pub mod Sides
 pub mod Law
@@ -16,10 +17,14 @@ pub mod ClerkClaim
 pub mod Bytes
 pub mod Gateways
 pub mod HistoryTheorem
+pub mod AsQueued
 pub mod Corollaries
 pub mod Port
+pub mod PortTheorem
+pub mod ClerkPlace
 pub mod StaysValid
 pub mod CollectedAsQueued
 pub mod Example
 pub mod Counterexamples
 pub mod GatewaysExample
+pub mod PortExample

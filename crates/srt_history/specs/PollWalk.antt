@@ -1,28 +1,31 @@
--- What each move of receiving keeps, every poll keeps: the one walk through the refresh, collecting, the skip, delivery and
--- the two polls. Assumes nothing.
-use mathlib.Core.Path.{_≡_, refl, sym, _∙_, subst}
-use mathlib.Core.Bool.{Bool, false}
+-- What each move of receiving keeps, every poll keeps: an instance of the model's law of polls; and collecting by itself. Assumes
+-- nothing.
+use mathlib.Core.Path.{_≡_, refl, sym, subst}
+use mathlib.Core.Bool.{Bool, true, false}
 use mathlib.Core.List.{List, [], _∷_}
 use mathlib.Core.Option.{Option, none, some}
-use Prim.Native.Nat.{ℕ, zero, suc, _-_, min}
+use Prim.Native.Nat.{ℕ, zero, suc, _-_}
 use lib.Dec.{eqb}
 use lib.ListN.{drop}
-use Rattle.srt_group_model.specs.Tools.{if-some_give_otherwise_, flagged, at-place, change}
-use Rattle.srt_group_model.specs.State.{Member, State, Receive, next-receive-sequence, with-receive, with-queue, with-base, with-continuation}
+use Rattle.srt_group_model.specs.Tools.{if-some_give_otherwise_, at-place, change}
+use Rattle.srt_group_model.specs.State.{Member, State, Receive, next-receive-sequence, with-queue, with-base}
 use Rattle.srt_group_model.specs.Legs.{peer-initial-sequence}
 use Rattle.srt_group_model.specs.Members.{id-of, arrives, base-after}
-use Rattle.srt_group_model.specs.Nearest.{sequence-of, held-at, nearest}
-use Rattle.srt_group_model.specs.Run.{Mark, base-set, collected, delivered, Run, on-state, marking, set-base, admit-connected-peer-groups, refresh-pending-states, refresh-states}
+use Rattle.srt_group_model.specs.Nearest.{held-at}
+use Rattle.srt_group_model.specs.Run.{Mark, base-set, collected, delivered, Run, set-base, refresh-states}
 use Rattle.srt_group_model.specs.Collecting.{is-discarded, retain-group-packet, collect-member-event, in-turn, front, Visited, take-front, collect-one-event, or-continue, collect-until-held, collect-until-empty}
-use Rattle.srt_group_model.specs.Delivery.{Polled, nothing, event, packet, Poll, deliver, skip-to, give-waiting, skip-after, max-visits, skip-given-up-gap}
-use Rattle.srt_group_model.specs.Polls.{delivery-budget, deliver-next, poll-event, DataPoll, pass-events, poll-until-data, poll-data-bounded}
-use Rattle.srt_group_model.specs.Frame.{admit-all-carried, settle-carried, requalify-carried}
+use Rattle.srt_group_model.specs.Delivery.{deliver-packet}
+use Rattle.srt_group_model.specs.Polls.{poll-event, poll-data-bounded}
+use Rattle.srt_group_model.specs.Queues.{pop, packet-of}
+use Rattle.srt_group_model.specs.CallLaw.{Base-source, first-of, nearest-held, In-front, Poll-law}
+use Rattle.srt_group_model.specs.EveryCall.{refreshes, polls-event, polls-data}
+use Rattle.srt_group_model.specs.MemberMoves.{moved-account}
 use Rattle.srt_group_model.specs.declared.Data.{Data}
 use Rattle.srt_group_model.specs.declared.Event.{Event}
 use Rattle.srt_group_model.specs.declared.Packet.{Packet}
-use Rattle.srt_group_model.specs.Reason.{if-elim, if-some-elim, All, none-some}
+use Rattle.srt_group_model.specs.Reason.{if-elim, if-some-elim, All}
 use Rattle.srt_history.specs.Cases.{Each, each-at, each-or-else, all-change, all-drop, each-at-place}
-use Rattle.srt_history.specs.Sides.{side, sides, all-sides, all-members, carried-sides, deliver-packet-leaves-sides, deliver-packet-receive, retain-leaves-sides, report-event-leaves}
+use Rattle.srt_history.specs.Sides.{side, sides, all-sides, all-members, moved-sides, account-side, deliver-packet-leaves-sides, retain-leaves-sides, report-event-leaves}
 use Rattle.srt_history.specs.Law.{EventOk, SideOk, CollectLaw, Law}
 
 module _ (P : Data → Type 0) (F : ℕ → Type 0) (I : Receive → List Mark → Type 0) where
@@ -135,194 +138,70 @@ module _ (P : Data → Type 0) (F : ℕ → Type 0) (I : Receive → List Mark �
         (λ b is. law .on-base-set (r .state .receive) (r .log) b e (each-at F base b is f) h)
         (λ e. h))
 
-  -- setting the base moves no member
-  pub set-base-members : (base : Option ℕ) (r : Run) → set-base base r .state .members ≡ r .state .members
-  unfolding set-base
-  set-base-members base r =
-      if-some-elim (λ (q : Run). q .state .members ≡ r .state .members) (next-receive-sequence (r .state .receive)) _ _
-      (λ b e. refl) (λ e. if-some-elim (λ (q : Run). q .state .members ≡ r .state .members) base _ _ (λ b e. refl) (λ e. refl))
-
-  module _ (law : Law P F I) where
-    pub admit-good : (r : Run) → Good r → Good (admit-connected-peer-groups r)
-    unfolding admit-connected-peer-groups
-    admit-good r g =
-        record {
-          sides-ok =
-              subst (All (SideOk P F)) (sym (carried-sides (r .state .members) _ (admit-all-carried _ (r .state .members))))
-              (g .sides-ok);
-          kept =
-              set-base-keeps law (base-after none (r .state .members)) r
-              (base-after-ok none (r .state .members) tt (all-members (SideOk P F) (r .state .members) (g .sides-ok))) (g .kept);
-        }
-
-    pub refresh-pending-states-good : (r : Run) → Good r → Good (refresh-pending-states r)
-    unfolding refresh-pending-states
-    refresh-pending-states-good r g =
-        let a : Good (admit-connected-peer-groups r) = admit-good r g in
-        record {
-          sides-ok =
-              subst (All (SideOk P F))
-              (sym (carried-sides (admit-connected-peer-groups r .state .members) _
-              (settle-carried _ _ (admit-connected-peer-groups r .state .members)))) (a .sides-ok);
-          kept = a .kept;
-        }
-
-    pub refresh-states-good : (r : Run) → Good r → Good (refresh-states r)
-    unfolding refresh-states
-    refresh-states-good r g =
-        let a : Good (refresh-pending-states r) = refresh-pending-states-good r g in
-        record {
-          sides-ok =
-              subst (All (SideOk P F))
-              (sym (carried-sides (refresh-pending-states r .state .members) _
-              (requalify-carried _ _ (refresh-pending-states r .state .members)))) (a .sides-ok);
-          kept = a .kept;
-        }
-
-    -- ---- delivery and the skip
-
-    deliver-good : (base : ℕ) (r : Run) → next-receive-sequence (r .state .receive) ≡ some base → Good r
-        → Good (deliver base r .run)
-    unfolding deliver
-    deliver-good base r e g =
-        if-some-elim (λ (q : Poll). Good (q .run)) (held-at base (r .state .receive .pending)) _ _ (λ p there.
-        record {
-          sides-ok = subst (All (SideOk P F)) (sym (deliver-packet-leaves-sides base p (r .state))) (g .sides-ok);
-          kept =
-              subst (λ (x : Receive). I x (delivered p ∷ r .log)) (sym (deliver-packet-receive base p (r .state)))
-              (law .on-delivered (r .state .receive) (r .log) base p e there (g .kept));
-        })
-        (λ e. g)
-
-    give-waiting-good : (r : Run) → Good r → Good (give-waiting r .run)
-    unfolding give-waiting
-    give-waiting-good r g =
-        if-some-elim (λ (q : Poll). Good (q .run)) (at-place 0 (r .state .waiting)) _ _
-        (λ w e. record { sides-ok = g .sides-ok; kept = g .kept })
-        (λ e. g)
-
-    skip-after-good : (time : ℕ) (tested : State) (base : ℕ) (c : Visited)
-        → next-receive-sequence (c .run .state .receive) ≡ some base
-        → Good (c .run) → Good (skip-after time tested base c .run)
-    unfolding skip-after skip-to flagged
-    skip-after-good time tested base c e g =
-        if-elim (λ (q : Poll). Good (q .run)) _ _ _ (λ t. give-waiting-good (c .run) g)
-        (λ t.
-        if-elim (λ (q : Poll). Good (q .run)) (c .went) _ _
-        (λ t.
-        if-some-elim (λ (q : Poll). Good (q .run)) (nearest (c .run .state .receive .pending)) _ _ (λ p near.
-        deliver-good (sequence-of p) _ refl
-        record {
-          sides-ok = g .sides-ok;
-          kept = law .on-skipped (c .run .state .receive) (c .run .log) base p tested time e near (g .kept);
-        })
-        (λ t. g))
-        (λ t. deliver-good base (c .run) e g))
-
-  -- collecting leaves the base
-  abbrev Based : ℕ → Receive → List Mark → Type 0
-  Based base x log = (next-receive-sequence x ≡ some base) × I x log
-
-  module _ (law : Law P F I) where
-    based-law : (base : ℕ) → CollectLaw P F (Based base)
-    based-law base =
-        record {
-          on-discarded = λ x log p ok e h. (h .0, law .collecting .on-discarded x log p ok e (h .1));
-          on-retained = λ x log p ok e h. (h .0, law .collecting .on-retained x log p ok e (h .1));
-        }
-
-  -- set, where it was not: the next delivery is asked for there
-  pub set-base-sets : (b : ℕ) (r : Run) → next-receive-sequence (r .state .receive) ≡ none
-      → next-receive-sequence (set-base (some b) r .state .receive) ≡ some b
-  unfolding set-base flagged
-  set-base-sets b r e =
-      if-some-elim (λ (q : Run). next-receive-sequence (q .state .receive) ≡ some b) (next-receive-sequence (r .state .receive)) _ _
-      (λ c f. none-some (sym e ∙ f))
-      (λ f. if-some-elim (λ (q : Run). next-receive-sequence (q .state .receive) ≡ some b) (some b) _ _ (λ c g. sym g)
-      (λ g. none-some (sym g)))
-
-  -- what holds of the base set to b holds after that
-  pub set-base-by : (b : ℕ) (r : Run) → next-receive-sequence (r .state .receive) ≡ none
-      → I (with-base b (r .state .receive)) (base-set b ∷ r .log)
-      → I (set-base (some b) r .state .receive) (set-base (some b) r .log)
-  unfolding set-base if-some_give_otherwise_
-  set-base-by b r e h = go (next-receive-sequence (r .state .receive)) e
-    where
-      go : (o : Option ℕ) → o ≡ none
-          → I
-          ((if-some o give (λ c. r) otherwise
-          (marking (base-set b) (on-state (λ s. with-receive (with-base b (s .receive)) s) r))) .state .receive)
-          ((if-some o give (λ c. r) otherwise
-          (marking (base-set b) (on-state (λ s. with-receive (with-base b (s .receive)) s) r))) .log)
-      go none f = h
-      go (some c) f = none-some (sym f)
-
 -- ---- the polls
 
 module _ (P : Data → Type 0) (F : ℕ → Type 0) (I : Receive → List Mark → Type 0) (law : Law P F I) where
-  skip-given-up-gap-good : (time base : ℕ) (r : Run) → next-receive-sequence (r .state .receive) ≡ some base → Good P F I r
-      → Good P F I (skip-given-up-gap time base r .run)
-  unfolding skip-given-up-gap
-  skip-given-up-gap-good time base r e g =
-      if-elim (λ (q : Poll). Good P F I (q .run)) _ _ _ (λ t. deliver-good P F I law base r e g)
-      (λ t.
-      let c : Good P F (Based P F I base) (collect-until-empty max-visits base r .run) =
-      collect-until-empty-good P F (Based P F I base) (based-law P F I law base) max-visits base r
-      record { sides-ok = g .sides-ok; kept = (e, g .kept) }
-      in
-      skip-after-good P F I law time (r .state) base (collect-until-empty max-visits base r) (c .kept .0)
-      record { sides-ok = c .sides-ok; kept = c .kept .1 })
+  abbrev pub Goes-on : Option ℕ → State → List Mark → Type 0
+  Goes-on hand s log = All (SideOk P F) (sides (s .members)) × I (s .receive) log
 
-  deliver-next-good : (time : ℕ) (r : Run) → Good P F I r → Good P F I (deliver-next time r .run)
-  unfolding deliver-next
-  deliver-next-good time r g =
-      if-some-elim (λ (q : Poll). Good P F I (q .run)) (next-receive-sequence (r .state .receive)) _ _
-      (λ base e. skip-given-up-gap-good time base r e g)
-      (λ unset.
-      if-some-elim (λ (q : Poll). Good P F I (q .run)) (nearest (r .state .receive .pending)) _ _ (λ p near.
-      deliver-good P F I law (sequence-of p) (set-base (some (sequence-of p)) r)
-      (set-base-sets P F I (sequence-of p) r unset)
+  side-at : (s : State) (i : ℕ) (m : Member) → at-place i (s .members) ≡ some m → All (SideOk P F) (sides (s .members)) → SideOk P F (side m)
+  side-at s i m at h =
+      each-at (λ (m : Member). SideOk P F (side m)) (at-place i (s .members)) m at
+      (each-at-place (λ (m : Member). SideOk P F (side m)) i (s .members) (all-members (SideOk P F) (s .members) h))
+
+  -- the front is taken, and sums may change with it
+  taken-sides : (f : Member → Member) → ((m : Member) → side (f m) ≡ side (pop m)) → (i : ℕ) (ms : List Member) → All (SideOk P F) (sides ms) → All (SideOk P F) (sides (change i f ms))
+  taken-sides f same i ms h =
+      all-sides (SideOk P F) (change i f ms)
+      (all-change (λ (m : Member). SideOk P F (side m)) i f ms
+      (λ m k. subst (SideOk P F) (sym (same m)) (all-drop (EventOk P F) 1 (m .queue) (k .0), k .1)) (all-members (SideOk P F) ms h))
+
+  front-ok : (s : State) (i : ℕ) (m : Member) (e : Event) → In-front s i m e → eqb (e .kind) 0 ≡ true → All (SideOk P F) (sides (s .members)) → P (e .content)
+  front-ok s i m e f d h =
+      each-at (EventOk P F) (front (m .queue)) e (f .first) (each-at-place (EventOk P F) 0 (m .queue) (side-at s i m (f .stands) h .0)) d
+
+  sets-base-good : (s : State) (log : List Mark) (b : ℕ) → next-receive-sequence (s .receive) ≡ none → Base-source s b → All (SideOk P F) (sides (s .members)) → I (s .receive) log
+      → I (with-base b (s .receive)) (base-set b ∷ log)
+  sets-base-good s log b unset (first-of i m at a e) ok h =
+      law .on-base-set (s .receive) log b unset (each-at F (peer-initial-sequence (m .leg)) b e (side-at s i m at ok .1)) h
+  sets-base-good s log b unset (nearest-held p near e) ok h =
+      subst (λ (n : ℕ). I (with-base n (s .receive)) (base-set n ∷ log)) e (law .on-nearest-sets (s .receive) log p unset near h)
+
+  delivered-good : (s : State) (log : List Mark) (base : ℕ) (p : Packet) → next-receive-sequence (s .receive) ≡ some base → held-at base (s .receive .pending) ≡ some p
+      → I (s .receive) log → I (deliver-packet base p s .receive) (delivered p ∷ log)
+  unfolding deliver-packet
+  delivered-good s log base p b there h = law .on-delivered (s .receive) log base p b there h
+
+  pub good-polls : Poll-law Goes-on
+  good-polls =
       record {
-        sides-ok =
-            subst (λ (ms : List Member). All (SideOk P F) (sides ms)) (sym (set-base-members P F I (some (sequence-of p)) r))
-            (g .sides-ok);
-        kept = nearest-sets p unset near;
-      })
-      (λ e. g))
-    where
-      nearest-sets : (p : Packet) → next-receive-sequence (r .state .receive) ≡ none → nearest (r .state .receive .pending) ≡ some p
-          → I (set-base (some (sequence-of p)) r .state .receive) (set-base (some (sequence-of p)) r .log)
-      nearest-sets p unset near =
-          set-base-by P F I (sequence-of p) r unset (law .on-nearest-sets (r .state .receive) (r .log) p unset near (g .kept))
+        moves = λ s i m f at move h. (subst (All (SideOk P F)) (sym (moved-sides i m f (s .members) at (account-side m (f m) (moved-account move)))) (h .0), h .1);
+        binds = λ s i m at a h. h;
+        sets-base = λ s b e source h. (h .0, sets-base-good s _ b e source (h .0) (h .1));
+        continues = λ s b h. h;
+        turns = λ s i m at h. h;
+        discards =
+            λ s i m e f d g h.
+            (taken-sides _ (λ x. refl) i (s .members) (h .0), law .collecting .on-discarded (s .receive) _ (packet-of m e) (front-ok s i m e f d (h .0)) g (h .1));
+        holds =
+            λ s i m e f d g h.
+            (taken-sides _ (λ x. refl) i (s .members) (h .0), law .collecting .on-retained (s .receive) _ (packet-of m e) (front-ok s i m e f d (h .0)) g (h .1));
+        reports = λ s i m e f d few h. (taken-sides pop (λ x. refl) i (s .members) (h .0), h .1);
+        gives = λ s h. h;
+        skips = λ s base p tested time b n near h. (h .0, law .on-skipped (s .receive) _ base p tested time b near (h .1));
+        delivers =
+            λ s base p b there h. (
+              subst (All (SideOk P F)) (sym (deliver-packet-leaves-sides base p s)) (h .0),
+              delivered-good s _ base p b there (h .1),
+            );
+      }
+
+  pub refresh-states-good : (r : Run) → Good P F I r → Good P F I (refresh-states r)
+  refresh-states-good r g = let k = refreshes Goes-on good-polls none r (g .sides-ok, g .kept) in record { sides-ok = k .0; kept = k .1 }
 
   pub poll-event-good : (time : ℕ) (r : Run) → Good P F I r → Good P F I (poll-event time r .run)
-  unfolding poll-event
-  poll-event-good time r g =
-      if-elim (λ (q : Poll). Good P F I (q .run)) _ _ _ (λ e. give-waiting-good P F I law _ gathered)
-      (λ e. deliver-next-good time _ (refresh-states-good P F I law _ gathered))
-    where
-      gathered : Good P F I (collect-until-held max-visits (refresh-pending-states record { state = with-continuation false (r .state); log = r .log; budget = delivery-budget }))
-      gathered =
-          collect-until-held-good P F I (law .collecting) max-visits _
-          (refresh-pending-states-good P F I law _ record { sides-ok = g .sides-ok; kept = g .kept })
+  poll-event-good time r g = let k = polls-event Goes-on good-polls none time r (g .sides-ok, g .kept) in record { sides-ok = k .0; kept = k .1 }
 
-  pub poll-until-data-good : (time visits : ℕ) (r : Run) → Good P F I r → Good P F I (poll-until-data time visits r .run)
-  unfolding poll-until-data pass-events
-  poll-until-data-good time zero r g = g
-  poll-until-data-good time (suc visits) r g =
-      go (poll-event time r .gave) (poll-event-good time r g)
-      (poll-until-data-good time visits (poll-event time r .run) (poll-event-good time r g))
-    where
-      go : (gave : Polled) → Good P F I (poll-event time r .run)
-          → Good P F I (poll-until-data time visits (poll-event time r .run) .run)
-          → Good P F I (pass-events gave (poll-event time r .run) (poll-until-data time visits (poll-event time r .run)) .run)
-      go nothing x y = x
-      go (event w) x y = y
-      go (packet p) x y = x
-
-  pub poll-data-bounded-good : (time max-events : ℕ) (r : Run) → Good P F I r
-      → Good P F I (poll-data-bounded time max-events r .run)
-  unfolding poll-data-bounded
+  pub poll-data-bounded-good : (time max-events : ℕ) (r : Run) → Good P F I r → Good P F I (poll-data-bounded time max-events r .run)
   poll-data-bounded-good time max-events r g =
-      if-elim (λ (q : DataPoll). Good P F I (q .run)) _ _ _ (λ e. g)
-      (λ e. poll-until-data-good time (min max-events max-visits) r g)
+      let k = polls-data Goes-on good-polls none time max-events r (g .sides-ok, g .kept) in record { sides-ok = k .0; kept = k .1 }

@@ -1,71 +1,17 @@
--- A schedule of consecutive runs, places along it, and the clerk. Document 01: a schedule's packet is sequence, count (at least 1,
--- also where it is never collected) and payload, its place the counts before it added up; the clerk of a schedule starts at
--- place 0 and is fed with the calls alone. A place is reached by the clerk's own step, so place and clerk share one function.
--- Assumes nothing.
+-- Laws of places along a schedule: a place is reached by the clerk's own step, so place and clerk share one function (`pass-to` of
+-- Statement). Going on from a place, and the sequence of the packet at one. Assumes nothing.
 use mathlib.Core.Path.{_≡_, refl, ap, _∙_, subst}
-use mathlib.Core.Bool.{Bool, true, false}
+use mathlib.Core.Bool.{true, false}
 use mathlib.Core.List.{List, [], _∷_}
-use mathlib.Core.Option.{Option, none, some}
+use mathlib.Core.Option.{Option, some}
 use Prim.Native.Nat.{ℕ, zero, suc, _+_, _-_, _≤_}
 use native.Mathlib.Omega.{arith}
 use lib.Dec.{leb, eqb}
 use Rattle.srt_protocol.specs.Sequence.{sequence-further}
-use Rattle.srt_group_model.specs.Tools.{if_then_else_, if-some_give_otherwise_}
-use Rattle.srt_group_model.specs.State.{State}
 use Rattle.srt_group_model.specs.Reason.{if-elim, by-test, not-both, none-some, some-inj}
+use Rattle.srt_history.specs.Statement.{RunsFrom, pass-to}
 use Rattle.srt_history.specs.Cases.{if-true, if-false, le-of, eq-of, leb-yes, eqb-yes}
-use Rattle.srt_group_model.specs.Lent.{delivered-by}
-use Rattle.srt_history.specs.Calls.{Asked, do-call, skipped-in, Delivery}
-
--- ---- a schedule
-
--- Runs one after the other, the first of them at `place` from the sequence `first` on, each of at least one packet. The
--- sequences wrap; the places do not.
-abbrev pub RunsFrom : (first place : ℕ) → List Delivery → Type 0
-RunsFrom first place [] = Unit {0}
-RunsFrom first place (x ∷ xs) = (x .sequence ≡ sequence-further first place) × (1 ≤ x .count) × RunsFrom first (place + x .count) xs
-
--- a schedule that starts at a sequence
-abbrev pub Consecutive : ℕ → List Delivery → Type 0
-Consecutive first schedule = RunsFrom first 0 schedule
-
--- The packets from the place n on: past those whose counts add up to n, if there are such.
-unfoldable pub pass-to : List Delivery → ℕ → Option (List Delivery)
-pass-to [] n = if eqb n 0 then some [] else none
-pass-to (x ∷ xs) n =
-    let later = pass-to xs (n - x .count) in
-    if eqb n 0 then some (x ∷ xs) else (if leb (x .count) n then later else none)
-
--- ---- the clerk
-
--- What he is told after a call: the skipped count, and whether a packet was delivered.
-pub record Told : Type 0 where
-  pub skipped : ℕ
-  pub delivered : Bool
-
-unfoldable pub told-by : List Asked → State → List Told
-told-by [] s = []
-told-by (call ∷ more) s =
-    record {
-      skipped = skipped-in (do-call call s .state);
-      delivered = if-some delivered-by (do-call call s .answer) give (λ p. true) otherwise false;
-    }
-    ∷ told-by more (do-call call s .state)
-
--- He gives the next packet and goes past it. With none before him, or no packets whose counts add up to the rise, he has no answer.
-unfoldable pub give-next : Option (List Delivery) → (List Delivery → Option (List Delivery)) → Option (List Delivery)
-give-next none go-on = none
-give-next (some []) go-on = none
-give-next (some (x ∷ xs)) go-on = if-some go-on xs give (λ (ys : List Delivery). some (x ∷ ys)) otherwise none
-
--- The packets before him, the skipped count that he knows, and what he is told, in order: what he gives. At a delivery he passes
--- the packets whose counts add up to the count's rise, gives the next and goes past it. Other calls leave him there.
-unfoldable pub clerk : List Delivery → ℕ → List Told → Option (List Delivery)
-clerk ahead known [] = some []
-clerk ahead known (told ∷ more) =
-    if told .delivered
-    then give-next (pass-to ahead (told .skipped - known)) (λ xs. clerk xs (told .skipped) more)
-    else clerk ahead (told .skipped) more
+use Rattle.srt_history.specs.Calls.{Delivery}
 
 -- ---- laws of places
 

@@ -1,24 +1,24 @@
 -- The marks of one call. They are quiet (payloads put, the base set, packets collected); or the call gave a packet, and its mark
 -- stands over quiet ones; or it stands over a skip, which passed the give-up test for the packet nearest when it was tested,
--- and whose call ends with empty leg queues. Assumes nothing.
+-- went to the packet nearest after collecting, and whose call ends with empty leg queues and no event waiting. Assumes nothing.
 use mathlib.Core.Path.{_≡_, refl, sym, ap, _∙_, subst}
 use mathlib.Core.Bool.{Bool, true, false, not, _||_}
 use mathlib.Core.Logic.{_⊎_, inl, inr}
 use mathlib.Core.List.{List, [], _∷_}
 use mathlib.Core.Option.{Option, none, some}
-use Prim.Native.Nat.{ℕ, zero, suc, _+_, _-_, min}
+use Prim.Native.Nat.{ℕ, zero, suc, _+_, min}
 use native.Mathlib.Omega.{arith}
 use lib.Dec.{eqb}
 use lib.ListN.{length, drop}
-use Rattle.srt_protocol.specs.Sequence.{sequence-distance}
+use Rattle.srt_protocol.specs.Sequence.{sequence-distance, sequence-further}
 use Rattle.srt_group_model.specs.Tools.{if-some_give_otherwise_, flagged, is-empty, place-of, at-place}
 use Rattle.srt_group_model.specs.State.{Member, State, Receive, next-receive-sequence, next-send-sequence, with-continuation}
 use Rattle.srt_group_model.specs.Legs.{no-sequence}
 use Rattle.srt_group_model.specs.Members.{find, base-after, align-member-sequence}
-use Rattle.srt_group_model.specs.Nearest.{sequence-of, held-at, is-held, nearest}
+use Rattle.srt_group_model.specs.Nearest.{sequence-of, held-at, is-held, nearest, covered}
 use Rattle.srt_group_model.specs.Run.{Mark, put, base-set, collected, gap-skipped, delivered, Run, start, set-base, admit-connected-peer-groups, refresh-pending-states, refresh-states}
 use Rattle.srt_group_model.specs.Collecting.{in-turn, front, Visited, take-front, collect-one-event, collect-until-held, collect-until-empty}
-use Rattle.srt_group_model.specs.Delivery.{gap-given-up, Polled, nothing, event, packet, Poll, deliver, skip-to, give-waiting, skip-after, max-visits, skip-given-up-gap}
+use Rattle.srt_group_model.specs.Delivery.{gap-given-up, release-pending-reservation, release-all, advance-legs, deliver-packet, pass-run, Polled, nothing, event, packet, Poll, deliver, skip-to, give-waiting, skip-after, max-visits, skip-given-up-gap}
 use Rattle.srt_group_model.specs.Polls.{delivery-budget, deliver-next, poll-event, DataPoll, pass-events, poll-until-data, poll-data-bounded}
 use Rattle.srt_group_model.specs.Sending.{Flow}
 use Rattle.srt_group_model.specs.Refusals.{guard-passed}
@@ -30,12 +30,13 @@ use Rattle.srt_group_model.specs.declared.Event.{Event}
 use Rattle.srt_group_model.specs.declared.Packet.{Packet}
 use Rattle.srt_group_model.specs.declared.Leg.{Leg}
 use Rattle.srt_group_model.specs.Reason.{if-elim, if-some-elim, All, not-both, or-left, or-right, none-some, some-inj}
+use Rattle.srt_history.specs.Statement.{When, run-at-test, after-polls, AtTest, when-of}
 use Rattle.srt_history.specs.Cases.{Each, each-at}
 use Rattle.srt_history.specs.Sides.{Side, sides, deliver-packet-leaves-sides}
 use Rattle.srt_history.specs.Law.{EventOk, SideOk, CollectLaw}
 use Rattle.srt_history.specs.FreeCells.{AnyNumber, any-number}
 use Rattle.srt_history.specs.PollWalk.{collect-until-held-good, collect-until-empty-good}
-use Rattle.srt_history.specs.Held.{nearest-is-found}
+use Rattle.srt_history.specs.Held.{held-at-sequence, nearest-is-held}
 use Rattle.srt_group_model.specs.Lent.{Call, addition, broken-mark, removal, member-look, refreshing, disconnection, event-poll, data-poll, sending, readiness, paced-readiness, send-wait, stability, group-look, members-look, mode-look, peer-look, skipped-look, pending-look, continuation-look, reading, queued-data, queued-event}
 use Rattle.srt_group_model.specs.Lent.{delivered-by, step-of, with-bytes, perform}
 use Rattle.srt_history.specs.Calls.{Asked, do-call, time-of, step}
@@ -56,52 +57,40 @@ Quiet log = All QuietMark log
 abbrev pub EmptyQueues : State → Type 0
 EmptyQueues s = All (λ (v : Side). v .queue ≡ []) (sides (s .members))
 
--- ---- when a poll makes its give-up test
-
--- the time of a call and the state that it began with
-pub record When : Type 0 where
-  pub time : ℕ
-  pub from : State
-
--- the state of which an event poll makes its give-up test: after its collecting and its two refreshes
-unfoldable pub state-at-test : Run → State
-state-at-test r =
-    refresh-states
-    (collect-until-held max-visits
-    (refresh-pending-states record { state = with-continuation false (r .state); log = r .log; budget = delivery-budget })) .state
-
--- a call under way after so many event polls
-unfoldable pub after-polls : (time polls : ℕ) → Run → Run
-after-polls time zero r = r
-after-polls time (suc polls) r = poll-event time (after-polls time polls r) .run
-
--- it is that of one of the event polls of this call
-abbrev pub AtTest : When → State → Type 0
-AtTest when tested = (polls : ℕ) × (tested ≡ state-at-test (after-polls (when .time) polls (start (when .from))))
+-- one of the event polls of this call is so far
+abbrev UnderTest : When → Run → Type 0
+UnderTest when r = (polls : ℕ) × (r ≡ run-at-test (after-polls (when .time) polls (start (when .from))))
 
 -- ---- what the marks of a call can be, if it gave a packet
 
 -- The marks of a call are a skip over quiet ones. `tested` is the state of which the give-up test was made, once, before
 -- collecting: its base was not held, no continuation was asked for, and the test was true for the packet nearest then.
-pub record Skip (when : When) (s : State) (log : List Mark) : Type 0 where
+-- `gathered` is the state after collecting: the base is still not held, and p is the packet now nearest, to which the base goes.
+pub record Skip (when : When) (p : Packet) (s : State) (log : List Mark) : Type 0 where
   pub tested : State
+  pub gathered : State
   pub base : ℕ
   pub distance : ℕ
   pub before : List Mark
   pub is : log ≡ gap-skipped tested (when .time) distance ∷ before
   pub quiet : Quiet before
-  pub at-test : AtTest when tested
+  pub at-test : AtTest when base tested gathered
   pub based : next-receive-sequence (tested .receive) ≡ some base
   pub missing : is-held base (tested .receive .pending) ≡ false
   pub complete : tested .visit .continuation ≡ false
   pub given-up : gap-given-up (when .time) tested ≡ true
+  pub still-missing : is-held base (gathered .receive .pending) ≡ false
+  pub nearest-now : nearest (gathered .receive .pending) ≡ some p
+  pub far : distance ≡ sequence-distance base (sequence-of p)
   pub empty : EmptyQueues s
+  pub none-waiting : s .waiting ≡ []
 
--- the packet was delivered last of all
+-- the packet was delivered last of all, and the base stands past its run
 pub record Given (when : When) (p : Packet) (s : State) (log : List Mark) : Type 0 where
   pub before : List Mark
   pub is : log ≡ delivered p ∷ before
-  pub how : Quiet before ⊎ Skip when s before
+  pub how : Quiet before ⊎ Skip when p s before
+  pub past : next-receive-sequence (s .receive) ≡ some (sequence-further (sequence-of p) (p .content .count))
 
 -- by the packet that it gave, if it gave one
 abbrev pub Shape : When → Option Packet → State → List Mark → Type 0
@@ -152,7 +141,7 @@ refresh-states-quiet r h = refresh-pending-states-quiet r h
 abbrev Empties : List Member → Type 0
 Empties ms = All (λ (v : Side). v .queue ≡ []) (sides ms)
 
-is-empty-nil : (q : List Event) → not (is-empty q) ≡ false → q ≡ []
+is-empty-nil : {A : Type 0} (q : List A) → not (is-empty q) ≡ false → q ≡ []
 unfolding is-empty
 is-empty-nil [] e = refl
 is-empty-nil (x ∷ q) e = not-both {t = true} refl e
@@ -247,6 +236,67 @@ collect-until-empty-empties (suc visits) sequence r =
     if-elim (λ (v : Visited). v .went ≡ true → EmptyQueues (v .run .state)) (collect-one-event r .went) _ _
     (λ e. collect-until-empty-empties visits sequence (collect-one-event r .run)) (λ e f. collect-one-event-finds r e f))
 
+-- ---- where collecting ended empty, the base is still not held
+
+-- a visit that collected nothing leaves what is held
+abbrev Rests : List Packet → Visited → Type 0
+Rests held v = v .went ≡ false → v .run .state .receive .pending ≡ held
+
+collect-one-event-rests : (r : Run) → Rests (r .state .receive .pending) (collect-one-event r)
+unfolding collect-one-event take-front
+collect-one-event-rests r =
+    if-some-elim (Rests (r .state .receive .pending)) (in-turn (r .state .visit .round) (r .state .members)) _ _
+    (λ i e.
+    if-some-elim (Rests (r .state .receive .pending)) (at-place i (r .state .members)) _ _
+    (λ m there.
+    if-some-elim (Rests (r .state .receive .pending)) (front (m .queue)) _ _
+    (λ e there. if-elim (Rests (r .state .receive .pending)) _ _ _ (λ e f. refl) (λ e f. not-both {t = true} refl f))
+    (λ e f. refl))
+    (λ e f. refl))
+    (λ e f. refl)
+
+collect-until-empty-missing : (visits sequence : ℕ) (r : Run) → collect-until-empty visits sequence r .went ≡ true
+    → is-held sequence (collect-until-empty visits sequence r .run .state .receive .pending) ≡ false
+unfolding collect-until-empty
+collect-until-empty-missing zero sequence r = λ e. not-both {t = true} refl (sym e)
+collect-until-empty-missing (suc visits) sequence r =
+    if-elim (λ (v : Visited). v .went ≡ true → is-held sequence (v .run .state .receive .pending) ≡ false) _ _ _
+    (λ e f. not-both {t = true} refl (sym f))
+    (λ e.
+    if-elim (λ (v : Visited). v .went ≡ true → is-held sequence (v .run .state .receive .pending) ≡ false)
+    (collect-one-event r .went) _ _
+    (λ t. collect-until-empty-missing visits sequence (collect-one-event r .run))
+    (λ t f.
+    ap (is-held sequence) (collect-one-event-rests r t)
+    ∙ or-right (r .state .visit .continuation) (is-held sequence (r .state .receive .pending)) e))
+
+-- ---- delivery leaves the waiting events
+
+release-leaves-waiting : (p : Packet) (s : State) → release-pending-reservation p s .waiting ≡ s .waiting
+unfolding release-pending-reservation
+release-leaves-waiting p s =
+    if-elim (λ (t : State). t .waiting ≡ s .waiting) (eqb (p .owned) 1) _ _ (λ e. refl)
+    (λ e. if-some-elim (λ (t : State). t .waiting ≡ s .waiting) (find (p .member) (s .members)) _ _ (λ i e. refl) (λ e. refl))
+
+release-all-leaves-waiting : (ps : List Packet) (s : State) → release-all ps s .waiting ≡ s .waiting
+unfolding release-all
+release-all-leaves-waiting [] s = refl
+release-all-leaves-waiting (p ∷ ps) s =
+    release-all-leaves-waiting ps (release-pending-reservation p s) ∙ release-leaves-waiting p s
+
+deliver-leaves-waiting : (base : ℕ) (p : Packet) (s : State) → deliver-packet base p s .waiting ≡ s .waiting
+unfolding deliver-packet advance-legs
+deliver-leaves-waiting base p s = release-all-leaves-waiting (covered base (p .content .count) (s .receive .pending)) s
+
+-- and moves the base past the run
+deliver-moves-base : (base : ℕ) (p : Packet) (s : State) → held-at base (s .receive .pending) ≡ some p
+    → next-receive-sequence (deliver-packet base p s .receive) ≡ some (sequence-further (sequence-of p) (p .content .count))
+unfolding deliver-packet pass-run flagged
+deliver-moves-base base p s e =
+    ap (λ (n : ℕ). some (sequence-further n (p .content .count)))
+    (sym (each-at (λ (q : Packet). sequence-of q ≡ base) (held-at base (s .receive .pending)) p e
+    (held-at-sequence base (s .receive .pending))))
+
 -- ---- a poll
 
 abbrev pub packet-of : Polled → Option Packet
@@ -261,14 +311,15 @@ deliver-shape : (when : When) (base : ℕ) (r : Run) → Quiet (r .log) → Poll
 unfolding deliver
 deliver-shape when base r h =
     if-some-elim (PollShape when) (held-at base (r .state .receive .pending)) _ _
-    (λ p e. record { before = r .log; is = refl; how = inl h }) (λ e. h)
+    (λ p e. record { before = r .log; is = refl; how = inl h; past = deliver-moves-base base p (r .state) e }) (λ e. h)
 
 -- delivery moves no queue
-deliver-after-skip : (when : When) (base : ℕ) (r : Run) → ((p : Packet) × (held-at base (r .state .receive .pending) ≡ some p))
-    → Skip when (r .state) (r .log) → PollShape when (deliver base r)
+deliver-after-skip : (when : When) (base : ℕ) (p : Packet) (r : Run) → held-at base (r .state .receive .pending) ≡ some p
+    → Skip when p (r .state) (r .log) → PollShape when (deliver base r)
 unfolding deliver
-deliver-after-skip when base r found h =
-    if-some-elim (PollShape when) (held-at base (r .state .receive .pending)) _ _ (λ p e.
+deliver-after-skip when base p r found h =
+    if-some-elim (PollShape when) (held-at base (r .state .receive .pending)) _ _ (λ q e.
+    let same : p ≡ q = some-inj (sym found ∙ e) in
     record {
       before = r .log;
       is = refl;
@@ -276,6 +327,7 @@ deliver-after-skip when base r found h =
           inr
           record {
             tested = h .tested;
+            gathered = h .gathered;
             base = h .base;
             distance = h .distance;
             before = h .before;
@@ -286,32 +338,39 @@ deliver-after-skip when base r found h =
             missing = h .missing;
             complete = h .complete;
             given-up = h .given-up;
+            still-missing = h .still-missing;
+            nearest-now = h .nearest-now ∙ ap {B = Option Packet} some same;
+            far = h .far ∙ ap (λ (x : Packet). sequence-distance (h .base) (sequence-of x)) same;
             empty =
-                subst (All (λ (v : Side). v .queue ≡ [])) (sym (deliver-packet-leaves-sides base p (r .state)))
+                subst (All (λ (v : Side). v .queue ≡ [])) (sym (deliver-packet-leaves-sides base q (r .state)))
                 (h .empty);
+            none-waiting = deliver-leaves-waiting base q (r .state) ∙ h .none-waiting;
           };
+      past = deliver-moves-base base q (r .state) e;
     })
-    (λ e. none-some (sym e ∙ found .1))
+    (λ e. none-some (sym e ∙ found))
 
 give-waiting-shape : (when : When) (r : Run) → Quiet (r .log) → PollShape when (give-waiting r)
 unfolding give-waiting
 give-waiting-shape when r h = if-some-elim (PollShape when) (at-place 0 (r .state .waiting)) _ _ (λ w e. h) (λ e. h)
 
-skip-after-shape : (when : When) (tested : State) (base : ℕ) (c : Visited) → AtTest when tested
+skip-after-shape : (when : When) (tested : State) (base : ℕ) (c : Visited) → AtTest when base tested (c .run .state)
     → next-receive-sequence (tested .receive) ≡ some base
     → is-held base (tested .receive .pending) ≡ false → tested .visit .continuation ≡ false
     → gap-given-up (when .time) tested ≡ true
-    → (c .went ≡ true → EmptyQueues (c .run .state)) → Quiet (c .run .log) → PollShape when (skip-after (when .time) tested base c)
+    → (c .went ≡ true → EmptyQueues (c .run .state)) → (c .went ≡ true → is-held base (c .run .state .receive .pending) ≡ false)
+    → Quiet (c .run .log) → PollShape when (skip-after (when .time) tested base c)
 unfolding skip-after skip-to
-skip-after-shape when tested base c at-test based missing complete given-up empty h =
+skip-after-shape when tested base c at-test based missing complete given-up empty still-missing h =
     if-elim (PollShape when) _ _ _ (λ e. give-waiting-shape when (c .run) h)
-    (λ e.
+    (λ none-waits.
     if-elim (PollShape when) (c .went) _ _
     (λ e.
     if-some-elim (PollShape when) (nearest (c .run .state .receive .pending)) _ _ (λ p near.
-    deliver-after-skip when (sequence-of p) _ (nearest-is-found (c .run .state .receive .pending) p near)
+    deliver-after-skip when (sequence-of p) p _ (nearest-is-held (c .run .state .receive .pending) p near)
     record {
       tested = tested;
+      gathered = c .run .state;
       base = base;
       distance = sequence-distance base (sequence-of p);
       before = c .run .log;
@@ -322,7 +381,11 @@ skip-after-shape when tested base c at-test based missing complete given-up empt
       missing = missing;
       complete = complete;
       given-up = given-up;
+      still-missing = still-missing e;
+      nearest-now = near;
+      far = refl;
       empty = empty e;
+      none-waiting = is-empty-nil (c .run .state .waiting) none-waits;
     })
     (λ e. h))
     (λ e. deliver-shape when base (c .run) h))
@@ -334,28 +397,33 @@ test-was-true false true c e = not-both {t = true} refl e
 test-was-true false false true e = refl
 test-was-true false false false e = not-both {t = true} refl e
 
-skip-given-up-gap-shape : (when : When) (base : ℕ) (r : Run) → AtTest when (r .state)
+skip-given-up-gap-shape : (when : When) (base : ℕ) (r : Run) → UnderTest when r
     → next-receive-sequence (r .state .receive) ≡ some base → Quiet (r .log)
     → PollShape when (skip-given-up-gap (when .time) base r)
 unfolding skip-given-up-gap
-skip-given-up-gap-shape when base r at-test based h =
+skip-given-up-gap-shape when base r under based h =
     if-elim (PollShape when) _ _ _ (λ e. deliver-shape when base r h)
     (λ e.
     skip-after-shape when (r .state) base (collect-until-empty max-visits base r)
-    at-test
+    record {
+      polls = under .0;
+      is = ap (λ (x : Run). x .state) (under .1);
+      gathers = ap (λ (x : Run). collect-until-empty max-visits base x .run .state) (under .1);
+    }
     based
     (or-left (is-held base (r .state .receive .pending)) _ e)
     (or-left (r .state .visit .continuation) _ (or-right (is-held base (r .state .receive .pending)) _ e))
     (test-was-true (is-held base (r .state .receive .pending)) (r .state .visit .continuation)
     (gap-given-up (when .time) (r .state)) e)
-    (collect-until-empty-empties max-visits base r) (collect-until-empty-quiet max-visits base r h))
+    (collect-until-empty-empties max-visits base r) (collect-until-empty-missing max-visits base r)
+    (collect-until-empty-quiet max-visits base r h))
 
-deliver-next-shape : (when : When) (r : Run) → AtTest when (r .state) → Quiet (r .log)
+deliver-next-shape : (when : When) (r : Run) → UnderTest when r → Quiet (r .log)
     → PollShape when (deliver-next (when .time) r)
 unfolding deliver-next
-deliver-next-shape when r at-test h =
+deliver-next-shape when r under h =
     if-some-elim (PollShape when) (next-receive-sequence (r .state .receive)) _ _
-    (λ base e. skip-given-up-gap-shape when base r at-test e h)
+    (λ base e. skip-given-up-gap-shape when base r under e h)
     (λ e.
     if-some-elim (PollShape when) (nearest (r .state .receive .pending)) _ _
     (λ p e. deliver-shape when (sequence-of p) (set-base (some (sequence-of p)) r) (set-base-quiet (some (sequence-of p)) r h))
@@ -367,10 +435,10 @@ AfterPolls when polls r = r ≡ after-polls (when .time) polls (start (when .fro
 
 poll-event-shape-after : (when : When) (polls : ℕ) (r : Run) → AfterPolls when polls r → Quiet (r .log)
     → PollShape when (poll-event (when .time) r)
-unfolding poll-event state-at-test
+unfolding poll-event run-at-test
 poll-event-shape-after when polls r here h =
     if-elim (PollShape when) _ _ _ (λ e. give-waiting-shape when _ gathered)
-    (λ e. deliver-next-shape when _ (polls, ap state-at-test here) (refresh-states-quiet _ gathered))
+    (λ e. deliver-next-shape when _ (polls, ap run-at-test here) (refresh-states-quiet _ gathered))
   where
     gathered : Quiet
         (collect-until-held max-visits
@@ -466,9 +534,6 @@ at-time time s = record { time = time; from = s }
 
 abbrev at-no-time : State → When
 at-no-time = at-time 0
-
-abbrev pub when-of : Call → State → When
-when-of call s = record { time = time-of call; from = s }
 
 -- every call, lent a store, an output and a list of these lengths
 pub step-of-shape : (store output list : ℕ) (call : Call) (s : State)

@@ -1,10 +1,11 @@
 -- What receiving sees of a member: its queue and the first sequence of its leg's peer. All that promotion, admission,
 -- alignment, the refresh, reservations and sends do to the members leaves that alone: the model's Frame carries them on.
 -- Assumes nothing.
-use mathlib.Core.Path.{_≡_, refl, ap, _∙_}
+use mathlib.Core.Path.{_≡_, refl, sym, ap, subst, _∙_}
 use mathlib.Core.List.{List, [], _∷_}
+use mathlib.Core.Option.{some}
 use Prim.Native.Nat.{ℕ, zero, suc, _-_}
-use Rattle.srt_group_model.specs.Tools.{change, each}
+use Rattle.srt_group_model.specs.Tools.{at-place, change, each}
 use Rattle.srt_group_model.specs.State.{Member, State, on-leg, turned, broken-state}
 use Rattle.srt_group_model.specs.Legs.{advance-receive-sequence}
 use Rattle.srt_group_model.specs.Members.{find, promote-backup-member}
@@ -16,7 +17,8 @@ use Rattle.srt_group_model.specs.Delivery.{release-pending-reservation, release
 use Rattle.srt_group_model.specs.declared.Event.{Event}
 use Rattle.srt_group_model.specs.declared.Packet.{Packet}
 use Rattle.srt_group_model.specs.declared.Waiting.{Waiting}
-use Rattle.srt_group_model.specs.Reason.{if-elim, if-some-elim, All}
+use Rattle.srt_group_model.specs.Reason.{if-elim, if-some-elim, some-inj, All}
+use Rattle.srt_group_model.specs.MemberMoves.{Same-account}
 
 pub record Side : Type 0 where
   pub queue : List Event
@@ -55,6 +57,17 @@ unfolding sides each
 each-leaves f [] e = refl
 each-leaves f (m ∷ ms) e =
     ap (λ (v : Side). v ∷ sides (each f ms)) (e m) ∙ ap {B = List Side} (λ (vs : List Side). side m ∷ vs) (each-leaves f ms e)
+
+-- the member at a place is changed, and its side is not
+pub moved-sides : (i : ℕ) (m : Member) (f : Member → Member) (ms : List Member) → at-place i ms ≡ some m → side (f m) ≡ side m → sides (change i f ms) ≡ sides ms
+unfolding sides change at-place
+moved-sides zero m f [] at e = refl
+moved-sides (suc i) m f [] at e = refl
+moved-sides zero m f (x ∷ ms) at e = ap (λ (v : Side). v ∷ sides ms) (subst (λ (y : Member). side (f y) ≡ side y) (sym (some-inj at)) e)
+moved-sides (suc i) m f (x ∷ ms) at e = ap {B = List Side} (λ (vs : List Side). side x ∷ vs) (moved-sides i m f ms at e)
+
+pub account-side : (m n : Member) → Same-account m n → side n ≡ side m
+account-side m n h = λ i. record { queue = h .queue i; first = h .first i }
 
 -- members that are carried on, as the model's Frame has it, keep their sides
 abbrev pub SameSides : List Member → List Member → Type 0

@@ -32,6 +32,7 @@ use Rattle.srt_group_model.specs.Lent.{step-of, with-bytes, perform}
 use Rattle.srt_group_model.specs.Frame.{trim-framed, broadcast-framed, backup-framed}
 use Rattle.srt_group_model.specs.Steps.{State-law, refresh-has, poll-event-has, poll-data-has}
 use Rattle.srt_group_model.specs.Refusals.{changes-nothing, guard-elim, refusal-leaves-everything}
+use Rattle.srt_group_model.specs.Fixed.{identity-kept}
 use Rattle.srt_group_model.specs.Valid.{valid-kept, valid-wider, new-valid}
 use Rattle.srt_group_model.specs.declared.Identity.{Identity}
 use Rattle.srt_group_model.specs.declared.Packet.{Packet}
@@ -39,145 +40,9 @@ use Rattle.srt_group_model.specs.declared.Leg.{Leg}
 use Rattle.srt_history.specs.Cases.{if-true, eq-of, eqb-yes}
 use Rattle.srt_history.specs.Calls.{Asked, do-call, takes-store, Making, made, state-after}
 
--- ---- a call keeps the store's length given at the start
-
-abbrev Given : ℕ → State → Type 0
-Given n s = s .identity .length ≡ n
-
-set-base-identity : (base : Option ℕ) (r : Run) → set-base base r .state .identity ≡ r .state .identity
-unfolding set-base
-set-base-identity base r =
-    if-some-elim (λ (q : Run). q .state .identity ≡ r .state .identity) (next-receive-sequence (r .state .receive)) _ _ (λ b e. refl)
-    (λ e. if-some-elim (λ (q : Run). q .state .identity ≡ r .state .identity) base _ _ (λ b e. refl) (λ e. refl))
-
-retain-identity : (i : ℕ) (p : Packet) (s : State) → retain-group-packet i p s .identity ≡ s .identity
-unfolding retain-group-packet
-retain-identity i p s = if-elim (λ (t : State). t .identity ≡ s .identity) _ _ _ (λ e. refl) (λ e. refl)
-
-release-identity : (p : Packet) (s : State) → release-pending-reservation p s .identity ≡ s .identity
-unfolding release-pending-reservation
-release-identity p s =
-    if-elim (λ (t : State). t .identity ≡ s .identity) _ _ _ (λ e. refl)
-    (λ e. if-some-elim (λ (t : State). t .identity ≡ s .identity) (find (p .member) (s .members)) _ _ (λ i e. refl) (λ e. refl))
-
-release-all-identity : (ps : List Packet) (s : State) → release-all ps s .identity ≡ s .identity
-unfolding release-all
-release-all-identity [] s = refl
-release-all-identity (p ∷ ps) s = release-all-identity ps (release-pending-reservation p s) ∙ release-identity p s
-
-length-of : {x y : Identity} → x ≡ y → x .length ≡ y .length
-length-of e = ap (λ (z : Identity). z .length) e
-
-given-law : (n : ℕ) → State-law (Given n)
-unfolding admit-connected-peer-groups report-event deliver-packet advance-legs
-given-law n =
-    record {
-      admits = λ r h. length-of (set-base-identity (base-after none (r .state .members)) r) ∙ h;
-      settles = λ s h. h;
-      requalifies = λ s h. h;
-      continues = λ s b h. h;
-      turns = λ s i m e h. h;
-      takes = λ s i m e at there kind h. length-of (retain-identity i _ _) ∙ h;
-      reports = λ s i m e at there kind h. h;
-      delivers = λ s base p there h. length-of (release-all-identity (covered base (p .content .count) (s .receive .pending)) s) ∙ h;
-      skips = λ s base p near h. h;
-      bases = λ s p near h. h;
-      gives = λ s h. h;
-    }
-
-bound-identity : (left limit base : ℕ) (s : State) → bound-group-owned-pending left limit base s .identity ≡ s .identity
-unfolding bound-group-owned-pending retire
-bound-identity zero limit base s = refl
-bound-identity (suc left) limit base s =
-    if-some-elim (λ (t : State). t .identity ≡ s .identity) (farthest base (such-that is-owned (s .receive .pending))) _ _
-    (λ p e. if-elim (λ (t : State). t .identity ≡ s .identity) _ _ _ (λ e. refl) (λ e. bound-identity left limit base (retire p s)))
-    (λ e. refl)
-
-module _ (n : ℕ) (s : State) (given : Given n s) where
-  abbrev GivenAfter : Step → Type 0
-  GivenAfter step = Given n (step .state)
-
-  refreshed-given : Given n (refresh-states (start s) .state)
-  refreshed-given = refresh-has (Given n) (given-law n) (start s) given
-
-  add-given : (id weight : ℕ) (leg : Leg) → GivenAfter (add-body id weight leg s)
-  unfolding add-body
-  add-given id weight leg =
-      if-elim GivenAfter _ _ _
-      (λ e. if-some-elim GivenAfter (align-member-sequence _ _ _) _ _ (λ ms e. based _) (λ e. based _)) (λ e. based _)
-    where
-      based : (base : Option ℕ) → set-base base (start s) .state .identity .length ≡ n
-      based base = length-of (set-base-identity base (start s)) ∙ given
-
-  remove-given : (id : ℕ) → GivenAfter (remove-body id s)
-  unfolding remove-body remove-member-at take-out
-  remove-given id =
-      if-some-elim GivenAfter (find id (s .members)) _ _
-      (λ i e.
-      if-some-elim GivenAfter (at-place i (s .members)) _ _ (λ m e. length-of (bound-identity _ _ _ _) ∙ given) (λ e. given))
-      (λ e. given)
-
-  change-given : (id : ℕ) (f : Member → Member) → Given n (change-member id f s)
-  unfolding change-member
-  change-given id f = if-some-elim (Given n) (find id (s .members)) _ _ (λ i e. given) (λ e. given)
-
-  send-given : (cell time : ℕ) (payload : List ℕ) → GivenAfter (send-body cell time payload s)
-  unfolding send-body left-by-send send-flow
-  send-given cell time payload =
-      if-elim GivenAfter _ _ _ (λ e. flow) (λ e. flow)
-    where
-      flow : Given n (send-flow cell time payload s (refresh-states (start s)) .state)
-      flow =
-          if-elim (λ (f : Flow). Given n (f .state)) _ _ _ (λ e. refreshed-given)
-          (λ e.
-          if-elim (λ (f : Flow). Given n (f .state)) _ _ _
-          (λ e. length-of (backup-framed time (length payload) cell (refresh-states (start s) .state) .identity) ∙ refreshed-given)
-          (λ e. length-of (broadcast-framed time (length payload) (refresh-states (start s) .state) .identity) ∙ refreshed-given))
-
-  can-send-given : GivenAfter (can-send-body s)
-  unfolding can-send-body
-  can-send-given =
-      if-elim GivenAfter _ _ _ (λ e. length-of (trim-framed (refresh-states (start s) .state) .identity) ∙ refreshed-given)
-      (λ e. refreshed-given)
-
-  can-send-with-pacing-given : (time : ℕ) → GivenAfter (can-send-with-pacing-body time s)
-  unfolding can-send-with-pacing-body
-  can-send-with-pacing-given time =
-      if-elim GivenAfter _ _ _ (λ e. length-of (trim-framed _ .identity) ∙ refreshed-given) (λ e. refreshed-given)
-
-  guarded : (checks : List Check) (body : Step) → GivenAfter body → GivenAfter (guard checks s body)
-  guarded checks body h = guard-elim GivenAfter checks s body (λ code. given) h
-
-  step-given : (store output list : ℕ) (call : Call) → GivenAfter (step-of store output list call s)
-  unfolding step-of add-member mark-member-broken remove-member-connection member refresh-member-states disconnect event-poll-body poll-event-call data-poll-body poll-data-call send can-send-call can-send-with-pacing-call time-until-send backup-stability-timeout-micros group-id members-call mode peer-group-id skipped-receive-packets has-pending-data-call has-receive-continuation read-leg queue-data-body queue-data queue-event
-  step-given store output list (addition id weight leg queue) = guarded _ _ (add-given id weight leg)
-  step-given store output list (broken-mark id) = guarded _ _ (change-given id _)
-  step-given store output list (removal id) = guarded _ _ (remove-given id)
-  step-given store output list (member-look id) = guarded _ _ given
-  step-given store output list refreshing = guarded _ _ refreshed-given
-  step-given store output list (disconnection time) = guarded _ _ given
-  step-given store output list (event-poll time) = guarded _ _ (poll-event-has (Given n) (given-law n) time (start s) given)
-  step-given store output list (data-poll time max-events) =
-      guarded _ _ (poll-data-has (Given n) (given-law n) time max-events (start s) given)
-  step-given store output list (sending time payload) = guarded _ _ (send-given _ time payload)
-  step-given store output list readiness = guarded _ _ can-send-given
-  step-given store output list (paced-readiness time) = guarded _ _ (can-send-with-pacing-given time)
-  step-given store output list (send-wait time) = guarded _ _ given
-  step-given store output list (stability id) = guarded _ _ given
-  step-given store output list group-look = guarded _ _ given
-  step-given store output list members-look = guarded _ _ given
-  step-given store output list mode-look = guarded _ _ given
-  step-given store output list peer-look = guarded _ _ given
-  step-given store output list skipped-look = guarded _ _ given
-  step-given store output list pending-look = guarded _ _ given
-  step-given store output list continuation-look = guarded _ _ given
-  step-given store output list (reading id field m) = guarded _ _ (change-given id _)
-  step-given store output list (queued-data id content payload) = guarded _ _ (change-given id _)
-  step-given store output list (queued-event id kind reason) = guarded _ _ (change-given id _)
-
 pub store-length-stays : (call : Asked) (s : State) → do-call call s .state .identity .length ≡ s .identity .length
-unfolding do-call perform with-bytes
-store-length-stays call s = step-given (s .identity .length) s refl _ _ _ (call .call)
+unfolding do-call
+store-length-stays call s = ap (λ (x : Identity). x .length) (identity-kept (call .call) (call .lent) s)
 
 -- ---- a call that is lent no store leaves the same, whatever else is lent
 
@@ -274,6 +139,9 @@ five-changes-nothing = refl
 not-zero : (n : ℕ) → (n ≡ 0 → ⊥) → eqb n 0 ≡ false
 not-zero n h = by-test (eqb n 0) (λ e. absurd (h (eq-of n 0 e))) (λ e. e)
 
+abbrev Given : ℕ → State → Type 0
+Given n s = s .identity .length ≡ n
+
 -- a call whose first test is true of an unfit store
 unfit-refused : (n : ℕ) (fails : Bool) (checks : List Check) (s : State) (body : Step) (store : ℕ)
     → (store-unfit store s ≡ true → fails ≡ true) → Given n s → (n ≡ 0 → ⊥)
@@ -326,7 +194,7 @@ unfolding do-call perform with-bytes
 given-length-lends n [] s given some-length = tt
 given-length-lends n (call ∷ more) s given some-length = (
   (λ takes e. given-lends n _ _ _ (call .call) s given some-length takes e),
-  given-length-lends n more _ (step-given n s given _ _ _ (call .call)) some-length,
+  given-length-lends n more _ (store-length-stays call s ∙ given) some-length,
 )
 
 -- From a new group with a store's length given at the start, whatever the calls and whatever they are lent.

@@ -2,3 +2,4 @@ pub mod RefreshLaws
 pub mod SkipLaws
 pub mod EventPollLaws
 pub mod DataPollLaws
+pub mod PollsUsed

@@ -7,7 +7,9 @@ ghost use Rattle.srt_group_model.specs.State.{State};
 ghost use Rattle.srt_group_model.specs.Delivery.{skip-given-up-gap};
 ghost use Rattle.srt_group_model.specs.Polls.{deliver-next, poll-event, poll-until-data, poll-data-bounded};
 ghost use Rattle.srt_state.specs.Shown.{shown};
+ghost use lib.ListN.{length};
 ghost use Rattle.srt_receiving.specs.Leaves.{Usable};
+ghost use Rattle.srt_receiving.specs.Follows.{Follows};
 ghost use Rattle.srt_receiving.specs.PollLaws.{Polls};
 ghost use Rattle.srt_polls.specs.EventPollLaws.{give-next};
 ghost use Rattle.srt_polls.specs.DataPollLaws.{PollsData, Passes};
@@ -60,9 +62,17 @@ const MAX_EVENTS: usize = 64;
 // ---- the skip
 
 // The nearest held packet becomes the base, the distance counts as skipped, and the packet is delivered.
-fn skip_to_nearest(core: Core, members: &mut [u64], pending: &mut [u64], base: u32) -> Poll
+fn skip_to_nearest(
+    core: Core,
+    members: &mut [u64],
+    pending: &mut [u64],
+    used: &mut [u64],
+    base: u32,
+) -> Poll
     requires { ⌜ Skippable core (now members) (now pending) ⌝ }
+    requires { ⌜ length (now used) ≡ 32 ⌝ }
     ensures { λ r. ⌜ ((waiting : List ℕ) (tested : State) (time : ℕ) → Polls (skip-nearest tested time base) core (now (members .entry)) (now (pending .entry)) waiting r (now (members .exit)) (now (pending .exit)) waiting) ⌝ }
+    ensures { λ r. ⌜ Follows core (now (members .entry)) (now (pending .entry)) (now (used .entry)) (r .core) (now (members .exit)) (now (pending .exit)) (now (used .exit)) ⌝ }
 {
     let held = core.counts.pending;
     let nearest = pending::nearest(pending, held);
@@ -75,7 +85,7 @@ fn skip_to_nearest(core: Core, members: &mut [u64], pending: &mut [u64], base: u
     let packet = pending::packet(pending, at);
     let next = packet.content.sequence as u32;
     let skipped = skip_to(core, base, next);
-    deliver(skipped, members, pending, next)
+    deliver(skipped, members, pending, used, next)
 }
 
 // What is given after the queues were collected: a waiting event first. The gap is skipped only if they ended empty.
@@ -84,19 +94,22 @@ fn skip_after(
     members: &mut [u64],
     pending: &mut [u64],
     waiting: &mut [u64],
+    used: &mut [u64],
     base: u32,
 ) -> Poll
     requires { ⌜ Usable (collected .core) (now members) (now pending) (now waiting) ⌝ }
+    requires { ⌜ length (now used) ≡ 32 ⌝ }
     ensures { λ r. ⌜ ((tested : State) (time : ℕ) → Polls (skip-from (collected .went) tested time base) (collected .core) (now (members .entry)) (now (pending .entry)) (now (waiting .entry)) r (now (members .exit)) (now (pending .exit)) (now (waiting .exit))) ⌝ }
+    ensures { λ r. ⌜ Follows (collected .core) (now (members .entry)) (now (pending .entry)) (now (used .entry)) (r .core) (now (members .exit)) (now (pending .exit)) (now (used .exit)) ⌝ }
 {
     let core = collected.core;
     if 0 < core.counts.waiting {
         return give_waiting(core, waiting);
     }
     if collected.went {
-        return skip_to_nearest(core, members, pending, base);
+        return skip_to_nearest(core, members, pending, used, base);
     }
-    deliver(core, members, pending, base)
+    deliver(core, members, pending, used, base)
 }
 
 // The base stays where it is if it is held, if the continuation is asked for, or while the gap is not given up.
@@ -119,27 +132,32 @@ fn skip_given_up_gap(
     members: &mut [u64],
     pending: &mut [u64],
     waiting: &mut [u64],
+    used: &mut [u64],
     time: Timestamp,
     base: u32,
     budget: u64,
 ) -> Poll
     requires { ⌜ Usable core (now members) (now pending) (now waiting) ⌝ }
     requires { ⌜ core .counts .waiting ≡ 0 ⌝ }
+    requires { ⌜ length (now used) ≡ 32 ⌝ }
     ensures { λ r. ⌜ PollsFrom (skip-given-up-gap (time .0) base) core budget (now (members .entry)) (now (pending .entry)) (now (waiting .entry)) r (now (members .exit)) (now (pending .exit)) (now (waiting .exit)) ⌝ }
+    ensures { λ r. ⌜ Follows core (now (members .entry)) (now (pending .entry)) (now (used .entry)) (r .core) (now (members .exit)) (now (pending .exit)) (now (used .exit)) ⌝ }
 {
     if base_stays(core, members, pending, time, base) {
-        return deliver(core, members, pending, base);
+        return deliver(core, members, pending, used, base);
     }
-    let collected = collect_until_empty(core, members, pending, waiting, budget, base as u64);
-    skip_after(collected, members, pending, waiting, base)
+    let collected = collect_until_empty(core, members, pending, waiting, used, budget, base as u64);
+    skip_after(collected, members, pending, waiting, used, base)
 }
 
 // ---- the event poll
 
 // The nearest held packet sets the base, and is delivered.
-fn deliver_nearest(core: Core, members: &mut [u64], pending: &mut [u64]) -> Poll
+fn deliver_nearest(core: Core, members: &mut [u64], pending: &mut [u64], used: &mut [u64]) -> Poll
     requires { ⌜ Skippable core (now members) (now pending) ⌝ }
+    requires { ⌜ length (now used) ≡ 32 ⌝ }
     ensures { λ r. ⌜ ((waiting : List ℕ) → Polls deliver-nearest core (now (members .entry)) (now (pending .entry)) waiting r (now (members .exit)) (now (pending .exit)) waiting) ⌝ }
+    ensures { λ r. ⌜ Follows core (now (members .entry)) (now (pending .entry)) (now (used .entry)) (r .core) (now (members .exit)) (now (pending .exit)) (now (used .exit)) ⌝ }
 {
     let held = core.counts.pending;
     let nearest = pending::nearest(pending, held);
@@ -153,7 +171,7 @@ fn deliver_nearest(core: Core, members: &mut [u64], pending: &mut [u64]) -> Poll
     let first = packet.content.sequence;
     let based = set_base(core, true, first);
     let base = first as u32;
-    deliver(based, members, pending, base)
+    deliver(based, members, pending, used, base)
 }
 
 // The packet at the base; while none is set, the nearest packet sets it.
@@ -162,18 +180,21 @@ fn deliver_next(
     members: &mut [u64],
     pending: &mut [u64],
     waiting: &mut [u64],
+    used: &mut [u64],
     time: Timestamp,
     budget: u64,
 ) -> Poll
     requires { ⌜ Usable core (now members) (now pending) (now waiting) ⌝ }
     requires { ⌜ core .counts .waiting ≡ 0 ⌝ }
+    requires { ⌜ length (now used) ≡ 32 ⌝ }
     ensures { λ r. ⌜ PollsFrom (deliver-next (time .0)) core budget (now (members .entry)) (now (pending .entry)) (now (waiting .entry)) r (now (members .exit)) (now (pending .exit)) (now (waiting .exit)) ⌝ }
+    ensures { λ r. ⌜ Follows core (now (members .entry)) (now (pending .entry)) (now (used .entry)) (r .core) (now (members .exit)) (now (pending .exit)) (now (used .exit)) ⌝ }
 {
     if core.receiving.based {
         let base = core.receiving.base;
-        return skip_given_up_gap(core, members, pending, waiting, time, base, budget);
+        return skip_given_up_gap(core, members, pending, waiting, used, time, base, budget);
     }
-    deliver_nearest(core, members, pending)
+    deliver_nearest(core, members, pending, used)
 }
 
 // A waiting event; if none waits, the next packet.
@@ -182,17 +203,28 @@ fn give_next(
     members: &mut [u64],
     pending: &mut [u64],
     waiting: &mut [u64],
+    used: &mut [u64],
     time: Timestamp,
 ) -> Poll
     requires { ⌜ Usable (gathered .core) (now members) (now pending) (now waiting) ⌝ }
+    requires { ⌜ length (now used) ≡ 32 ⌝ }
     ensures { λ r. ⌜ PollsFrom (give-next (time .0)) (gathered .core) (gathered .budget) (now (members .entry)) (now (pending .entry)) (now (waiting .entry)) r (now (members .exit)) (now (pending .exit)) (now (waiting .exit)) ⌝ }
+    ensures { λ r. ⌜ Follows (gathered .core) (now (members .entry)) (now (pending .entry)) (now (used .entry)) (r .core) (now (members .exit)) (now (pending .exit)) (now (used .exit)) ⌝ }
 {
     let here = gathered.core;
     if 0 < here.counts.waiting {
         return give_waiting(here, waiting);
     }
     let refreshed = refresh_states(here, members);
-    deliver_next(refreshed, members, pending, waiting, time, gathered.budget)
+    deliver_next(
+        refreshed,
+        members,
+        pending,
+        waiting,
+        used,
+        time,
+        gathered.budget,
+    )
 }
 
 // The states are refreshed, events collected, and a waiting event or the next packet given.
@@ -201,15 +233,18 @@ pub fn poll_event(
     members: &mut [u64],
     pending: &mut [u64],
     waiting: &mut [u64],
+    used: &mut [u64],
     time: Timestamp,
 ) -> Poll
     requires { ⌜ Usable core (now members) (now pending) (now waiting) ⌝ }
+    requires { ⌜ length (now used) ≡ 32 ⌝ }
     ensures { λ r. ⌜ ((budget : ℕ) → PollsFrom (poll-event (time .0)) core budget (now (members .entry)) (now (pending .entry)) (now (waiting .entry)) r (now (members .exit)) (now (pending .exit)) (now (waiting .exit))) ⌝ }
+    ensures { λ r. ⌜ Follows core (now (members .entry)) (now (pending .entry)) (now (used .entry)) (r .core) (now (members .exit)) (now (pending .exit)) (now (used .exit)) ⌝ }
 {
     core.visit.continuation = false;
     let begun = refresh_pending_states(core, members);
-    let gathered = collect_until_held(begun, members, pending, waiting, DELIVERY_BUDGET);
-    give_next(gathered, members, pending, waiting, time)
+    let gathered = collect_until_held(begun, members, pending, waiting, used, DELIVERY_BUDGET);
+    give_next(gathered, members, pending, waiting, used, time)
 }
 
 // ---- the data poll
@@ -254,11 +289,14 @@ fn poll_until_data(
     members: &mut [u64],
     pending: &mut [u64],
     waiting: &mut [u64],
+    used: &mut [u64],
     time: Timestamp,
     visits: usize,
 ) -> DataPoll
     requires { ⌜ Usable core (now members) (now pending) (now waiting) ⌝ }
+    requires { ⌜ length (now used) ≡ 32 ⌝ }
     ensures { λ r. ⌜ PollsData (poll-until-data (time .0) visits) core (now (members .entry)) (now (pending .entry)) (now (waiting .entry)) r (now (members .exit)) (now (pending .exit)) (now (waiting .exit)) ⌝ }
+    ensures { λ r. ⌜ Follows core (now (members .entry)) (now (pending .entry)) (now (used .entry)) (r .core) (now (members .exit)) (now (pending .exit)) (now (used .exit)) ⌝ }
 {
     let mut answer = DataPoll {
         gave: OptionalPacket::None,
@@ -268,7 +306,7 @@ fn poll_until_data(
     let mut left = visits;
     while 0 < left {
         let here = answer.core;
-        let poll = poll_event(here, members, pending, waiting, time);
+        let poll = poll_event(here, members, pending, waiting, used, time);
         let passed = pass_event(poll);
         answer = passed.answer;
         if !passed.event {
@@ -285,11 +323,14 @@ pub fn poll_data_bounded(
     members: &mut [u64],
     pending: &mut [u64],
     waiting: &mut [u64],
+    used: &mut [u64],
     time: Timestamp,
     max_events: usize,
 ) -> DataPoll
     requires { ⌜ Usable core (now members) (now pending) (now waiting) ⌝ }
+    requires { ⌜ length (now used) ≡ 32 ⌝ }
     ensures { λ r. ⌜ PollsData (poll-data-bounded (time .0) «max_events») core (now (members .entry)) (now (pending .entry)) (now (waiting .entry)) r (now (members .exit)) (now (pending .exit)) (now (waiting .exit)) ⌝ }
+    ensures { λ r. ⌜ Follows core (now (members .entry)) (now (pending .entry)) (now (used .entry)) (r .core) (now (members .exit)) (now (pending .exit)) (now (used .exit)) ⌝ }
 {
     if max_events == 0 {
         let continuation = has_pending_data(core);
@@ -300,7 +341,7 @@ pub fn poll_data_bounded(
         };
     }
     if MAX_EVENTS < max_events {
-        return poll_until_data(core, members, pending, waiting, time, MAX_EVENTS);
+        return poll_until_data(core, members, pending, waiting, used, time, MAX_EVENTS);
     }
-    poll_until_data(core, members, pending, waiting, time, max_events)
+    poll_until_data(core, members, pending, waiting, used, time, max_events)
 }

@@ -5,3 +5,5 @@ pub mod VisitLaws
 pub mod GatherLaws
 pub mod DeliveryLaws
 pub mod PollLaws
+pub mod Follows
+pub mod UsedLaws

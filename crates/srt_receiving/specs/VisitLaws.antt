@@ -16,7 +16,7 @@ use Rattle.srt_group_model.specs.declared.Packet.{Packet}
 use Rattle.srt_group_model.specs.declared.Visit.{Visit}
 use Rattle.srt_group_model.specs.declared.Waiting.{Waiting}
 use Rattle.srt_group_model.specs.Tools.{if_then_else_, if-some_give_otherwise_, at-place, change}
-use Rattle.srt_group_model.specs.State.{Member, State, with-members, with-round, with-continuation, with-queue}
+use Rattle.srt_group_model.specs.State.{Member, Receive, State, with-members, with-round, with-continuation, with-queue}
 use Rattle.srt_group_model.specs.Members.{id-of}
 use Rattle.srt_group_model.specs.Run.{Mark, Run}
 use Rattle.srt_group_model.specs.Queues.{pop}
@@ -30,6 +30,7 @@ use Rattle.srt_connection.specs.declared.members.Found.the-variants.{At, Nothin
 use Rattle.srt_connection.specs.declared.queue.LegPoll.the-variants.{Nothing, Continuation, Event as PolledEvent}
 use Rattle.srt_tables.specs.Packets.{packet-at}
 use Rattle.srt_state.specs.Shown.{shown}
+use Rattle.cell_set.specs.Shows.{freed-by}
 use Rattle.srt_receiving.specs.declared.collecting.Visited.{Visited}
 use Rattle.srt_receiving.specs.Leaves.{Usable, Leaves}
 use Rattle.srt_receiving.specs.CollectLaws.{Holdable, Retained, Reported}
@@ -64,6 +65,10 @@ waiting-from id e = record { member = id; kind = e .kind; reason = e .reason }
 unfoldable pub collect-event : (place id : ℕ) → Event → State → State
 collect-event i id e s =
     if eqb (e .kind) 0 then retain-group-packet i (packet-from id e) s else report-event i (waiting-from id e) s
+
+-- the cell that it frees: that of a packet that is discarded
+unfoldable pub freed-by-event : (id : ℕ) → Event → Receive → List ℕ
+freed-by-event id e x = if eqb (e .kind) 0 then freed-by (packet-from id e) x else []
 
 -- a call under way, at this record and these tables
 abbrev pub run-at : Core → List Entry → (members pending waiting : List ℕ) → List Mark → ℕ → Run
@@ -155,7 +160,7 @@ pub record Gave (budget : ℕ) (q : List Event) (e : Event) (left : ℕ) : Type 
   pub unspent : eqb budget 0 ≡ false
   pub lowered : left ≡ budget-after e budget
 
-gave-nothing : (budget : ℕ) (q : List Event) → Nothing ≡ leg-poll budget q → q ≡ []
+pub gave-nothing : (budget : ℕ) (q : List Event) → Nothing ≡ leg-poll budget q → q ≡ []
 unfolding leg-poll if_then_else_
 gave-nothing budget [] is = refl
 gave-nothing budget (e ∷ q) is = go (eqb budget 0) is
@@ -170,7 +175,7 @@ pub record Spent (budget : ℕ) (q : List Event) : Type 0 where
   pub front : at-place 0 q ≡ some event
   pub spent : eqb budget 0 ≡ true
 
-gave-continuation : (budget : ℕ) (q : List Event) → Continuation ≡ leg-poll budget q → Spent budget q
+pub gave-continuation : (budget : ℕ) (q : List Event) → Continuation ≡ leg-poll budget q → Spent budget q
 unfolding leg-poll if_then_else_ at-place
 gave-continuation budget [] is = absurd (let z : _≡_ {A = ℕ} 0 1 = cc is in omega (arith, z))
 gave-continuation budget (e ∷ q) is = go (eqb budget 0) refl is
@@ -231,15 +236,15 @@ member-budget : (i id : ℕ) (e : Event) (r : Run) → collect-member-event i id
 unfolding collect-member-event
 member-budget i id e r = if-ap (λ (x : Run). x .budget) (eqb (e .kind) 0) _ _
 
-queue-goes : (budget : ℕ) (q : List Event) → eqb budget 0 ≡ false → queue-after budget q ≡ drop 1 q
+pub queue-goes : (budget : ℕ) (q : List Event) → eqb budget 0 ≡ false → queue-after budget q ≡ drop 1 q
 unfolding queue-after if_then_else_
 queue-goes budget q unspent = rw unspent
 
-queue-stays : (budget : ℕ) (q : List Event) → eqb budget 0 ≡ true → queue-after budget q ≡ q
+pub queue-stays : (budget : ℕ) (q : List Event) → eqb budget 0 ≡ true → queue-after budget q ≡ q
 unfolding queue-after if_then_else_
 queue-stays budget q spent = rw spent
 
-none-goes : (budget : ℕ) → queue-after budget [] ≡ []
+pub none-goes : (budget : ℕ) → queue-after budget [] ≡ []
 unfolding queue-after if_then_else_
 none-goes budget = go (eqb budget 0)
   where
@@ -253,7 +258,7 @@ next-round i n ms = ap₂ (λ (a b : ℕ). a % b) (omega arith) (members-length 
 module _ (core : Core) (budget : ℕ) (ms ps ws : List ℕ) (i : ℕ) (ms₁ : List ℕ)
     (changed : Changed i (λ m. with-queue (queue-after budget (m .queue)) m) ms ms₁) where
   -- a leg that keeps its queue leaves the members as they are
-  members-stay : queue-after budget (member-at ms i .queue) ≡ member-at ms i .queue
+  pub members-stay : queue-after budget (member-at ms i .queue) ≡ member-at ms i .queue
       → members-of (core .counts .members) ms ≡ members-of (core .counts .members) ms₁
   members-stay same =
       unchanged i ms .members (core .counts .members)

@@ -16,10 +16,14 @@ ghost use Rattle.srt_connection.specs.Members.{member-at, members-of, has-row, 
 ghost use Rattle.srt_connection.specs.Rows.{row-size};
 ghost use Rattle.srt_members.specs.Scan.{Became};
 ghost use Rattle.srt_tables.specs.Packets.{packets};
+ghost use Rattle.cell_set.specs.Sets.{Freed};
+ghost use Rattle.cell_set.specs.Shows.{freed-by};
 ghost use Rattle.srt_receiving.specs.Leaves.{Usable};
+ghost use Rattle.srt_receiving.specs.Follows.{Follows};
 ghost use Rattle.srt_receiving.specs.CollectLaws.{receive-of, Holdable, Retained, broken-by, Reported};
 ghost use Rattle.srt_receiving.specs.GatherLaws.{Shows, HeldVisit, Gathers};
-ghost use Rattle.srt_receiving.specs.VisitLaws.{with-next, continued, Collectable, Collected, Visits, Collects};
+ghost use Rattle.srt_receiving.specs.VisitLaws.{freed-by-event, with-next, continued, Collectable, Collected, Visits, Collects};
+use cell_set::free;
 use srt_connection::members::Found as FoundMember;
 use srt_connection::members::membership_at;
 use srt_connection::members::poll_event_for_group_at;
@@ -114,16 +118,20 @@ fn retain_group_packet(
     mut core: Core,
     members: &mut [u64],
     pending: &mut [u64],
+    used: &mut [u64],
     index: usize,
     packet: Packet,
 ) -> Core
     requires { ⌜ has-row index (now members) ⌝ }
     requires { ⌜ Holdable (core .counts .pending) (now pending) packet (member-at (now members) index) ⌝ }
+    requires { ⌜ length (now used) ≡ 32 ⌝ }
     ensures { λ r. ⌜ Retained index packet core (now (members .entry)) (now (pending .entry)) r (now (members .exit)) (now (pending .exit)) ⌝ }
+    ensures { λ _. ⌜ Freed (freed-by packet (receive-of core (now (pending .entry)))) (now (used .entry)) (now (used .exit)) ⌝ }
 {
     let content = packet.content;
     if is_discarded(core, pending, packet) {
         release_data_reservation_at(members, index, content.count);
+        free(used, content.cell as usize);
         return core;
     }
     let held = core.counts.pending;
@@ -198,12 +206,15 @@ fn collect_member_event(
     members: &mut [u64],
     pending: &mut [u64],
     waiting: &mut [u64],
+    used: &mut [u64],
     index: usize,
     id: u64,
     event: Event,
 ) -> Core
     requires { ⌜ Collectable index id event core (now members) (now pending) (now waiting) ⌝ }
+    requires { ⌜ length (now used) ≡ 32 ⌝ }
     ensures { λ r. ⌜ Collected index id event core (now (members .entry)) (now (pending .entry)) (now (waiting .entry)) r (now (members .exit)) (now (pending .exit)) (now (waiting .exit)) ⌝ }
+    ensures { λ _. ⌜ Freed (freed-by-event id event (receive-of core (now (pending .entry)))) (now (used .entry)) (now (used .exit)) ⌝ }
 {
     if event.kind == 0 {
         let content = event.content;
@@ -212,7 +223,7 @@ fn collect_member_event(
             owned: 0,
             content,
         };
-        return retain_group_packet(core, members, pending, index, packet);
+        return retain_group_packet(core, members, pending, used, index, packet);
     }
     let reported = Waiting {
         member: id,
@@ -228,12 +239,15 @@ fn take_front(
     members: &mut [u64],
     pending: &mut [u64],
     waiting: &mut [u64],
+    used: &mut [u64],
     index: usize,
     budget: u64,
 ) -> Visited
     requires { ⌜ Usable core (now members) (now pending) (now waiting) ⌝ }
     requires { ⌜ (index < core .counts .members) × (core .counts .waiting < 64) ⌝ }
+    requires { ⌜ length (now used) ≡ 32 ⌝ }
     ensures { λ r. ⌜ Visits (core .counts .waiting + 1) (take-front index (member-at (now (members .entry)) index)) core budget (now (members .entry)) (now (pending .entry)) (now (waiting .entry)) r (now (members .exit)) (now (pending .exit)) (now (waiting .exit)) ⌝ }
+    ensures { λ r. ⌜ Follows core (now (members .entry)) (now (pending .entry)) (now (used .entry)) (r .core) (now (members .exit)) (now (pending .exit)) (now (used .exit)) ⌝ }
 {
     let membership = membership_at(members, index);
     let polled = poll_event_for_group_at(members, index, budget);
@@ -261,6 +275,7 @@ fn take_front(
                 members,
                 pending,
                 waiting,
+                used,
                 index,
                 membership.id,
                 event,
@@ -280,11 +295,14 @@ pub fn collect_one_event(
     members: &mut [u64],
     pending: &mut [u64],
     waiting: &mut [u64],
+    used: &mut [u64],
     budget: u64,
 ) -> Visited
     requires { ⌜ Usable core (now members) (now pending) (now waiting) ⌝ }
     requires { ⌜ core .counts .waiting < 64 ⌝ }
+    requires { ⌜ length (now used) ≡ 32 ⌝ }
     ensures { λ r. ⌜ Collects (core .counts .waiting + 1) collect-one-event core budget (now (members .entry)) (now (pending .entry)) (now (waiting .entry)) r (now (members .exit)) (now (pending .exit)) (now (waiting .exit)) ⌝ }
+    ensures { λ r. ⌜ Follows core (now (members .entry)) (now (pending .entry)) (now (used .entry)) (r .core) (now (members .exit)) (now (pending .exit)) (now (used .exit)) ⌝ }
 {
     let found = in_turn(members, core.counts.members, core.visit.round);
     let FoundMember::At(index) = found else {
@@ -294,7 +312,7 @@ pub fn collect_one_event(
             budget,
         };
     };
-    take_front(core, members, pending, waiting, index, budget)
+    take_front(core, members, pending, waiting, used, index, budget)
 }
 
 // ---- visits until there is something to give
@@ -335,10 +353,13 @@ fn visit_until_held(
     members: &mut [u64],
     pending: &mut [u64],
     waiting: &mut [u64],
+    used: &mut [u64],
     visits: usize,
 ) -> Visited
     requires { ⌜ Usable (before .core) (now members) (now pending) (now waiting) ⌝ }
+    requires { ⌜ length (now used) ≡ 32 ⌝ }
     ensures { λ r. ⌜ HeldVisit visits before (now (members .entry)) (now (pending .entry)) (now (waiting .entry)) r (now (members .exit)) (now (pending .exit)) (now (waiting .exit)) ⌝ }
+    ensures { λ r. ⌜ Follows (before .core) (now (members .entry)) (now (pending .entry)) (now (used .entry)) (r .core) (now (members .exit)) (now (pending .exit)) (now (used .exit)) ⌝ }
 {
     let here = before.core;
     if 0 < here.counts.waiting {
@@ -348,7 +369,7 @@ fn visit_until_held(
             budget: before.budget,
         };
     }
-    let visited = collect_one_event(here, members, pending, waiting, before.budget);
+    let visited = collect_one_event(here, members, pending, waiting, used, before.budget);
     if !visited.went {
         return visited;
     }
@@ -370,10 +391,13 @@ pub fn collect_until_held(
     members: &mut [u64],
     pending: &mut [u64],
     waiting: &mut [u64],
+    used: &mut [u64],
     budget: u64,
 ) -> Gathered
     requires { ⌜ Usable core (now members) (now pending) (now waiting) ⌝ }
+    requires { ⌜ length (now used) ≡ 32 ⌝ }
     ensures { λ r. ⌜ Gathers core budget (now (members .entry)) (now (pending .entry)) (now (waiting .entry)) r (now (members .exit)) (now (pending .exit)) (now (waiting .exit)) ⌝ }
+    ensures { λ r. ⌜ Follows core (now (members .entry)) (now (pending .entry)) (now (used .entry)) (r .core) (now (members .exit)) (now (pending .exit)) (now (used .exit)) ⌝ }
 {
     let mut visited = Visited {
         went: true,
@@ -383,7 +407,7 @@ pub fn collect_until_held(
     let mut left: usize = MAX_VISITS;
     while 0 < left {
         let visits = left - 1;
-        visited = visit_until_held(visited, members, pending, waiting, visits);
+        visited = visit_until_held(visited, members, pending, waiting, used, visits);
         if !visited.went {
             let after = visited.core;
             return Gathered {
@@ -421,12 +445,15 @@ pub fn collect_until_empty(
     members: &mut [u64],
     pending: &mut [u64],
     waiting: &mut [u64],
+    used: &mut [u64],
     budget: u64,
     sequence: u64,
 ) -> Visited
     requires { ⌜ Usable core (now members) (now pending) (now waiting) ⌝ }
     requires { ⌜ core .counts .waiting ≡ 0 ⌝ }
+    requires { ⌜ length (now used) ≡ 32 ⌝ }
     ensures { λ r. ⌜ Collects 64 (collect-until-empty max-visits sequence) core budget (now (members .entry)) (now (pending .entry)) (now (waiting .entry)) r (now (members .exit)) (now (pending .exit)) (now (waiting .exit)) ⌝ }
+    ensures { λ r. ⌜ Follows core (now (members .entry)) (now (pending .entry)) (now (used .entry)) (r .core) (now (members .exit)) (now (pending .exit)) (now (used .exit)) ⌝ }
 {
     let mut visited = Visited {
         went: true,
@@ -443,7 +470,7 @@ pub fn collect_until_empty(
                 budget: visited.budget,
             };
         }
-        visited = collect_one_event(here, members, pending, waiting, visited.budget);
+        visited = collect_one_event(here, members, pending, waiting, used, visited.budget);
         if !visited.went {
             let after = visited.core;
             return Visited {

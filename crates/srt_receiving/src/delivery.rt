@@ -14,8 +14,12 @@ ghost use Rattle.srt_connection.specs.Members.{members-of, has-row, Changed};
 ghost use Rattle.srt_connection.specs.Rows.{row-size};
 ghost use Rattle.srt_tables.specs.Packets.{packet-at, packets};
 ghost use Rattle.srt_state.specs.Shown.{shown};
+ghost use Rattle.cell_set.specs.Sets.{Freed};
+ghost use Rattle.srt_group_model.specs.CellsKept.{pending-cells};
+ghost use Rattle.srt_receiving.specs.Follows.{Follows};
 ghost use Rattle.srt_receiving.specs.DeliveryLaws.{Deliverable, leg-given-up, release-member, Released, Delivered};
 ghost use Rattle.srt_receiving.specs.PollLaws.{Polls, Skips, Bases};
+use cell_set::free;
 use srt_connection::legs;
 use srt_connection::legs::Deadline;
 use srt_connection::members;
@@ -134,19 +138,22 @@ fn release_pending_reservation(mut core: Core, members: &mut [u64], packet: Pack
     core
 }
 
-// The packet at a place is released if it starts inside a run of so many sequences from `base` on. Of one that does not, only the
+// The packet at a place is released, and its cell with it, if it starts inside a run of so many sequences from `base` on. Of one that does not, only the
 // index word is read.
 fn release_if_covered(
     core: Core,
     members: &mut [u64],
     pending: &[u64],
+    used: &mut [u64],
     at: usize,
     base: u32,
     run: u64,
 ) -> Core
     requires { ⌜ core .counts .members * row-size ≤ length (now members) ⌝ }
     requires { ⌜ (18432 ≤ length (now pending)) × (at < 2048) ⌝ }
+    requires { ⌜ length (now used) ≡ 32 ⌝ }
     ensures { λ r. ⌜ Released (covered base run (packet-at (now (pending .entry)) at ∷ [])) core (now (members .entry)) r (now (members .exit)) ⌝ }
+    ensures { λ _. ⌜ Freed (pending-cells (covered base run (packet-at (now (pending .entry)) at ∷ []))) (now (used .entry)) (now (used .exit)) ⌝ }
 {
     let sequence = pending::sequence_at(pending, at);
     let distance = legs::word_distance(base as u64, sequence);
@@ -154,6 +161,8 @@ fn release_if_covered(
         return core;
     }
     let packet = pending::packet(pending, at);
+    let content = packet.content;
+    free(used, content.cell as usize);
     release_pending_reservation(core, members, packet)
 }
 
@@ -162,16 +171,19 @@ fn release_covered(
     mut core: Core,
     members: &mut [u64],
     pending: &[u64],
+    used: &mut [u64],
     base: u32,
     run: u64,
 ) -> Core
     requires { ⌜ Deliverable core (now members) (now pending) ⌝ }
+    requires { ⌜ length (now used) ≡ 32 ⌝ }
     ensures { λ r. ⌜ Released (covered base run (packets (core .counts .pending) (now (pending .entry)))) core (now (members .entry)) r (now (members .exit)) ⌝ }
+    ensures { λ _. ⌜ Freed (pending-cells (covered base run (packets (core .counts .pending) (now (pending .entry))))) (now (used .entry)) (now (used .exit)) ⌝ }
 {
     let held = core.counts.pending;
     let mut at: usize = 0;
     while at < held {
-        core = release_if_covered(core, members, pending, at, base, run);
+        core = release_if_covered(core, members, pending, used, at, base, run);
         at += 1;
     }
     core
@@ -184,15 +196,18 @@ fn deliver_packet(
     core: Core,
     members: &mut [u64],
     pending: &mut [u64],
+    used: &mut [u64],
     base: u32,
     packet: Packet,
 ) -> Core
     requires { ⌜ Deliverable core (now members) (now pending) ⌝ }
     requires { ⌜ packet .content .count ≤ 65535 ⌝ }
+    requires { ⌜ length (now used) ≡ 32 ⌝ }
     ensures { λ r. ⌜ Delivered base packet core (now (members .entry)) (now (pending .entry)) r (now (members .exit)) (now (pending .exit)) ⌝ }
+    ensures { λ r. ⌜ Follows core (now (members .entry)) (now (pending .entry)) (now (used .entry)) r (now (members .exit)) (now (pending .exit)) (now (used .exit)) ⌝ }
 {
     let run = packet.content.count;
-    let mut after = release_covered(core, members, pending, base, run);
+    let mut after = release_covered(core, members, pending, used, base, run);
     let steps = run as u32;
     let next = sequence_further(base, steps);
     let count = after.counts.members;
@@ -206,9 +221,17 @@ fn deliver_packet(
 }
 
 // The packet at the base, if it is held, is delivered.
-pub fn deliver(core: Core, members: &mut [u64], pending: &mut [u64], base: u32) -> Poll
+pub fn deliver(
+    core: Core,
+    members: &mut [u64],
+    pending: &mut [u64],
+    used: &mut [u64],
+    base: u32,
+) -> Poll
     requires { ⌜ Deliverable core (now members) (now pending) ⌝ }
+    requires { ⌜ length (now used) ≡ 32 ⌝ }
     ensures { λ r. ⌜ ((waiting : List ℕ) → Polls (deliver base) core (now (members .entry)) (now (pending .entry)) waiting r (now (members .exit)) (now (pending .exit)) waiting) ⌝ }
+    ensures { λ r. ⌜ Follows core (now (members .entry)) (now (pending .entry)) (now (used .entry)) (r .core) (now (members .exit)) (now (pending .exit)) (now (used .exit)) ⌝ }
 {
     let held = core.counts.pending;
     let found = pending::find(pending, held, base as u64);
@@ -219,7 +242,7 @@ pub fn deliver(core: Core, members: &mut [u64], pending: &mut [u64], base: u32) 
         };
     };
     let packet = pending::packet(pending, at);
-    let after = deliver_packet(core, members, pending, base, packet);
+    let after = deliver_packet(core, members, pending, used, base, packet);
     Poll {
         gave: Polled::Packet(packet),
         core: after,

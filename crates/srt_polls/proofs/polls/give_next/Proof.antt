@@ -2,6 +2,8 @@
 use Rattle.srt_polls.specs.RefreshLaws.{refreshable, usable-refreshed}
 use Rattle.srt_polls.specs.EventPollLaws.{event-next, packet-next, still-none-waits}
 use borrow.Author.Needs.{needs}
+use Rattle.srt_polls.specs.PollsUsed.{follows-given, follows-refreshed}
+use Rattle.srt_receiving.specs.Follows.{follows-then}
 use Rattle.srt_polls.proofs.polls.give_next.Statement.{statement}
 use Rattle.srt_polls.proofs.polls.give_next.Tie as tie
 
@@ -12,13 +14,16 @@ same-length : tie.Need-same-length
 same-length c = search needs
 
 returns : tie.Need-returns
-returns c = event-next _ _ _ _ _ _ _ _ (c .before .before .before .before .before .before .before .before .before .before .pre) (c .before .before .before .before .if1 .taken) (c .before .before .give-waiting .ensures _ _)
+returns c = (
+  event-next _ _ _ _ _ _ _ _ (c .before .before .before .before .before .before .before .before .before .before .before .pre .0) (c .before .before .before .before .if1 .taken) (c .before .before .give-waiting .ensures _ _),
+  follows-given _ _ _ _ _ _ _ (c .before .before .before .before .before .before .before .before .before .before .before .pre .1) (c .before .before .give-waiting .ensures _ _),
+)
 
 refresh-states-requires : tie.Need-refresh-states-requires
-refresh-states-requires c κs = refreshable _ _ _ _ (c .before .before .before .before .before .before .before .pre)
+refresh-states-requires c κs = refreshable _ _ _ _ (c .before .before .before .before .before .before .before .before .pre .0)
 
 deliver-next-requires : tie.Need-deliver-next-requires
-deliver-next-requires c κs = (usable-refreshed _ _ _ _ (c .before .before .before .before .before .before .before .before .before .before .before .before .before .pre) _ _ (c .before .before .before .before .before .refresh-states .ensures), still-none-waits (c .before .before .before .before .before .before .before .if1 .left) (c .before .before .before .before .before .refresh-states .ensures))
+deliver-next-requires c κs = (usable-refreshed _ _ _ _ (c .before .before .before .before .before .before .before .before .before .before .before .before .before .before .before .pre .0) _ _ (c .before .before .before .before .before .before .refresh-states .ensures), (still-none-waits (c .before .before .before .before .before .before .before .before .if1 .left) (c .before .before .before .before .before .before .refresh-states .ensures), c .before .before .before .before .before .before .before .before .before .before .before .before .before .before .before .pre .1))
 
 same-length-2 : tie.Need-same-length-2
 same-length-2 c = search needs
@@ -29,8 +34,14 @@ same-length-3 c = search needs
 same-length-4 : tie.Need-same-length-4
 same-length-4 c = search needs
 
+same-length-5 : tie.Need-same-length-5
+same-length-5 c = search needs
+
 returns-2 : tie.Need-returns-2
-returns-2 c = packet-next _ _ _ _ _ _ _ _ _ _ _ _ (c .before .before .before .before .before .before .before .before .before .before .before .before .before .before .if1 .left) (c .before .before .before .before .before .before .before .before .before .before .before .before .refresh-states .ensures) (c .before .before .before .before .before .before .deliver-next .ensures)
+returns-2 c = (
+  packet-next _ _ _ _ _ _ _ _ _ _ _ _ (c .before .before .before .before .before .before .before .before .before .before .before .before .before .before .before .before .before .if1 .left) (c .before .before .before .before .before .before .before .before .before .before .before .before .before .before .before .refresh-states .ensures) (c .before .before .before .before .before .before .before .before .deliver-next .ensures .0),
+  follows-then (follows-refreshed _ _ _ _ _ _ (c .before .before .before .before .before .before .before .before .before .before .before .before .before .before .before .before .before .before .before .before .before .before .before .before .pre .1) (c .before .before .before .before .before .before .before .before .before .before .before .before .before .before .before .refresh-states .ensures)) (c .before .before .before .before .before .before .before .before .deliver-next .ensures .1),
+)
 
 pub give-next-spec : {M : Type 1} → statement M
 give-next-spec =
@@ -44,4 +55,5 @@ give-next-spec =
     same-length-2
     same-length-3
     same-length-4
+    same-length-5
     returns-2)

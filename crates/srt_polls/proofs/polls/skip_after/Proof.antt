@@ -2,6 +2,7 @@
 use Rattle.srt_receiving.specs.DeliveryLaws.{deliverable}
 use Rattle.srt_polls.specs.SkipLaws.{skippable, event-first, skipped-if-empty, stays-if-not-empty}
 use borrow.Author.Needs.{needs}
+use Rattle.srt_polls.specs.PollsUsed.{follows-given}
 use Rattle.srt_polls.proofs.polls.skip_after.Statement.{statement}
 use Rattle.srt_polls.proofs.polls.skip_after.Tie as tie
 
@@ -12,10 +13,14 @@ same-length : tie.Need-same-length
 same-length c = search needs
 
 returns : tie.Need-returns
-returns c = λ tested time. event-first (c .before .before .before .before .before .before .before .before .before .before .args .collected .went) _ _ _ _ _ _ _ _ _ tested time (c .before .before .before .before .if1 .taken) (c .before .before .give-waiting .ensures _ _)
+returns c = (
+  λ tested time.
+      event-first (c .before .before .before .before .before .before .before .before .before .before .before .args .collected .went) _ _ _ _ _ _ _ _ _ tested time (c .before .before .before .before .if1 .taken) (c .before .before .give-waiting .ensures _ _),
+  follows-given _ _ _ _ _ _ _ (c .before .before .before .before .before .before .before .before .before .before .before .pre .1) (c .before .before .give-waiting .ensures _ _),
+)
 
 skip-to-nearest-requires : tie.Need-skip-to-nearest-requires
-skip-to-nearest-requires c κs = skippable _ _ _ _ (c .before .before .before .before .before .before .before .before .before .pre)
+skip-to-nearest-requires c κs = (skippable _ _ _ _ (c .before .before .before .before .before .before .before .before .before .before .before .pre .0), c .before .before .before .before .before .before .before .before .before .before .before .pre .1)
 
 same-length-2 : tie.Need-same-length-2
 same-length-2 c = search needs
@@ -23,20 +28,34 @@ same-length-2 c = search needs
 same-length-3 : tie.Need-same-length-3
 same-length-3 c = search needs
 
-returns-2 : tie.Need-returns-2
-returns-2 c = λ tested time. skipped-if-empty (c .before .before .before .before .before .before .before .before .before .before .before .before .before .before .args .collected .went) _ _ _ _ _ _ _ _ _ tested time (c .before .before .before .before .before .before .before .before .if1 .left) (c .before .before .before .before .before .before .before .if2 .taken) (c .before .before .before .before .skip-to-nearest .ensures _ tested time)
-
-deliver-requires : tie.Need-deliver-requires
-deliver-requires c κs = deliverable _ _ _ _ (c .before .before .before .before .before .before .before .before .before .pre)
-
 same-length-4 : tie.Need-same-length-4
 same-length-4 c = search needs
+
+returns-2 : tie.Need-returns-2
+returns-2 c = (
+  λ tested time.
+      skipped-if-empty (c .before .before .before .before .before .before .before .before .before .before .before .before .before .before .before .before .before .before .args .collected .went) _ _ _ _ _ _ _ _ _ tested time (c .before .before .before .before .before .before .before .before .before .before .before .if1 .left) (c .before .before .before .before .before .before .before .before .before .before .if2 .taken) (c .before .before .before .before .before .before .skip-to-nearest .ensures .0 _ tested time),
+  c .before .before .before .before .before .before .skip-to-nearest .ensures .1,
+)
+
+deliver-requires : tie.Need-deliver-requires
+deliver-requires c κs = (deliverable _ _ _ _ (c .before .before .before .before .before .before .before .before .before .before .before .pre .0), c .before .before .before .before .before .before .before .before .before .before .before .pre .1)
 
 same-length-5 : tie.Need-same-length-5
 same-length-5 c = search needs
 
+same-length-6 : tie.Need-same-length-6
+same-length-6 c = search needs
+
+same-length-7 : tie.Need-same-length-7
+same-length-7 c = search needs
+
 returns-3 : tie.Need-returns-3
-returns-3 c = λ tested time. stays-if-not-empty (c .before .before .before .before .before .before .before .before .before .before .before .before .before .before .args .collected .went) _ _ _ _ _ _ _ _ _ tested time (c .before .before .before .before .before .before .before .before .if1 .left) (c .before .before .before .before .before .before .before .if2 .left) (c .before .before .before .before .deliver .ensures _)
+returns-3 c = (
+  λ tested time.
+      stays-if-not-empty (c .before .before .before .before .before .before .before .before .before .before .before .before .before .before .before .before .before .before .args .collected .went) _ _ _ _ _ _ _ _ _ tested time (c .before .before .before .before .before .before .before .before .before .before .before .if1 .left) (c .before .before .before .before .before .before .before .before .before .before .if2 .left) (c .before .before .before .before .before .before .deliver .ensures .0 _),
+  c .before .before .before .before .before .before .deliver .ensures .1,
+)
 
 pub skip-after-spec : {M : Type 1} → statement M
 skip-after-spec =
@@ -48,8 +67,10 @@ skip-after-spec =
     skip-to-nearest-requires
     same-length-2
     same-length-3
+    same-length-4
     returns-2
     deliver-requires
-    same-length-4
     same-length-5
+    same-length-6
+    same-length-7
     returns-3)

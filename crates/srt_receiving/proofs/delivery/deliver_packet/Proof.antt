@@ -4,6 +4,7 @@ use native.Mathlib.Omega.{arith}
 use Rattle.srt_group_model.specs.declared.Core.{Core}
 use Rattle.srt_receiving.specs.DeliveryLaws.{delivered-all}
 use borrow.Author.Needs.{needs}
+use Rattle.srt_receiving.specs.UsedLaws.{follows-delivered}
 use Rattle.srt_receiving.proofs.delivery.deliver_packet.Statement.{statement}
 use Rattle.srt_receiving.proofs.delivery.deliver_packet.Tie as tie
 
@@ -20,10 +21,10 @@ cast-advance-receive-sequence-of-all : tie.Need-cast-advance-receive-sequence-of
 cast-advance-receive-sequence-of-all c = search needs
 
 advance-receive-sequence-of-all-requires : tie.Need-advance-receive-sequence-of-all-requires
-advance-receive-sequence-of-all-requires c κs = omega (arith, c .before .before .before .before .release-covered .ensures .long, ap (λ (x : Core). x .counts .members) (c .before .before .before .before .release-covered .ensures .rest))
+advance-receive-sequence-of-all-requires c κs = omega (arith, c .before .before .before .before .before .before .release-covered .ensures .0 .long, ap (λ (x : Core). x .counts .members) (c .before .before .before .before .before .before .release-covered .ensures .0 .rest))
 
 remove-covered-requires : tie.Need-remove-covered-requires
-remove-covered-requires c κs = (omega arith, omega (arith, ap (λ (x : Core). x .counts .pending) (c .before .before .before .before .before .before .before .before .release-covered .ensures .rest)))
+remove-covered-requires c κs = (omega arith, omega (arith, ap (λ (x : Core). x .counts .pending) (c .before .before .before .before .before .before .before .before .before .before .release-covered .ensures .0 .rest)))
 
 same-length : tie.Need-same-length
 same-length c = search needs
@@ -31,13 +32,19 @@ same-length c = search needs
 same-length-2 : tie.Need-same-length-2
 same-length-2 c = search needs
 
+same-length-3 : tie.Need-same-length-3
+same-length-3 c = search needs
+
 returns : tie.Need-returns
-returns c = delivered-all _ _ _ _ _ _ _ _ _ _ _ (c .before .before .before .before .before .before .before .before .before .before .before .sequence-further .ensures)
+returns c =
+    let done =
+    delivered-all _ _ _ _ _ _ _ _ _ _ _ (c .before .before .before .before .before .before .before .before .before .before .before .sequence-further .ensures)
     record {
-      released = c .before .before .before .before .before .before .before .before .before .before .before .before .before .before .release-covered .ensures;
+      released = c .before .before .before .before .before .before .before .before .before .before .before .before .before .before .before .before .release-covered .ensures .0;
       advanced = c .before .before .before .before .before .before .before .before .before .advance-receive-sequence-of-all .ensures;
       removed = c .before .before .before .before .before .remove-covered .ensures .1;
-    }
+    } in
+    (done, follows-delivered _ _ _ _ _ _ _ _ _ _ done (c .before .before .before .before .before .before .before .before .before .before .before .before .before .before .before .before .release-covered .ensures .1))
 
 pub deliver-packet-spec : {M : Type 1} → statement M
 deliver-packet-spec =
@@ -51,4 +58,5 @@ deliver-packet-spec =
     remove-covered-requires
     same-length
     same-length-2
+    same-length-3
     returns)

@@ -1,0 +1,4 @@
+pub mod Tables
+pub mod Ready
+pub mod Queueing
+pub mod Freeing
