@@ -9,9 +9,9 @@ extern "C" {
     fn set_take(used: *mut u64, length: usize, cell: usize);
     fn set_free(used: *mut u64, length: usize, cell: usize);
     fn queue_one(
-        sequences: *const u32, a: usize, cells: *const u16, b: usize, lengths: *const u16, c: usize, sources: *const u64, d: usize,
-        members: *mut u64, e: usize, pending: *const u64, f: usize, waiting: *const u64, g: usize, store: *mut u8, h: usize,
-        used: *mut u64, i: usize, count: usize, id: u64, sequence: u64, payload: *const u8, j: usize,
+        members: *mut u64, a: usize, pending: *const u64, b: usize, waiting: *const u64, c: usize, history: *const u64, d: usize,
+        sources: *const u64, e: usize, store: *mut u8, f: usize, used: *mut u64, g: usize, count: usize, id: u64, sequence: u64,
+        payload: *const u8, h: usize,
     ) -> u32;
     fn unqueue_one(members: *mut u64, length: usize, used: *mut u64, words: usize, index: usize, cell: usize);
     fn flags_lowest(flags: *const u8, length: usize, cells: usize) -> usize;
@@ -67,14 +67,18 @@ fn best(mut f: impl FnMut() -> usize) -> f64 {
     least
 }
 
+// The words of a member's row, and of the table of members.
+const ROW_WORDS: usize = 189;
+const MEMBERS_WORDS: usize = 64 * ROW_WORDS;
+
 // A packet of 1,316 bytes into the queue of the last of so many legs, with so many cells used, and out again; beside it the Rust's
 // `VecDeque` with the payload copied into a `Vec`, and the copy alone.
 fn queueing(legs: usize, taken: usize) {
-    let (sequences, cells, lengths, sources) = (vec![0u32; 512], vec![0u16; 512], vec![0u16; 512], vec![0u64; 512]);
-    let (mut members, pending, waiting) = (vec![0u64; 11520], vec![0u64; 18432], vec![0u64; 192]);
+    let (mut members, pending, waiting) = (vec![0u64; MEMBERS_WORDS], vec![0u64; 18432], vec![0u64; 192]);
+    let (history, sources) = (vec![0u64; 512], vec![0u64; 512]);
     let (mut store, mut used) = (vec![0u8; 2048 * 1456], vec![0u64; 32]);
     for leg in 0..legs {
-        members[180 * leg] = leg as u64 + 1;
+        members[ROW_WORDS * leg] = leg as u64 + 1;
     }
     for c in 0..taken {
         used[c / 64] |= 1 << (c % 64);
@@ -83,11 +87,11 @@ fn queueing(legs: usize, taken: usize) {
     let id = legs as u64;
     let ours = best(|| unsafe {
         let code = queue_one(
-            sequences.as_ptr(), 512, cells.as_ptr(), 512, lengths.as_ptr(), 512, sources.as_ptr(), 512,
-            members.as_mut_ptr(), 11520, pending.as_ptr(), 18432, waiting.as_ptr(), 192, store.as_mut_ptr(), 2048 * 1456,
-            used.as_mut_ptr(), 32, legs, id, black_box(5), black_box(payload.as_ptr()), 1316,
+            members.as_mut_ptr(), MEMBERS_WORDS, pending.as_ptr(), 18432, waiting.as_ptr(), 192, history.as_ptr(), 512,
+            sources.as_ptr(), 512, store.as_mut_ptr(), 2048 * 1456, used.as_mut_ptr(), 32, legs, id, black_box(5),
+            black_box(payload.as_ptr()), 1316,
         );
-        unqueue_one(members.as_mut_ptr(), 11520, used.as_mut_ptr(), 32, legs - 1, taken);
+        unqueue_one(members.as_mut_ptr(), MEMBERS_WORDS, used.as_mut_ptr(), 32, legs - 1, taken);
         code as usize
     });
     assert_eq!(store[1456 * taken + 1315], 7);

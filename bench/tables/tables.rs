@@ -12,24 +12,20 @@ extern "C" {
     fn table_push(members: *mut u64, length: usize, index: usize, sequence: u64, cell: u64) -> u32;
     fn table_pop(members: *mut u64, length: usize, index: usize);
     fn table_history(
-        sequences: *mut u32,
-        sequences_length: usize,
-        cells: *mut u16,
-        cells_length: usize,
-        lengths: *mut u16,
-        lengths_length: usize,
+        history: *mut u64,
+        history_length: usize,
         sources: *mut u64,
         sources_length: usize,
-        rounds: u32,
-        kept: u32,
+        rounds: u64,
+        kept: u64,
     ) -> usize;
     fn table_cells(
         members: *const u64,
         members_length: usize,
         pending: *const u64,
         pending_length: usize,
-        sent: *const u16,
-        sent_length: usize,
+        history: *const u64,
+        history_length: usize,
         many: usize,
         held: usize,
         entries: usize,
@@ -38,7 +34,8 @@ extern "C" {
 
 const RUNS: usize = 15;
 const PENDING_WORDS: usize = 18432;
-const MEMBERS_WORDS: usize = 11520;
+const MEMBERS_WORDS: usize = 64 * 189;
+const HISTORY_WORDS: usize = 512;
 
 // What the Rust holds for a packet, its payload as a cell.
 #[derive(Clone, Copy)]
@@ -57,6 +54,11 @@ struct Packet {
 
 fn packet(sequence: u32, cell: usize) -> Packet {
     Packet { member: 1, owned: false, sequence, count: 1, message: 0, timestamp: 0, source: sequence as u64, cell, length: 1316 }
+}
+
+// A word of the history, as crates/srt_tables packs it: a sequence, a cell and a length.
+fn entry_word(sequence: u64, cell: u64, length: u64) -> u64 {
+    (sequence * 2048 + cell) * 2048 + length
 }
 
 fn next(seed: &mut u64) -> u64 {
@@ -193,30 +195,25 @@ fn history(kept: u32) {
     let rounds = 100_000u32;
     let (mut a, mut b) = (f64::MAX, f64::MAX);
     for _ in 0..RUNS {
-        let mut arrays = ([0u32; 512], [0u16; 512], [0u16; 512], [0u64; 512]);
+        let (mut words, mut sources) = ([0u64; HISTORY_WORDS], [0u64; HISTORY_WORDS]);
         a = a.min(best(
             || unsafe {
-                let (sequences, cells, lengths, sources) = (&mut arrays.0, &mut arrays.1, &mut arrays.2, &mut arrays.3);
                 table_history(
-                    sequences.as_mut_ptr(),
-                    512,
-                    cells.as_mut_ptr(),
-                    512,
-                    lengths.as_mut_ptr(),
-                    512,
+                    words.as_mut_ptr(),
+                    HISTORY_WORDS,
                     sources.as_mut_ptr(),
-                    512,
-                    black_box(rounds),
-                    kept,
+                    HISTORY_WORDS,
+                    black_box(rounds as u64),
+                    kept as u64,
                 ) as u64
             },
             rounds as u64,
         ));
         b = b.min(best(
             || {
-                let mut deque: VecDeque<(u32, u16, u16, u64)> = VecDeque::with_capacity(512);
+                let mut deque: VecDeque<(u32, u16, u16, u64)> = VecDeque::with_capacity(HISTORY_WORDS);
                 for sequence in 0..black_box(rounds) {
-                    if deque.len() == 512 {
+                    if deque.len() == HISTORY_WORDS {
                         deque.pop_front();
                     }
                     deque.push_back((sequence, 0, 1316, sequence as u64));
@@ -238,7 +235,7 @@ fn cells(queued: u64, held: u64, entries: usize) {
     let rounds = 20_000u64;
     let mut members = vec![0u64; MEMBERS_WORDS];
     let mut pending = vec![0u64; PENDING_WORDS];
-    let mut sent = [0u16; 512];
+    let mut sent = [0u64; HISTORY_WORDS];
     let mut free = 0u64;
     let mut named = [Vec::new(), Vec::new(), Vec::new()];
     for leg in 0..4 {
@@ -253,8 +250,8 @@ fn cells(queued: u64, held: u64, entries: usize) {
         named[1].push(free as u16);
         free += 1;
     }
-    for place in sent.iter_mut().take(entries) {
-        *place = free as u16;
+    for (sequence, place) in sent.iter_mut().take(entries).enumerate() {
+        *place = entry_word(sequence as u64, free, 1316);
         named[2].push(free as u16);
         free += 1;
     }
@@ -271,7 +268,7 @@ fn cells(queued: u64, held: u64, entries: usize) {
                             pending.as_ptr(),
                             PENDING_WORDS,
                             sent.as_ptr(),
-                            512,
+                            HISTORY_WORDS,
                             4,
                             held as usize,
                             entries,

@@ -2,51 +2,54 @@
 ghost use mathlib.Core.Path.{_≡_};
 ghost use Prim.Native.Nat.{_≤_, _<_};
 ghost use lib.ListN.{length};
+ghost use Rattle.srt_protocol.specs.Cells.{max-cells};
+ghost use Rattle.cell_set.specs.Bits.{set-size};
 ghost use Rattle.srt_connection.specs.Members.{has-row};
-ghost use Rattle.srt_queueing.specs.Tables.{tables};
-ghost use Rattle.srt_queueing.specs.Ready.{Ready};
+ghost use Rattle.srt_group_shown.specs.Tables.{tables};
+ghost use Rattle.srt_group_shown.specs.Ready.{Ready};
+ghost use Rattle.srt_group.specs.Made.{parts-of};
 ghost use Rattle.cell_bench.specs.Made.{group-of};
 use cell_set::FreeCell;
 use cell_set::free;
 use cell_set::lowest_free;
 use cell_set::take;
 use srt_connection::members::pop_at;
+use srt_group::Group;
 use srt_group_model::Core;
 use srt_group_model::Counts;
 use srt_group_model::Data;
-use srt_group_model::GroupMode;
 use srt_group_model::Identity;
 use srt_group_model::Receiving;
 use srt_group_model::Sending;
 use srt_group_model::Visit;
+use srt_protocol::received_payload::MAX_CELLS;
 use srt_protocol::time::Timestamp;
-use srt_queueing::group::Group;
 use srt_queueing::queueing::queue_data;
 use srt_state::cells;
 use srt_tables::history::HistoryRing;
 
-// The lowest free cell; 2,048 if there is none.
+// The lowest free cell; MAX_CELLS if there is none.
 #[no_mangle]
 pub extern "C" fn set_lowest(used: &[u64], cells: usize) -> usize
-    requires { ⌜ (length (now used) ≡ 32) × (cells ≤ 2048) ⌝ }
+    requires { ⌜ (length (now used) ≡ set-size) × (cells ≤ max-cells) ⌝ }
 {
     let found = lowest_free(used, cells);
     match found {
         FreeCell::Cell(cell) => cell,
-        FreeCell::Full => 2048,
+        FreeCell::Full => MAX_CELLS,
     }
 }
 
 #[no_mangle]
 pub extern "C" fn set_take(used: &mut [u64], cell: usize)
-    requires { ⌜ (length (now used) ≡ 32) × (cell < 2048) ⌝ }
+    requires { ⌜ (length (now used) ≡ set-size) × (cell < max-cells) ⌝ }
 {
     take(used, cell);
 }
 
 #[no_mangle]
 pub extern "C" fn set_free(used: &mut [u64], cell: usize)
-    requires { ⌜ length (now used) ≡ 32 ⌝ }
+    requires { ⌜ length (now used) ≡ set-size ⌝ }
 {
     free(used, cell);
 }
@@ -54,65 +57,66 @@ pub extern "C" fn set_free(used: &mut [u64], cell: usize)
 // As it is now: a byte to a cell.
 #[no_mangle]
 pub extern "C" fn flags_lowest(flags: &[u8], cells: usize) -> usize
-    requires { ⌜ (cells ≤ 2048) × (cells ≤ length (now flags)) ⌝ }
+    requires { ⌜ (cells ≤ max-cells) × (cells ≤ length (now flags)) ⌝ }
 {
     let found = cells::lowest_free(flags, cells);
     match found {
         cells::FreeCell::Cell(cell) => cell,
-        cells::FreeCell::Full => 2048,
+        cells::FreeCell::Full => MAX_CELLS,
     }
 }
 
+// A Broadcast group of so many members, nothing held, nothing sent.
 fn made(members: usize) -> Group
     ensures { λ r. ⌜ r ≡ group-of members ⌝ }
 {
     let core = Core {
+        mode: 0,
+        peer: 0,
         counts: Counts {
             members,
             pending: 0,
             waiting: 0,
         },
-        identity: Identity {
-            id: 1073741824,
-            mode: GroupMode::Broadcast,
-            length: 0,
-            peer: 0,
-        },
         receiving: Receiving {
-            based: false,
+            based: 0,
             base: 0,
             skipped: 0,
         },
-        sending: Sending {
-            numbered: false,
-            next: 0,
-            carried: false,
-            carrier: 0,
-            gap: false,
-        },
         visit: Visit {
-            continuation: false,
+            continuation: 0,
             round: 0,
         },
         owned: 0,
     };
-    let ring = HistoryRing {
-        start: 0,
-        length: 0,
-    };
-    Group { core, ring }
+    Group {
+        identity: Identity {
+            id: 1073741824,
+            length: 0,
+        },
+        core,
+        sending: Sending {
+            numbered: 0,
+            next: 0,
+            carried: 0,
+            carrier: 0,
+            gap: 0,
+        },
+        ring: HistoryRing {
+            start: 0,
+            length: 0,
+        },
+    }
 }
 
 // A packet is queued, as the form for a valid state does it. The answer is its code.
 #[no_mangle]
 pub extern "C" fn queue_one(
-    sequences: &[u32],
-    cells: &[u16],
-    lengths: &[u16],
-    sources: &[u64],
     members: &mut [u64],
     pending: &[u64],
     waiting: &[u64],
+    history: &[u64],
+    sources: &[u64],
     store: &mut [u8],
     used: &mut [u64],
     count: usize,
@@ -120,7 +124,8 @@ pub extern "C" fn queue_one(
     sequence: u64,
     payload: &[u8],
 ) -> u32
-    requires { ⌜ Ready (group-of count) (tables (now sequences) (now cells) (now lengths) (now sources) (now members) (now pending) (now waiting)) (length (now store)) (now used) ⌝ }
+    requires { ⌜ Ready (parts-of (group-of count))
+        (tables (now members) (now pending) (now waiting) (now history) (now sources)) (length (now store)) (now used) ⌝ }
 {
     let group = made(count);
     let content = Data {
@@ -133,14 +138,15 @@ pub extern "C" fn queue_one(
         length: 0,
     };
     let outcome = queue_data(
-        group,
-        sequences,
-        cells,
-        lengths,
-        sources,
+        group.identity,
+        group.core,
+        group.sending,
+        group.ring,
         members,
         pending,
         waiting,
+        history,
+        sources,
         store,
         used,
         id,
@@ -154,7 +160,7 @@ pub extern "C" fn queue_one(
 #[no_mangle]
 pub extern "C" fn unqueue_one(members: &mut [u64], used: &mut [u64], index: usize, cell: usize)
     requires { ⌜ has-row index (now members) ⌝ }
-    requires { ⌜ length (now used) ≡ 32 ⌝ }
+    requires { ⌜ length (now used) ≡ set-size ⌝ }
 {
     pop_at(members, index);
     free(used, cell);

@@ -1,4 +1,4 @@
--- A bit of a word and of a list of words of 64 bits, and what the operations of the code do to one. Assumes nothing.
+-- A bit of a word and of a list of words of 64 bits, and what the operations of the code do to one.
 use mathlib.Core.Path.{_≡_, refl, sym, ap, ap₂, _∙_}
 use mathlib.Core.List.{List, [], _∷_}
 use Prim.Native.Nat.{ℕ, zero, suc, _+_, _-_, _*_, _/_, _%_, _^_, _≤_, _<_, min, max}
@@ -12,8 +12,13 @@ use lib.Count.{trailingZeros, under, trailing-le}
 use lib.ListN.{getD}
 use lib.Pow.{shr-shr, shl-exact, pow-lt}
 use Rattle.srt_group_model.specs.Reason.{by-test}
+use Rattle.srt_protocol.specs.Cells.{max-cells}
 
 -- ---- definitions
+
+-- the words of a set: 64 cells in each
+abbrev pub set-size : ℕ
+set-size = max-cells / 64
 
 -- bit i of a word: 0 or 1
 unfoldable pub bit : (i word : ℕ) → ℕ

@@ -1,5 +1,5 @@
 -- The pass of code 6 that marks each named cell in the words themselves: srt_state's `Flags` and `Marks` with a bit for a flag, so that
--- the pass leaves the words that the forms for a valid state are given. Assumes nothing.
+-- the pass leaves the words that the forms for a valid state are given.
 use mathlib.Core.Path.{_≡_, refl, sym, ap, subst, _∙_}
 use mathlib.Core.Bool.{Bool, true, false}
 use mathlib.Core.List.{List, [], _∷_, _++_}
@@ -10,13 +10,14 @@ use lib.Dec.{eqb, ltb}
 use lib.ListN.{length}
 use Rattle.srt_group_model.specs.Reason.{if-elim, by-test, not-both}
 use Rattle.srt_group_model.specs.CellsKept.{one-same, one-other, occurs, room, room-inside, room-most}
-use Rattle.cell_set.specs.Bits.{bit-at}
+use Rattle.srt_protocol.specs.Cells.{max-cells}
+use Rattle.cell_set.specs.Bits.{set-size, bit-at}
 use Rattle.cell_set.specs.Sets.{ShowsCells, Taken, most}
 
 -- the words of a store of so many cells under way: `room` is 1 for each of its cells, and 0 beyond
 pub record Marking (cells : ℕ) (words : List ℕ) : Type 0 where
-  pub store : cells ≤ 2048
-  pub long : length words ≡ 32
+  pub store : cells ≤ max-cells
+  pub long : length words ≡ set-size
   pub within : (n : ℕ) → bit-at words n ≤ room cells n
 
 -- these cells are named, over those named before: each lies in the store and is named once, and then each has its bit

@@ -1,5 +1,5 @@
--- A set of cells in 32 words, a bit to each, and what taking, freeing and searching do to it. `occurs` is the model's:
--- how often a cell is named. Assumes nothing.
+-- A set of cells in set-size words, a bit to each, and what taking, freeing and searching do to it. `occurs` is the model's:
+-- how often a cell is named.
 use mathlib.Core.Path.{_≡_, refl, sym, ap, ap₂, subst, _∙_}
 use mathlib.Core.Bool.{Bool, true, false}
 use mathlib.Core.List.{List, [], _∷_, _++_}
@@ -15,7 +15,8 @@ use Rattle.srt_group_model.specs.Tools.{if_then_else_, any}
 use Rattle.srt_group_model.specs.Reason.{by-test, not-both, or-left, or-cases}
 use Rattle.srt_group_model.specs.Cells.{is-among, lowest-free}
 use Rattle.srt_group_model.specs.CellsKept.{occurs, absent, present}
-use Rattle.cell_set.specs.Bits.{bit, bit-at, bit-most, bit-none, set-here, set-other, unset-here, unset-other, full-bit, trailing-ones, ones-end, ones-before, zero-at}
+use Rattle.srt_protocol.specs.Cells.{max-cells}
+use Rattle.cell_set.specs.Bits.{set-size, bit, bit-at, bit-most, bit-none, set-here, set-other, unset-here, unset-other, full-bit, trailing-ones, ones-end, ones-before, zero-at}
 use Rattle.cell_set.specs.declared.FreeCell.{FreeCell}
 use Rattle.cell_set.specs.declared.FreeCell.the-variants.{Cell, Full}
 
@@ -23,18 +24,18 @@ use Rattle.cell_set.specs.declared.FreeCell.the-variants.{Cell, Full}
 
 -- the words show these cells: a bit is how often its cell is named, so none is named twice
 pub record ShowsCells (words named : List ℕ) : Type 0 where
-  pub long : length words ≡ 32
+  pub long : length words ≡ set-size
   pub bits : (n : ℕ) → bit-at words n ≡ occurs n named
 
 -- a cell is taken
 pub record Taken (cell : ℕ) (before after : List ℕ) : Type 0 where
-  pub long : length after ≡ 32
+  pub long : length after ≡ set-size
   pub here : bit-at after cell ≡ 1
   pub others : (n : ℕ) → eqb cell n ≡ false → bit-at after n ≡ bit-at before n
 
 -- these cells are free, whatever they were
 pub record Freed (cells before after : List ℕ) : Type 0 where
-  pub long : length after ≡ 32
+  pub long : length after ≡ set-size
   pub gone : (n : ℕ) → is-among n cells ≡ true → bit-at after n ≡ 0
   pub others : (n : ℕ) → is-among n cells ≡ false → bit-at after n ≡ bit-at before n
 
@@ -57,12 +58,12 @@ pub most : (words : List ℕ) (n : ℕ) → bit-at words n ≤ 1
 unfolding bit-at
 most words n = bit-most (n % 64) (getD words (n / 64) 0)
 
-pub beyond : (words : List ℕ) (n : ℕ) → length words ≡ 32 → 2048 ≤ n → bit-at words n ≡ 0
+pub beyond : (words : List ℕ) (n : ℕ) → length words ≡ set-size → max-cells ≤ n → bit-at words n ≡ 0
 unfolding bit-at
 beyond words n long far =
     ap (bit (n % 64)) (List·getD-eq-default words 0 {n = n / 64} (omega arith)) ∙ bit-none (n % 64)
 
-module _ (words : List ℕ) (cell : ℕ) (long : length words ≡ 32) (below : cell < 2048) where
+module _ (words : List ℕ) (cell : ℕ) (long : length words ≡ set-size) (below : cell < max-cells) where
   abbrev old : ℕ
   old = getD words (cell / 64) 0
 
@@ -108,7 +109,7 @@ module _ (words : List ℕ) (cell : ℕ) (long : length words ≡ 32) (below : c
       }
 
 -- there is no such cell
-pub nothing-freed : (words : List ℕ) (cell : ℕ) → length words ≡ 32 → 2048 ≤ cell → Freed (cell ∷ []) words words
+pub nothing-freed : (words : List ℕ) (cell : ℕ) → length words ≡ set-size → max-cells ≤ cell → Freed (cell ∷ []) words words
 unfolding any
 nothing-freed words cell long far =
     record {
@@ -122,8 +123,8 @@ nothing-freed words cell long far =
 
 -- ---- all bits are cleared
 
-pub one-cleared : (words : List ℕ) (at : ℕ) → at < 32 → length words ≡ 32 → ((k : ℕ) → k < at → getD words k 0 ≡ 0)
-    → (length (set words at 0) ≡ 32) × ((k : ℕ) → k < at + 1 → getD (set words at 0) k 0 ≡ 0)
+pub one-cleared : (words : List ℕ) (at : ℕ) → at < set-size → length words ≡ set-size → ((k : ℕ) → k < at → getD words k 0 ≡ 0)
+    → (length (set words at 0) ≡ set-size) × ((k : ℕ) → k < at + 1 → getD (set words at 0) k 0 ≡ 0)
 one-cleared words at inside long sofar = (
   simp length-set long,
   λ k h.
@@ -132,16 +133,16 @@ one-cleared words at inside long sofar = (
       (λ e. getD-set-other words at k 0 0 (λ q. eqb-false k at e q) ∙ sofar k (omega (arith, eqb-false k at e))),
 )
 
-pub all-cleared : (words : List ℕ) → length words ≡ 32 → ((k : ℕ) → k < 32 → getD words k 0 ≡ 0) → ShowsCells words []
+pub all-cleared : (words : List ℕ) → length words ≡ set-size → ((k : ℕ) → k < set-size → getD words k 0 ≡ 0) → ShowsCells words []
 unfolding bit-at occurs
 all-cleared words long none-set =
     record {
       long = long;
       bits =
           λ n.
-          by-test (ltb n 2048)
-          (λ e. ap (bit (n % 64)) (none-set (n / 64) (omega (arith, ltb-true n 2048 e))) ∙ bit-none (n % 64))
-          (λ e. beyond words n long (ltb-false n 2048 e));
+          by-test (ltb n max-cells)
+          (λ e. ap (bit (n % 64)) (none-set (n / 64) (omega (arith, ltb-true n max-cells e))) ∙ bit-none (n % 64))
+          (λ e. beyond words n long (ltb-false n max-cells e));
     }
 
 -- ---- the search
@@ -150,11 +151,11 @@ all-cleared words long none-set =
 abbrev pub Passed : List ℕ → ℕ → Type 0
 Passed words at = (n : ℕ) → n < at * 64 → bit-at words n ≡ 1
 
--- the first word that is not full, or 32
+-- the first word that is not full, or set-size
 pub record FirstWord (words : List ℕ) (at : ℕ) : Type 0 where
-  pub most : at ≤ 32
+  pub most : at ≤ set-size
   pub passed : Passed words at
-  pub not-full : at < 32 → getD words at 0 ≡ 2 ^ 64 - 1 → ⊥
+  pub not-full : at < set-size → getD words at 0 ≡ 2 ^ 64 - 1 → ⊥
 
 in-word : (words : List ℕ) (at n : ℕ) → n / 64 ≡ at → bit-at words n ≡ bit (n % 64) (getD words at 0)
 unfolding bit-at
@@ -216,7 +217,7 @@ lowest-found words cells cell inside free passed =
     }
 
 -- the lowest free cell is where the trailing ones of that word end
-module _ (words : List ℕ) (at cells : ℕ) (first : FirstWord words at) (inside : at < 32) (small : getD words at 0 < 2 ^ 64) where
+module _ (words : List ℕ) (at cells : ℕ) (first : FirstWord words at) (inside : at < set-size) (small : getD words at 0 < 2 ^ 64) where
   abbrev ones : ℕ
   ones = trailing-ones (getD words at 0) small
 

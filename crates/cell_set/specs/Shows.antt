@@ -1,5 +1,5 @@
 -- The words show which cells a state uses, and stay so from step to step: the model's CellsMoved says which cells a step takes
--- and frees, the code's contract says which bits it moves, and one law puts the two together. Assumes nothing.
+-- and frees, the code's contract says which bits it moves, and one law puts the two together.
 use mathlib.Core.Path.{_≡_, refl, sym, subst, _∙_}
 use mathlib.Core.Bool.{Bool, true, false}
 use mathlib.Core.List.{List, [], _∷_, _++_}
@@ -16,15 +16,15 @@ use Rattle.srt_group_model.specs.Cells.{queued-cells, used-cells, is-among, fre
 use Rattle.srt_group_model.specs.Validity.{cell-twice, cell-beyond-store, is-invalid}
 use Rattle.srt_group_model.specs.Valid.{valid-of}
 use Rattle.srt_group_model.specs.Calls.{new}
-use Rattle.srt_group_model.specs.declared.GroupMode.{GroupMode}
 use Rattle.srt_group_model.specs.CellsKept.{one-same, one-other, occurs, occurs-append, absent, present, apart-of-rules, room-inside, room-most}
 use Rattle.srt_group_model.specs.CellsMoved.{Moves, Keeps, discarded-frees, retained-keeps}
 use Rattle.srt_group_model.specs.Collecting.{front, is-discarded, retain-group-packet}
 use Rattle.srt_group_model.specs.Queues.{packet-of}
 use Rattle.srt_group_model.specs.Steps.{popped}
+use Rattle.srt_protocol.specs.Cells.{max-cells}
 use Rattle.srt_group_model.specs.declared.Event.{Event}
 use Rattle.srt_group_model.specs.declared.Packet.{Packet}
-use Rattle.cell_set.specs.Bits.{bit-at}
+use Rattle.cell_set.specs.Bits.{set-size, bit-at}
 use Rattle.cell_set.specs.Sets.{ShowsCells, most, beyond, Taken, Freed, free-cell-of, LowestFree}
 use Rattle.cell_set.specs.declared.FreeCell.{FreeCell}
 
@@ -110,7 +110,7 @@ collected-frees s i m e at f d =
 
 -- ---- one after another
 
-pub none-freed : (words : List ℕ) → length words ≡ 32 → Freed [] words words
+pub none-freed : (words : List ℕ) → length words ≡ set-size → Freed [] words words
 unfolding any
 none-freed words long = record { long = long; gone = λ n among. not-both among refl; others = λ n apart. refl }
 
@@ -156,8 +156,8 @@ shows-exactly {words} {s} shows n =
     (λ e. ne-eqb (bit-at words n) 1 (λ q. omega (arith, shows .cells .bits n, absent n (used-cells s) e)) ∙ sym e)
 
 -- and of a valid state that is all that it says, as no cell is named twice
-pub of-exactly : (cells : ℕ) (words : List ℕ) (s : State) → cells ≤ 2048 → is-invalid cells s ≡ false → length words ≡ 32
-    → ((n : ℕ) → n < 2048 → eqb (bit-at words n) 1 ≡ is-among n (used-cells s)) → Shows words s
+pub of-exactly : (cells : ℕ) (words : List ℕ) (s : State) → cells ≤ max-cells → is-invalid cells s ≡ false → length words ≡ set-size
+    → ((n : ℕ) → n < max-cells → eqb (bit-at words n) 1 ≡ is-among n (used-cells s)) → Shows words s
 unfolding cell-twice cell-beyond-store
 of-exactly cells words s few valid long exactly =
     let rules = valid-of cells s valid in
@@ -168,15 +168,15 @@ of-exactly cells words s few valid long exactly =
             long = long;
             bits =
                 λ n.
-                by-test (ltb n 2048)
+                by-test (ltb n max-cells)
                 (λ inside.
                 by-test (is-among n (used-cells s))
                 (λ e.
-                omega (arith, apart n, room-most cells n, present n (used-cells s) e, eqb-true (bit-at words n) 1 (exactly n (ltb-true n 2048 inside) ∙ e)))
+                omega (arith, apart n, room-most cells n, present n (used-cells s) e, eqb-true (bit-at words n) 1 (exactly n (ltb-true n max-cells inside) ∙ e)))
                 (λ e.
-                omega (arith, absent n (used-cells s) e, most words n, eqb-false (bit-at words n) 1 (exactly n (ltb-true n 2048 inside) ∙ e))))
+                omega (arith, absent n (used-cells s) e, most words n, eqb-false (bit-at words n) 1 (exactly n (ltb-true n max-cells inside) ∙ e))))
                 (λ outside.
-                let far : 2048 ≤ n = ltb-false n 2048 outside in
+                let far : max-cells ≤ n = ltb-false n max-cells outside in
                 by-test (leb 1 (occurs n (used-cells s)))
                 (λ e. absurd (omega (arith, few, far, room-inside cells n (omega (arith, apart n, leb-true 1 (occurs n (used-cells s)) e)))))
                 (λ e. omega (arith, beyond words n long far, leb-false 1 (occurs n (used-cells s)) e)));
@@ -184,6 +184,6 @@ of-exactly cells words s few valid long exactly =
     }
 
 -- a group that was just made uses no cell
-pub shows-new : (words : List ℕ) (id : ℕ) (mode : GroupMode) (store : ℕ) → ShowsCells words [] → Shows words (new id mode store)
+pub shows-new : (words : List ℕ) (id mode store : ℕ) → ShowsCells words [] → Shows words (new id mode store)
 unfolding new used-cells queued-cells each
 shows-new words id mode store fresh = record { cells = fresh }

@@ -1,17 +1,17 @@
-// A set of the store's cells, a bit to each in 32 lent words: cell n is bit n % 64 of word n / 64.
+// A set of the store's cells, a bit to each in WORDS lent words: cell n is bit n % 64 of word n / 64.
 ghost use mathlib.Core.Path.{_≡_};
 ghost use mathlib.Core.List.{[], _∷_};
 ghost use Prim.Native.Nat.{_≤_, _<_};
 ghost use lib.ListN.{length};
 ghost use lib.Dec.{eqb};
-ghost use Rattle.cell_set.specs.Bits.{bit-at};
+ghost use Rattle.srt_protocol.specs.Cells.{max-cells};
+ghost use Rattle.cell_set.specs.Bits.{set-size, bit-at};
 ghost use Rattle.cell_set.specs.Marks.{Marking, Marks};
 ghost use Rattle.cell_set.specs.Sets.{ShowsCells, Taken, Freed, FirstWord, LowestFree};
+use srt_protocol::received_payload::MAX_CELLS;
 
-// The words of a set, and the most cells that it has.
-pub const WORDS: usize = 32;
-
-pub const MAX_CELLS: usize = 2048;
+// The words of a set: 64 cells in each.
+pub const WORDS: usize = MAX_CELLS / 64;
 
 // A word whose cells are all taken.
 const FULL: u64 = 0xffff_ffff_ffff_ffff;
@@ -23,7 +23,7 @@ pub enum FreeCell {
 }
 
 pub fn is_used(used: &[u64], cell: usize) -> bool
-    requires { ⌜ (length (now used) ≡ 32) × (cell < 2048) ⌝ }
+    requires { ⌜ (length (now used) ≡ set-size) × (cell < max-cells) ⌝ }
     ensures { λ r. ⌜ r ≡ eqb (bit-at (now (used .entry)) cell) 1 ⌝ }
 {
     let word = used[cell / 64];
@@ -32,7 +32,7 @@ pub fn is_used(used: &[u64], cell: usize) -> bool
 
 // A cell is taken.
 pub fn take(used: &mut [u64], cell: usize)
-    requires { ⌜ (length (now used) ≡ 32) × (cell < 2048) ⌝ }
+    requires { ⌜ (length (now used) ≡ set-size) × (cell < max-cells) ⌝ }
     ensures { λ _. ⌜ Taken cell (now (used .entry)) (now (used .exit)) ⌝ }
 {
     let at = cell / 64;
@@ -41,7 +41,7 @@ pub fn take(used: &mut [u64], cell: usize)
 
 // A cell is free again; a number that is no cell changes nothing.
 pub fn free(used: &mut [u64], cell: usize)
-    requires { ⌜ length (now used) ≡ 32 ⌝ }
+    requires { ⌜ length (now used) ≡ set-size ⌝ }
     ensures { λ _. ⌜ Freed (cell ∷ []) (now (used .entry)) (now (used .exit)) ⌝ }
 {
     if cell < MAX_CELLS {
@@ -68,7 +68,7 @@ pub fn mark(used: &mut [u64], cells: usize, cell: u64) -> bool
 
 // Every cell is free.
 pub fn clear(used: &mut [u64])
-    requires { ⌜ length (now used) ≡ 32 ⌝ }
+    requires { ⌜ length (now used) ≡ set-size ⌝ }
     ensures { λ _. ⌜ ShowsCells (now (used .exit)) [] ⌝ }
 {
     let mut at: usize = 0;
@@ -78,9 +78,9 @@ pub fn clear(used: &mut [u64])
     }
 }
 
-// The first word that is not full, or 32.
+// The first word that is not full, or WORDS.
 fn first_word(used: &[u64]) -> usize
-    requires { ⌜ length (now used) ≡ 32 ⌝ }
+    requires { ⌜ length (now used) ≡ set-size ⌝ }
     ensures { λ r. ⌜ FirstWord (now (used .entry)) r ⌝ }
 {
     let mut at: usize = 0;
@@ -95,7 +95,7 @@ fn first_word(used: &[u64]) -> usize
 
 // The lowest of so many cells that is free: where the trailing ones of the first word end that is not full.
 pub fn lowest_free(used: &[u64], cells: usize) -> FreeCell
-    requires { ⌜ (length (now used) ≡ 32) × (cells ≤ 2048) ⌝ }
+    requires { ⌜ (length (now used) ≡ set-size) × (cells ≤ max-cells) ⌝ }
     ensures { λ r. ⌜ LowestFree (now (used .entry)) cells r ⌝ }
 {
     let at = first_word(used);

@@ -1,5 +1,5 @@
 -- Laws of answering the lines of a stream: one line, the lines of a block part by part, and the whole stream from its
--- blocks. Assumes nothing.
+-- blocks.
 use Prim.Native.Nat.{ℕ, _+_, _*_, _<_, _≤_, _^_}
 use native.Mathlib.Omega.{arith}
 use native.Mathlib.Nat.{add-zero}

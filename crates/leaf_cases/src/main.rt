@@ -31,7 +31,7 @@ fn run_on_numbers(operation: u64, a: u32, b: u32) -> Answer {
     if operation == 1 {
         return as_number(srt_packet::sequence_less_than(a, b));
     }
-    as_number(srt_handshake::is_group_id(a))
+    as_number(srt_handshake::is_group_id(a as u64))
 }
 
 // 1: a is before b. 2: microseconds from b to a. 3: b microseconds after a. 4: a is a group's id.

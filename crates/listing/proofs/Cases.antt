@@ -1,4 +1,4 @@
--- Going by cases on a test. Assumes nothing.
+-- Going by cases on a test.
 use mathlib.Core.Bool.{Bool, true, false, cond}
 use mathlib.Core.Path.{_≡_, refl}
 

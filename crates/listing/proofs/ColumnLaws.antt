@@ -1,5 +1,5 @@
 -- Laws of reading a column, from the left: spaces are passed one by one, and a digit more makes the value ten times as
--- large. Assumes nothing.
+-- large.
 use Prim.Native.Nat.{ℕ, suc, _+_, _-_, _*_, _<_, _≤_, _^_}
 use native.Mathlib.Omega.{arith}
 use native.Mathlib.Nat.{pow-suc, pow-le-pow-right, add-mul, mul-assoc, mul-comm, mul-le-mul-left, zero-mul}

@@ -1,5 +1,4 @@
 -- Laws of reading a line, column by column from the left, and what the answers of the functions that read them say.
--- Assumes nothing.
 use Prim.Native.Nat.{ℕ, suc, _+_, _-_, _*_, _<_, _≤_}
 use native.Mathlib.Omega.{arith}
 use native.Mathlib.Nat.{zero-mul, suc-mul}

@@ -1,5 +1,4 @@
 -- Laws of a text placed in a buffer: its length, a text placed over the end of another, and a text that grows by one.
--- Assumes nothing.
 use Prim.Native.Nat.{ℕ, suc, _+_, _-_, _<_, _≤_}
 use native.Mathlib.Omega.{arith}
 use native.Mathlib.Nat.{add-zero}

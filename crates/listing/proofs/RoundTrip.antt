@@ -1,5 +1,5 @@
 -- THE ROUND TRIP: reading what was written gives the number back, and writing what was read from a column without
--- leading zeros gives the bytes back. Both for every width. Assumes nothing.
+-- leading zeros gives the bytes back. Both for every width.
 use Prim.Native.Nat.{ℕ, zero, suc, _+_, _-_, _*_, _/_, _%_, _<_, _≤_, _^_}
 use native.Mathlib.Omega.{arith}
 use native.Mathlib.Nat.{pow-suc, add-mul, mul-assoc}

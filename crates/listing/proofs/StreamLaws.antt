@@ -1,5 +1,4 @@
 -- Laws of the lines of a stream, byte by byte, of a line that a buffer holds, and of streams that come in blocks.
--- Assumes nothing.
 use Prim.Native.Nat.{ℕ, suc, _+_, _-_, _<_, _≤_}
 use native.Mathlib.Omega.{arith}
 use mathlib.Core.Bool.{true, false, true≢false}

@@ -1,4 +1,4 @@
--- Laws of a number's text: its digits by its last one, how many they are, and how wide its column is. Assumes nothing.
+-- Laws of a number's text: its digits by its last one, how many they are, and how wide its column is.
 use Prim.Native.Nat.{ℕ, zero, suc, _+_, _-_, _*_, _/_, _%_, _<_, _≤_, _^_}
 use native.Mathlib.Omega.{arith}
 use native.Mathlib.Nat.{pow-suc, suc-mul}

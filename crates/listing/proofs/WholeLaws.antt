@@ -1,5 +1,5 @@
 -- Laws of a well-formed line that stands in a stream with its line feed: columns of numbers have no line feed in them, so
--- the line feed behind them ends the first line. Assumes nothing.
+-- the line feed behind them ends the first line.
 use Prim.Native.Nat.{ℕ, zero, suc, _+_, _*_, _<_, _≤_}
 use native.Mathlib.Omega.{arith}
 use native.Mathlib.Nat.{zero-mul, suc-mul}

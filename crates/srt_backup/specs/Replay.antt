@@ -1,4 +1,4 @@
--- A replay of the history on a leg: one entry, and a loop over all of them. Assumes nothing.
+-- A replay of the history on a leg: one entry, and a loop over all of them.
 use mathlib.Core.Path.{_≡_, refl, ap, sym, _∙_}
 use mathlib.Core.Bool.{Bool, true, false}
 use mathlib.Core.List.{List, [], _∷_, _++_, append-assoc, append-nil}
@@ -9,30 +9,26 @@ use native.Mathlib.Omega.{arith}
 use lib.ListN.{length, drop}
 use Rattle.word_rows.specs.Tab.{tab, tab-length}
 use Rattle.srt_protocol.specs.Cells.{overwritten}
-use Rattle.srt_group_model.specs.Tools.{if-some_give_otherwise_}
+use Rattle.srt_group_model.specs.Tools.{if-some_give_otherwise_, bit}
 use Rattle.srt_group_model.specs.Legs.{send-shared-with-sequence}
-use Rattle.srt_group_model.specs.Sending.{Sent}
-use Rattle.srt_group_model.specs.Backup.{replay-entries}
+use Rattle.srt_group_model.specs.Sending.{sent-row-size, Sent}
+use Rattle.srt_group_model.specs.Lent.{list-rows}
+use Rattle.srt_group_model.specs.Backup.{max-history, replay-entries}
 use Rattle.srt_group_model.specs.Backup as backup
 use Rattle.srt_group_model.specs.declared.Entry.{Entry}
 use Rattle.srt_group_model.specs.declared.Leg.{Leg}
-use Rattle.srt_connection.specs.Answers.{result-of}
+use Rattle.srt_connection.specs.Answers.{result-of, result-ok, result-err}
 use Rattle.srt_connection.specs.declared.legs.LegResult.{LegResult}
 use Rattle.srt_connection.specs.declared.legs.LegResult.the-variants.{Ok, Err}
 use Rattle.srt_members.specs.Scan.{tab-next, tab-ended}
 use Rattle.srt_tables.specs.Ring.{Arrays, entry-at, entries-of}
 use Rattle.srt_tables.specs.declared.history.HistoryRing.{HistoryRing}
+use Rattle.srt_sending.specs.SentList.{Wrote, wrote-nothing, wrote-length, wrote-then}
 use Rattle.srt_backup.specs.declared.replay.Replayed.{Replayed}
-use Rattle.srt_backup.specs.SentRows.{sent-words, Written, written-none, written-one, written-then}
 
 -- ---- definitions
 
--- the arrays of the group record, lent one by one
-abbrev pub arrays-of : (sequences cells lengths sources : List ℕ) → Arrays
-arrays-of sequences cells lengths sources =
-    record { sequences = sequences; cells = cells; lengths = lengths; sources = sources }
-
--- the row of an entry that went out again: its own cell and source time, at the time of the replay
+-- the row of an entry that is sent again: its own cell and source time, at the time of the replay
 abbrev pub replayed-sent : (time id : ℕ) → Entry → Sent
 replayed-sent time id e =
     record { leg = id; sequence = e .sequence; cell = e .cell; source = e .source .0; time = time }
@@ -42,37 +38,29 @@ abbrev pub entry-send : ℕ → Entry → Leg → Option Leg
 entry-send time e l = send-shared-with-sequence time (e .length) (e .sequence) l
 
 pub record EntryReplayed (time id : ℕ) (e : Entry) (l : Leg) (sent : ℕ) (before : List ℕ) (answer : LegResult) (after : List ℕ) : Type 0 where
-  pub went : answer ≡ result-of (entry-send time e l)
+  pub outcome : answer ≡ result-of (entry-send time e l)
   pub list : after
       ≡ (if-some entry-send time e l
-      give (λ k. overwritten (sent * 5) (sent-words (replayed-sent time id e)) before)
+      give (λ k. overwritten (sent * sent-row-size) (list-rows (replayed-sent time id e ∷ [])) before)
       otherwise before)
 
 pub record EntriesReplayed (time id : ℕ) (es : List Entry) (l : Leg) (sent : ℕ) (before : List ℕ) (answer : Replayed) (after : List ℕ) : Type 0 where
   pub leg : answer .leg ≡ replay-entries time id es l .leg
-  pub whole : answer .whole ≡ replay-entries time id es l .whole
-  pub written : Written sent before (replay-entries time id es l .sends) (answer .sent) after
-  pub few : answer .sent ≤ sent + 512
+  pub whole : answer .whole ≡ bit (replay-entries time id es l .whole)
+  pub written : Wrote sent (replay-entries time id es l .sends) before (answer .sent) after
+  pub few : answer .sent ≤ sent + max-history
 
 -- ---- one entry
-
-pub send-went : {answer : LegResult} (o : Option Leg) (k : Leg) → answer ≡ result-of o → answer ≡ Ok k → o ≡ some k
-send-went none k is ok = cc (is, ok)
-send-went (some j) k is ok = cc (is, ok)
-
-pub send-failed : {answer : LegResult} (o : Option Leg) → answer ≡ result-of o → answer ≡ Err → o ≡ none
-send-failed none is err = refl
-send-failed (some j) is err = cc (is, err)
 
 module _ (time id : ℕ) (e : Entry) (l : Leg) (sent : ℕ) (before : List ℕ) {result : LegResult} (is : result ≡ result-of (entry-send time e l)) where
   pub entry-failed : result ≡ Err → EntryReplayed time id e l sent before Err before
   unfolding if-some_give_otherwise_
-  entry-failed err = record { went = sym err ∙ is; list = sym (rw (send-failed (entry-send time e l) is err)) }
+  entry-failed err = record { outcome = sym err ∙ is; list = sym (rw (result-err (entry-send time e l) (sym err ∙ is))) }
 
-  pub entry-went : {after : List ℕ} (k : Leg) → result ≡ Ok k
-      → after ≡ overwritten (sent * 5) (sent-words (replayed-sent time id e)) before → EntryReplayed time id e l sent before (Ok k) after
+  pub entry-sent : {after : List ℕ} (k : Leg) → result ≡ Ok k
+      → Wrote sent (replayed-sent time id e ∷ []) before (sent + 1) after → EntryReplayed time id e l sent before (Ok k) after
   unfolding if-some_give_otherwise_
-  entry-went k ok words = record { went = sym ok ∙ is; list = words ∙ sym (rw (send-went (entry-send time e l) k is ok)) }
+  entry-sent k ok wrote = record { outcome = sym ok ∙ is; list = wrote .is ∙ sym (rw (result-ok (entry-send time e l) k (sym ok ∙ is))) }
 
 -- ---- the loop
 
@@ -87,7 +75,7 @@ module _ (time id : ℕ) (e : Entry) (es : List Entry) (l : Leg) where
   replay-goes-on : (k : Leg) → entry-send time e l ≡ some k
       → replay-entries time id (e ∷ es) l ≡ sends-before (replayed-sent time id e ∷ []) (replay-entries time id es k)
   unfolding replay-entries if-some_give_otherwise_
-  replay-goes-on k went = rw went
+  replay-goes-on k succeeds = rw succeeds
 
   replay-ends : entry-send time e l ≡ none → replay-entries time id (e ∷ es) l ≡ record { leg = l; sends = []; whole = false }
   unfolding replay-entries if-some_give_otherwise_
@@ -102,57 +90,60 @@ no-more : (sends : List Sent) (l : Leg) (whole : Bool)
     → sends-before sends record { leg = l; sends = []; whole = whole } ≡ record { leg = l; sends = sends; whole = whole }
 no-more sends l whole = ap (λ (ss : List Sent). with-sends ss record { leg = l; sends = []; whole = whole }) (append-nil sends)
 
-replay-as : (time id : ℕ) (es : List Entry) (l : Leg) (sent : ℕ) (before : List ℕ) (here : Leg) (whole : Bool) (sends : List Sent) (n : ℕ) (after : List ℕ)
-    → replay-entries time id es l ≡ record { leg = here; sends = sends; whole = whole } → Written sent before sends n after → n ≤ sent + 512
-    → EntriesReplayed time id es l sent before record { leg = here; sent = n; whole = whole } after
+replay-as : (time id : ℕ) (es : List Entry) (l : Leg) (sent : ℕ) (before : List ℕ) (here : Leg) (whole : Bool) (sends : List Sent)
+    (n : ℕ) (after : List ℕ)
+    → replay-entries time id es l ≡ record { leg = here; sends = sends; whole = whole } → Wrote sent sends before n after → n ≤ sent + max-history
+    → EntriesReplayed time id es l sent before record { leg = here; sent = n; whole = bit whole } after
 replay-as time id es l sent before here whole sends n after same written few =
     record {
       leg = sym (ap (λ (x : backup.Replayed). x .leg) same);
-      whole = sym (ap (λ (x : backup.Replayed). x .whole) same);
+      whole = sym (ap (λ (x : backup.Replayed). bit (x .whole)) same);
       written = rw same written;
       few = few;
     }
 
--- so many entries went: what is left of them, on the leg as it is now, gives with their sends what all give
+-- so many entries were sent: what is left of them, on the leg as it is now, gives with their sends what all give
 pub record Replaying (time id : ℕ) (es : List Entry) (l : Leg) (sent : ℕ) (before : List ℕ) (here : Leg) (index : ℕ) (list : List ℕ) : Type 0 where
   pub sends : List Sent
   pub same : replay-entries time id es l ≡ sends-before sends (replay-entries time id (drop index es) here)
-  pub written : Written sent before sends (sent + index) list
+  pub long : length list ≡ length before
+  pub written : Wrote sent sends before (sent + index) list
 
 pub replaying-start : (time id : ℕ) (es : List Entry) (l : Leg) (sent : ℕ) (before : List ℕ) → Replaying time id es l sent before l 0 before
 replaying-start time id es l sent before =
     record {
       sends = [];
       same = refl;
-      written = let none-more : sent + 0 ≡ sent = omega arith in rw none-more (written-none sent before);
+      long = refl;
+      written = let none-more : sent + 0 ≡ sent = omega arith in rw none-more (wrote-nothing sent before);
     }
 
-module _ (time id : ℕ) (r : HistoryRing) (a : Arrays) (l : Leg) (sent : ℕ) (before : List ℕ) (here : Leg) (index : ℕ) (list : List ℕ) (so-far : Replaying time id (entries-of r a) l sent before here index list) where
+module _ (time id : ℕ) (r : HistoryRing) (a : Arrays) (l : Leg) (sent : ℕ) (before : List ℕ) (here : Leg) (index : ℕ) (list : List ℕ)
+    (so-far : Replaying time id (entries-of r a) l sent before here index list) where
   rest-next : index < r .length → drop index (entries-of r a) ≡ entry-at r a index ∷ drop (index + 1) (entries-of r a)
   rest-next more =
       tab-next index (r .length) (entry-at r a) more
       ∙ ap (λ (j : ℕ). entry-at r a index ∷ drop j (entries-of r a)) (sym (add-one index))
 
-  module _ {e : Entry} {result : LegResult} {after : List ℕ} (entry : e ≡ entry-at r a index) (replayed : EntryReplayed time id e here (sent + index) list result after) where
-    pub replaying-on : (k : Leg) → index < r .length → (sent + index) * 5 + 5 ≤ length list → result ≡ Ok k
+  module _ {e : Entry} {result : LegResult} {after : List ℕ} (entry : e ≡ entry-at r a index)
+      (replayed : EntryReplayed time id e here (sent + index) list result after) where
+    pub replaying-on : (k : Leg) → index < r .length → (sent + index) * sent-row-size + sent-row-size ≤ length list → result ≡ Ok k
         → Replaying time id (entries-of r a) l sent before k (index + 1) after
     unfolding if-some_give_otherwise_
     replaying-on k more room ok =
         record {
           sends = so-far .sends ++ (replayed-sent time id e ∷ []);
           same = whole-same;
-          written =
-              written-then sent (sent + index) (sent + (index + 1)) before list after (so-far .sends) (replayed-sent time id e ∷ [])
-              (so-far .written) row-written;
+          long = wrote-length row-written (omega arith) ∙ so-far .long;
+          written = wrote-then (so-far .written) (omega (arith, so-far .long)) row-written;
         }
       where
-        went : entry-send time e here ≡ some k
-        went = send-went (entry-send time e here) k (replayed .went) ok
+        succeeds : entry-send time e here ≡ some k
+        succeeds = result-ok (entry-send time e here) k (sym ok ∙ replayed .outcome)
 
-        row-written : Written (sent + index) list (replayed-sent time id e ∷ []) (sent + (index + 1)) after
+        row-written : Wrote (sent + index) (replayed-sent time id e ∷ []) list (sent + (index + 1)) after
         row-written =
-            let next : sent + (index + 1) ≡ sent + index + 1 = omega arith in
-            rw (replayed .list, went, next) (written-one (sent + index) list (replayed-sent time id e) room)
+            record { count = omega arith; is = replayed .list ∙ rw succeeds }
 
         whole-same : replay-entries time id (entries-of r a) l
             ≡ sends-before (so-far .sends ++ (replayed-sent time id e ∷ [])) (replay-entries time id (drop (index + 1) (entries-of r a)) k)
@@ -160,20 +151,22 @@ module _ (time id : ℕ) (r : HistoryRing) (a : Arrays) (l : Leg) (sent : ℕ) (
             so-far .same
             ∙ ap (λ (es : List Entry). sends-before (so-far .sends) (replay-entries time id es here))
             (rest-next more ∙ ap (λ (x : Entry). x ∷ drop (index + 1) (entries-of r a)) (sym entry))
-            ∙ ap (sends-before (so-far .sends)) (replay-goes-on time id e (drop (index + 1) (entries-of r a)) here k went)
+            ∙ ap (sends-before (so-far .sends)) (replay-goes-on time id e (drop (index + 1) (entries-of r a)) here k succeeds)
             ∙ ap (λ (ss : List Sent). with-sends ss (replay-entries time id (drop (index + 1) (entries-of r a)) k))
             (sym
             (append-assoc (so-far .sends) (replayed-sent time id e ∷ [])
             (replay-entries time id (drop (index + 1) (entries-of r a)) k .sends)))
 
-    pub replay-stopped : index < r .length → r .length ≤ 512 → result ≡ Err
-        → EntriesReplayed time id (entries-of r a) l sent before record { leg = here; sent = sent + index; whole = false } after
-    unfolding if-some_give_otherwise_
+    pub replay-stopped : index < r .length → r .length ≤ max-history → result ≡ Err
+        → EntriesReplayed time id (entries-of r a) l sent before record { leg = here; sent = sent + index; whole = 0 } after
+    unfolding if-some_give_otherwise_ bit
     replay-stopped more fits err =
-        rw same-list (replay-as time id (entries-of r a) l sent before here false (so-far .sends) (sent + index) list whole-same (so-far .written) (omega arith))
+        rw same-list
+        (replay-as time id (entries-of r a) l sent before here false (so-far .sends) (sent + index) list whole-same
+        (so-far .written) (omega arith))
       where
         failed : entry-send time e here ≡ none
-        failed = send-failed (entry-send time e here) (replayed .went) err
+        failed = result-err (entry-send time e here) (sym err ∙ replayed .outcome)
 
         same-list : after ≡ list
         same-list = replayed .list ∙ rw failed
@@ -186,8 +179,9 @@ module _ (time id : ℕ) (r : HistoryRing) (a : Arrays) (l : Leg) (sent : ℕ) (
             ∙ ap (sends-before (so-far .sends)) (replay-ends time id e (drop (index + 1) (entries-of r a)) here failed)
             ∙ no-more (so-far .sends) here false
 
-  pub replay-done : r .length ≤ index → index ≤ 512
-      → EntriesReplayed time id (entries-of r a) l sent before record { leg = here; sent = sent + index; whole = true } list
+  pub replay-done : r .length ≤ index → index ≤ max-history
+      → EntriesReplayed time id (entries-of r a) l sent before record { leg = here; sent = sent + index; whole = 1 } list
+  unfolding bit
   replay-done all fits =
       replay-as time id (entries-of r a) l sent before here true (so-far .sends) (sent + index) list whole-same (so-far .written) (omega arith)
     where

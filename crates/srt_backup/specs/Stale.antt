@@ -1,4 +1,4 @@
--- A carrier that fell silent: what its round trip may be, and which members a demotion leaves. Assumes nothing.
+-- A carrier that fell silent: what its round trip may be, and which members a demotion leaves.
 use mathlib.Core.Path.{_≡_, refl, ap, sym, _∙_}
 use mathlib.Core.Bool.{Bool, true, false, not, _&&_}
 use mathlib.Core.List.{List, [], _∷_}
@@ -26,7 +26,8 @@ pub record Trip-fit (l : Leg) : Type 0 where
 
 pub trip-fits : {l : Leg} (n i : ℕ) (t : List ℕ) → i < n → All-fit (members-of n t) → l ≡ member-at t i .leg → Trip-fit l
 trip-fits {l} n i t below fit is =
-    rw is record { srtt = (at-fit i (member-at t i) (members-of n t) (members-place n t i below) fit) .leg .srtt; rttvar = (at-fit i (member-at t i) (members-of n t) (members-place n t i below) fit) .leg .rttvar }
+    let fits = at-fit i (member-at t i) (members-of n t) (members-place n t i below) fit in
+    rw is record { srtt = fits .leg .srtt; rttvar = fits .leg .rttvar }
 
 -- ---- is it stale?
 
@@ -73,7 +74,10 @@ module _ (time n : ℕ) (t : List ℕ) where
   module _ (i : ℕ) (found : At i ≡ found-of (first-active (members-of n t))) where
     -- the carrier is changed by a function that does the same to it as the demotion
     carrier-became : {f : Member → Member} (u : List ℕ) → Changed i f t u
-        → f (member-at t i) ≡ (if any is-standby (members-of n t) && is-stale time (member-at t i .leg) then turned unstable-state (member-at t i) else member-at t i)
+        → f (member-at t i)
+        ≡ (if any is-standby (members-of n t) && is-stale time (member-at t i .leg)
+        then turned unstable-state (member-at t i)
+        else member-at t i)
         → Became n demoted t u
     unfolding demote-stale-backup-carrier if-some_give_otherwise_
     carrier-became u c same =

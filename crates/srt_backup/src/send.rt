@@ -1,11 +1,13 @@
-// The call's own payload on one member, and what is recorded of it. Who owns the arrays of the history stores the entry between
-// the two.
+// The call's own payload on one member, and what is recorded of it.
 ghost use mathlib.Core.Path.{_≡_};
 ghost use Prim.Native.Nat.{_+_, _*_, _≤_};
 ghost use lib.ListN.{length};
+ghost use Rattle.srt_group_model.specs.Sending.{sent-row-size};
+ghost use Rattle.srt_group_model.specs.Backup.{max-history};
 ghost use Rattle.srt_connection.specs.Members.{has-row};
+ghost use Rattle.srt_tables.specs.Ring.{arrays, Long, Packs};
+ghost use Rattle.srt_sending.specs.SentList.{send-tables};
 ghost use Rattle.srt_backup.specs.OwnSend.{SentOn, SendRecorded};
-use crate::list::write_sent;
 use crate::trimming::SendHistory;
 use crate::trimming::trim_backup_history;
 use srt_connection::legs::LegResult;
@@ -13,16 +15,18 @@ use srt_connection::legs::send_shared_with_sequence;
 use srt_connection::members::leg_at;
 use srt_connection::members::membership_at;
 use srt_connection::members::put_leg_at;
+use srt_group_model::Entry;
 use srt_group_model::Leg;
 use srt_group_model::Sending;
 use srt_protocol::time::Timestamp;
+use srt_sending::broadcast::with_number_after;
+use srt_sending::list::OWN_PAYLOAD;
+use srt_sending::list::write_sent;
 use srt_tables::history::HistoryRing;
 use srt_tables::history::push_back;
+use srt_tables::history::store;
 
-// The cell in the row of the call's own payload.
-pub const OWN_PAYLOAD: u64 = 0xffff_ffff;
-
-// A payload of `size` bytes on the member at an index, at a sequence: whether it went. If it did, the list has its row.
+// A payload of `size` bytes on the member at an index, at a sequence: whether it was sent. If it was, the list has its row.
 pub fn send_on(
     members: &mut [u64],
     index: usize,
@@ -33,8 +37,10 @@ pub fn send_on(
     sent: usize,
 ) -> bool
     requires { ⌜ has-row index (now members) ⌝ }
-    requires { ⌜ sent * 5 + 5 ≤ length (now list) ⌝ }
-    ensures { λ r. ⌜ SentOn (time .0) size sequence index (now (members .entry)) sent (now (list .entry)) r (now (members .exit)) (now (list .exit)) ⌝ }
+    requires { ⌜ sent * sent-row-size + sent-row-size ≤ length (now list) ⌝ }
+    ensures { λ r. ⌜ SentOn (time .0) size sequence index sent
+        (send-tables (now (members .entry)) (now (list .entry))) r
+        (send-tables (now (members .exit)) (now (list .exit))) ⌝ }
 {
     let result = send_shared_with_sequence(leg_at(members, index), time, size, sequence);
     let LegResult::Ok(leg) = result else {
@@ -47,23 +53,26 @@ pub fn send_on(
     true
 }
 
-// The payload that went out is kept until its carrier's peer acknowledges it. `ring` is as it was, and `sequences` has the
-// payload's sequence behind the newest; `next` is the send number after it, and `leg` the carrier's leg after the send.
+// The payload that was sent is kept until its carrier's peer acknowledges it. `leg` is the carrier's leg after the send.
 pub fn record_backup_send(
-    mut sending: Sending,
+    sending: Sending,
     ring: HistoryRing,
-    sequences: &[u32],
+    history: &mut [u64],
+    sources: &mut [u64],
+    entry: Entry,
     leg: Leg,
-    carrier: u32,
-    next: u32,
+    carrier: u64,
 ) -> SendHistory
-    requires { ⌜ (ring .length ≤ 512) × (length (now sequences) ≡ 512) ⌝ }
-    ensures { λ r. ⌜ SendRecorded leg carrier next (now (sequences .entry)) sending ring r ⌝ }
+    requires { ⌜ (ring .length ≤ max-history) × Long (arrays (now history) (now sources)) ⌝ }
+    requires { ⌜ Packs (entry .sequence) (entry .cell) (entry .length) ⌝ }
+    ensures { λ r. ⌜ SendRecorded leg carrier entry sending ring
+        (arrays (now (history .entry)) (now (sources .entry))) r
+        (arrays (now (history .exit)) (now (sources .exit))) ⌝ }
 {
-    sending.numbered = true;
-    sending.next = next;
-    sending.carried = true;
-    sending.carrier = carrier;
+    store(ring, history, sources, entry);
+    let mut numbers = with_number_after(sending, entry.sequence);
+    numbers.carried = 1;
+    numbers.carrier = carrier;
     let pushed = push_back(ring);
-    trim_backup_history(sending, pushed, sequences, leg)
+    trim_backup_history(numbers, pushed, history, leg)
 }

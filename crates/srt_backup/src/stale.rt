@@ -87,7 +87,8 @@ pub fn has_standby(members: &[u64], count: usize) -> bool
 pub fn demote_stale_backup_carrier(members: &mut [u64], count: usize, time: Timestamp)
     requires { ⌜ count * row-size ≤ length (now members) ⌝ }
     requires { ⌜ All-fit (members-of count (now members)) ⌝ }
-    ensures { λ _. ⌜ Became count (demote-stale-backup-carrier (time .0) (members-of count (now (members .entry)))) (now (members .entry)) (now (members .exit)) ⌝ }
+    ensures { λ _. ⌜ Became count (demote-stale-backup-carrier (time .0) (members-of count (now (members .entry))))
+        (now (members .entry)) (now (members .exit)) ⌝ }
 {
     let found = first_active(members, count);
     let Found::At(index) = found else {

@@ -1,20 +1,19 @@
 // The take-over: a member that is to carry the next send first replays the flight of the carrier before it, as far as it is not
 // acknowledged, at the same sequences. One that cannot replay all of it is refused.
 ghost use mathlib.Core.Path.{_≡_};
-ghost use Prim.Native.Nat.{_*_, _≤_, _<_};
+ghost use Prim.Native.Nat.{_-_, _*_, _≤_, _<_};
 ghost use lib.ListN.{length};
 ghost use Rattle.srt_protocol.specs.Errors.{outcome-number};
-ghost use Rattle.srt_group_model.specs.Tools.{if_then_else_};
-ghost use Rattle.srt_group_model.specs.Backup.{replay-on, replay-flight, take-over-backup-flight};
+ghost use Rattle.srt_group_model.specs.Tools.{if_then_else_, is-set};
+ghost use Rattle.srt_group_model.specs.Backup.{max-history, replay-on, replay-flight, take-over-backup-flight};
+ghost use Rattle.srt_group_model.specs.Sending.{max-sent, list-size};
 ghost use Rattle.srt_connection.specs.Rows.{row-size};
 ghost use Rattle.srt_connection.specs.Members.{member-at, has-row};
-ghost use Rattle.srt_tables.specs.Ring.{Long, entry-at, entries-of};
+ghost use Rattle.srt_tables.specs.Ring.{arrays, Long, entry-at, entries-of};
+ghost use Rattle.srt_sending.specs.SentList.{send-tables};
 ghost use Rattle.srt_backup.specs.Trimming.{send-of};
-ghost use Rattle.srt_backup.specs.Replay.{arrays-of};
 ghost use Rattle.srt_backup.specs.TakeOver.{history-is, send-is, FlightReplayed, CarrierAligned, TookOver};
-use crate::replay::entry_at;
 use crate::replay::replay_entries;
-use crate::trimming::takes_over;
 use crate::trimming::trim_by_carrier;
 use srt_connection::legs::LegResult;
 use srt_connection::legs::remaining_window_packets;
@@ -28,7 +27,9 @@ use srt_members::alignment::align_member_sequence;
 use srt_protocol::error::Error;
 use srt_protocol::error::Outcome;
 use srt_protocol::time::Timestamp;
+use srt_sending::readiness::takes_over;
 use srt_tables::history::HistoryRing;
+use srt_tables::history::entry_at;
 
 // Whether the flight was replayed, and how many rows of the list are in use.
 pub struct Flight {
@@ -44,10 +45,10 @@ pub struct TakenOver {
     pub sent: usize,
 }
 
-fn replay_outcome(whole: bool) -> Outcome
-    ensures { λ r. ⌜ outcome-number r ≡ (if whole then 0 else 28) ⌝ }
+fn replay_outcome(whole: u64) -> Outcome
+    ensures { λ r. ⌜ outcome-number r ≡ (if is-set whole then 0 else 28) ⌝ }
 {
-    if whole {
+    if whole != 0 {
         return Outcome::Accepted;
     }
     Outcome::Refused(Error::ReplayRefused)
@@ -57,9 +58,7 @@ fn replay_outcome(whole: bool) -> Outcome
 pub fn replay_on(
     leg: Leg,
     ring: HistoryRing,
-    sequences: &[u32],
-    cells: &[u16],
-    lengths: &[u16],
+    history: &[u64],
     sources: &[u64],
     members: &mut [u64],
     index: usize,
@@ -67,11 +66,13 @@ pub fn replay_on(
     sent: usize,
     time: Timestamp,
 ) -> Flight
-    requires { ⌜ ring .length ≤ 512 ⌝ }
-    requires { ⌜ Long (arrays-of (now sequences) (now cells) (now lengths) (now sources)) ⌝ }
+    requires { ⌜ (ring .length ≤ max-history) × Long (arrays (now history) (now sources)) ⌝ }
     requires { ⌜ has-row index (now members) ⌝ }
-    requires { ⌜ (5500 ≤ length (now list)) × (sent ≤ 588) ⌝ }
-    ensures { λ r. ⌜ FlightReplayed (replay-on (time .0) index (member-at (now (members .entry)) index) leg) (history-is (entries-of ring (arrays-of (now (sequences .entry)) (now (cells .entry)) (now (lengths .entry)) (now (sources .entry))))) (now (members .entry)) sent (now (list .entry)) (now (members .exit)) r (now (list .exit)) ⌝ }
+    requires { ⌜ (list-size ≤ length (now list)) × (sent ≤ max-sent - max-history) ⌝ }
+    ensures { λ r. ⌜ FlightReplayed (replay-on (time .0) index (member-at (now (members .entry)) index) leg)
+        (history-is (entries-of ring (arrays (now (history .entry)) (now (sources .entry))))) sent
+        (send-tables (now (members .entry)) (now (list .entry))) r
+        (send-tables (now (members .exit)) (now (list .exit))) ⌝ }
 {
     let entries = ring.length as u64;
     if remaining_window_packets(leg) <= entries {
@@ -83,18 +84,7 @@ pub fn replay_on(
     }
     let membership = membership_at(members, index);
     let id = membership.id;
-    let played = replay_entries(
-        leg,
-        ring,
-        sequences,
-        cells,
-        lengths,
-        sources,
-        time,
-        id,
-        list,
-        sent,
-    );
+    let played = replay_entries(leg, ring, history, sources, time, id, list, sent);
     let after = played.leg;
     put_leg_at(members, index, after);
     Flight {
@@ -107,9 +97,7 @@ pub fn replay_on(
 pub fn replay_flight(
     sending: Sending,
     ring: HistoryRing,
-    sequences: &[u32],
-    cells: &[u16],
-    lengths: &[u16],
+    history: &[u64],
     sources: &[u64],
     members: &mut [u64],
     index: usize,
@@ -117,21 +105,24 @@ pub fn replay_flight(
     sent: usize,
     time: Timestamp,
 ) -> Flight
-    requires { ⌜ ring .length ≤ 512 ⌝ }
-    requires { ⌜ Long (arrays-of (now sequences) (now cells) (now lengths) (now sources)) ⌝ }
+    requires { ⌜ (ring .length ≤ max-history) × Long (arrays (now history) (now sources)) ⌝ }
     requires { ⌜ has-row index (now members) ⌝ }
-    requires { ⌜ (5500 ≤ length (now list)) × (sent ≤ 588) ⌝ }
-    ensures { λ r. ⌜ FlightReplayed (replay-flight (time .0) index (member-at (now (members .entry)) index) (entry-at ring (arrays-of (now (sequences .entry)) (now (cells .entry)) (now (lengths .entry)) (now (sources .entry))) 0)) (send-is (send-of sending ring (arrays-of (now (sequences .entry)) (now (cells .entry)) (now (lengths .entry)) (now (sources .entry))))) (now (members .entry)) sent (now (list .entry)) (now (members .exit)) r (now (list .exit)) ⌝ }
+    requires { ⌜ (list-size ≤ length (now list)) × (sent ≤ max-sent - max-history) ⌝ }
+    ensures { λ r. ⌜ FlightReplayed
+        (replay-flight (time .0) index (member-at (now (members .entry)) index)
+        (entry-at ring (arrays (now (history .entry)) (now (sources .entry))) 0))
+        (send-is (send-of sending ring (arrays (now (history .entry)) (now (sources .entry))))) sent
+        (send-tables (now (members .entry)) (now (list .entry))) r
+        (send-tables (now (members .exit)) (now (list .exit))) ⌝ }
 {
-    if sending.gap {
+    if sending.gap != 0 {
         return Flight {
             outcome: Outcome::Refused(Error::ReplayRefused),
             sent,
         };
     }
-    let first = entry_at(ring, sequences, cells, lengths, sources, 0);
-    let sequence = first.sequence as u64;
-    let result = align_leg(leg_at(members, index), sequence);
+    let first = entry_at(ring, history, sources, 0);
+    let result = align_leg(leg_at(members, index), first.sequence);
     let LegResult::Ok(leg) = result else {
         return Flight {
             outcome: Outcome::Refused(Error::ReplayRefused),
@@ -141,9 +132,7 @@ pub fn replay_flight(
     replay_on(
         leg,
         ring,
-        sequences,
-        cells,
-        lengths,
+        history,
         sources,
         members,
         index,
@@ -158,11 +147,10 @@ pub fn align_carrier(sending: Sending, members: &mut [u64], count: usize, index:
     requires { ⌜ count * row-size ≤ length (now members) ⌝ }
     ensures { λ r. ⌜ CarrierAligned index count sending (now (members .entry)) r (now (members .exit)) ⌝ }
 {
-    if !sending.numbered {
+    if sending.numbered == 0 {
         return Outcome::Accepted;
     }
-    let next = sending.next as u64;
-    if !align_member_sequence(members, count, true, next, index) {
+    if !align_member_sequence(members, count, sending.numbered, sending.next, index) {
         return Outcome::Refused(Error::AlignmentFailed);
     }
     Outcome::Accepted
@@ -172,9 +160,7 @@ pub fn align_carrier(sending: Sending, members: &mut [u64], count: usize, index:
 pub fn take_over_backup_flight(
     sending: Sending,
     ring: HistoryRing,
-    sequences: &[u32],
-    cells: &[u16],
-    lengths: &[u16],
+    history: &[u64],
     sources: &[u64],
     members: &mut [u64],
     count: usize,
@@ -183,11 +169,13 @@ pub fn take_over_backup_flight(
     sent: usize,
     time: Timestamp,
 ) -> TakenOver
-    requires { ⌜ ring .length ≤ 512 ⌝ }
-    requires { ⌜ Long (arrays-of (now sequences) (now cells) (now lengths) (now sources)) ⌝ }
+    requires { ⌜ (ring .length ≤ max-history) × Long (arrays (now history) (now sources)) ⌝ }
     requires { ⌜ (index < count) × (count * row-size ≤ length (now members)) ⌝ }
-    requires { ⌜ (5500 ≤ length (now list)) × (sent ≤ 588) ⌝ }
-    ensures { λ r. ⌜ TookOver (take-over-backup-flight (time .0) index) count (now (members .entry)) sending ring (arrays-of (now (sequences .entry)) (now (cells .entry)) (now (lengths .entry)) (now (sources .entry))) sent (now (list .entry)) (now (members .exit)) r (now (list .exit)) ⌝ }
+    requires { ⌜ (list-size ≤ length (now list)) × (sent ≤ max-sent - max-history) ⌝ }
+    ensures { λ r. ⌜ TookOver (take-over-backup-flight (time .0) index) count sending ring
+        (arrays (now (history .entry)) (now (sources .entry))) sent
+        (send-tables (now (members .entry)) (now (list .entry))) r
+        (send-tables (now (members .exit)) (now (list .exit))) ⌝ }
 {
     let membership = membership_at(members, index);
     let id = membership.id;
@@ -201,7 +189,7 @@ pub fn take_over_backup_flight(
         };
     }
     // Acknowledgements may have arrived since the carrier's last send.
-    let trimmed = trim_by_carrier(sending, ring, sequences, members, count);
+    let trimmed = trim_by_carrier(sending, ring, history, members, count);
     let numbers = trimmed.sending;
     let left = trimmed.ring;
     if left.length == 0 {
@@ -216,9 +204,7 @@ pub fn take_over_backup_flight(
     let flight = replay_flight(
         numbers,
         left,
-        sequences,
-        cells,
-        lengths,
+        history,
         sources,
         members,
         index,

@@ -1,5 +1,5 @@
--- The answers of a leg as enums, where the definitions have options, and what one send does to a sender. Assumes nothing.
-use mathlib.Core.Path.{_≡_}
+-- The answers of a leg as enums, where the definitions have options, and what one send does to a sender.
+use mathlib.Core.Path.{_≡_, refl}
 use mathlib.Core.Bool.{Bool, true, false, _&&_}
 use mathlib.Core.Option.{Option, none, some}
 use Prim.Native.Nat.{ℕ, _+_, _<_}
@@ -30,6 +30,14 @@ sequence-of (some n) = Some n
 abbrev pub result-of : Option Leg → LegResult
 result-of none = Err
 result-of (some l) = Ok l
+
+pub result-ok : (o : Option Leg) (l : Leg) → Ok l ≡ result-of o → o ≡ some l
+result-ok none l e = cc e
+result-ok (some k) l e = cc e
+
+pub result-err : (o : Option Leg) → Err ≡ result-of o → o ≡ none
+result-err none e = refl
+result-err (some k) e = cc e
 
 -- the sender once one more has gone out, as in `send-shared-with-sequence`
 abbrev pub after-send : ℕ → Sender → Sender

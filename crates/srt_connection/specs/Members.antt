@@ -1,6 +1,5 @@
--- The lent table of members: row i is the words from 180 i on. `members-of n` is the list of the first n rows; the rows past it
+-- The lent table of members: row i is the words from row-size * i on. `members-of n` is the list of the first n rows; the rows past it
 -- are free. A row that is changed is `change`, one that is appended `++`, one that is removed `without-place` of the model.
--- Assumes nothing.
 use mathlib.Core.Path.{_≡_, refl, ap, sym, _∙_}
 use mathlib.Core.List.{List, [], _∷_, _++_}
 use mathlib.Core.Option.{Option, none, some}
@@ -17,6 +16,7 @@ use Rattle.srt_group_model.specs.Tools.{at-place, change, without-place, each}
 use Rattle.srt_group_model.specs.State.{Member, with-queue, with-leg, on-leg, on-membership}
 use Rattle.srt_group_model.specs.Legs.{on-sender, on-receiver}
 use Rattle.srt_group_model.specs.Members.{has-id, find}
+use Rattle.srt_group_model.specs.Validity.{max-members}
 use Rattle.srt_group_model.specs.declared.Event.{Event}
 use Rattle.srt_group_model.specs.declared.Leg.{Leg}
 use Rattle.srt_group_model.specs.declared.Membership.{Membership}
@@ -29,10 +29,14 @@ use Rattle.word_rows.specs.Tab.{tab, tab-length, tab-push}
 use Rattle.srt_connection.specs.Tab.{tab-place, tab-change, tab-without, tab-each, tab-found, tab-not-found, place-below, tab-passes}
 use Rattle.word_rows.specs.Rows.{row-at, row-word, row-same, row-part}
 use Rattle.srt_connection.specs.Row.{put-row, row-put, row-put-other, put-length}
-use Rattle.srt_connection.specs.Rows.{row-size, membership-of, member-of, member-parts, Kept, with-membership, with-sender, with-receiver}
+use Rattle.srt_connection.specs.Rows.{part-size, membership-part, row-size, membership-of, member-of, member-parts, Kept, with-membership, with-sender, with-receiver}
 use Rattle.srt_connection.specs.Queue.{cleared, enqueued, push-outcome, Pushed, leg-poll, queue-after, Polled}
 
 -- ---- definitions
+
+-- the words of the table: a row for each member that there may be
+abbrev pub members-size : ℕ
+members-size = max-members * row-size
 
 unfoldable pub member-at : List ℕ → ℕ → Member
 member-at t i = member-of (row-at row-size t i)
@@ -241,7 +245,7 @@ new-put r₀ r₁ r₂ r₃ x l a b c =
 
 pub id-word : (t : List ℕ) (i : ℕ) → getD t (i * row-size) 0 ≡ member-at t i .membership .id
 unfolding member-at member-of member-parts membership-of
-id-word t i = sym (row-word 9 (row-at row-size t i) 0 0 (omega arith) ∙ row-word row-size t i 0 (omega arith) ∙ ap (λ (k : ℕ). getD t k 0) (omega arith))
+id-word t i = sym (row-word part-size (row-at row-size t i) membership-part 0 (omega arith) ∙ row-word row-size t i 0 (omega arith) ∙ ap (λ (k : ℕ). getD t k 0) (omega arith))
 
 module _ (n id : ℕ) (t : List ℕ) where
   pub found : (i : ℕ) → i < n → getD t (i * row-size) 0 ≡ id → ((j : ℕ) → j < i → getD t (j * row-size) 0 ≡ id → ⊥)

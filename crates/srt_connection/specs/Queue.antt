@@ -1,4 +1,4 @@
--- A leg's queue of events, as a ring of sixteen in its row, and document 01's "Polling". Assumes nothing.
+-- A leg's queue of events, as a ring in its row, and document 01's "Polling".
 use mathlib.Core.Path.{_≡_, refl, ap, sym, _∙_}
 use mathlib.Core.Bool.{Bool, true, false}
 use mathlib.Core.List.{List, [], _∷_, _++_}
@@ -14,6 +14,7 @@ use Rattle.srt_protocol.specs.declared.error.Outcome.{Outcome}
 use Rattle.srt_protocol.specs.declared.error.Outcome.the-variants.{Accepted, Refused}
 use Rattle.srt_group_model.specs.Tools.{if_then_else_, is-empty, at-place}
 use Rattle.srt_group_model.specs.State.{Member, with-queue}
+use Rattle.srt_group_model.specs.Validity.{max-queued}
 use Rattle.srt_group_model.specs.declared.Event.{Event}
 use Rattle.srt_connection.specs.declared.rows.Ring.{Ring}
 use Rattle.srt_connection.specs.declared.queue.OptionalEvent.{OptionalEvent}
@@ -22,12 +23,9 @@ use Rattle.srt_connection.specs.declared.queue.LegPoll.{LegPoll}
 use Rattle.srt_connection.specs.declared.queue.LegPoll.the-variants.{Nothing, Continuation, Event as PolledEvent}
 use Rattle.word_rows.specs.Tab.{tab, tab-length, tab-pop, tab-push}
 use Rattle.srt_connection.specs.Tab.{tab-place}
-use Rattle.srt_connection.specs.Rows.{row-size, part, put-part, membership-of, link-part-of, sender-of, receiver-of, ring-of, ring-in, event-of, event-words, event-in, queue-of, leg-of, member-parts, member-of, Kept, part-long, part-here, part-other, ring-put}
+use Rattle.srt_connection.specs.Rows.{part-size, membership-part, link-part, sender-part, receiver-part, first-event-part, row-size, part, put-part, membership-of, link-part-of, sender-of, receiver-of, ring-of, ring-in, event-of, event-words, event-in, queue-of, leg-of, member-parts, member-of, Kept, part-long, part-here, part-other, ring-put}
 
 -- ---- definitions
-
-abbrev pub max-events : ℕ
-max-events = 16
 
 abbrev pub optional-event : Option Event → OptionalEvent
 optional-event none = None
@@ -45,9 +43,9 @@ enqueued e m = with-queue (m .queue ++ (e ∷ [])) m
 abbrev pub cleared : Member → Member
 cleared m = with-queue [] m
 
--- 31: the queue has 16 events
+-- 31: the queue has max-queued events
 abbrev pub push-outcome : Member → Outcome
-push-outcome m = refuse-if (leb max-events (length (m .queue))) QueueFull Accepted
+push-outcome m = refuse-if (leb max-queued (length (m .queue))) QueueFull Accepted
 
 pub record Pushed (m : Member) (e : Event) (answer : Outcome) (row : List ℕ) : Type 0 where
   pub outcome : answer ≡ push-outcome m
@@ -75,22 +73,22 @@ pub record Polled (m : Member) (budget : ℕ) (answer : LegPoll) (row : List ℕ
 -- ---- laws of the ring, f being the events by their place in it
 
 abbrev in-ring : ℕ → (ℕ → Event) → ℕ → Event
-in-ring s f j = f ((s + j) % 16)
+in-ring s f j = f ((s + j) % max-queued)
 
-ring-front : (s n : ℕ) (f : ℕ → Event) → 0 < n → at-place 0 (tab n (in-ring s f)) ≡ some (f (s % 16))
-ring-front s n f h = tab-place n (in-ring s f) 0 h ∙ ap (λ (k : ℕ). some (f (k % 16))) (omega arith)
+ring-front : (s n : ℕ) (f : ℕ → Event) → 0 < n → at-place 0 (tab n (in-ring s f)) ≡ some (f (s % max-queued))
+ring-front s n f h = tab-place n (in-ring s f) 0 h ∙ ap (λ (k : ℕ). some (f (k % max-queued))) (omega arith)
 
-ring-drop : (s n : ℕ) (f : ℕ → Event) → 0 < n → tab (n - 1) (in-ring ((s % 16 + 1) % 16) f) ≡ drop 1 (tab n (in-ring s f))
+ring-drop : (s n : ℕ) (f : ℕ → Event) → 0 < n → tab (n - 1) (in-ring ((s % max-queued + 1) % max-queued) f) ≡ drop 1 (tab n (in-ring s f))
 ring-drop s n f h =
-    tab-pop (n - 1) (in-ring s f) (in-ring ((s % 16 + 1) % 16) f) (λ j k. ap f (omega arith))
+    tab-pop (n - 1) (in-ring s f) (in-ring ((s % max-queued + 1) % max-queued) f) (λ j k. ap f (omega arith))
     ∙ ap (λ (m : ℕ). drop 1 (tab m (in-ring s f))) (omega arith)
 
 -- g has e at the place behind the last
-ring-append : (s n : ℕ) (f g : ℕ → Event) (e : Event) → n < 16 → g ((s + n) % 16) ≡ e
-    → ((k : ℕ) → (k ≡ (s + n) % 16 → ⊥) → g k ≡ f k) → tab (n + 1) (in-ring s g) ≡ tab n (in-ring s f) ++ (e ∷ [])
+ring-append : (s n : ℕ) (f g : ℕ → Event) (e : Event) → n < max-queued → g ((s + n) % max-queued) ≡ e
+    → ((k : ℕ) → (k ≡ (s + n) % max-queued → ⊥) → g k ≡ f k) → tab (n + 1) (in-ring s g) ≡ tab n (in-ring s f) ++ (e ∷ [])
 ring-append s n f g e h here others =
     ap (λ (m : ℕ). tab m (in-ring s g)) (omega arith)
-    ∙ tab-push n (in-ring s f) (in-ring s g) e (λ j k. others ((s + j) % 16) (λ q. omega arith)) here
+    ∙ tab-push n (in-ring s f) (in-ring s g) e (λ j k. others ((s + j) % max-queued) (λ q. omega arith)) here
 
 no-length : (q : List Event) → eqb (length q) 0 ≡ is-empty q
 unfolding is-empty
@@ -105,16 +103,16 @@ kept-as k e = record { long = k .long; is = k .is ∙ e }
 module _ (r : List ℕ) (long : length r ≡ row-size) where
   -- the ring is put anew, and shows the queue q
   ring-shows : (new : Ring) (q : List Event) → queue-of new (event-in r) ≡ q
-      → Kept (put-part r 3 (ring-in new (part r 3))) (with-queue q (member-of r))
+      → Kept (put-part r receiver-part (ring-in new (part r receiver-part))) (with-queue q (member-of r))
   unfolding member-of member-parts
   ring-shows new q is =
       kept-as (ring-put r long new) (λ i. record { membership = member-of r .membership; leg = member-of r .leg; queue = is i })
 
-  pub cleared-is : Kept (put-part r 3 (ring-in record { start = 0; length = 0 } (part r 3))) (cleared (member-of r))
+  pub cleared-is : Kept (put-part r receiver-part (ring-in record { start = 0; length = 0 } (part r receiver-part))) (cleared (member-of r))
   unfolding queue-of tab
   cleared-is = ring-shows record { start = 0; length = 0 } [] refl
 
-module _ (r : List ℕ) (long : length r ≡ row-size) (ring : Ring) (read : ring ≡ ring-of (part r 3)) where
+module _ (r : List ℕ) (long : length r ≡ row-size) (ring : Ring) (read : ring ≡ ring-of (part r receiver-part)) where
   the-queue : member-of r .queue ≡ tab (ring .length) (in-ring (ring .start) (event-in r))
   unfolding member-of member-parts queue-of
   the-queue = ap (λ (x : Ring). tab (x .length) (in-ring (x .start) (event-in r))) (sym read)
@@ -132,16 +130,16 @@ module _ (r : List ℕ) (long : length r ≡ row-size) (ring : Ring) (read : rin
   unfolding at-place tab
   front-none h = ap (at-place 0) (the-queue ∙ ap (λ (n : ℕ). tab n (in-ring (ring .start) (event-in r))) h)
 
-  pub front-is : (ring .length ≡ 0 → ⊥) → at-place 0 (member-of r .queue) ≡ some (event-of (part r (4 + ring .start % 16)))
+  pub front-is : (ring .length ≡ 0 → ⊥) → at-place 0 (member-of r .queue) ≡ some (event-of (part r (first-event-part + ring .start % max-queued)))
   unfolding event-in
   front-is h = ap (at-place 0) the-queue ∙ ring-front (ring .start) (ring .length) (event-in r) (omega arith)
 
   pub popped-is : (ring .length ≡ 0 → ⊥)
-      → Kept (put-part r 3 (ring-in record { start = (ring .start % 16 + 1) % 16; length = ring .length - 1 } (part r 3)))
+      → Kept (put-part r receiver-part (ring-in record { start = (ring .start % max-queued + 1) % max-queued; length = ring .length - 1 } (part r receiver-part)))
       (popped (member-of r))
   unfolding queue-of
   popped-is h =
-      ring-shows r long record { start = (ring .start % 16 + 1) % 16; length = ring .length - 1 } (drop 1 (member-of r .queue))
+      ring-shows r long record { start = (ring .start % max-queued + 1) % max-queued; length = ring .length - 1 } (drop 1 (member-of r .queue))
       (ring-drop (ring .start) (ring .length) (event-in r) (omega arith) ∙ ap (drop 1) (sym the-queue))
 
   pub popped-empty : ring .length ≡ 0 → Kept r (popped (member-of r))
@@ -153,15 +151,15 @@ module _ (r : List ℕ) (long : length r ≡ row-size) (ring : Ring) (read : rin
         is = λ i. record { membership = member-of r .membership; leg = member-of r .leg; queue = (q ∙ sym (ap (drop 1) q)) i };
       }
 
-  pub push-refused : (e : Event) → 16 ≤ ring .length → Pushed (member-of r) e (Refused QueueFull) r
+  pub push-refused : (e : Event) → max-queued ≤ ring .length → Pushed (member-of r) e (Refused QueueFull) r
   push-refused e full =
-      record { outcome = rw (le-leb 16 (length (member-of r .queue)) (omega (arith, the-length))); kept = record { long = long; is = refl } }
+      record { outcome = rw (le-leb max-queued (length (member-of r .queue)) (omega (arith, the-length))); kept = record { long = long; is = refl } }
 
 -- an event is written behind the last, and then counted
-module _ (r : List ℕ) (long : length r ≡ row-size) (ring : Ring) (read : ring ≡ ring-of (part r 3)) (e : Event) (room : ring .length < 16)
+module _ (r : List ℕ) (long : length r ≡ row-size) (ring : Ring) (read : ring ≡ ring-of (part r receiver-part)) (e : Event) (room : ring .length < max-queued)
   where
     abbrev slot : ℕ
-    slot = 4 + (ring .start % 16 + ring .length) % 16
+    slot = first-event-part + (ring .start % max-queued + ring .length) % max-queued
 
     abbrev written : List ℕ
     written = put-part r slot (event-words e)
@@ -169,7 +167,7 @@ module _ (r : List ℕ) (long : length r ≡ row-size) (ring : Ring) (read : rin
     abbrev counted : Ring
     counted = record { start = ring .start; length = ring .length + 1 }
 
-    full : length (event-words e) ≡ 9
+    full : length (event-words e) ≡ part-size
     unfolding event-words
     full = refl
 
@@ -179,39 +177,39 @@ module _ (r : List ℕ) (long : length r ≡ row-size) (ring : Ring) (read : rin
     other : (j : ℕ) → (j ≡ slot → ⊥) → part written j ≡ part r j
     other = part-other r (event-words e) slot long full (omega arith)
 
-    there : event-in written ((ring .start + ring .length) % 16) ≡ e
+    there : event-in written ((ring .start + ring .length) % max-queued) ≡ e
     unfolding event-in event-of event-words
     there =
         ap (λ (j : ℕ). event-of (part written j)) same-place ∙ ap event-of (part-here r (event-words e) slot long full (omega arith))
       where
-        same-place : 4 + (ring .start + ring .length) % 16 ≡ slot
+        same-place : first-event-part + (ring .start + ring .length) % max-queued ≡ slot
         same-place = omega arith
 
-    elsewhere : (j : ℕ) → (j ≡ (ring .start + ring .length) % 16 → ⊥) → event-in written j ≡ event-in r j
+    elsewhere : (j : ℕ) → (j ≡ (ring .start + ring .length) % max-queued → ⊥) → event-in written j ≡ event-in r j
     unfolding event-in
-    elsewhere j ne = ap event-of (other (4 + j) (λ q. ne (omega arith)))
+    elsewhere j ne = ap event-of (other (first-event-part + j) (λ q. ne (omega arith)))
 
-    shown : member-parts (membership-of (part written 0)) (link-part-of (part written 1)) (sender-of (part written 2))
-        (receiver-of (part written 3)) counted (event-in written)
+    shown : member-parts (membership-of (part written membership-part)) (link-part-of (part written link-part)) (sender-of (part written sender-part))
+        (receiver-of (part written receiver-part)) counted (event-in written)
         ≡ enqueued e (member-of r)
     unfolding member-of member-parts queue-of
     shown =
         λ i.
         record {
-          membership = membership-of (other 0 (λ q. omega arith) i);
+          membership = membership-of (other membership-part (λ q. omega arith) i);
           leg =
-              leg-of (link-part-of (other 1 (λ q. omega arith) i)) (sender-of (other 2 (λ q. omega arith) i))
-              (receiver-of (other 3 (λ q. omega arith) i));
+              leg-of (link-part-of (other link-part (λ q. omega arith) i)) (sender-of (other sender-part (λ q. omega arith) i))
+              (receiver-of (other receiver-part (λ q. omega arith) i));
           queue =
               (ring-append (ring .start) (ring .length) (event-in r) (event-in written) e room there elsewhere
               ∙ ap (λ (q : List Event). q ++ (e ∷ [])) (sym (the-queue r long ring read)))
               i;
         }
 
-    pub push-accepted : Pushed (member-of r) e Accepted (put-part written 3 (ring-in counted (part written 3)))
+    pub push-accepted : Pushed (member-of r) e Accepted (put-part written receiver-part (ring-in counted (part written receiver-part)))
     push-accepted =
         record {
-          outcome = rw (lt-leb 16 (length (member-of r .queue)) (omega (arith, length-is r long ring read)));
+          outcome = rw (lt-leb max-queued (length (member-of r .queue)) (omega (arith, length-is r long ring read)));
           kept = kept-as (ring-put written written-long counted) shown;
         }
 
@@ -231,7 +229,7 @@ nothing-given : (budget : ℕ) → leg-poll budget [] ≡ Nothing
 unfolding leg-poll
 nothing-given budget = refl
 
-nothing-goes : (budget : ℕ) → queue-after budget [] ≡ []
+pub nothing-goes : (budget : ℕ) → queue-after budget [] ≡ []
 unfolding queue-after if_then_else_
 nothing-goes budget = go (eqb budget 0)
   where

@@ -1,5 +1,5 @@
 -- Readings: document 01, "Fields of 3", with code 2 (an unknown field, or a number out of its range) before code 32 (out of
--- turn). The fields themselves are the model's `readings`. Assumes nothing.
+-- turn). The fields themselves are the model's `readings`.
 use mathlib.Core.Path.{_≡_, refl}
 use mathlib.Core.Bool.{Bool, true, false, _&&_, _||_}
 use mathlib.Core.List.{List, [], _∷_}

@@ -1,5 +1,5 @@
 -- A row of a list of words, w words to a row, and what is known of it where a row is lent and comes back: the row that was put
--- is read there, and every other row is as it was. Assumes nothing.
+-- is read there, and every other row is as it was.
 use mathlib.Core.Path.{_≡_, ap, sym, _∙_}
 use mathlib.Core.List.{List, _++_}
 use Prim.Native.Nat.{ℕ, suc, _+_, _*_, _-_, _≤_, _<_}

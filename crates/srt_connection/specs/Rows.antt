@@ -1,12 +1,13 @@
--- A member as a row of 180 words shows it (rows.rt has the layout), and what each write to a part of the row does to it.
--- Assumes nothing.
+-- A member as a row of words shows it (its layout is under "sizes" here and in rows.rt), and what each write to a part of the
+-- row does to it.
 use mathlib.Core.Path.{_≡_, refl, ap, sym, subst, _∙_}
 use mathlib.Core.List.{List, [], _∷_}
-use Prim.Native.Nat.{ℕ, _+_, _%_, _<_}
+use Prim.Native.Nat.{ℕ, _+_, _*_, _%_, _<_}
 use native.Mathlib.Omega.{arith}
 use lib.ListN.{length, getD, set}
 use Rattle.srt_group_model.specs.State.{Member, with-leg}
 use Rattle.srt_group_model.specs.Legs.{moment}
+use Rattle.srt_group_model.specs.Validity.{max-queued}
 use Rattle.srt_group_model.specs.declared.Event.{Event}
 use Rattle.srt_group_model.specs.declared.Leg.{Leg}
 use Rattle.srt_group_model.specs.declared.Link.{Link}
@@ -22,12 +23,40 @@ use Rattle.srt_connection.specs.Row.{put-row, row-put, row-put-other, pu
 
 -- ---- sizes
 
--- the words of a part of a row, and of a row: four parts and the sixteen events
+-- the words of a part of a row
 abbrev pub part-size : ℕ
 part-size = 9
 
+-- the parts of a row, in their order
+abbrev pub membership-part : ℕ
+membership-part = 0
+
+-- the link and the round trip
+abbrev pub link-part : ℕ
+link-part = 1
+
+abbrev pub sender-part : ℕ
+sender-part = 2
+
+-- the receiver, and the ring's start and length
+abbrev pub receiver-part : ℕ
+receiver-part = 3
+
+-- Nine words for the fields that come next. No call reads them, so what they hold is free. A new field takes a word here: its
+-- decoder reads this part, and `member-parts` gets one argument more. Row and table keep their lengths until it is full.
+abbrev pub spare-part : ℕ
+spare-part = 4
+
+-- the first of the queue's events; the others follow it
+abbrev pub first-event-part : ℕ
+first-event-part = spare-part + 1
+
+abbrev pub parts : ℕ
+parts = first-event-part + max-queued
+
+-- the words of a row
 abbrev pub row-size : ℕ
-row-size = 180
+row-size = parts * part-size
 
 -- ---- nine words
 
@@ -80,7 +109,7 @@ receiver-of w = record { first = word w 0; window = word w 1; latency = word w 2
 unfoldable pub ring-of : List ℕ → Ring
 ring-of w = record { start = word w 5; length = word w 6 }
 
--- a receiver over the words of part 3, and a ring
+-- a receiver over the words of the receiver's part, and a ring
 unfoldable pub receiver-in : Receiver → List ℕ → List ℕ
 receiver-in x w = set (set (set (set (set w 0 (x .first)) 1 (x .window)) 2 (x .latency)) 3 (x .reserved)) 4 (x .advanced)
 
@@ -111,7 +140,7 @@ event-words x =
 
 -- ---- laws of nine words
 
-nine-words : (w : List ℕ) → length w ≡ 9
+nine-words : (w : List ℕ) → length w ≡ part-size
     → w ≡ word w 0 ∷ word w 1 ∷ word w 2 ∷ word w 3 ∷ word w 4 ∷ word w 5 ∷ word w 6 ∷ word w 7 ∷ word w 8 ∷ []
 nine-words (x0 ∷ x1 ∷ x2 ∷ x3 ∷ x4 ∷ x5 ∷ x6 ∷ x7 ∷ x8 ∷ []) n = refl
 nine-words (x0 ∷ x1 ∷ x2 ∷ x3 ∷ x4 ∷ x5 ∷ x6 ∷ x7 ∷ x8 ∷ x9 ∷ xs) n = absurd (omega arith)
@@ -126,12 +155,12 @@ nine-words (x0 ∷ x1 ∷ x2 ∷ x3 ∷ x4 ∷ x5 ∷ x6 ∷ []) n = absurd (ome
 nine-words (x0 ∷ x1 ∷ x2 ∷ x3 ∷ x4 ∷ x5 ∷ x6 ∷ x7 ∷ []) n = absurd (omega arith)
 
 -- what holds of nine words written out holds of a list of that length
-of-nine : (P : List ℕ → Type 0) (w : List ℕ) → length w ≡ 9 → ((a b c d e f g h i : ℕ) → P (a ∷ b ∷ c ∷ d ∷ e ∷ f ∷ g ∷ h ∷ i ∷ [])) → P w
+of-nine : (P : List ℕ → Type 0) (w : List ℕ) → length w ≡ part-size → ((a b c d e f g h i : ℕ) → P (a ∷ b ∷ c ∷ d ∷ e ∷ f ∷ g ∷ h ∷ i ∷ [])) → P w
 of-nine P w n p =
     subst P (sym (nine-words w n)) (p (word w 0) (word w 1) (word w 2) (word w 3) (word w 4) (word w 5) (word w 6) (word w 7) (word w 8))
 
 -- nine stores
-pub nine : (w : List ℕ) (a b c d e f g h i : ℕ) → length w ≡ 9
+pub nine : (w : List ℕ) (a b c d e f g h i : ℕ) → length w ≡ part-size
     → set (set (set (set (set (set (set (set (set w 0 a) 1 b) 2 c) 3 d) 4 e) 5 f) 6 g) 7 h) 8 i
     ≡ a ∷ b ∷ c ∷ d ∷ e ∷ f ∷ g ∷ h ∷ i ∷ []
 nine w a b c d e f g h i n =
@@ -141,11 +170,11 @@ nine w a b c d e f g h i n =
     ≡ a ∷ b ∷ c ∷ d ∷ e ∷ f ∷ g ∷ h ∷ i ∷ [])
     w n (λ a b c d e f g h i. refl)
 
--- a receiver put into part 3 leaves the ring, and a ring leaves the receiver
-module _ (w : List ℕ) (n : length w ≡ 9) where
-  receiver-in-long : (x : Receiver) → length (receiver-in x w) ≡ 9
+-- a receiver put into its part leaves the ring, and a ring leaves the receiver
+module _ (w : List ℕ) (n : length w ≡ part-size) where
+  receiver-in-long : (x : Receiver) → length (receiver-in x w) ≡ part-size
   unfolding receiver-in
-  receiver-in-long x = of-nine (λ (v : List ℕ). length (receiver-in x v) ≡ 9) w n (λ a b c d e f g h i. refl)
+  receiver-in-long x = of-nine (λ (v : List ℕ). length (receiver-in x v) ≡ part-size) w n (λ a b c d e f g h i. refl)
 
   receiver-in-of : (x : Receiver) → receiver-of (receiver-in x w) ≡ x
   unfolding receiver-in receiver-of
@@ -155,9 +184,9 @@ module _ (w : List ℕ) (n : length w ≡ 9) where
   unfolding receiver-in ring-of
   receiver-in-ring x = of-nine (λ (v : List ℕ). ring-of (receiver-in x v) ≡ ring-of v) w n (λ a b c d e f g h i. refl)
 
-  ring-in-long : (x : Ring) → length (ring-in x w) ≡ 9
+  ring-in-long : (x : Ring) → length (ring-in x w) ≡ part-size
   unfolding ring-in
-  ring-in-long x = of-nine (λ (v : List ℕ). length (ring-in x v) ≡ 9) w n (λ a b c d e f g h i. refl)
+  ring-in-long x = of-nine (λ (v : List ℕ). length (ring-in x v) ≡ part-size) w n (λ a b c d e f g h i. refl)
 
   ring-in-of : (x : Ring) → ring-of (ring-in x w) ≡ x
   unfolding ring-in ring-of
@@ -178,11 +207,11 @@ put-part r k w = put-row part-size r k w
 
 -- the events of the ring, by their place in it
 unfoldable pub event-in : List ℕ → ℕ → Event
-event-in r k = event-of (part r (4 + k))
+event-in r k = event-of (part r (first-event-part + k))
 
--- the queue, front first: the ring has sixteen places and wraps
+-- the queue, front first: the ring has max-queued places and wraps
 unfoldable pub queue-of : Ring → (ℕ → Event) → List Event
-queue-of ring event = tab (ring .length) (λ j. event ((ring .start + j) % 16))
+queue-of ring event = tab (ring .length) (λ j. event ((ring .start + j) % max-queued))
 
 unfoldable pub leg-of : LinkPart → Sender → Receiver → Leg
 leg-of x s r = record { link = x .link; sender = s; receiver = r; trip = x .trip }
@@ -193,8 +222,8 @@ member-parts m x s y ring event = record { membership = m; leg = leg-of x s y; q
 -- the member that a row shows
 unfoldable pub member-of : List ℕ → Member
 member-of r =
-    member-parts (membership-of (part r 0)) (link-part-of (part r 1)) (sender-of (part r 2)) (receiver-of (part r 3))
-    (ring-of (part r 3)) (event-in r)
+    member-parts (membership-of (part r membership-part)) (link-part-of (part r link-part)) (sender-of (part r sender-part)) (receiver-of (part r receiver-part))
+    (ring-of (part r receiver-part)) (event-in r)
 
 -- the row shows this member
 pub record Kept (r : List ℕ) (m : Member) : Type 0 where
@@ -235,7 +264,7 @@ with-receiver x m =
 queue-same : (ring : Ring) (f g : ℕ → Event) → ((k : ℕ) → g k ≡ f k) → queue-of ring g ≡ queue-of ring f
 unfolding queue-of
 queue-same ring f g same =
-    tab-same (ring .length) (λ j. f ((ring .start + j) % 16)) (λ j. g ((ring .start + j) % 16)) (λ j h. same ((ring .start + j) % 16))
+    tab-same (ring .length) (λ j. f ((ring .start + j) % max-queued)) (λ j. g ((ring .start + j) % max-queued)) (λ j h. same ((ring .start + j) % max-queued))
 
 -- a member, part by part
 parts-same : {m n : Membership} {x y : LinkPart} {s t : Sender} {u v : Receiver} {p q : Ring} (f g : ℕ → Event) → n ≡ m → y ≡ x → t ≡ s
@@ -250,131 +279,131 @@ parts-same {p = p} f g a b c d h e =
     }
 
 -- the words w in the place of part k
-module _ (r w : List ℕ) (k : ℕ) (long : length r ≡ row-size) (full : length w ≡ 9) (there : k < 20) where
+module _ (r w : List ℕ) (k : ℕ) (long : length r ≡ row-size) (full : length w ≡ part-size) (there : k < parts) where
   pub part-long : length (put-part r k w) ≡ row-size
-  part-long = put-length 9 r w k (omega arith) full ∙ long
+  part-long = put-length part-size r w k (omega arith) full ∙ long
 
   pub part-here : part (put-part r k w) k ≡ w
-  part-here = row-put 9 r w k (omega arith) full
+  part-here = row-put part-size r w k (omega arith) full
 
   pub part-other : (j : ℕ) → (j ≡ k → ⊥) → part (put-part r k w) j ≡ part r j
-  part-other j other = row-put-other 9 r w k (omega arith) full j other
+  part-other j other = row-put-other part-size r w k (omega arith) full j other
 
-  pub events-other : k < 4 → (j : ℕ) → event-in (put-part r k w) j ≡ event-in r j
+  pub events-other : k < first-event-part → (j : ℕ) → event-in (put-part r k w) j ≡ event-in r j
   unfolding event-in
-  events-other low j = ap event-of (part-other (4 + j) (λ e. omega arith))
+  events-other low j = ap event-of (part-other (first-event-part + j) (λ e. omega arith))
 
 module _ (r : List ℕ) (long : length r ≡ row-size) where
-  pub membership-put : (x : Membership) → Kept (put-part r 0 (membership-words x)) (with-membership x (member-of r))
+  pub membership-put : (x : Membership) → Kept (put-part r membership-part (membership-words x)) (with-membership x (member-of r))
   unfolding member-of member-parts membership-words membership-of
   membership-put x =
       let w = membership-words x in
-      let other = part-other r w 0 long refl (omega arith) in
+      let other = part-other r w membership-part long refl (omega arith) in
       record {
-        long = part-long r w 0 long refl (omega arith);
+        long = part-long r w membership-part long refl (omega arith);
         is =
-            parts-same {m = x} (event-in r) (event-in (put-part r 0 w)) (ap membership-of (part-here r w 0 long refl (omega arith)))
-            (ap link-part-of (other 1 (λ e. omega arith)))
-            (ap sender-of (other 2 (λ e. omega arith)))
-            (ap receiver-of (other 3 (λ e. omega arith)))
-            (ap ring-of (other 3 (λ e. omega arith)))
-            (events-other r w 0 long refl (omega arith) (omega arith));
+            parts-same {m = x} (event-in r) (event-in (put-part r membership-part w)) (ap membership-of (part-here r w membership-part long refl (omega arith)))
+            (ap link-part-of (other link-part (λ e. omega arith)))
+            (ap sender-of (other sender-part (λ e. omega arith)))
+            (ap receiver-of (other receiver-part (λ e. omega arith)))
+            (ap ring-of (other receiver-part (λ e. omega arith)))
+            (events-other r w membership-part long refl (omega arith) (omega arith));
       }
 
   pub link-trip-put : (x : Link) (t : Trip)
-      → Kept (put-part r 1 (link-part-words record { link = x; trip = t })) (with-link-trip x t (member-of r))
+      → Kept (put-part r link-part (link-part-words record { link = x; trip = t })) (with-link-trip x t (member-of r))
   unfolding member-of member-parts leg-of link-part-words link-part-of
   link-trip-put x t =
       let w = link-part-words record { link = x; trip = t } in
-      let other = part-other r w 1 long refl (omega arith) in
+      let other = part-other r w link-part long refl (omega arith) in
       record {
-        long = part-long r w 1 long refl (omega arith);
+        long = part-long r w link-part long refl (omega arith);
         is =
-            parts-same {x = record { link = x; trip = t }} (event-in r) (event-in (put-part r 1 w))
-            (ap membership-of (other 0 (λ e. omega arith)))
-            (ap link-part-of (part-here r w 1 long refl (omega arith)))
-            (ap sender-of (other 2 (λ e. omega arith)))
-            (ap receiver-of (other 3 (λ e. omega arith)))
-            (ap ring-of (other 3 (λ e. omega arith)))
-            (events-other r w 1 long refl (omega arith) (omega arith));
+            parts-same {x = record { link = x; trip = t }} (event-in r) (event-in (put-part r link-part w))
+            (ap membership-of (other membership-part (λ e. omega arith)))
+            (ap link-part-of (part-here r w link-part long refl (omega arith)))
+            (ap sender-of (other sender-part (λ e. omega arith)))
+            (ap receiver-of (other receiver-part (λ e. omega arith)))
+            (ap ring-of (other receiver-part (λ e. omega arith)))
+            (events-other r w link-part long refl (omega arith) (omega arith));
       }
 
-  pub sender-put : (x : Sender) → Kept (put-part r 2 (sender-words x)) (with-sender x (member-of r))
+  pub sender-put : (x : Sender) → Kept (put-part r sender-part (sender-words x)) (with-sender x (member-of r))
   unfolding member-of member-parts leg-of sender-words sender-of
   sender-put x =
       let w = sender-words x in
-      let other = part-other r w 2 long refl (omega arith) in
+      let other = part-other r w sender-part long refl (omega arith) in
       record {
-        long = part-long r w 2 long refl (omega arith);
+        long = part-long r w sender-part long refl (omega arith);
         is =
-            parts-same {s = x} (event-in r) (event-in (put-part r 2 w))
-            (ap membership-of (other 0 (λ e. omega arith)))
-            (ap link-part-of (other 1 (λ e. omega arith)))
-            (ap sender-of (part-here r w 2 long refl (omega arith)))
-            (ap receiver-of (other 3 (λ e. omega arith)))
-            (ap ring-of (other 3 (λ e. omega arith)))
-            (events-other r w 2 long refl (omega arith) (omega arith));
+            parts-same {s = x} (event-in r) (event-in (put-part r sender-part w))
+            (ap membership-of (other membership-part (λ e. omega arith)))
+            (ap link-part-of (other link-part (λ e. omega arith)))
+            (ap sender-of (part-here r w sender-part long refl (omega arith)))
+            (ap receiver-of (other receiver-part (λ e. omega arith)))
+            (ap ring-of (other receiver-part (λ e. omega arith)))
+            (events-other r w sender-part long refl (omega arith) (omega arith));
       }
 
-  third-long : length (part r 3) ≡ 9
-  third-long = row-length 9 r 3 (omega arith)
+  receiver-part-long : length (part r receiver-part) ≡ part-size
+  receiver-part-long = row-length part-size r receiver-part (omega arith)
 
-  pub receiver-put : (x : Receiver) → Kept (put-part r 3 (receiver-in x (part r 3))) (with-receiver x (member-of r))
+  pub receiver-put : (x : Receiver) → Kept (put-part r receiver-part (receiver-in x (part r receiver-part))) (with-receiver x (member-of r))
   unfolding member-of member-parts leg-of
   receiver-put x =
-      let w = receiver-in x (part r 3) in
-      let full = receiver-in-long (part r 3) third-long x in
-      let here = part-here r w 3 long full (omega arith) in
-      let other = part-other r w 3 long full (omega arith) in
+      let w = receiver-in x (part r receiver-part) in
+      let full = receiver-in-long (part r receiver-part) receiver-part-long x in
+      let here = part-here r w receiver-part long full (omega arith) in
+      let other = part-other r w receiver-part long full (omega arith) in
       record {
-        long = part-long r w 3 long full (omega arith);
+        long = part-long r w receiver-part long full (omega arith);
         is =
-            parts-same {u = x} (event-in r) (event-in (put-part r 3 w))
-            (ap membership-of (other 0 (λ e. omega arith)))
-            (ap link-part-of (other 1 (λ e. omega arith)))
-            (ap sender-of (other 2 (λ e. omega arith)))
-            (ap receiver-of here ∙ receiver-in-of (part r 3) third-long x)
-            (ap ring-of here ∙ receiver-in-ring (part r 3) third-long x)
-            (events-other r w 3 long full (omega arith) (omega arith));
+            parts-same {u = x} (event-in r) (event-in (put-part r receiver-part w))
+            (ap membership-of (other membership-part (λ e. omega arith)))
+            (ap link-part-of (other link-part (λ e. omega arith)))
+            (ap sender-of (other sender-part (λ e. omega arith)))
+            (ap receiver-of here ∙ receiver-in-of (part r receiver-part) receiver-part-long x)
+            (ap ring-of here ∙ receiver-in-ring (part r receiver-part) receiver-part-long x)
+            (events-other r w receiver-part long full (omega arith) (omega arith));
       }
 
   pub ring-put : (ring : Ring)
-      → Kept (put-part r 3 (ring-in ring (part r 3)))
-      (member-parts (membership-of (part r 0)) (link-part-of (part r 1)) (sender-of (part r 2)) (receiver-of (part r 3)) ring (event-in r))
+      → Kept (put-part r receiver-part (ring-in ring (part r receiver-part)))
+      (member-parts (membership-of (part r membership-part)) (link-part-of (part r link-part)) (sender-of (part r sender-part)) (receiver-of (part r receiver-part)) ring (event-in r))
   unfolding member-of
   ring-put ring =
-      let w = ring-in ring (part r 3) in
-      let full = ring-in-long (part r 3) third-long ring in
-      let here = part-here r w 3 long full (omega arith) in
-      let other = part-other r w 3 long full (omega arith) in
+      let w = ring-in ring (part r receiver-part) in
+      let full = ring-in-long (part r receiver-part) receiver-part-long ring in
+      let here = part-here r w receiver-part long full (omega arith) in
+      let other = part-other r w receiver-part long full (omega arith) in
       record {
-        long = part-long r w 3 long full (omega arith);
+        long = part-long r w receiver-part long full (omega arith);
         is =
-            parts-same {p = ring} (event-in r) (event-in (put-part r 3 w))
-            (ap membership-of (other 0 (λ e. omega arith)))
-            (ap link-part-of (other 1 (λ e. omega arith)))
-            (ap sender-of (other 2 (λ e. omega arith)))
-            (ap receiver-of here ∙ ring-in-receiver (part r 3) third-long ring)
-            (ap ring-of here ∙ ring-in-of (part r 3) third-long ring)
-            (events-other r w 3 long full (omega arith) (omega arith));
+            parts-same {p = ring} (event-in r) (event-in (put-part r receiver-part w))
+            (ap membership-of (other membership-part (λ e. omega arith)))
+            (ap link-part-of (other link-part (λ e. omega arith)))
+            (ap sender-of (other sender-part (λ e. omega arith)))
+            (ap receiver-of here ∙ ring-in-receiver (part r receiver-part) receiver-part-long ring)
+            (ap ring-of here ∙ ring-in-of (part r receiver-part) receiver-part-long ring)
+            (events-other r w receiver-part long full (omega arith) (omega arith));
       }
 
 -- ---- what is read from a row
 
 module _ (r : List ℕ) where
-  pub membership-read : membership-of (part r 0) ≡ member-of r .membership
+  pub membership-read : membership-of (part r membership-part) ≡ member-of r .membership
   unfolding member-of member-parts
   membership-read = refl
 
-  pub sender-read : sender-of (part r 2) ≡ member-of r .leg .sender
+  pub sender-read : sender-of (part r sender-part) ≡ member-of r .leg .sender
   unfolding member-of member-parts leg-of
   sender-read = refl
 
-  pub receiver-read : receiver-of (part r 3) ≡ member-of r .leg .receiver
+  pub receiver-read : receiver-of (part r receiver-part) ≡ member-of r .leg .receiver
   unfolding member-of member-parts leg-of
   receiver-read = refl
 
-  pub leg-read : (x : LinkPart) (s : Sender) (y : Receiver) → x ≡ link-part-of (part r 1) → s ≡ member-of r .leg .sender
+  pub leg-read : (x : LinkPart) (s : Sender) (y : Receiver) → x ≡ link-part-of (part r link-part) → s ≡ member-of r .leg .sender
       → y ≡ member-of r .leg .receiver → record { link = x .link; sender = s; receiver = y; trip = x .trip } ≡ member-of r .leg
   unfolding member-of member-parts leg-of
   leg-read x s y a b c = λ i. record { link = a i .link; sender = b i; receiver = c i; trip = a i .trip }

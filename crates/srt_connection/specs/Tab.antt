@@ -1,5 +1,5 @@
 -- A list given by a function of the place (`tab` of rows), changed as the model changes its lists: at a place, without a place,
--- at each place, and searched. Assumes nothing.
+-- at each place, and searched.
 use mathlib.Core.Path.{_≡_, refl, sym, ap, subst, _∙_}
 use mathlib.Core.Bool.{Bool, true, false}
 use mathlib.Core.List.{List, [], _∷_, _++_}
@@ -8,6 +8,7 @@ use Prim.Native.Nat.{ℕ, zero, suc, _+_, _-_, _≤_, _<_}
 use native.Mathlib.Omega.{arith}
 use lib.ListN.{length, drop}
 use Rattle.word_rows.specs.Tab.{tab, tab-length, tab-same}
+use Rattle.srt_group_model.specs.Reason.{All}
 use Rattle.srt_group_model.specs.Tools.{if_then_else_, if-some_give_otherwise_, place-of, at-place, change, without-place, each}
 
 module _ {A : Type 0} where
@@ -22,6 +23,13 @@ module _ {A : Type 0} where
   tab-past zero f i h = refl
   tab-past (suc n) f zero h = absurd (omega arith)
   tab-past (suc n) f (suc i) h = tab-past n (λ i. f (suc i)) i (omega arith)
+
+  -- what holds of all holds of each
+  pub all-tab : (P : A → Type 0) (n : ℕ) (f : ℕ → A) → All P (tab n f) → (k : ℕ) → k < n → P (f k)
+  unfolding tab
+  all-tab P zero f h k below = absurd (omega arith)
+  all-tab P (suc n) f h zero below = h .0
+  all-tab P (suc n) f h (suc k) below = all-tab P n (λ i. f (suc i)) (h .1) k (omega arith)
 
   tab-as : (m n : ℕ) (f g : ℕ → A) → m ≡ n → ((i : ℕ) → g i ≡ f i) → tab m f ≡ tab n g
   tab-as m n f g e h = ap (λ (k : ℕ). tab k f) e ∙ sym (tab-same n f g (λ i k. h i))

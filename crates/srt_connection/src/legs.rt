@@ -1,22 +1,26 @@
 // A leg by value: what it can do, what a send, a synchronising and a release do to it. The names are those of `SrtConnection`
 // and of its sender.
 ghost use mathlib.Core.Path.{_≡_};
-ghost use Prim.Native.Nat.{_+_, _<_, _^_};
+ghost use Prim.Native.Nat.{_+_, _-_, _<_, _^_};
 ghost use Rattle.srt_protocol.specs.Sequence.{sequence-distance, sequence-further};
 ghost use Rattle.srt_group_model.specs.Legs.{is-connected, is-disconnected, has-sender, remaining-window-packets, can-send, can-send-with-pacing, time-until-send, oldest-unacked-sequence, gives-up-at, next-sequence-number, peer-initial-sequence};
 ghost use Rattle.srt_group_model.specs.Legs.{send-shared-with-sequence, synchronize-send-sequence, release-data-reservation, add-reservation, advance-receive-sequence, disconnect-leg, handed, read-state, acknowledge};
 ghost use Rattle.srt_connection.specs.Answers.{deadline-of, sequence-of, result-of, after-send};
 use srt_group_model::Leg;
 use srt_group_model::Sender;
-use srt_protocol::srt_packet::sequence_distance;
-use srt_protocol::srt_packet::sequence_further;
+use srt_protocol::srt_packet::word_distance;
+use srt_protocol::srt_packet::word_further;
 use srt_protocol::time::Timestamp;
 
-// How many sequence numbers there are.
-const SEQUENCE_SPACE: u64 = 0x8000_0000;
-
 // The peer's first sequence where there is none.
-const NO_SEQUENCE: u64 = 0xffff_ffff;
+pub const NO_SEQUENCE: u64 = 0xffff_ffff;
+
+// The largest sequence number, and the largest values of fields of 16 and of 32 bits.
+pub const LARGEST_SEQUENCE: u64 = 0x7fff_ffff;
+
+pub const LARGEST_16: u64 = 0xffff;
+
+pub const LARGEST_32: u64 = 0xffff_ffff;
 
 // When a leg gives up on a packet that is missing: a Rust `Option<Timestamp>`.
 pub enum Deadline {
@@ -34,25 +38,6 @@ pub enum OptionalSequence {
 pub enum LegResult {
     Ok(Leg),
     Err,
-}
-
-// ---- words as sequence numbers
-
-// How far the word `b` lies after the word `a` in the sequence space.
-pub fn word_distance(a: u64, b: u64) -> u64
-    ensures { λ r. ⌜ r ≡ sequence-distance a b ⌝ }
-{
-    let from = (a % SEQUENCE_SPACE) as u32;
-    let to = (b % SEQUENCE_SPACE) as u32;
-    sequence_distance(from, to) as u64
-}
-
-// The sequence number after the word `a`.
-fn word_next(a: u64) -> u64
-    ensures { λ r. ⌜ r ≡ sequence-further a 1 ⌝ }
-{
-    let from = (a % SEQUENCE_SPACE) as u32;
-    sequence_further(from, 1) as u64
 }
 
 // ---- what it can do
@@ -150,7 +135,7 @@ fn after_send(mut sender: Sender, time: Timestamp) -> Sender
     requires { ⌜ sender .flight < sender .window ⌝ }
     ensures { λ r. ⌜ r ≡ after-send (time .0) sender ⌝ }
 {
-    let next = word_next(sender.next);
+    let next = word_further(sender.next, 1);
     let flight = sender.flight + 1;
     sender.next = next;
     sender.flight = flight;
@@ -194,6 +179,16 @@ pub fn synchronize_send_sequence(mut leg: Leg, sequence: u64) -> LegResult
     }
     leg.sender.next = sequence;
     LegResult::Ok(leg)
+}
+
+// A sum less a count, least 0.
+pub fn less(sum: u64, count: u64) -> u64
+    ensures { λ r. ⌜ r ≡ sum - count ⌝ }
+{
+    if sum < count {
+        return 0;
+    }
+    sum - count
 }
 
 // The reservation less a count, least 0.

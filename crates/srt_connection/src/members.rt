@@ -37,8 +37,11 @@ use srt_group_model::Receiver;
 use srt_group_model::Sender;
 use srt_protocol::error::Outcome;
 
-// The words of a table of 64 rows.
-pub const MEMBERS_LENGTH: usize = 11520;
+// The most members that a group has.
+pub const MAX_MEMBERS: usize = 64;
+
+// The words of the table: a row for each of them.
+pub const MEMBERS_LENGTH: usize = MAX_MEMBERS * ROW;
 
 // The index of a member, if there is one.
 pub enum Found {

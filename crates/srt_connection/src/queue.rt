@@ -1,10 +1,12 @@
-// A leg's queue of events: a ring of sixteen in its row. Its front stands at the ring's start, read modulo 16.
+// A leg's queue of events: a ring of MAX_QUEUED places in its row. Its front stands at the ring's start, read modulo that.
 ghost use mathlib.Core.Path.{_≡_};
 ghost use lib.ListN.{length};
 ghost use Rattle.srt_group_model.specs.Tools.{at-place, is-empty};
 ghost use Rattle.srt_connection.specs.Rows.{row-size, member-of, Kept};
 ghost use Rattle.srt_connection.specs.Queue.{optional-event, Pushed, Polled, popped, cleared, budget-after};
 ghost use Prim.Native.Nat.{_<_};
+use crate::rows::FIRST_EVENT;
+use crate::rows::MAX_QUEUED;
 use crate::rows::Ring;
 use crate::rows::event_part;
 use crate::rows::put_event_part;
@@ -13,12 +15,6 @@ use crate::rows::ring_of;
 use srt_group_model::Event;
 use srt_protocol::error::Error;
 use srt_protocol::error::Outcome;
-
-// The events that a queue can hold.
-pub const MAX_EVENTS: u64 = 16;
-
-// The first part of a row that is an event.
-const FIRST_EVENT: u64 = 4;
 
 // An event that may be missing: a Rust `Option<ConnectionEvent>`.
 pub enum OptionalEvent {
@@ -58,7 +54,7 @@ pub fn front(row: &[u64]) -> OptionalEvent
     if ring.length == 0 {
         return OptionalEvent::None;
     }
-    let slot = (FIRST_EVENT + ring.start % MAX_EVENTS) as usize;
+    let slot = (FIRST_EVENT + ring.start % MAX_QUEUED) as usize;
     OptionalEvent::Some(event_part(row, slot))
 }
 
@@ -71,23 +67,23 @@ pub fn pop(row: &mut [u64])
     if ring.length == 0 {
         return;
     }
-    let start = (ring.start % MAX_EVENTS + 1) % MAX_EVENTS;
+    let start = (ring.start % MAX_QUEUED + 1) % MAX_QUEUED;
     let length = ring.length - 1;
     put_ring(row, Ring { start, length });
 }
 
-// An event behind the others; a queue that has sixteen refuses it (code 31), and stays.
+// An event behind the others; a full queue refuses it (code 31), and stays.
 pub fn push(row: &mut [u64], event: Event) -> Outcome
     requires { ⌜ length (now row) ≡ row-size ⌝ }
     ensures { λ r. ⌜ Pushed (member-of (now (row .entry))) event r (now (row .exit)) ⌝ }
 {
     let ring = ring_of(row);
-    if MAX_EVENTS <= ring.length {
+    if MAX_QUEUED <= ring.length {
         return Outcome::Refused(Error::QueueFull);
     }
     let start = ring.start;
     let length = ring.length + 1;
-    let slot = (FIRST_EVENT + (start % MAX_EVENTS + ring.length) % MAX_EVENTS) as usize;
+    let slot = (FIRST_EVENT + (start % MAX_QUEUED + ring.length) % MAX_QUEUED) as usize;
     put_event_part(row, slot, event);
     put_ring(row, Ring { start, length });
     Outcome::Accepted

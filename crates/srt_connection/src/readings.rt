@@ -3,13 +3,16 @@ ghost use mathlib.Core.Path.{_≡_};
 ghost use Rattle.srt_group_model.specs.Legs.{goes-back, on-sender, with-oldest};
 ghost use Rattle.srt_connection.specs.Readings.{with-window, with-pace, with-receive-window, with-latency, with-srtt, with-rttvar, with-heard, with-peer, with-limit, acknowledges, reading};
 ghost use Rattle.srt_group_model.specs.Calls.{reading-out-of-range, read-field};
+use crate::legs::LARGEST_16;
+use crate::legs::LARGEST_32;
+use crate::legs::LARGEST_SEQUENCE;
 use crate::legs::acknowledge;
 use crate::legs::has_sender;
 use crate::legs::oldest_unacked_sequence;
 use crate::legs::read_state;
-use crate::legs::word_distance;
 use srt_group_model::Leg;
 use srt_protocol::error::Error;
+use srt_protocol::srt_packet::word_distance;
 
 // The leg after a reading, or why it was refused.
 pub enum ReadResult {
@@ -118,16 +121,16 @@ pub fn reading_out_of_range(field: u64, number: u64) -> bool
 {
     match field {
         1 => 2 < number,
-        2 => 0xffff < number,
-        3 => 0xffff < number,
+        2 => LARGEST_16 < number,
+        3 => LARGEST_16 < number,
         4 => false,
-        5 => 0x7fff_ffff < number,
-        6 => 0xffff_ffff < number,
-        7 => 0xffff_ffff < number,
+        5 => LARGEST_SEQUENCE < number,
+        6 => LARGEST_32 < number,
+        7 => LARGEST_32 < number,
         8 => false,
         9 => false,
-        10 => 0xffff_ffff < number,
-        11 => 0xffff < number,
+        10 => LARGEST_32 < number,
+        11 => LARGEST_16 < number,
         12 => false,
         _ => true,
     }

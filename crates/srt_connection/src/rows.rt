@@ -1,10 +1,9 @@
-// A member's row in the lent table: 20 parts of nine words. Part 0 is the membership, 1 the link and the round trip, 2 the
-// sender, 3 the receiver with the ring's start and length, and 4 to 19 are the ring's sixteen events. Words that a part does
-// not use are 0. Every row of 180 words shows a member: there is no row that does not decode.
+// A member's row in the lent table: parts of nine words, in the order of the constants below. Words that a part does not use
+// are 0, those of the spare part apart. Every row of ROW words shows a member: there is no row that does not decode.
 ghost use mathlib.Core.Path.{_≡_};
 ghost use Prim.Native.Nat.{_<_};
 ghost use lib.ListN.{length};
-ghost use Rattle.srt_connection.specs.Rows.{part-size, row-size, part, put-part, membership-of, membership-words, link-part-of, link-part-words, sender-of, sender-words, receiver-of, receiver-in, ring-of, ring-in, event-of, event-words, member-of, Kept, with-membership, with-link-trip, with-sender, with-receiver};
+ghost use Rattle.srt_connection.specs.Rows.{part-size, link-part, receiver-part, parts, row-size, part, put-part, membership-of, membership-words, link-part-of, link-part-words, sender-of, sender-words, receiver-of, receiver-in, ring-of, ring-in, event-of, event-words, member-of, Kept, with-membership, with-link-trip, with-sender, with-receiver};
 ghost use Rattle.srt_group_model.specs.State.{with-leg};
 use srt_group_model::Collision;
 use srt_group_model::Data;
@@ -17,16 +16,52 @@ use srt_group_model::Sender;
 use srt_group_model::Trip;
 use srt_protocol::time::Timestamp;
 
-// The words of a member's row.
-pub const ROW: usize = 180;
+// ---- sizes: the layout stands here and in specs/Rows.antt, and nowhere else
 
-// Part 1 of a row.
+// The words of a part of a row.
+const PART: usize = 9;
+
+// The parts of a row, in their order: where each begins and ends.
+const MEMBERSHIP: usize = 0;
+
+const MEMBERSHIP_END: usize = MEMBERSHIP + PART;
+
+// The link and the round trip.
+const LINK: usize = MEMBERSHIP_END;
+
+const LINK_END: usize = LINK + PART;
+
+const SENDER: usize = LINK_END;
+
+const SENDER_END: usize = SENDER + PART;
+
+// The receiver, and the ring's start and length.
+const RECEIVER: usize = SENDER_END;
+
+const RECEIVER_END: usize = RECEIVER + PART;
+
+// Nine words for the fields that come next. No call reads them, so what they hold is free; a new member's row keeps what stood
+// there. A new field takes a word here, and whoever adds a member writes it. Row and table keep their lengths until it is full.
+const SPARE: usize = RECEIVER_END;
+
+const SPARE_END: usize = SPARE + PART;
+
+// The first part that is an event of the queue; the others follow it.
+pub const FIRST_EVENT: u64 = (SPARE_END / PART) as u64;
+
+// The events that a queue can hold.
+pub const MAX_QUEUED: u64 = 16;
+
+// The words of a row.
+pub const ROW: usize = (FIRST_EVENT + MAX_QUEUED) as usize * PART;
+
+// The link's part of a row.
 pub struct LinkPart {
     pub link: Link,
     pub trip: Trip,
 }
 
-// Where a queue's events stand in the ring: the front's place, read modulo 16, and how many there are.
+// Where a queue's events stand in the ring: the front's place, read modulo MAX_QUEUED, and how many there are.
 pub struct Ring {
     pub start: u64,
     pub length: u64,
@@ -208,39 +243,39 @@ fn write_event(words: &mut [u64], event: Event)
 
 fn link_part(row: &[u64]) -> LinkPart
     requires { ⌜ length (now row) ≡ row-size ⌝ }
-    ensures { λ r. ⌜ r ≡ link-part-of (part (now (row .entry)) 1) ⌝ }
+    ensures { λ r. ⌜ r ≡ link-part-of (part (now (row .entry)) link-part) ⌝ }
 {
-    read_link_part(&row[9..18])
+    read_link_part(&row[LINK..LINK_END])
 }
 
 pub fn ring_of(row: &[u64]) -> Ring
     requires { ⌜ length (now row) ≡ row-size ⌝ }
-    ensures { λ r. ⌜ r ≡ ring-of (part (now (row .entry)) 3) ⌝ }
+    ensures { λ r. ⌜ r ≡ ring-of (part (now (row .entry)) receiver-part) ⌝ }
 {
-    read_ring(&row[27..36])
+    read_ring(&row[RECEIVER..RECEIVER_END])
 }
 
 pub fn put_ring(row: &mut [u64], ring: Ring)
     requires { ⌜ length (now row) ≡ row-size ⌝ }
-    ensures { λ _. ⌜ now (row .exit) ≡ put-part (now (row .entry)) 3 (ring-in ring (part (now (row .entry)) 3)) ⌝ }
+    ensures { λ _. ⌜ now (row .exit) ≡ put-part (now (row .entry)) receiver-part (ring-in ring (part (now (row .entry)) receiver-part)) ⌝ }
 {
-    write_ring(&mut row[27..36], ring);
+    write_ring(&mut row[RECEIVER..RECEIVER_END], ring);
 }
 
 pub fn event_part(row: &[u64], place: usize) -> Event
-    requires { ⌜ (length (now row) ≡ row-size) × (place < 20) ⌝ }
+    requires { ⌜ (length (now row) ≡ row-size) × (place < parts) ⌝ }
     ensures { λ r. ⌜ r ≡ event-of (part (now (row .entry)) place) ⌝ }
 {
-    let start = place * 9;
-    read_event(&row[start..start + 9])
+    let start = place * PART;
+    read_event(&row[start..start + PART])
 }
 
 pub fn put_event_part(row: &mut [u64], place: usize, event: Event)
-    requires { ⌜ (length (now row) ≡ row-size) × (place < 20) ⌝ }
+    requires { ⌜ (length (now row) ≡ row-size) × (place < parts) ⌝ }
     ensures { λ _. ⌜ now (row .exit) ≡ put-part (now (row .entry)) place (event-words event) ⌝ }
 {
-    let start = place * 9;
-    write_event(&mut row[start..start + 9], event);
+    let start = place * PART;
+    write_event(&mut row[start..start + PART], event);
 }
 
 // ---- a member's row
@@ -249,49 +284,49 @@ pub fn membership(row: &[u64]) -> Membership
     requires { ⌜ length (now row) ≡ row-size ⌝ }
     ensures { λ r. ⌜ r ≡ member-of (now (row .entry)) .membership ⌝ }
 {
-    read_membership(&row[0..9])
+    read_membership(&row[MEMBERSHIP..MEMBERSHIP_END])
 }
 
 pub fn put_membership(row: &mut [u64], membership: Membership)
     requires { ⌜ length (now row) ≡ row-size ⌝ }
     ensures { λ _. ⌜ Kept (now (row .exit)) (with-membership membership (member-of (now (row .entry)))) ⌝ }
 {
-    write_membership(&mut row[0..9], membership);
+    write_membership(&mut row[MEMBERSHIP..MEMBERSHIP_END], membership);
 }
 
 pub fn put_link_trip(row: &mut [u64], link: Link, trip: Trip)
     requires { ⌜ length (now row) ≡ row-size ⌝ }
     ensures { λ _. ⌜ Kept (now (row .exit)) (with-link-trip link trip (member-of (now (row .entry)))) ⌝ }
 {
-    write_link_part(&mut row[9..18], LinkPart { link, trip });
+    write_link_part(&mut row[LINK..LINK_END], LinkPart { link, trip });
 }
 
 pub fn sender(row: &[u64]) -> Sender
     requires { ⌜ length (now row) ≡ row-size ⌝ }
     ensures { λ r. ⌜ r ≡ member-of (now (row .entry)) .leg .sender ⌝ }
 {
-    read_sender(&row[18..27])
+    read_sender(&row[SENDER..SENDER_END])
 }
 
 pub fn put_sender(row: &mut [u64], sender: Sender)
     requires { ⌜ length (now row) ≡ row-size ⌝ }
     ensures { λ _. ⌜ Kept (now (row .exit)) (with-sender sender (member-of (now (row .entry)))) ⌝ }
 {
-    write_sender(&mut row[18..27], sender);
+    write_sender(&mut row[SENDER..SENDER_END], sender);
 }
 
 pub fn receiver(row: &[u64]) -> Receiver
     requires { ⌜ length (now row) ≡ row-size ⌝ }
     ensures { λ r. ⌜ r ≡ member-of (now (row .entry)) .leg .receiver ⌝ }
 {
-    read_receiver(&row[27..36])
+    read_receiver(&row[RECEIVER..RECEIVER_END])
 }
 
 pub fn put_receiver(row: &mut [u64], receiver: Receiver)
     requires { ⌜ length (now row) ≡ row-size ⌝ }
     ensures { λ _. ⌜ Kept (now (row .exit)) (with-receiver receiver (member-of (now (row .entry)))) ⌝ }
 {
-    write_receiver(&mut row[27..36], receiver);
+    write_receiver(&mut row[RECEIVER..RECEIVER_END], receiver);
 }
 
 pub fn leg(row: &[u64]) -> Leg

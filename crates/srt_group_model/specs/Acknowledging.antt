@@ -1,4 +1,4 @@
--- An acknowledgement from the oldest unacknowledged up to next never makes the flight longer. Assumes nothing.
+-- An acknowledgement from the oldest unacknowledged up to next never makes the flight longer.
 use mathlib.Core.Path.{_≡_, refl, subst, sym}
 use mathlib.Core.Logic.{_⊎_, inl, inr}
 use Prim.Native.Nat.{ℕ, suc, _+_, _-_, _≤_, _<_}

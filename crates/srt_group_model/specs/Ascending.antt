@@ -1,15 +1,15 @@
 -- The held packets keep ascending by sequence over every call, so no sequence is held twice: the rule `held-sequence-twice`
--- of validity is kept. Assumes nothing.
+-- of validity is kept.
 use mathlib.Core.Path.{_≡_, refl, sym, ap, ap₂, subst, _∙_}
 use mathlib.Core.Bool.{Bool, true, false, not, _&&_, _||_}
 use mathlib.Core.List.{List, [], _∷_}
 use mathlib.Core.Option.{Option, none, some}
 use Prim.Native.Nat.{ℕ, zero, suc, _+_, _≤_, _<_}
 use native.Mathlib.Omega.{arith}
-use borrow.Author.Tests.{ltb-true, ltb-false, lt-ltb, eqb-false, eq-eqb}
+use borrow.Author.Tests.{ltb-true, ltb-false, lt-ltb, eqb-false, eq-eqb, not-false}
 use lib.Dec.{ltb, eqb}
 use Rattle.srt_group_model.specs.Tools.{if_then_else_, any, such-that, each}
-use Rattle.srt_group_model.specs.Reason.{if-elim, not-both, and-left, and-right, and-yes, or-left, or-right, All, all-map}
+use Rattle.srt_group_model.specs.Reason.{if-elim, and-left, and-right, and-yes, or-left, or-right, All, all-map}
 use Rattle.srt_group_model.specs.State.{Receive, State}
 use Rattle.srt_group_model.specs.Nearest.{sequence-of, has-sequence, is-held, insert}
 use Rattle.srt_group_model.specs.Run.{Mark}
@@ -125,7 +125,3 @@ pub ascending-kept : (c : Call) (lent : Lent) (s : State) → held-sequence-twic
 unfolding held-sequence-twice perform with-bytes
 ascending-kept c lent s h =
     ap not (call-keeps Ascends ascends-law _ _ _ c s (not-false (ascends (s .receive .pending)) h))
-  where
-    not-false : (b : Bool) → not b ≡ false → b ≡ true
-    not-false true e = refl
-    not-false false e = not-both {t = true} refl e

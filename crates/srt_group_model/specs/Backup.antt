@@ -1,6 +1,6 @@
 -- Backup: the carrier that fell silent, the take-over with its replay, the history, one send, and the readiness tests. From
 -- send.rs: `demote_stale_backup_carrier`, `take_over_backup_flight`, `record_backup_send`, `trim_backup_history`,
--- `send_backup`, `backup_send_ready`; document 01, "Stability timeout", codes 22 and 24 to 29, P8 and P9. Assumes nothing.
+-- `send_backup`, `backup_send_ready`; document 01, "Stability timeout", codes 22 and 24 to 29, P8 and P9.
 use mathlib.Core.Bool.{Bool, true, false, not, _&&_, _||_}
 use mathlib.Core.List.{List, [], _∷_, _++_}
 use mathlib.Core.Option.{Option, none, some}
@@ -9,7 +9,7 @@ use lib.Dec.{leb, ltb, eqb}
 use lib.ListN.{length, drop}
 use Rattle.srt_protocol.specs.Time.{elapsed}
 use Rattle.srt_protocol.specs.Sequence.{sequence-before, sequence-further}
-use Rattle.srt_group_model.specs.Tools.{if_then_else_, if-some_give_otherwise_, or-else, is-empty, any, at-place, change}
+use Rattle.srt_group_model.specs.Tools.{if_then_else_, if-some_give_otherwise_, bit, is-set, or-else, is-empty, any, at-place, change}
 use Rattle.srt_group_model.specs.State.{Member, Send, State, next-send-sequence, backup-carrier, with-send, with-members, with-history, with-leg, turned, active-state, standby-state, unstable-state}
 use Rattle.srt_group_model.specs.Legs.{moment, has-sender, remaining-window-packets, can-send, can-send-with-pacing, time-until-send, oldest-unacked-sequence, send-shared-with-sequence, synchronize-send-sequence}
 use Rattle.srt_group_model.specs.Members.{id-of, find, in-state, is-active, is-standby, first-active, promotion, promote-backup-member, promote-if-none, align-member-sequence}
@@ -64,7 +64,7 @@ trim-backup-history l x =
             next = x .numbers .next;
             carried = x .numbers .carried;
             carrier = x .numbers .carrier;
-            gap = starts-after oldest h;
+            gap = bit (starts-after oldest h);
           };
       history = h;
     })
@@ -94,7 +94,7 @@ append-history carrier e x =
           record {
             numbered = x .numbers .numbered;
             next = x .numbers .next;
-            carried = true;
+            carried = 1;
             carrier = carrier;
             gap = x .numbers .gap;
           };
@@ -111,7 +111,7 @@ record-backup-send m e x = trim-backup-history (m .leg) (append-history (id-of m
 unfoldable pub takes-over : ℕ → Send → Bool
 takes-over id x = if-some backup-carrier x give (λ carrier. not (eqb carrier id)) otherwise false
 
--- a replay under way: the leg, the sends, and whether all went
+-- a replay under way: the leg, the sends, and whether all were sent
 pub record Replayed : Type 0 where
   pub leg : Leg
   pub sends : List Sent
@@ -145,7 +145,7 @@ replay-on time i m l s =
 -- 28 with a gap, or if the leg cannot be brought to the first sequence
 unfoldable pub replay-flight : (time place : ℕ) → Member → Entry → State → Flow
 replay-flight time i m first s =
-    if s .send .numbers .gap
+    if is-set (s .send .numbers .gap)
     then ends-with 28 s
     else
     (if has-sender (m .leg) && eqb (m .leg .sender .next) (first .sequence)
@@ -158,7 +158,7 @@ replay-flight time i m first s =
 -- with nothing to replay the leg is aligned to the group's send number, once there is one: 22
 unfoldable pub align-carrier : ℕ → State → Flow
 align-carrier i s =
-    if s .send .numbers .numbered
+    if is-set (s .send .numbers .numbered)
     then
     (if-some align-member-sequence (next-send-sequence (s .send)) i (s .members)
     give (λ ms. goes-on (with-members ms s))
@@ -226,7 +226,7 @@ send-at-place time size cell i s =
 
 unfoldable pub send-backup : (time size cell : ℕ) → State → Flow
 send-backup time size cell s =
-    let ready = with-members (promote-if-none (s .identity .mode) (demote-stale-backup-carrier time (s .members))) s in
+    let ready = with-members (promote-if-none (s .mode) (demote-stale-backup-carrier time (s .members))) s in
     if-some first-active (ready .members)
     give (λ i. take-over-backup-flight time i ready and-then send-at-place time size cell i)
     otherwise ends-with 24 ready
@@ -249,7 +249,7 @@ backup-member-ready time x m =
     in
     ready-to-send time (m .leg)
     && (has-sender (m .leg)
-    && ((not takes || (eqb replay 0 || not (x .numbers .gap)))
+    && ((not takes || (eqb replay 0 || not (is-set (x .numbers .gap))))
     && (ltb replay (remaining-window-packets (m .leg))
     && (if-some sequence give (λ n. eqb (m .leg .sender .next) n || eqb (m .leg .sender .flight) 0) otherwise true))))
 

@@ -1,13 +1,13 @@
 -- Laws of the base and of the skipped total, over every call: the total never falls, and a base that is set moves only by
--- delivery and skip. Document 01, "Receiving" and "Skip". Assumes nothing.
+-- delivery and skip. Document 01, "Receiving" and "Skip".
 use mathlib.Core.Path.{_≡_, refl, sym, ap, _∙_}
 use mathlib.Core.Bool.{Bool, true, false, _||_}
 use mathlib.Core.List.{List, [], _∷_}
 use mathlib.Core.Option.{Option, none, some}
 use Prim.Native.Nat.{ℕ, _+_, _≤_, min}
 use native.Mathlib.Omega.{arith}
-use Rattle.srt_protocol.specs.Time.{last-moment}
 use Rattle.srt_protocol.specs.Sequence.{sequence-distance}
+use Rattle.srt_group_model.specs.Legs.{largest-64}
 use Rattle.srt_group_model.specs.Tools.{any}
 use Rattle.srt_group_model.specs.Reason.{not-both, none-some}
 use Rattle.srt_group_model.specs.State.{Receive, State, next-receive-sequence}
@@ -21,7 +21,7 @@ use Rattle.srt_group_model.specs.Walk.{call-keeps}
 -- ---- the skipped total
 
 abbrev Not-below : ℕ → Receive → List Mark → Type 0
-Not-below n x log = (n ≤ x .numbers .skipped) × (x .numbers .skipped ≤ last-moment)
+Not-below n x log = (n ≤ x .numbers .skipped) × (x .numbers .skipped ≤ largest-64)
 
 not-below-law : (n : ℕ) → Law (Not-below n)
 unfolding skip-to pass-run
@@ -41,14 +41,14 @@ not-below-law n =
       puts = λ x log cell payload h. h;
     }
   where
-    rises : (n k d : ℕ) → n ≤ k → k ≤ last-moment → n ≤ min (k + d) last-moment
+    rises : (n k d : ℕ) → n ≤ k → k ≤ largest-64 → n ≤ min (k + d) largest-64
     rises n k d h g = omega arith
 
-    bounded : (k d : ℕ) → min (k + d) last-moment ≤ last-moment
+    bounded : (k d : ℕ) → min (k + d) largest-64 ≤ largest-64
     bounded k d = omega arith
 
 -- The skipped total never falls. It is a 64-bit number, so it starts at most at its ceiling.
-pub skipped-never-falls : (c : Call) (lent : Lent) (s : State) → s .receive .numbers .skipped ≤ last-moment → s .receive .numbers .skipped ≤ perform c lent s .state .receive .numbers .skipped
+pub skipped-never-falls : (c : Call) (lent : Lent) (s : State) → s .receive .numbers .skipped ≤ largest-64 → s .receive .numbers .skipped ≤ perform c lent s .state .receive .numbers .skipped
 unfolding perform with-bytes
 skipped-never-falls c lent s h =
     call-keeps (Not-below (s .receive .numbers .skipped)) (not-below-law _) _ _ _ c s (omega arith, h) .0

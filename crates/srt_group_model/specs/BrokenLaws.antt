@@ -1,5 +1,5 @@
 -- A Broken member stays Broken until its removal, over every call. Document 01 gives the states; the Rust's `Broken`: "permanently
--- excluded from the group". Assumes nothing.
+-- excluded from the group".
 use mathlib.Core.Path.{_≡_, refl, sym, ap, _∙_}
 use mathlib.Core.Bool.{Bool, true, false, _&&_, _||_}
 use mathlib.Core.List.{List, [], _∷_, _++_}
@@ -11,7 +11,7 @@ use Rattle.srt_group_model.specs.Reason.{not-both, none-some, some-inj, 
 use Rattle.srt_group_model.specs.State.{Member, State, broken-state}
 use Rattle.srt_group_model.specs.Members.{id-of, has-id, in-state}
 use Rattle.srt_group_model.specs.Removal.{retire, take-out}
-use Rattle.srt_group_model.specs.Lent.{Lent, Call, addition, broken-mark, removal, member-look, refreshing, disconnection, event-poll, data-poll, sending, readiness, paced-readiness, send-wait, stability, group-look, members-look, mode-look, peer-look, skipped-look, pending-look, continuation-look, reading, queued-data, queued-event, perform}
+use Rattle.srt_group_model.specs.Lent.{Lent, Call, call-add-member, call-mark-member-broken, call-remove-member-connection, call-refresh-member-states, call-disconnect, call-poll-event, call-poll-data-bounded, call-send, call-can-send, call-can-send-with-pacing, call-look, call-read-leg, call-queue-data, call-queue-event, perform}
 use Rattle.srt_group_model.specs.Queues.{Relabelled, pop, Queue-law}
 use Rattle.srt_group_model.specs.Walk.{queue-polls}
 use Rattle.srt_group_model.specs.CallLaw.{Call-law}
@@ -89,29 +89,20 @@ without-keeps id (suc i) m (x ∷ ms) at h e =
 
 -- the call removes the member with this id
 abbrev pub removes : Call → ℕ → Bool
-removes (addition k weight l queue) id = false
-removes (broken-mark k) id = false
-removes (removal k) id = eqb k id
-removes (member-look k) id = false
-removes refreshing id = false
-removes (disconnection time) id = false
-removes (event-poll time) id = false
-removes (data-poll time max-events) id = false
-removes (sending time payload) id = false
-removes readiness id = false
-removes (paced-readiness time) id = false
-removes (send-wait time) id = false
-removes (stability k) id = false
-removes group-look id = false
-removes members-look id = false
-removes mode-look id = false
-removes peer-look id = false
-removes skipped-look id = false
-removes pending-look id = false
-removes continuation-look id = false
-removes (reading k field n) id = false
-removes (queued-data k d payload) id = false
-removes (queued-event k kind reason) id = false
+removes (call-add-member k weight l queue) id = false
+removes (call-mark-member-broken k) id = false
+removes (call-remove-member-connection k) id = eqb k id
+removes call-refresh-member-states id = false
+removes (call-disconnect time) id = false
+removes (call-poll-event time) id = false
+removes (call-poll-data-bounded time max-events) id = false
+removes (call-send time payload) id = false
+removes call-can-send id = false
+removes (call-can-send-with-pacing time) id = false
+removes (call-look look) id = false
+removes (call-read-leg k field n) id = false
+removes (call-queue-data k d payload) id = false
+removes (call-queue-event k kind reason) id = false
 
 -- a change of one member that leaves its label
 still-at : (id i : ℕ) (f : Member → Member) (ms : List Member) → ((m : Member) → f m .membership ≡ m .membership) → Broken-in id ms → Broken-in id (change i f ms)

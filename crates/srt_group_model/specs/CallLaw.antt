@@ -1,5 +1,5 @@
 -- What a call can do, move by move. A property of the state, of the cell in hand and of the log, that each of these moves keeps, is
--- kept by every call: EveryCall has the one walk, and the laws of validity are instances. Assumes nothing.
+-- kept by every call: EveryCall has the one walk, and the laws of validity are instances.
 use mathlib.Core.Path.{_≡_}
 use mathlib.Core.Bool.{Bool, true, false}
 use mathlib.Core.List.{List, [], _∷_, _++_}
@@ -22,7 +22,7 @@ use Rattle.srt_group_model.specs.Sending.{with-send-number}
 use Rattle.srt_group_model.specs.Backup.{trim-backup-history, append-history}
 use Rattle.srt_group_model.specs.Validity.{above, max-members, max-waiting, leg-out-of-range, leg-sequence-too-large}
 use Rattle.srt_group_model.specs.Calls.{no-free-cell, taken-cell, new-member, reading-out-of-range, read-field, queue-full, enqueue, data-event, data-unfit, no-data}
-use Rattle.srt_group_model.specs.Lent.{Call, addition, removal, queued-data, queued-event}
+use Rattle.srt_group_model.specs.Lent.{Call, call-add-member, call-remove-member-connection, call-queue-data, call-queue-event}
 use Rattle.srt_group_model.specs.Queues.{pop, packet-of}
 use Rattle.srt_group_model.specs.declared.Data.{Data}
 use Rattle.srt_group_model.specs.declared.Event.{Event}
@@ -38,7 +38,7 @@ pub data Member-move (s : State) (m : Member) : Member → Type 0 where
   turn : (n : ℕ) → n ≤ 4 → (in-state broken-state m ≡ true → n ≡ broken-state) → Member-move s m (turned n m)
   -- it is admitted, or it answered from another group
   admission : arrives m ≡ true → Member-move s m (on-membership with-admitted m)
-  colliding : arrives m ≡ true → Member-move s m (on-membership (with-collision (s .identity .peer) (m .leg .link .peer)) m)
+  colliding : arrives m ≡ true → Member-move s m (on-membership (with-collision (s .peer) (m .leg .link .peer)) m)
   -- its leg is aligned with the group's numbers, or brought to the first of the history
   alignment : (sequence : ℕ) (l : Leg) → alignment-source (next-send-sequence (s .send)) (id-of m) (s .members) ≡ some sequence
       → align-leg sequence (m .leg) ≡ some l → Member-move s m (with-leg l m)
@@ -122,10 +122,10 @@ pub record Poll-law (P : Option ℕ → State → List Mark → Type 0) : Type 0
 pub record Call-law (c : Call) (cells : ℕ) (P : Option ℕ → State → List Mark → Type 0) : Type 0 where
   pub polling : Poll-law P
   -- a member joins
-  pub joins : {hand : Option ℕ} {log : List Mark} (s : State) (id weight : ℕ) (l : Leg) (queue : List Event) → c ≡ addition id weight l queue → Joining id weight l s
+  pub joins : {hand : Option ℕ} {log : List Mark} (s : State) (id weight : ℕ) (l : Leg) (queue : List Event) → c ≡ call-add-member id weight l queue → Joining id weight l s
       → P hand s log → P hand (with-members (s .members ++ (new-member id weight (handed l) s ∷ [])) s) log
   -- a member leaves, and its held packets become the group's; one of the group's own packets is retired
-  pub leaves : {hand : Option ℕ} {log : List Mark} (s : State) (i : ℕ) (m : Member) → c ≡ removal (id-of m) → at-place i (s .members) ≡ some m
+  pub leaves : {hand : Option ℕ} {log : List Mark} (s : State) (i : ℕ) (m : Member) → c ≡ call-remove-member-connection (id-of m) → at-place i (s .members) ≡ some m
       → P hand s log → P hand (take-out i m s) log
   pub retires : {hand : Option ℕ} {log : List Mark} (s : State) (base : ℕ) (p : Packet) → farthest base (such-that is-owned (s .receive .pending)) ≡ some p
       → P hand s log → P hand (retire p s) log
@@ -134,10 +134,10 @@ pub record Call-law (c : Call) (cells : ℕ) (P : Option ℕ → State → List 
   pub puts : {log : List Mark} (s : State) (cell : ℕ) (payload : List ℕ) → P (some cell) s log → P (some cell) s (put cell payload ∷ log)
   pub lets-go : {log : List Mark} (s : State) (cell : ℕ) → P (some cell) s log → P none s log
   -- a packet in the cell in hand is queued; an event is queued
-  pub queues-data : {log : List Mark} (s : State) (i : ℕ) (m : Member) (id cell : ℕ) (d : Data) (payload : List ℕ) → c ≡ queued-data id d payload → at-place i (s .members) ≡ some m
+  pub queues-data : {log : List Mark} (s : State) (i : ℕ) (m : Member) (id cell : ℕ) (d : Data) (payload : List ℕ) → c ≡ call-queue-data id d payload → at-place i (s .members) ≡ some m
       → queue-full m ≡ false → data-unfit id d ≡ false → length payload ≤ cell-size → P (some cell) s log
       → P none (with-members (change i (λ x. on-leg (add-reservation (d .count)) (enqueue (data-event cell (length payload) d) x)) (s .members)) s) log
-  pub queues-event : {hand : Option ℕ} {log : List Mark} (s : State) (i : ℕ) (m : Member) (id kind reason : ℕ) → c ≡ queued-event id kind reason → at-place i (s .members) ≡ some m
+  pub queues-event : {hand : Option ℕ} {log : List Mark} (s : State) (i : ℕ) (m : Member) (id kind reason : ℕ) → c ≡ call-queue-event id kind reason → at-place i (s .members) ≡ some m
       → queue-full m ≡ false → eqb kind 0 ≡ false → above 3 kind ≡ false → above largest-32 reason ≡ false → P hand s log
       → P hand (with-members (change i (enqueue record { kind = kind; reason = reason; content = no-data }) (s .members)) s) log
   -- the group's send number is set; the history takes the payload in hand, at its carrier's next number; it loses what a leg has had acknowledged

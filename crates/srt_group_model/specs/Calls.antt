@@ -1,6 +1,5 @@
 -- Every public call of `SrtGroup` and of the stand-in leg: its codes in document 01's order, as a list of guards, and what it
 -- does when none refuses. A refused call changes nothing; 22 to 29 come from a body, which leaves what it has done by then.
--- Assumes nothing.
 use mathlib.Core.Bool.{Bool, true, false, not, _&&_, _||_}
 use mathlib.Core.List.{List, [], _∷_, _++_}
 use mathlib.Core.Option.{Option, none, some}
@@ -8,26 +7,24 @@ use Prim.Native.Nat.{ℕ, zero, suc, _+_, _*_}
 use lib.Dec.{leb, ltb, eqb}
 use lib.ListN.{length}
 use Rattle.srt_protocol.specs.Handshake.{has-group-mask}
-use Rattle.srt_protocol.specs.Cells.{cell-size, head-size, cells-of}
-use Rattle.srt_group_model.specs.Tools.{if_then_else_, if-some_give_otherwise_, is-empty, any, first-such, at-place, change, each}
+use Rattle.srt_protocol.specs.Cells.{cell-size, cells-of, max-cells, output-size}
+use Rattle.srt_group_model.specs.Tools.{if_then_else_, if-some_give_otherwise_, is-set, is-empty, any, first-such, at-place, change, each}
 use Rattle.srt_group_model.specs.State.{Member, State, is-backup, next-send-sequence, with-members, with-peer, on-leg, with-queue, turned, pending-state, active-state, standby-state, broken-state}
 use Rattle.srt_group_model.specs.Legs.{Reading, reading-of, goes-back, handed, is-connected, disconnect-leg, can-send, can-send-with-pacing, has-sender, add-reservation, largest-sequence, largest-16, largest-32, largest-64}
-use Rattle.srt_group_model.specs.Members.{has-id, find, is-active, has-active-member, promote-if-none, base-after, peer-after, admit-peer-group, align-member-sequence}
+use Rattle.srt_group_model.specs.Members.{has-id, find, is-active, has-active-member, promote-if-none, base-after, peer-after, admit-peer-group, align-member-sequence, found}
 use Rattle.srt_group_model.specs.Run.{Mark, put, Run, start, on-members, set-base, refresh-states}
 use Rattle.srt_group_model.specs.Delivery.{Poll, max-visits}
 use Rattle.srt_group_model.specs.Collecting.{has-pending-data}
 use Rattle.srt_group_model.specs.Polls.{poll-event, DataPoll, poll-data-bounded}
 use Rattle.srt_group_model.specs.Removal.{remove-member-at, leg-given-back}
-use Rattle.srt_group_model.specs.Sending.{Flow, ends-with, above-limit, send-broadcast}
+use Rattle.srt_group_model.specs.Sending.{list-size, Flow, ends-with, above-limit, send-broadcast}
 use Rattle.srt_group_model.specs.Backup.{stability-timeout, demote-stale-backup-carrier, trim-by-carrier, send-backup, backup-send-ready, group-time-until-send}
 use Rattle.srt_group_model.specs.Cells.{free-cell}
-use Rattle.srt_group_model.specs.Validity.{above, is-invalid, leg-out-of-range, leg-sequence-too-large, data-out-of-range, max-members, max-events, max-pending}
+use Rattle.srt_group_model.specs.Validity.{above, is-invalid, leg-out-of-range, leg-sequence-too-large, data-out-of-range, max-members, max-queued}
 use Rattle.srt_group_model.specs.Guards.{Answer, no-answer, truth, number, optional, polled, data-polled, leg-back, membership, memberships, Put, Step, refuse, accept, Check, _when_, guard}
 use Rattle.srt_group_model.specs.declared.Data.{Data}
 use Rattle.srt_group_model.specs.declared.Event.{Event}
 use Rattle.srt_group_model.specs.declared.Leg.{Leg}
-use Rattle.srt_group_model.specs.declared.GroupMode.{GroupMode}
-use Rattle.srt_group_model.specs.declared.GroupMode.the-variants.{Broadcast, Backup}
 
 -- ---- the guards that calls share
 
@@ -38,15 +35,15 @@ store-unfit store s =
 
 -- 5: no room for the head and a whole payload
 abbrev pub output-unfit : ℕ → Bool
-output-unfit output = ltb output (head-size + cell-size)
+output-unfit output = ltb output output-size
 
--- 5: fewer than 1,100 rows of five numbers
+-- 5: fewer rows than a list has
 abbrev pub list-unfit : ℕ → Bool
-list-unfit list = ltb list 5500
+list-unfit list = ltb list list-size
 
 -- the cells of a call that is lent no store: those of the length given at the start, else the most that there can be
 unfoldable pub cells-given : State → ℕ
-cells-given s = if eqb (s .identity .length) 0 then max-pending else cells-of (s .identity .length)
+cells-given s = if eqb (s .identity .length) 0 then max-cells else cells-of (s .identity .length)
 
 -- 6, of a call that is lent no store
 abbrev pub breaks-rule : State → Bool
@@ -65,17 +62,15 @@ change-member id f s = if-some find id (s .members) give (λ i. with-members (ch
 
 -- ---- `new`: 2 for an id or a mode out of range, 1 for an id without the mark
 
-unfoldable pub new : (id : ℕ) → GroupMode → (store-length : ℕ) → State
+unfoldable pub new : (id mode store-length : ℕ) → State
 new id mode store-length =
     record {
-      identity = record { id = id; mode = mode; length = store-length; peer = 0 };
-      receive = record { numbers = record { based = false; base = 0; skipped = 0 }; pending = [] };
-      send =
-          record {
-            numbers = record { numbered = false; next = 0; carried = false; carrier = 0; gap = false };
-            history = [];
-          };
-      visit = record { continuation = false; round = 0 };
+      identity = record { id = id; length = store-length };
+      mode = mode;
+      peer = 0;
+      receive = record { numbers = record { based = 0; base = 0; skipped = 0 }; pending = [] };
+      send = record { numbers = record { numbered = 0; next = 0; carried = 0; carrier = 0; gap = 0 }; history = [] };
+      visit = record { continuation = 0; round = 0 };
       owned = 0;
       members = [];
       waiting = [];
@@ -84,14 +79,10 @@ new id mode store-length =
 unfoldable pub new-code : (id mode : ℕ) → ℕ
 new-code id mode = if above largest-32 id || above 1 mode then 2 else (if has-group-mask id then 0 else 1)
 
-abbrev pub mode-of : ℕ → GroupMode
-mode-of zero = Broadcast
-mode-of (suc n) = Backup
-
 -- ---- members
 
 -- the state of a member at its addition
-unfoldable pub state-at-addition : GroupMode → Leg → List Member → ℕ
+unfoldable pub state-at-addition : ℕ → Leg → List Member → ℕ
 state-at-addition mode l ms =
     if is-backup mode
     then (if is-connected l && not (has-active-member ms) then active-state else standby-state)
@@ -104,7 +95,7 @@ new-member id weight l s =
           record {
             id = id;
             weight = weight;
-            state = state-at-addition (s .identity .mode) l (s .members);
+            state = state-at-addition (s .mode) l (s .members);
             admitted = 0;
             reserved = 0;
             collision = record { expected = 0; actual = 0 };
@@ -118,7 +109,7 @@ unfoldable pub add-body : (id weight : ℕ) → Leg → State → Step
 add-body id weight l s =
     let m = new-member id weight (handed l) s in
     let r = set-base (base-after none (m ∷ [])) (start s) in
-    let peer = peer-after (s .identity .peer) (m ∷ []) in
+    let peer = peer-after (s .peer) (m ∷ []) in
     let joined = admit-peer-group peer m in
     let added = with-peer peer (with-members (s .members ++ (joined ∷ [])) (r .state)) in
     let left : State → ℕ → Step =
@@ -147,12 +138,8 @@ mark-member-broken id s =
 
 unfoldable pub remove-body : (id : ℕ) → State → Step
 remove-body id s =
-    if-some find id (s .members)
-    give
-    (λ i.
-    if-some at-place i (s .members)
-    give (λ m. accept (remove-member-at i m s) (leg-back (leg-given-back m)))
-    otherwise refuse 3 s)
+    if-some found (has-id id) (s .members)
+    give (λ f. accept (remove-member-at (f .place) (f .member) s) (leg-back (leg-given-back (f .member))))
     otherwise refuse 3 s
 
 unfoldable pub remove-member-connection : (id : ℕ) → State → Step
@@ -208,7 +195,7 @@ poll-data-call store output time max-events s =
 -- What a send under way leaves. A Backup send that succeeds has put its payload into the cell.
 unfoldable pub left-by-send : ℕ → List ℕ → Run → Flow → Step
 left-by-send cell payload r flow =
-    let backup = is-backup (r .state .identity .mode) in
+    let backup = is-backup (r .state .mode) in
     if eqb (flow .code) 0
     then
     record {
@@ -229,7 +216,7 @@ send-flow cell time payload s r =
     if above-limit size (r .state .members)
     then ends-with 23 (r .state)
     else
-    (if is-backup (s .identity .mode) then send-backup time size cell (r .state) else send-broadcast time size (r .state))
+    (if is-backup (s .mode) then send-backup time size cell (r .state) else send-broadcast time size (r .state))
 
 unfoldable pub send-body : (cell time : ℕ) → List ℕ → State → Step
 send-body cell time payload s =
@@ -249,13 +236,13 @@ send store list time payload s =
     guard
     ((5 when (store-unfit store s || list-unfit list)) ∷ (6 when is-invalid (cells-of store) s)
     ∷ (2 when above largest-64 time) ∷ (4 when above cell-size (length payload))
-    ∷ (30 when (is-backup (s .identity .mode) && no-free-cell (cells-of store) s)) ∷ [])
+    ∷ (30 when (is-backup (s .mode) && no-free-cell (cells-of store) s)) ∷ [])
     s (send-body (taken-cell (cells-of store) s) time payload s)
 
 unfoldable pub can-send-body : State → Step
 can-send-body s =
     let r = refresh-states (start s) in
-    if is-backup (s .identity .mode)
+    if is-backup (s .mode)
     then
     (let t = trim-by-carrier (r .state) in
     record { state = t; code = 0; answer = truth (backup-send-ready none t); put = none; sends = []; log = r .log })
@@ -267,10 +254,10 @@ can-send-call s = guard ((6 when breaks-rule s) ∷ []) s (can-send-body s)
 unfoldable pub can-send-with-pacing-body : (time : ℕ) → State → Step
 can-send-with-pacing-body time s =
     let r = refresh-states (start s) in
-    if is-backup (s .identity .mode)
+    if is-backup (s .mode)
     then
     (let demoted =
-    with-members (promote-if-none (s .identity .mode) (demote-stale-backup-carrier time (r .state .members))) (r .state)
+    with-members (promote-if-none (s .mode) (demote-stale-backup-carrier time (r .state .members))) (r .state)
     in
     let t = trim-by-carrier demoted in
     record { state = t; code = 0; answer = truth (backup-send-ready (some time) t); put = none; sends = []; log = r .log })
@@ -307,12 +294,12 @@ group-id s = guard ((6 when breaks-rule s) ∷ []) s (accept s (number (s .ident
 
 -- 0 Broadcast, 1 Backup
 unfoldable pub mode : State → Step
-mode s = guard ((6 when breaks-rule s) ∷ []) s (accept s (number (if is-backup (s .identity .mode) then 1 else 0)))
+mode s = guard ((6 when breaks-rule s) ∷ []) s (accept s (number (s .mode)))
 
 unfoldable pub peer-group-id : State → Step
 peer-group-id s =
     guard ((6 when breaks-rule s) ∷ []) s
-    (accept s (optional (if eqb (s .identity .peer) 0 then none else some (s .identity .peer))))
+    (accept s (optional (if eqb (s .peer) 0 then none else some (s .peer))))
 
 unfoldable pub skipped-receive-packets : State → Step
 skipped-receive-packets s = guard ((6 when breaks-rule s) ∷ []) s (accept s (number (s .receive .numbers .skipped)))
@@ -321,7 +308,7 @@ unfoldable pub has-pending-data-call : State → Step
 has-pending-data-call s = guard ((6 when breaks-rule s) ∷ []) s (accept s (truth (has-pending-data s)))
 
 unfoldable pub has-receive-continuation : State → Step
-has-receive-continuation s = guard ((6 when breaks-rule s) ∷ []) s (accept s (truth (s .visit .continuation)))
+has-receive-continuation s = guard ((6 when breaks-rule s) ∷ []) s (accept s (truth (is-set (s .visit .continuation))))
 
 -- ---- the stand-in leg: a reading, data and an event
 
@@ -341,7 +328,7 @@ read-leg id field n s =
     (accept (change-member id (on-leg (read-field field n)) s) no-answer)
 
 abbrev pub queue-full : Member → Bool
-queue-full m = leb max-events (length (m .queue))
+queue-full m = leb max-queued (length (m .queue))
 
 abbrev pub enqueue : Event → Member → Member
 enqueue e m = with-queue (m .queue ++ (e ∷ [])) m

@@ -1,5 +1,5 @@
 -- Document 01's cases P1 to P9 as rows of one table, proved by one computed test, and the law that turns the test into each
--- row. Assumes nothing.
+-- row.
 use mathlib.Core.Path.{_≡_, refl}
 use mathlib.Core.Bool.{Bool, true, false, _&&_}
 use mathlib.Core.List.{List, [], _∷_}
@@ -8,10 +8,10 @@ use Prim.Native.Nat.{ℕ, zero, suc, _+_, _-_, _^_}
 use lib.Dec.{eqb}
 use lib.ListN.{length}
 use Rattle.srt_protocol.specs.Sequence.{sequence-before}
-use Rattle.srt_group_model.specs.Tools.{if_then_else_, if-some_give_otherwise_, at-place}
+use Rattle.srt_group_model.specs.Tools.{if_then_else_, if-some_give_otherwise_, bit, at-place}
 use borrow.Author.Tests.{eqb-true}
 use Rattle.srt_group_model.specs.Reason.{All, and-left, and-right, not-both}
-use Rattle.srt_group_model.specs.State.{Member, State, with-members, with-send, active-state, standby-state}
+use Rattle.srt_group_model.specs.State.{Member, State, backup-mode, with-members, with-send, active-state, standby-state}
 use Rattle.srt_group_model.specs.Legs.{moment}
 use Rattle.srt_group_model.specs.Members.{id-of, promotion}
 use Rattle.srt_group_model.specs.Nearest.{nearest}
@@ -22,13 +22,8 @@ use Rattle.srt_group_model.specs.Computed.{definitions}
 use Rattle.srt_group_model.specs.declared.Packet.{Packet}
 use Rattle.srt_group_model.specs.declared.Leg.{Leg}
 use Rattle.srt_group_model.specs.declared.Entry.{Entry}
-use Rattle.srt_group_model.specs.declared.GroupMode.the-variants.{Backup}
 
 -- ---- the things of the cases
-
-unfoldable pub bit : Bool → ℕ
-bit true = 1
-bit false = 0
 
 unfoldable pub held : (sequence count : ℕ) → Packet
 held sequence count =
@@ -89,10 +84,10 @@ taking-over window =
     with-members (joined 2 0 active-state (leg 0 window 0 0) ∷ [])
     (with-send
     record {
-      numbers = record { numbered = true; next = 53; carried = true; carrier = 1; gap = false };
+      numbers = record { numbered = 1; next = 53; carried = 1; carrier = 1; gap = 0 };
       history = entry 50 ∷ entry 51 ∷ entry 52 ∷ [];
     }
-    (new 1073741825 Backup 0))
+    (new 1073741825 backup-mode 0))
 
 -- ---- the table
 
@@ -117,7 +112,7 @@ table =
     ∷ (let passed =
     pass-run (2 ^ 31 - 1) (held (2 ^ 31 - 1) 2)
     record {
-      numbers = record { based = true; base = 2 ^ 31 - 1; skipped = 0 };
+      numbers = record { based = 1; base = 2 ^ 31 - 1; skipped = 0 };
       pending = held 0 1 ∷ held (2 ^ 31 - 1) 2 ∷ [];
     }
     in
@@ -162,7 +157,7 @@ all-hold [] = true
 all-hold (c ∷ cs) = same (c .value) (c .should) && all-hold cs
 
 table-holds : all-hold table ≡ true
-unfolding definitions table all-hold same bit held sequence-or-0 leg joined promoted-id carrier-after entry taking-over
+unfolding definitions table all-hold same held sequence-or-0 leg joined promoted-id carrier-after entry taking-over
 table-holds = refl
 
 same-is-equal : (ms ns : List ℕ) → same ms ns ≡ true → ms ≡ ns

@@ -1,5 +1,4 @@
--- The cells over every call: none is named twice and none lies beyond the store, the cell that a call has taken included. Assumes
--- nothing.
+-- The cells over every call: none is named twice and none lies beyond the store, the cell that a call has taken included.
 use mathlib.Core.Path.{_≡_, refl, sym, ap, subst, _∙_}
 use mathlib.Core.Bool.{Bool, true, false, not}
 use mathlib.Core.List.{List, [], _∷_, _++_}
@@ -90,7 +89,7 @@ unfolding if_then_else_
 chosen-append true x p q r e = ap (λ (l : List Event). x ∷ l) e
 chosen-append false x p q r e = e
 
-data-append : (q r : List Event) → such-that is-data (q ++ r) ≡ such-that is-data q ++ such-that is-data r
+pub data-append : (q r : List Event) → such-that is-data (q ++ r) ≡ such-that is-data q ++ such-that is-data r
 unfolding such-that
 data-append [] r = refl
 data-append (x ∷ q) r = chosen-append (is-data x) x _ _ _ (data-append q r)

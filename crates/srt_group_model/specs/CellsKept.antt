@@ -1,5 +1,5 @@
 -- Cells stay apart over every call: no cell is named twice and none lies beyond the store, so the rules `cell-twice` and
--- `cell-beyond-store` of validity are kept, and a payload is only ever put into a cell that nothing else uses. Assumes nothing.
+-- `cell-beyond-store` of validity are kept, and a payload is only ever put into a cell that nothing else uses.
 use mathlib.Core.Path.{_≡_, refl, sym, ap, ap₂, subst, _∙_}
 use mathlib.Core.Bool.{Bool, true, false, not, _&&_, _||_}
 use mathlib.Core.List.{List, [], _∷_, _++_}

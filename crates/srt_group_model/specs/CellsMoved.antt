@@ -1,5 +1,5 @@
 -- Which cells each step of a call takes and frees, exactly: what a table of the cells in use follows, where it is kept from call
--- to call and not made anew. CellsKept and CellsCalls bound the same counts from above. Assumes nothing.
+-- to call and not made anew. CellsKept and CellsCalls bound the same counts from above.
 use mathlib.Core.Path.{_≡_, refl, sym, ap, ap₂, _∙_}
 use mathlib.Core.Bool.{Bool, true, false, not}
 use mathlib.Core.List.{List, [], _∷_, _++_}
@@ -231,7 +231,7 @@ admit-keeps : (r : Run) → Keeps (r .state) (admit-connected-peer-groups r .sta
 unfolding admit-connected-peer-groups occurs
 admit-keeps r =
     let parts = set-base-parts (base-after none (r .state .members)) r in
-    let peer = peer-after (r .state .identity .peer) (r .state .members) in
+    let peer = peer-after (r .state .peer) (r .state .members) in
     let carried = all-carried-relabelled (r .state .members) (each (admit-peer-group peer) (r .state .members)) (admit-all-carried peer (r .state .members)) in
     parts-move [] [] (r .state) (admit-connected-peer-groups r .state)
     (λ n.

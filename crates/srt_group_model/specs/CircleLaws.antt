@@ -1,4 +1,4 @@
--- A law of the circle that two proofs share, for a circle of any width. Assumes nothing.
+-- A law of the circle that two proofs share, for a circle of any width.
 use mathlib.Core.Path.{_≡_}
 use mathlib.Core.Logic.{_⊎_, inl, inr}
 use Prim.Native.Nat.{ℕ, _+_, _-_, _≤_, _<_}

@@ -1,5 +1,5 @@
 -- Collecting from the legs, in turn: `collect_one_event`, `collect_member_event`, `retain_group_packet`, and the two loops of
--- visits. Document 01, "Polling" and "A collected packet is discarded". Assumes nothing.
+-- visits. Document 01, "Polling" and "A collected packet is discarded".
 use mathlib.Core.Bool.{Bool, true, false, not, _&&_, _||_}
 use mathlib.Core.List.{List, [], _∷_, _++_}
 use mathlib.Core.Option.{Option, some}
@@ -7,7 +7,7 @@ use Prim.Native.Nat.{ℕ, zero, suc, _+_, _-_, _%_}
 use lib.Dec.{leb, eqb}
 use lib.ListN.{length, drop}
 use Rattle.srt_protocol.specs.Sequence.{sequence-before}
-use Rattle.srt_group_model.specs.Tools.{if_then_else_, if-some_give_otherwise_, is-empty, place-of, at-place, change}
+use Rattle.srt_group_model.specs.Tools.{if_then_else_, if-some_give_otherwise_, is-set, is-empty, place-of, at-place, change}
 use Rattle.srt_group_model.specs.State.{Member, Receive, State, is-backup, next-receive-sequence, with-receive, with-members, with-waiting, with-pending, with-continuation, with-round, on-leg, with-queue, on-membership, turned, with-reserved, broken-state}
 use Rattle.srt_group_model.specs.Legs.{release-data-reservation}
 use Rattle.srt_group_model.specs.Members.{id-of, promote-backup-member}
@@ -47,7 +47,7 @@ report-event i w s =
     (if leb 2 (w .kind)
     then
     (let broken = change i (turned broken-state) ms in
-    if is-backup (s .identity .mode) then promote-backup-member broken else broken)
+    if is-backup (s .mode) then promote-backup-member broken else broken)
     else ms)
     s)
 
@@ -70,9 +70,9 @@ in-turn round ms =
 abbrev pub front : List Event → Option Event
 front = at-place 0
 
--- whether an event was collected, and the call so far
+-- whether an event was taken off a queue, and the call so far
 pub record Visited : Type 0 where
-  pub went : Bool
+  pub took : Bool
   pub run : Run
 
 unfoldable pub take-front : ℕ → Member → Run → Visited
@@ -82,10 +82,10 @@ take-front i m r =
     (λ e.
     let next = with-round (suc i % length (r .state .members)) (r .state) in
     if eqb (r .budget) 0
-    then record { went = false; run = record { state = with-continuation true next; log = r .log; budget = 0 } }
+    then record { took = false; run = record { state = with-continuation true next; log = r .log; budget = 0 } }
     else
     record {
-      went = true;
+      took = true;
       run =
           collect-member-event i (id-of m) e
           record {
@@ -94,7 +94,7 @@ take-front i m r =
             budget = r .budget;
           };
     })
-    otherwise record { went = false; run = r }
+    otherwise record { took = false; run = r }
 
 -- One event of the legs, in turn. With the budget spent and an event in front: nothing, and the continuation is asked for.
 unfoldable pub collect-one-event : Run → Visited
@@ -102,16 +102,16 @@ collect-one-event r =
     if-some in-turn (r .state .visit .round) (r .state .members)
     give
     (λ i.
-    if-some at-place i (r .state .members) give (λ m. take-front i m r) otherwise record { went = false; run = r })
-    otherwise record { went = false; run = r }
+    if-some at-place i (r .state .members) give (λ m. take-front i m r) otherwise record { took = false; run = r })
+    otherwise record { took = false; run = r }
 
 -- the continuation is asked for as well
 abbrev pub or-continue : Bool → Run → Run
-or-continue b = on-state (λ s. with-continuation (s .visit .continuation || b) s)
+or-continue b = on-state (λ s. with-continuation (is-set (s .visit .continuation) || b) s)
 
 -- a packet is held, an event waits, or the continuation is asked for
 unfoldable pub has-pending-data : State → Bool
-has-pending-data s = not (is-empty (s .receive .pending)) || (not (is-empty (s .waiting)) || s .visit .continuation)
+has-pending-data s = not (is-empty (s .receive .pending)) || (not (is-empty (s .waiting)) || is-set (s .visit .continuation))
 
 -- Visits until there is something to give or no event is left, at most so many; none while an event waits. After the last of
 -- them with nothing held the continuation is asked for.
@@ -122,16 +122,21 @@ collect-until-held (suc visits) r =
     let more = or-continue (eqb visits 0 && is-empty (c .run .state .receive .pending)) (c .run) in
     let later = collect-until-held visits more in
     if not (is-empty (r .state .waiting)) then r
-    else (if not (c .went) then c .run else (if has-pending-data (more .state) then more else later))
+    else (if not (c .took) then c .run else (if has-pending-data (more .state) then more else later))
 
--- Visits until the sequence is held, the continuation is asked for or every queue is empty, at most so many. `went` says
--- that they ended empty: only then is a gap skipped.
-unfoldable pub collect-until-empty : ℕ → ℕ → Run → Visited
+-- whether the queues ended empty, and the call so far
+pub record Emptied : Type 0 where
+  pub emptied : Bool
+  pub run : Run
+
+-- Visits until the sequence is held, the continuation is asked for or every queue is empty, at most so many. Only where the
+-- queues ended empty is a gap skipped.
+unfoldable pub collect-until-empty : ℕ → ℕ → Run → Emptied
 collect-until-empty zero sequence r =
-    record { went = false; run = or-continue (not (is-held sequence (r .state .receive .pending))) r }
+    record { emptied = false; run = or-continue (not (is-held sequence (r .state .receive .pending))) r }
 collect-until-empty (suc visits) sequence r =
     let c = collect-one-event r in
     let later = collect-until-empty visits sequence (c .run) in
-    if r .state .visit .continuation || is-held sequence (r .state .receive .pending)
-    then record { went = false; run = r }
-    else (if c .went then later else record { went = not (c .run .state .visit .continuation); run = c .run })
+    if is-set (r .state .visit .continuation) || is-held sequence (r .state .receive .pending)
+    then record { emptied = false; run = r }
+    else (if c .took then later else record { emptied = not (is-set (c .run .state .visit .continuation)); run = c .run })

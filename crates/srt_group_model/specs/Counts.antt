@@ -1,5 +1,5 @@
 -- Counts stay at their limits: at most 64 events wait, since none is collected while one waits, and held packets are at most as
--- many as there are cells. Assumes nothing.
+-- many as there are cells.
 use mathlib.Core.Path.{_≡_, refl, sym, ap, _∙_}
 use mathlib.Core.Bool.{Bool, true, false, _||_}
 use mathlib.Core.List.{List, [], _∷_, _++_}
@@ -8,7 +8,7 @@ use Prim.Native.Nat.{ℕ, zero, suc, _+_, _≤_, _<_}
 use native.Mathlib.Omega.{arith}
 use borrow.Author.Tests.{eqb-true, eqb-false, leb-false}
 use lib.Dec.{leb, eqb}
-use lib.ListN.{length, length-append, drop}
+use lib.ListN.{length, length-append}
 use Rattle.srt_group_model.specs.Tools.{any, each}
 use Rattle.srt_group_model.specs.Reason.{by-test, or-left, or-right}
 use Rattle.srt_group_model.specs.State.{State}
@@ -21,6 +21,7 @@ use Rattle.srt_group_model.specs.CallLaw.{Poll-law, Call-law}
 use Rattle.srt_group_model.specs.EveryCall.{call-keeps}
 use Rattle.srt_group_model.specs.MemberMoves.{deliver-frame}
 use Rattle.srt_group_model.specs.CellsKept.{one, occurs, one-same, one-other, room-most, Apart, inside-of-apart, pending-cells, uses-used}
+use Rattle.srt_group_model.specs.RangesKept.{drop-short}
 use Rattle.srt_group_model.specs.declared.Packet.{Packet}
 use Rattle.srt_group_model.specs.declared.Waiting.{Waiting}
 
@@ -65,7 +66,7 @@ pub apart-few : (cells : ℕ) (l : List ℕ) → Apart cells l → length l ≤ 
 apart-few cells l h =
     omega (arith, spread-all cells l (inside-of-apart cells l h), spread-most cells l (λ n. omega (arith, h n, room-most cells n)))
 
-pending-length : (ps : List Packet) → length (pending-cells ps) ≡ length ps
+pub pending-length : (ps : List Packet) → length (pending-cells ps) ≡ length ps
 unfolding each
 pending-length [] = refl
 pending-length (p ∷ ps) = ap suc (pending-length ps)
@@ -80,10 +81,6 @@ pending-few cells s h =
 abbrev Few : State → Type 0
 Few s = length (s .waiting) ≤ max-waiting
 
-shorter : {A : Type 0} (l : List A) → length (drop 1 l) ≤ length l
-shorter [] = omega arith
-shorter (x ∷ l) = omega arith
-
 waiting-polls : Poll-law (λ hand s log. Few s)
 waiting-polls =
     record {
@@ -95,7 +92,7 @@ waiting-polls =
       discards = λ s i m e f d g h. h;
       holds = λ s i m e f d g h. h;
       reports = λ s i m e f d few h. omega (arith, few, length-append (s .waiting) (record { member = id-of m; kind = e .kind; reason = e .reason } ∷ []));
-      gives = λ s h. omega (arith, h, shorter (s .waiting));
+      gives = λ s h. omega (arith, h, drop-short (s .waiting));
       skips = λ s base p tested time b n near h. h;
       delivers = λ s base p b e h. omega (arith, h, ap (λ (l : List Waiting). length l) (deliver-frame base p s .waiting));
     }

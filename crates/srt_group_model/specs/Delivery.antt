@@ -1,19 +1,18 @@
 -- The give-up test, delivery and the skip: `gap_given_up`, `release_pending_reservation`, `advance_member_receive_prefix`,
--- `skip_given_up_gap`; document 01, "Delivery moves the base past the whole run" and "Skip". Assumes nothing.
+-- `skip_given_up_gap`; document 01, "Delivery moves the base past the whole run" and "Skip".
 use mathlib.Core.Bool.{Bool, true, false, not, _||_}
 use mathlib.Core.List.{List, [], _∷_}
 use Prim.Native.Nat.{ℕ, _+_, _-_, min}
 use lib.Dec.{leb, eqb}
 use lib.ListN.{drop}
-use Rattle.srt_protocol.specs.Time.{last-moment}
 use Rattle.srt_protocol.specs.Sequence.{sequence-distance, sequence-further}
-use Rattle.srt_group_model.specs.Tools.{if_then_else_, if-some_give_otherwise_, or-else, is-empty, all, first-such, at-place, change, each}
+use Rattle.srt_group_model.specs.Tools.{if_then_else_, if-some_give_otherwise_, is-set, or-else, is-empty, all, first-such, at-place, change, each}
 use Rattle.srt_group_model.specs.State.{Member, Receive, State, with-receive, with-owned, with-members, with-waiting, with-base, with-pending, on-leg, on-membership, with-reserved}
-use Rattle.srt_group_model.specs.Legs.{is-disconnected, gives-up-at, release-data-reservation, advance-receive-sequence}
+use Rattle.srt_group_model.specs.Legs.{is-disconnected, gives-up-at, release-data-reservation, advance-receive-sequence, largest-64}
 use Rattle.srt_group_model.specs.Members.{has-id, find}
 use Rattle.srt_group_model.specs.Nearest.{sequence-of, is-held, held-at, nearest, covered, not-covered}
 use Rattle.srt_group_model.specs.Run.{Run, on-state, marking, gap-skipped, delivered}
-use Rattle.srt_group_model.specs.Collecting.{Visited, collect-until-empty}
+use Rattle.srt_group_model.specs.Collecting.{Emptied, collect-until-empty}
 use Rattle.srt_group_model.specs.declared.Packet.{Packet}
 use Rattle.srt_group_model.specs.declared.Waiting.{Waiting}
 
@@ -98,7 +97,7 @@ unfoldable pub skip-to : ℕ → ℕ → Receive → Receive
 skip-to base next x =
     record {
       numbers =
-          record { based = true; base = next; skipped = min (x .numbers .skipped + sequence-distance base next) last-moment };
+          record { based = 1; base = next; skipped = min (x .numbers .skipped + sequence-distance base next) largest-64 };
       pending = x .pending;
     }
 
@@ -111,12 +110,12 @@ give-waiting r =
 
 -- The queues were collected after the give-up test was true of `tested`: the gap is skipped if they ended empty, no event
 -- waits, and the base is still not held. The test is not repeated.
-unfoldable pub skip-after : ℕ → State → ℕ → Visited → Poll
+unfoldable pub skip-after : ℕ → State → ℕ → Emptied → Poll
 skip-after time tested base c =
     if not (is-empty (c .run .state .waiting))
     then give-waiting (c .run)
     else
-    (if c .went
+    (if c .emptied
     then
     (if-some nearest (c .run .state .receive .pending)
     give
@@ -133,6 +132,6 @@ max-visits = 64
 unfoldable pub skip-given-up-gap : ℕ → ℕ → Run → Poll
 skip-given-up-gap time base r =
     let s = r .state in
-    if is-held base (s .receive .pending) || (s .visit .continuation || not (gap-given-up time s))
+    if is-held base (s .receive .pending) || (is-set (s .visit .continuation) || not (gap-given-up time s))
     then deliver base r
     else skip-after time s base (collect-until-empty max-visits base r)

@@ -1,4 +1,4 @@
--- The one walk over every call: what each move of CallLaw keeps, every call keeps. Assumes nothing.
+-- The one walk over every call: what each move of CallLaw keeps, every call keeps.
 use mathlib.Core.Path.{_≡_, refl, sym, ap, subst, _∙_}
 use mathlib.Core.Bool.{Bool, true, false, not, _&&_, _||_}
 use mathlib.Core.List.{List, [], _∷_, _++_, append-assoc}
@@ -16,8 +16,9 @@ use Rattle.srt_group_model.specs.State.{Member, Receive, Send, State, is
 use Rattle.srt_group_model.specs.Legs.{largest-16, largest-32, largest-64, handed, goes-back, is-connected, can-send, disconnect-leg, peer-initial-sequence, send-shared-with-sequence, synchronize-send-sequence, release-data-reservation}
 use Rattle.srt_group_model.specs.Members.{id-of, has-id, find, in-state, is-active, is-standby, promotion, promote-backup-member, promote-if-none, arrives, base-after, peer-after, admit-peer-group, align-member-sequence, steps-from, turn-aligned, settle, requalify, settle-members, break-disconnected, requalify-members}
 use Rattle.srt_group_model.specs.Nearest.{sequence-of, nearest}
+use Rattle.srt_group_model.specs.Arrivals.{base-after-elim, peer-after-elim}
 use Rattle.srt_group_model.specs.Run.{Mark, put, base-set, collected, Run, start, set-base, admit-connected-peer-groups, refresh-pending-states, refresh-states}
-use Rattle.srt_group_model.specs.Collecting.{is-discarded, retain-group-packet, report-event, collect-member-event, front, Visited, take-front, collect-one-event, collect-until-held, collect-until-empty}
+use Rattle.srt_group_model.specs.Collecting.{is-discarded, retain-group-packet, report-event, collect-member-event, front, Visited, take-front, collect-one-event, collect-until-held, Emptied, collect-until-empty}
 use Rattle.srt_group_model.specs.Delivery.{Polled, nothing, event, packet, Poll, deliver, skip-to, give-waiting, skip-after, max-visits, skip-given-up-gap}
 use Rattle.srt_group_model.specs.Polls.{deliver-next, poll-event, DataPoll, pass-events, poll-until-data, poll-data-bounded}
 use Rattle.srt_group_model.specs.Removal.{retire, bound-group-owned-pending, take-out, remove-member-at}
@@ -25,11 +26,11 @@ use Rattle.srt_group_model.specs.Sending.{Flow, goes-on, ends-with, _and
 use Rattle.srt_group_model.specs.Backup.{demote-stale-backup-carrier, trim-by-carrier, append-history, record-backup-send, Replayed, replay-entries, put-leg, replay-on, replay-flight, align-carrier, take-over-backup-flight, send-own, send-after-promotion, send-at-place, send-backup}
 use Rattle.srt_group_model.specs.Validity.{above, max-members, max-waiting, leg-out-of-range, leg-sequence-too-large}
 use Rattle.srt_group_model.specs.Guards.{Step, Check, guard}
-use Rattle.srt_group_model.specs.Calls.{breaks-rule, of-member, change-member, no-free-cell, taken-cell, new-member, add-body, add-member, mark-member-broken, remove-body, remove-member-connection, member, refresh-member-states, disconnect, event-poll-body, poll-event-call, data-poll-body, poll-data-call, left-by-send, send-flow, send-body, send, can-send-body, can-send-call, can-send-with-pacing-body, can-send-with-pacing-call}
-use Rattle.srt_group_model.specs.Calls.{time-until-send, backup-stability-timeout-micros, group-id, members-call, mode, peer-group-id, skipped-receive-packets, has-pending-data-call, has-receive-continuation, reading-out-of-range, read-leg, queue-full, data-unfit, queue-data-body, queue-data, queue-event}
-use Rattle.srt_group_model.specs.Lent.{Lent, Call, addition, broken-mark, removal, member-look, refreshing, disconnection, event-poll, data-poll, sending, readiness, paced-readiness, send-wait, stability, group-look, members-look, mode-look, peer-look, skipped-look, pending-look, continuation-look, reading, queued-data, queued-event, with-bytes, step-of, perform}
-use Rattle.srt_group_model.specs.Refusals.{guard-elim, guard-passed}
-use Rattle.srt_group_model.specs.Frame.{Kept, align-kept, promotion-standby, not-broken, place-passes, active-not-broken, Active-at, first-active-at, take-over-framed, take-over-active}
+use Rattle.srt_group_model.specs.Calls.{breaks-rule, of-member, change-member, no-free-cell, taken-cell, new-member, add-body, add-member, mark-member-broken, remove-body, remove-member-connection, refresh-member-states, disconnect, event-poll-body, poll-event-call, data-poll-body, poll-data-call, left-by-send, send-flow, send-body, send, can-send-body, can-send-call, can-send-with-pacing-body, can-send-with-pacing-call}
+use Rattle.srt_group_model.specs.Calls.{reading-out-of-range, read-leg, queue-full, data-unfit, queue-data-body, queue-data, queue-event}
+use Rattle.srt_group_model.specs.Lent.{Lent, Call, call-add-member, call-mark-member-broken, call-remove-member-connection, call-refresh-member-states, call-disconnect, call-poll-event, call-poll-data-bounded, call-send, call-can-send, call-can-send-with-pacing, call-look, call-read-leg, call-queue-data, call-queue-event, with-bytes, step-of, perform}
+use Rattle.srt_group_model.specs.Refusals.{guard-elim, guard-passed, look-elim}
+use Rattle.srt_group_model.specs.Frame.{Kept, align-kept, promotion-standby, not-broken, place-passes, active-not-broken, Active-at, first-active-at, take-over-framed, take-over-active, found-stands}
 use Rattle.srt_group_model.specs.Moves.{At-base, Not-held, until-empty-base, until-empty-not-held, skip-base, set-base-base}
 use Rattle.srt_group_model.specs.Queues.{pop, packet-of}
 use Rattle.srt_group_model.specs.Waits.{waits, Few-wait, none-waits, collect-one-waits, refresh-waits}
@@ -40,7 +41,6 @@ use Rattle.srt_group_model.specs.declared.Entry.{Entry}
 use Rattle.srt_group_model.specs.declared.Packet.{Packet}
 use Rattle.srt_group_model.specs.declared.Leg.{Leg}
 use Rattle.srt_group_model.specs.declared.Membership.{Membership}
-use Rattle.srt_group_model.specs.declared.GroupMode.{GroupMode}
 
 -- ---- places of a list
 
@@ -77,25 +77,6 @@ change-end : (f : Member → Member) (done : List Member) (m : Member) (rest : L
 unfolding change
 change-end f [] m rest = refl
 change-end f (x ∷ done) m rest = ap (λ (l : List Member). x ∷ l) (change-end f done m rest)
-
--- where the base and the peer of a refresh come from
-base-after-elim : (Q : Option ℕ → Type 0) (base : Option ℕ) (ms : List Member) → Q base
-    → ((i : ℕ) (m : Member) → at-place i ms ≡ some m → arrives m ≡ true → Q (peer-initial-sequence (m .leg))) → Q (base-after base ms)
-unfolding base-after at-place or-else
-base-after-elim Q base [] h g = h
-base-after-elim Q base (m ∷ ms) h g =
-    base-after-elim Q _ ms (if-elim Q _ _ _ (λ e. either base (peer-initial-sequence (m .leg)) h (g 0 m refl e)) (λ e. h)) (λ i x at a. g (suc i) x at a)
-  where
-    either : (a b : Option ℕ) → Q a → Q b → Q (or-else a b)
-    either none b f k = k
-    either (some x) b f k = f
-
-peer-after-elim : (Q : ℕ → Type 0) (peer : ℕ) (ms : List Member) → Q peer
-    → ((n i : ℕ) (m : Member) → at-place i ms ≡ some m → arrives m ≡ true → Q n → Q (m .leg .link .peer)) → Q (peer-after peer ms)
-unfolding peer-after at-place
-peer-after-elim Q peer [] h g = h
-peer-after-elim Q peer (m ∷ ms) h g =
-    peer-after-elim Q _ ms (if-elim Q _ _ _ (λ e. g peer 0 m refl (and-left (arrives m) _ e) h) (λ e. h)) (λ n i x at a k. g n (suc i) x at a k)
 
 -- ---- the member that a call names
 
@@ -150,13 +131,13 @@ set-base-send o r =
     if-some-elim (λ (x : Run). x .state .send ≡ r .state .send) _ _ _ (λ b e. refl)
     (λ e. if-some-elim (λ (x : Run). x .state .send ≡ r .state .send) _ _ _ (λ b g. refl) (λ g. refl))
 
-refresh-mode : (r : Run) → refresh-states r .state .identity .mode ≡ r .state .identity .mode
+refresh-mode : (r : Run) → refresh-states r .state .mode ≡ r .state .mode
 unfolding refresh-states refresh-pending-states admit-connected-peer-groups set-base
 refresh-mode r =
-    if-some-elim (λ (q : Run). q .state .identity .mode ≡ r .state .identity .mode) (next-receive-sequence (r .state .receive)) _ _ (λ b e. refl)
-    (λ e. if-some-elim (λ (q : Run). q .state .identity .mode ≡ r .state .identity .mode) (base-after none (r .state .members)) _ _ (λ b e. refl) (λ e. refl))
+    if-some-elim (λ (q : Run). q .state .mode ≡ r .state .mode) (next-receive-sequence (r .state .receive)) _ _ (λ b e. refl)
+    (λ e. if-some-elim (λ (q : Run). q .state .mode ≡ r .state .mode) (base-after none (r .state .members)) _ _ (λ b e. refl) (λ e. refl))
 
-admission-move : (s : State) (m : Member) → Member-move s m (admit-peer-group (s .identity .peer) m)
+admission-move : (s : State) (m : Member) → Member-move s m (admit-peer-group (s .peer) m)
 unfolding admit-peer-group
 admission-move s m =
     if-elim (Member-move s m) _ _ _ (λ e. if-elim (Member-move s m) _ _ _ (λ g. admission e) (λ g. colliding e)) (λ e. unmoved)
@@ -191,7 +172,7 @@ module _ (P : Option ℕ → State → List Mark → Type 0) (law : Poll-law P) 
         (λ m at. turn active-state (omega arith) (λ b. not-both b (not-broken m standby-state (and-left _ _ (promotion-standby ms i e m at)) refl))) h)
         (λ e. h)
 
-    promotes-if-none : (mode : GroupMode) (ms : List Member) → Having ms → Having (promote-if-none mode ms)
+    promotes-if-none : (mode : ℕ) (ms : List Member) → Having ms → Having (promote-if-none mode ms)
     unfolding promote-if-none
     promotes-if-none mode ms h = if-elim Having _ _ _ (λ e. promotes ms h) (λ e. h)
 
@@ -234,7 +215,7 @@ module _ (P : Option ℕ → State → List Mark → Type 0) (law : Poll-law P) 
     steps step g zero i ms h = h
     steps step g (suc k) i ms h = steps step g k (suc i) (step i ms) (g i ms h)
 
-    pub settles : (mode : GroupMode) (ms : List Member) → Having ms → Having (settle-members mode (next-send-sequence (s .send)) ms)
+    pub settles : (mode : ℕ) (ms : List Member) → Having ms → Having (settle-members mode (next-send-sequence (s .send)) ms)
     unfolding settle-members settle
     settles mode ms h =
         promotes-if-none mode _
@@ -243,7 +224,7 @@ module _ (P : Option ℕ → State → List Mark → Type 0) (law : Poll-law P) 
         (λ ns. if-elim (λ (n : ℕ). n ≤ 4) _ _ _ (λ e. omega arith) (λ e. omega arith)))
         (length ms) 0 ms h)
 
-    pub requalifies : (mode : GroupMode) (ms : List Member) → Having ms → Having (requalify-members mode (next-send-sequence (s .send)) ms)
+    pub requalifies : (mode : ℕ) (ms : List Member) → Having ms → Having (requalify-members mode (next-send-sequence (s .send)) ms)
     unfolding requalify-members requalify break-disconnected
     requalifies mode ms h =
         promotes-if-none mode _
@@ -256,15 +237,15 @@ module _ (P : Option ℕ → State → List Mark → Type 0) (law : Poll-law P) 
 
   -- ---- the refresh
 
-  binds-all : (hand : Option ℕ) (log : List Mark) (s : State) → P hand s log → P hand (with-peer (peer-after (s .identity .peer) (s .members)) s) log
+  binds-all : (hand : Option ℕ) (log : List Mark) (s : State) → P hand s log → P hand (with-peer (peer-after (s .peer) (s .members)) s) log
   binds-all hand log s h =
-      peer-after-elim (λ (n : ℕ). P hand (with-peer n s) log) (s .identity .peer) (s .members) h
+      peer-after-elim (λ (n : ℕ). P hand (with-peer n s) log) (s .peer) (s .members) h
       (λ n i m at a k. law .binds (with-peer n s) i m at a k)
 
   admits : (hand : Option ℕ) (log : List Mark) (s : State) → P hand s log
-      → P hand (with-peer (peer-after (s .identity .peer) (s .members)) (with-members (each (admit-peer-group (peer-after (s .identity .peer) (s .members))) (s .members)) s)) log
+      → P hand (with-peer (peer-after (s .peer) (s .members)) (with-members (each (admit-peer-group (peer-after (s .peer) (s .members))) (s .members)) s)) log
   admits hand log s h =
-      let peer = peer-after (s .identity .peer) (s .members) in
+      let peer = peer-after (s .peer) (s .members) in
       moves-each hand log (with-peer peer s) (admit-peer-group peer) (λ ms m. admission-move (with-members ms (with-peer peer s)) m) [] (s .members)
       (binds-all hand log s h)
 
@@ -279,7 +260,7 @@ module _ (P : Option ℕ → State → List Mark → Type 0) (law : Poll-law P) 
   unfolding admit-connected-peer-groups set-base
   admits-all hand r h =
       let s = r .state in
-      let peer = peer-after (s .identity .peer) (s .members) in
+      let peer = peer-after (s .peer) (s .members) in
       let Admitted : Run → Type 0 = λ x. P hand (with-peer peer (with-members (each (admit-peer-group peer) (s .members)) (x .state))) (x .log) in
       if-some-elim Admitted _ _ _ (λ b e. admits hand (r .log) s h)
       (λ e.
@@ -290,12 +271,12 @@ module _ (P : Option ℕ → State → List Mark → Type 0) (law : Poll-law P) 
   pub refreshes-pending : (hand : Option ℕ) (r : Run) → Has hand r → Has hand (refresh-pending-states r)
   unfolding refresh-pending-states
   refreshes-pending hand r h =
-      let a = admit-connected-peer-groups r in settles hand (a .log) (a .state) (a .state .identity .mode) (a .state .members) (admits-all hand r h)
+      let a = admit-connected-peer-groups r in settles hand (a .log) (a .state) (a .state .mode) (a .state .members) (admits-all hand r h)
 
   pub refreshes : (hand : Option ℕ) (r : Run) → Has hand r → Has hand (refresh-states r)
   unfolding refresh-states
   refreshes hand r h =
-      let a = refresh-pending-states r in requalifies hand (a .log) (a .state) (a .state .identity .mode) (a .state .members) (refreshes-pending hand r h)
+      let a = refresh-pending-states r in requalifies hand (a .log) (a .state) (a .state .mode) (a .state .members) (refreshes-pending hand r h)
 
   -- ---- collecting
 
@@ -361,9 +342,9 @@ module _ (P : Option ℕ → State → List Mark → Type 0) (law : Poll-law P) 
   collects-until-empty hand zero sequence r few h = law .continues (r .state) _ h
   collects-until-empty hand (suc n) sequence r few h =
       let one = collects-one hand r (omega (arith, few)) h in
-      if-elim (λ (v : Visited). Has hand (v .run)) _ _ _ (λ e. h)
+      if-elim (λ (v : Emptied). Has hand (v .run)) _ _ _ (λ e. h)
       (λ e.
-      if-elim (λ (v : Visited). Has hand (v .run)) _ _ _ (λ g. collects-until-empty hand n sequence _ (omega (arith, few, collect-one-waits r)) one) (λ g. one))
+      if-elim (λ (v : Emptied). Has hand (v .run)) _ _ _ (λ g. collects-until-empty hand n sequence _ (omega (arith, few, collect-one-waits r)) one) (λ g. one))
 
   -- ---- delivery, the skip and the polls
 
@@ -376,7 +357,7 @@ module _ (P : Option ℕ → State → List Mark → Type 0) (law : Poll-law P) 
   unfolding give-waiting
   gives-first hand r h = if-some-elim (λ (q : Poll). Has hand (q .run)) _ _ _ (λ w g. law .gives (r .state) h) (λ g. h)
 
-  skips-after : (hand : Option ℕ) (time : ℕ) (tested : State) (base : ℕ) (c : Visited) → At-base base (c .run) → Not-held base c → Has hand (c .run)
+  skips-after : (hand : Option ℕ) (time : ℕ) (tested : State) (base : ℕ) (c : Emptied) → At-base base (c .run) → Not-held base c → Has hand (c .run)
       → Has hand (skip-after time tested base c .run)
   unfolding skip-after
   skips-after hand time tested base c b n h =
@@ -456,7 +437,7 @@ module _ (c : Call) (cells : ℕ) (P : Option ℕ → State → List Mark → Ty
         h)
         (λ g. h)
 
-    pub demotes-and-promotes : (time : ℕ) (mode : GroupMode) (s : State) → P hand s log
+    pub demotes-and-promotes : (time : ℕ) (mode : ℕ) (s : State) → P hand s log
         → P hand (with-members (promote-if-none mode (demote-stale-backup-carrier time (s .members))) s) log
     demotes-and-promotes time mode s h = promotes-if-none P (law .polling) hand log s mode _ (demotes time s h)
 
@@ -600,8 +581,8 @@ module _ (c : Call) (cells : ℕ) (P : Option ℕ → State → List Mark → Ty
     sends-backup : (s : State) → P (some cell) s log → Ended (send-backup time (length payload) cell s)
     unfolding send-backup
     sends-backup s h =
-        let ready : State = with-members (promote-if-none (s .identity .mode) (demote-stale-backup-carrier time (s .members))) s in
-        let begun : P (some cell) ready log = demotes-and-promotes (some cell) log time (s .identity .mode) s h in
+        let ready : State = with-members (promote-if-none (s .mode) (demote-stale-backup-carrier time (s .members))) s in
+        let begun : P (some cell) ready log = demotes-and-promotes (some cell) log time (s .mode) s h in
         if-some-elim Ended _ _ _
         (λ i g.
         then-ends (take-over-backup-flight time i ready) (send-at-place time (length payload) cell i) (takes-over-flight (some cell) log time fits i ready begun)
@@ -615,9 +596,9 @@ module _ (c : Call) (cells : ℕ) (P : Option ℕ → State → List Mark → Ty
 
   -- the last member, once it stands there
   module _ (log : List Mark) (t : State) (i : ℕ) (m : Member) (at : at-place i (t .members) ≡ some m) where
-    binds-one : P none t log → P none (with-peer (peer-after (t .identity .peer) (m ∷ [])) t) log
+    binds-one : P none t log → P none (with-peer (peer-after (t .peer) (m ∷ [])) t) log
     binds-one h =
-        peer-after-elim (λ (n : ℕ). P none (with-peer n t) log) (t .identity .peer) (m ∷ []) h
+        peer-after-elim (λ (n : ℕ). P none (with-peer n t) log) (t .peer) (m ∷ []) h
         (λ n k x there a q.
         let same = one-place m x k there in
         subst (λ (y : Member). P none (with-peer (y .leg .link .peer) t) log) same (law .polling .binds (with-peer n t) i m at (ap arrives same ∙ a) q))
@@ -628,17 +609,17 @@ module _ (c : Call) (cells : ℕ) (P : Option ℕ → State → List Mark → Ty
         (λ k x there a e.
         let same = one-place m x k there in first-of i m at (ap arrives same ∙ a) (ap (λ (y : Member). peer-initial-sequence (y .leg)) same ∙ e))
 
-    admits-one : P none t log → let peer = peer-after (t .identity .peer) (m ∷ []) in P none (with-peer peer (with-members (change i (admit-peer-group peer) (t .members)) t)) log
+    admits-one : P none t log → let peer = peer-after (t .peer) (m ∷ []) in P none (with-peer peer (with-members (change i (admit-peer-group peer) (t .members)) t)) log
     admits-one h =
-        let peer = peer-after (t .identity .peer) (m ∷ []) in
+        let peer = peer-after (t .peer) (m ∷ []) in
         law .polling .moves (with-peer peer t) i m (admit-peer-group peer) at (admission-move (with-peer peer t) m) (binds-one h)
 
-  adds : (id weight : ℕ) (l : Leg) (queue : List Event) (s : State) → c ≡ addition id weight l queue → Joining id weight l s → P none s [] → Keeps (add-body id weight l s)
+  adds : (id weight : ℕ) (l : Leg) (queue : List Event) (s : State) → c ≡ call-add-member id weight l queue → Joining id weight l s → P none s [] → Keeps (add-body id weight l s)
   unfolding add-body set-base
   adds id weight l queue s is j h =
       let m = new-member id weight (handed l) s in
       let i = length (s .members) in
-      let peer = peer-after (s .identity .peer) (m ∷ []) in
+      let peer = peer-after (s .peer) (m ∷ []) in
       let joined : State = with-members (s .members ++ (m ∷ [])) s in
       let begun = law .joins s id weight l queue is j h in
       let Added : Run → Type 0 = λ x. P none (with-peer peer (with-members (s .members ++ (admit-peer-group peer m ∷ [])) (x .state))) (x .log) in
@@ -674,11 +655,16 @@ module _ (c : Call) (cells : ℕ) (P : Option ℕ → State → List Mark → Ty
       (λ p e. if-elim (λ (t : State). P none t log) _ _ _ (λ g. h) (λ g. retires-all log left limit base (retire p s) (law .retires s base p e h)))
       (λ e. h)
 
-  removes : (id : ℕ) (s : State) → c ≡ removal id → P none s [] → Keeps (remove-body id s)
+  removes : (id : ℕ) (s : State) → c ≡ call-remove-member-connection id → P none s [] → Keeps (remove-body id s)
   unfolding remove-body remove-member-at
   removes id s is h =
       if-some-elim Keeps _ _ _
-      (λ i e. if-some-elim Keeps _ _ _ (λ m at. retires-all [] _ _ _ (take-out i m s) (law .leaves s i m (is ∙ ap (λ (k : ℕ). removal k) (sym (eqb-true (id-of m) id (place-passes (has-id id) (s .members) i e m at)))) at h)) (λ at. h)) (λ e. h)
+      (λ f e.
+      let there = found-stands (has-id id) (s .members) f e in
+      retires-all [] _ _ _ (take-out (f .place) (f .member) s)
+      (law .leaves s (f .place) (f .member)
+      (is ∙ ap (λ (k : ℕ). call-remove-member-connection k) (sym (eqb-true (id-of (f .member)) id (there .is)))) (there .at) h))
+      (λ e. h)
 
   reads-ready : (s : State) → P none s [] → Keeps (can-send-body s)
   unfolding can-send-body
@@ -690,16 +676,16 @@ module _ (c : Call) (cells : ℕ) (P : Option ℕ → State → List Mark → Ty
   unfolding can-send-with-pacing-body
   reads-paced-ready time s h =
       let fresh = refreshes P (law .polling) none (start s) h in
-      if-elim Keeps _ _ _ (λ e. trims-by-carrier none _ _ (demotes-and-promotes none _ time (s .identity .mode) _ fresh)) (λ e. fresh)
+      if-elim Keeps _ _ _ (λ e. trims-by-carrier none _ _ (demotes-and-promotes none _ time (s .mode) _ fresh)) (λ e. fresh)
 
-  sends : (time : ℕ) (payload : List ℕ) (s : State) → time ≤ largest-64 → length payload ≤ cell-size → is-backup (s .identity .mode) && no-free-cell cells s ≡ false
+  sends : (time : ℕ) (payload : List ℕ) (s : State) → time ≤ largest-64 → length payload ≤ cell-size → is-backup (s .mode) && no-free-cell cells s ≡ false
       → P none s [] → Keeps (send-body (taken-cell cells s) time payload s)
   unfolding send-body send-flow left-by-send
   sends time payload s fits short free h =
       let r = refresh-states (start s) in
       let cell = taken-cell cells s in
-      let same : is-backup (r .state .identity .mode) ≡ is-backup (s .identity .mode) = ap is-backup (refresh-mode (start s)) in
-      by-test (is-backup (s .identity .mode))
+      let same : is-backup (r .state .mode) ≡ is-backup (s .mode) = ap is-backup (refresh-mode (start s)) in
+      by-test (is-backup (s .mode))
       (λ b.
       let fresh : P (some cell) (r .state) (r .log) = refreshes P (law .polling) (some cell) (start s) (law .takes s (ap (λ (x : Bool). x && no-free-cell cells s) (sym b) ∙ free) h) in
       let ended : Ended time fits (r .log) cell payload short (send-flow cell time payload s r) =
@@ -721,7 +707,7 @@ module _ (c : Call) (cells : ℕ) (P : Option ℕ → State → List Mark → Ty
       (λ e. if-elim (λ (log : List Mark). P none (send-flow cell time payload s r .state) log) _ _ _ (λ g. not-both g (same ∙ b)) (λ g. flow))
       (λ e. flow))
 
-  queues : (id : ℕ) (d : Data) (payload : List ℕ) (s : State) → c ≡ queued-data id d payload → of-member id queue-full s ≡ false → data-unfit id d ≡ false → length payload ≤ cell-size → no-free-cell cells s ≡ false
+  queues : (id : ℕ) (d : Data) (payload : List ℕ) (s : State) → c ≡ call-queue-data id d payload → of-member id queue-full s ≡ false → data-unfit id d ≡ false → length payload ≤ cell-size → no-free-cell cells s ≡ false
       → P none s [] → Keeps (queue-data-body id (taken-cell cells s) d payload s)
   unfolding queue-data-body
   queues id d payload s is full unfit short free h =
@@ -740,8 +726,8 @@ module _ (c : Call) (cells : ℕ) (P : Option ℕ → State → List Mark → Ty
 
 pub step-keeps : (P : Option ℕ → State → List Mark → Type 0) (store output list : ℕ) (c : Call) (s : State) → Call-law c (cells-of store) P
     → P none s [] → P none (step-of store output list c s .state) (step-of store output list c s .log)
-unfolding step-of add-member mark-member-broken remove-member-connection member refresh-member-states disconnect event-poll-body poll-event-call data-poll-body poll-data-call send can-send-call can-send-with-pacing-call time-until-send backup-stability-timeout-micros group-id members-call mode peer-group-id skipped-receive-packets has-pending-data-call has-receive-continuation read-leg queue-data queue-event
-step-keeps P store output list (addition id weight l queue) s law h =
+unfolding step-of add-member mark-member-broken remove-member-connection refresh-member-states disconnect event-poll-body poll-event-call data-poll-body poll-data-call send can-send-call can-send-with-pacing-call read-leg queue-data queue-event
+step-keeps P store output list (call-add-member id weight l queue) s law h =
     passed _ _ P law _ s _ h
     (λ g.
     let fields = or-right (above largest-32 id) _ (g .1 .0) in
@@ -756,40 +742,31 @@ step-keeps P store output list (addition id weight l queue) s law h =
       leg-fits = or-left (leg-out-of-range (handed l)) _ leg;
       sequences-fit = or-right (leg-out-of-range (handed l)) _ leg;
     } h)
-step-keeps P store output list (broken-mark id) s law h =
+step-keeps P store output list (call-mark-member-broken id) s law h =
     kept _ _ P law _ s _ h (named (λ (t : State). P none t []) id _ s (λ i m at first. law .polling .moves s i m _ at (turn broken-state (omega arith) (λ b. refl)) h) h)
-step-keeps P store output list (removal id) s law h = kept _ _ P law _ s _ h (removes _ _ P law id s refl h)
-step-keeps P store output list (member-look id) s law h = kept _ _ P law _ s _ h h
-step-keeps P store output list refreshing s law h = kept _ _ P law _ s _ h (refreshes P (law .polling) none (start s) h)
-step-keeps P store output list (disconnection time) s law h =
+step-keeps P store output list (call-remove-member-connection id) s law h = kept _ _ P law _ s _ h (removes _ _ P law id s refl h)
+step-keeps P store output list call-refresh-member-states s law h = kept _ _ P law _ s _ h (refreshes P (law .polling) none (start s) h)
+step-keeps P store output list (call-disconnect time) s law h =
     kept _ _ P law _ s _ h (moves-each P (law .polling) none [] s (on-leg disconnect-leg) (λ ms m. leg-end) [] (s .members) h)
-step-keeps P store output list (event-poll time) s law h = kept _ _ P law _ s _ h (polls-event P (law .polling) none time (start s) h)
-step-keeps P store output list (data-poll time max-events) s law h = kept _ _ P law _ s _ h (polls-data P (law .polling) none time max-events (start s) h)
-step-keeps P store output list (sending time payload) s law h =
+step-keeps P store output list (call-poll-event time) s law h = kept _ _ P law _ s _ h (polls-event P (law .polling) none time (start s) h)
+step-keeps P store output list (call-poll-data-bounded time max-events) s law h = kept _ _ P law _ s _ h (polls-data P (law .polling) none time max-events (start s) h)
+step-keeps P store output list (call-send time payload) s law h =
     passed _ _ P law _ s _ h
     (λ g. sends _ _ P law time payload s (ltb-false largest-64 time (g .1 .1 .0)) (ltb-false cell-size (length payload) (g .1 .1 .1 .0)) (g .1 .1 .1 .1 .0) h)
-step-keeps P store output list readiness s law h = kept _ _ P law _ s _ h (reads-ready _ _ P law s h)
-step-keeps P store output list (paced-readiness time) s law h = kept _ _ P law _ s _ h (reads-paced-ready _ _ P law time s h)
-step-keeps P store output list (send-wait time) s law h = kept _ _ P law _ s _ h h
-step-keeps P store output list (stability id) s law h = kept _ _ P law _ s _ h h
-step-keeps P store output list group-look s law h = kept _ _ P law _ s _ h h
-step-keeps P store output list members-look s law h = kept _ _ P law _ s _ h h
-step-keeps P store output list mode-look s law h = kept _ _ P law _ s _ h h
-step-keeps P store output list peer-look s law h = kept _ _ P law _ s _ h h
-step-keeps P store output list skipped-look s law h = kept _ _ P law _ s _ h h
-step-keeps P store output list pending-look s law h = kept _ _ P law _ s _ h h
-step-keeps P store output list continuation-look s law h = kept _ _ P law _ s _ h h
-step-keeps P store output list (reading id field n) s law h =
+step-keeps P store output list call-can-send s law h = kept _ _ P law _ s _ h (reads-ready _ _ P law s h)
+step-keeps P store output list (call-can-send-with-pacing time) s law h = kept _ _ P law _ s _ h (reads-paced-ready _ _ P law time s h)
+step-keeps P store output list (call-look look) s law h = look-elim (λ (x : Step). P none (x .state) (x .log)) look s (λ code. h) (λ answer e. h)
+step-keeps P store output list (call-read-leg id field n) s law h =
     passed _ _ P law _ s _ h
     (λ g.
     named (λ (t : State). P none t []) id _ s
     (λ i m at first.
     law .polling .moves s i m _ at
     (leg-reading field n (or-right (above largest-32 id) _ (g .1 .0)) (of-found id (λ x. goes-back field n (x .leg)) s m (g .1 .1 .1 .0) first)) h) h)
-step-keeps P store output list (queued-data id d payload) s law h =
+step-keeps P store output list (call-queue-data id d payload) s law h =
     passed _ _ P law _ s _ h
     (λ g. queues _ _ P law id d payload s refl (g .1 .1 .1 .1 .1 .1 .0) (g .1 .1 .0) (ltb-false cell-size (length payload) (g .1 .1 .1 .1 .0)) (g .1 .1 .1 .1 .1 .0) h)
-step-keeps P store output list (queued-event id kind reason) s law h =
+step-keeps P store output list (call-queue-event id kind reason) s law h =
     passed _ _ P law _ s _ h
     (λ g.
     let rest = or-right (above largest-32 id) _ (g .1 .0) in

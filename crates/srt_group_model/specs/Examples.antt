@@ -1,5 +1,5 @@
 -- Listings whose answers the Rust gave, computed over the definitions: `oracle replay` of this repository over the same lines
--- (oracle/listings has most of them). `add` is verb 2 and so on; a row says what the line prints. Assumes nothing.
+-- (oracle/listings has most of them). `add` is verb 2 and so on; a row says what the line prints.
 use mathlib.Core.Path.{_≡_, refl}
 use mathlib.Core.List.{List, [], _∷_, _++_}
 use Prim.Native.Nat.{ℕ, zero, suc}

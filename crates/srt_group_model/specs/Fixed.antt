@@ -1,9 +1,9 @@
--- What is fixed at creation stays: no call moves the group's id, its mode or the store's length. Assumes nothing.
+-- What is fixed at creation stays: no call moves the group's id, the store's length or the mode.
 use mathlib.Core.Path.{_≡_, refl, ap, _∙_}
 use mathlib.Core.List.{List}
 use mathlib.Core.Option.{Option}
 use Prim.Native.Nat.{ℕ}
-use Rattle.srt_group_model.specs.State.{State, fixed}
+use Rattle.srt_group_model.specs.State.{State}
 use Rattle.srt_group_model.specs.Run.{Mark}
 use Rattle.srt_group_model.specs.Removal.{retire, take-out}
 use Rattle.srt_group_model.specs.Lent.{Lent, Call, perform}
@@ -12,11 +12,11 @@ use Rattle.srt_group_model.specs.EveryCall.{call-keeps}
 use Rattle.srt_group_model.specs.MemberMoves.{deliver-frame}
 use Rattle.srt_group_model.specs.declared.Identity.{Identity}
 
-abbrev pub Given : Identity → Option ℕ → State → List Mark → Type 0
-Given x hand s log = fixed (s .identity) ≡ x
+abbrev pub Given : Identity → (mode : ℕ) → Option ℕ → State → List Mark → Type 0
+Given x mode hand s log = (s .identity ≡ x) × (s .mode ≡ mode)
 
-pub given-polls : (x : Identity) → Poll-law (Given x)
-given-polls x =
+pub given-polls : (x : Identity) (mode : ℕ) → Poll-law (Given x mode)
+given-polls x mode =
     record {
       moves = λ s i m f at move h. h;
       binds = λ s i m at a h. h;
@@ -28,14 +28,15 @@ given-polls x =
       reports = λ s i m e f d few h. h;
       gives = λ s h. h;
       skips = λ s base p tested time b n near h. h;
-      delivers = λ s base p b e h. ap fixed (deliver-frame base p s .identity) ∙ h;
+      delivers =
+          λ s base p b e h. let frame = deliver-frame base p s in (frame .identity ∙ h .0, frame .mode ∙ h .1);
     }
 
-pub given-law : (x : Identity) (c : Call) (cells : ℕ) → Call-law c cells (Given x)
+pub given-law : (x : Identity) (mode : ℕ) (c : Call) (cells : ℕ) → Call-law c cells (Given x mode)
 unfolding take-out retire
-given-law x c cells =
+given-law x mode c cells =
     record {
-      polling = given-polls x;
+      polling = given-polls x mode;
       joins = λ s id weight l queue is j h. h;
       leaves = λ s i m is at h. h;
       retires = λ s base p e h. h;
@@ -49,5 +50,7 @@ given-law x c cells =
       trims = λ s l h. h;
     }
 
-pub identity-kept : (c : Call) (lent : Lent) (s : State) → fixed (perform c lent s .state .identity) ≡ fixed (s .identity)
-identity-kept c lent s = call-keeps (Given (fixed (s .identity))) c lent s (given-law (fixed (s .identity)) c _) refl
+pub identity-kept : (c : Call) (lent : Lent) (s : State)
+    → (perform c lent s .state .identity ≡ s .identity) × (perform c lent s .state .mode ≡ s .mode)
+identity-kept c lent s =
+    call-keeps (Given (s .identity) (s .mode)) c lent s (given-law (s .identity) (s .mode) c _) (refl, refl)

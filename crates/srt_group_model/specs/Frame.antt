@@ -1,6 +1,6 @@
 -- What a refresh and a send leave alone. A member is carried on: its id, its sums, its queue, its leg's receiving side and link
 -- stay, and once Broken it stays Broken. Sends also leave the base, the held packets and all else of receiving: the frame that demand 3
--- asks of them. Assumes nothing.
+-- asks of them.
 use mathlib.Core.Path.{_≡_, refl, sym, ap, ap₂, subst, _∙_}
 use mathlib.Core.Bool.{Bool, true, false, not, _&&_, _||_}
 use mathlib.Core.List.{List, [], _∷_, _++_}
@@ -13,14 +13,13 @@ use Rattle.srt_group_model.specs.Tools.{if_then_else_, if-some_give_othe
 use Rattle.srt_group_model.specs.Reason.{if-elim, if-some-elim, by-test, not-both, and-left, and-right, none-some, some-inj, Each-to, each-to-same, each-to-then, each-to-each, each-to-change, each-to-map, each-to-at, each-to-before}
 use Rattle.srt_group_model.specs.State.{Member, Send, State, turned, with-leg, with-members, with-send, pending-state, active-state, standby-state, unstable-state, broken-state}
 use Rattle.srt_group_model.specs.Legs.{connected, send-shared-with-sequence, synchronize-send-sequence}
-use Rattle.srt_group_model.specs.Members.{id-of, in-state, is-active, is-standby, Ranked, first-in-rank, promotion, promote-backup-member, promote-if-none, arrives, admit-peer-group, align-leg, align-member-sequence, steps-from, turn-aligned, settle, requalify, settle-members, break-disconnected, requalify-members}
+use Rattle.srt_group_model.specs.Members.{id-of, in-state, is-active, is-standby, Placed, first-in-rank, promotion, promote-backup-member, promote-if-none, arrives, admit-peer-group, align-leg, align-member-sequence, steps-from, turn-aligned, settle, requalify, settle-members, break-disconnected, requalify-members, found}
 use Rattle.srt_group_model.specs.Sending.{Flow, _and-then_, mark-send-failure, attempt-send, send-broadcast}
 use Rattle.srt_group_model.specs.Backup.{demote-stale-backup-carrier, trim-by-carrier, Replayed, replay-entries, put-leg, replay-on, replay-flight, align-carrier, take-over-backup-flight, send-own, send-after-promotion, send-at-place, send-backup}
 use Rattle.srt_group_model.specs.declared.Leg.{Leg}
 use Rattle.srt_group_model.specs.declared.Link.{Link}
 use Rattle.srt_group_model.specs.declared.Entry.{Entry}
 use Rattle.srt_group_model.specs.declared.Membership.{Membership}
-use Rattle.srt_group_model.specs.declared.GroupMode.{GroupMode}
 
 -- ---- a member carried on
 
@@ -169,15 +168,53 @@ align-kept number i ms =
     (λ g x e. none-some e)
 
 -- the one that is first in rank stands at its place and is a candidate
-pub record Stands (candidate : Member → Bool) (ms : List Member) (r : Ranked) : Type 0 where
+pub record Stands (candidate : Member → Bool) (ms : List Member) (r : Placed) : Type 0 where
   pub at : at-place (r .place) ms ≡ some (r .member)
   pub is : candidate (r .member) ≡ true
 
-abbrev Ranks : (Member → Bool) → List Member → Option Ranked → Type 0
-Ranks candidate ms o = (r : Ranked) → o ≡ some r → Stands candidate ms r
+abbrev Ranks : (Member → Bool) → List Member → Option Placed → Type 0
+Ranks candidate ms o = (r : Placed) → o ≡ some r → Stands candidate ms r
 
-ranks-some : (candidate : Member → Bool) (ms : List Member) (r : Ranked) → Stands candidate ms r → Ranks candidate ms (some r)
+ranks-some : (candidate : Member → Bool) (ms : List Member) (r : Placed) → Stands candidate ms r → Ranks candidate ms (some r)
 ranks-some candidate ms r h x e = subst (Stands candidate ms) (some-inj e) h
+
+-- the one that is found does, too
+pub found-stands : (test : Member → Bool) (ms : List Member) → Ranks test ms (found test ms)
+unfolding found at-place
+found-stands test [] = λ r e. none-some e
+found-stands test (m ∷ ms) =
+    if-elim (Ranks test (m ∷ ms)) _ _ _ (λ passes. ranks-some test (m ∷ ms) _ record { at = refl; is = passes })
+    (λ fails.
+    if-some-elim (Ranks test (m ∷ ms)) _ _ _
+    (λ f e. let h = found-stands test ms f e in ranks-some test (m ∷ ms) _ record { at = h .at; is = h .is })
+    (λ e r g. none-some g))
+
+-- found at its place
+abbrev placed : ℕ → Member → Option Placed
+placed i m = some record { place = i; member = m }
+
+abbrev placed-on : Option Placed → Option Placed
+placed-on o = if-some o give (λ f. placed (suc (f .place)) (f .member)) otherwise none
+
+pub found-at : (test : Member → Bool) (ms : List Member) (i : ℕ) (m : Member) → place-of test ms ≡ some i → at-place i ms ≡ some m
+    → found test ms ≡ some record { place = i; member = m }
+unfolding found place-of at-place if_then_else_ if-some_give_otherwise_
+found-at test [] i m is at = none-some is
+found-at test (x ∷ ms) i m is at = go (test x) (place-of test ms) (λ j there stands. found-at test ms j m there stands) is at
+  where
+    go : (b : Bool) (o : Option ℕ)
+        → ((j : ℕ) → o ≡ some j → at-place j ms ≡ some m → found test ms ≡ some record { place = j; member = m })
+        → (if b then some 0 else (if-some o give (λ j. some (suc j)) otherwise none)) ≡ some i → at-place i (x ∷ ms) ≡ some m
+        → (if b then placed 0 x else placed-on (found test ms)) ≡ placed i m
+    go true o rest is at =
+        let here : 0 ≡ i = some-inj is in
+        let same : x ≡ m = some-inj (ap (λ (n : ℕ). at-place n (x ∷ ms)) here ∙ at) in
+        λ k. placed (here k) (same k)
+    go false none rest is at = none-some is
+    go false (some j) rest is at =
+        let here : suc j ≡ i = some-inj is in
+        let h = rest j refl (ap (λ (n : ℕ). at-place n (x ∷ ms)) here ∙ at) in
+        ap placed-on h ∙ (λ k. placed (here k) m)
 
 pub first-in-rank-stands : (candidate : Member → Bool) (ms : List Member) → Ranks candidate ms (first-in-rank candidate ms)
 unfolding first-in-rank at-place
@@ -214,7 +251,7 @@ promote-carried ms =
     (λ m at. turned-carried active-state m (not-broken m standby-state (and-left _ _ (promotion-standby ms i g m at)) refl)))
     (λ g. all-same ms)
 
-pub promote-if-none-carried : (mode : GroupMode) (ms : List Member) → All-carried ms (promote-if-none mode ms)
+pub promote-if-none-carried : (mode : ℕ) (ms : List Member) → All-carried ms (promote-if-none mode ms)
 unfolding promote-if-none
 promote-if-none-carried mode ms = if-elim (All-carried ms) _ _ _ (λ e. promote-carried ms) (λ e. all-same ms)
 
@@ -259,7 +296,7 @@ turn-aligned-carried test state number h i ms =
     (λ t. all-same ms))
     (λ at. all-same ms)
 
-pub settle-carried : (mode : GroupMode) (number : Option ℕ) (ms : List Member) → All-carried ms (settle-members mode number ms)
+pub settle-carried : (mode : ℕ) (number : Option ℕ) (ms : List Member) → All-carried ms (settle-members mode number ms)
 unfolding settle-members settle
 settle-carried mode number ms =
     let settled =
@@ -273,7 +310,7 @@ break-carried : (m : Member) → Carried m (break-disconnected m)
 unfolding break-disconnected
 break-carried m = if-elim (Carried m) _ _ _ (λ e. broken-carried m) (λ e. carried-same m)
 
-pub requalify-carried : (mode : GroupMode) (number : Option ℕ) (ms : List Member) → All-carried ms (requalify-members mode number ms)
+pub requalify-carried : (mode : ℕ) (number : Option ℕ) (ms : List Member) → All-carried ms (requalify-members mode number ms)
 unfolding requalify-members requalify
 requalify-carried mode number ms =
     let parted = each break-disconnected ms in
@@ -291,6 +328,8 @@ requalify-carried mode number ms =
 -- what a send leaves alone, and what the rest of receiving needs of it
 pub record Framed (R : Member → Member → Type 0) (s t : State) : Type 0 where
   pub identity : t .identity ≡ s .identity
+  pub mode : t .mode ≡ s .mode
+  pub peer : t .peer ≡ s .peer
   pub receive : t .receive ≡ s .receive
   pub visit : t .visit ≡ s .visit
   pub owned : t .owned ≡ s .owned
@@ -300,12 +339,14 @@ pub record Framed (R : Member → Member → Type 0) (s t : State) : Type 0 wher
 module _ (R : Member → Member → Type 0) (r : (m : Member) → R m m) (r-then : (a b c : Member) → R a b → R b c → R a c) where
   pub framed-same : (s : State) → Framed R s s
   framed-same s =
-      record { identity = refl; receive = refl; visit = refl; owned = refl; waiting = refl; members = each-to-same R r (s .members) }
+      record { identity = refl; mode = refl; peer = refl; receive = refl; visit = refl; owned = refl; waiting = refl; members = each-to-same R r (s .members) }
 
   pub framed-then : (s t u : State) → Framed R s t → Framed R t u → Framed R s u
   framed-then s t u h k =
       record {
         identity = k .identity ∙ h .identity;
+        mode = k .mode ∙ h .mode;
+        peer = k .peer ∙ h .peer;
         receive = k .receive ∙ h .receive;
         visit = k .visit ∙ h .visit;
         owned = k .owned ∙ h .owned;
@@ -315,16 +356,18 @@ module _ (R : Member → Member → Type 0) (r : (m : Member) → R m m) (r-then
 
   pub send-framed : (x : Send) (s : State) → Framed R s (with-send x s)
   send-framed x s =
-      record { identity = refl; receive = refl; visit = refl; owned = refl; waiting = refl; members = each-to-same R r (s .members) }
+      record { identity = refl; mode = refl; peer = refl; receive = refl; visit = refl; owned = refl; waiting = refl; members = each-to-same R r (s .members) }
 
 pub members-framed : (R : Member → Member → Type 0) (s : State) (ms : List Member) → Each-to R (s .members) ms → Framed R s (with-members ms s)
 members-framed R s ms h =
-    record { identity = refl; receive = refl; visit = refl; owned = refl; waiting = refl; members = h }
+    record { identity = refl; mode = refl; peer = refl; receive = refl; visit = refl; owned = refl; waiting = refl; members = h }
 
 pub kept-framed : (s t : State) → Framed Kept s t → Framed Carried s t
 kept-framed s t h =
     record {
       identity = h .identity;
+      mode = h .mode;
+      peer = h .peer;
       receive = h .receive;
       visit = h .visit;
       owned = h .owned;
@@ -517,6 +560,8 @@ send-own-framed time size cell sequence i failed s h =
     (λ l g.
     record {
       identity = refl;
+      mode = refl;
+      peer = refl;
       receive = refl;
       visit = refl;
       owned = refl;
@@ -558,10 +603,10 @@ pub backup-framed : (time size cell : ℕ) (s : State) → Flows s (send-backup 
 unfolding send-backup
 backup-framed time size cell s =
     let silent = demote-stale-backup-carrier time (s .members) in
-    let ready : State = with-members (promote-if-none (s .identity .mode) silent) s in
+    let ready : State = with-members (promote-if-none (s .mode) silent) s in
     let h =
-    members-framed Carried s (promote-if-none (s .identity .mode) silent)
-    (all-then (s .members) silent _ (demote-carried time (s .members)) (promote-if-none-carried (s .identity .mode) silent))
+    members-framed Carried s (promote-if-none (s .mode) silent)
+    (all-then (s .members) silent _ (demote-carried time (s .members)) (promote-if-none-carried (s .mode) silent))
     in
     if-some-elim (Flows s) _ _ _
     (λ i g.

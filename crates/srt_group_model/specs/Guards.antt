@@ -1,5 +1,5 @@
 -- What a call leaves, and how its codes come: the first test that is true refuses the call, in the order of the list, and
--- nothing changes. Document 01, "Codes from the input". Assumes nothing.
+-- nothing changes. Document 01, "Codes from the input".
 use mathlib.Core.Bool.{Bool, true, false}
 use mathlib.Core.List.{List, [], _∷_, _++_}
 use mathlib.Core.Option.{Option, none, some}

@@ -1,5 +1,5 @@
 -- The log is honest: what a poll takes off the queues is exactly what it marks as collected, leg by leg and in order. Demand 3
--- speaks through the log of packets collected, "taken as it was queued". Assumes nothing.
+-- speaks through the log of packets collected, "taken as it was queued".
 use mathlib.Core.Path.{_≡_, refl, sym, ap, ap₂, subst, _∙_}
 use mathlib.Core.Bool.{Bool, true, false, not, _&&_, _||_}
 use mathlib.Core.List.{List, [], _∷_, _++_, append-assoc}
@@ -18,7 +18,7 @@ use Rattle.srt_group_model.specs.Cells.{is-data, is-among}
 use Rattle.srt_group_model.specs.Validity.{one-twice}
 use Rattle.srt_group_model.specs.Guards.{Step, Check, guard}
 use Rattle.srt_group_model.specs.Calls.{event-poll-body, poll-event-call, data-poll-body, poll-data-call}
-use Rattle.srt_group_model.specs.Lent.{Lent, event-poll, data-poll, with-bytes, step-of, perform}
+use Rattle.srt_group_model.specs.Lent.{Lent, call-poll-event, call-poll-data-bounded, with-bytes, step-of, perform}
 use Rattle.srt_group_model.specs.Refusals.{guard-elim}
 use Rattle.srt_group_model.specs.Queues.{Relabelled, All-relabelled, pop, packet-of, is-collected, Queue-law}
 use Rattle.srt_group_model.specs.Walk.{poll-event-kept, poll-data-kept}
@@ -208,14 +208,14 @@ refused-honest id ms = refl
 
 -- What an event poll, and a data poll, take off the queue of a leg is what they mark as collected from it.
 pub event-poll-honest : (id time : ℕ) (lent : Lent) (s : State) → one-twice (each id-of (s .members)) ≡ false
-    → queued-at id (s .members) ≡ collected-from id (perform (event-poll time) lent s .log) ++ queued-at id (perform (event-poll time) lent s .state .members)
+    → queued-at id (s .members) ≡ collected-from id (perform (call-poll-event time) lent s .log) ++ queued-at id (perform (call-poll-event time) lent s .state .members)
 unfolding perform with-bytes step-of poll-event-call event-poll-body
 event-poll-honest id time lent s u =
     guard-elim (Taken-off id (s .members)) _ s _ (λ code. refused-honest id (s .members))
     (poll-event-kept (Honest id (queued-at id (s .members))) (honest-law id _) time (start s) (u, refused-honest id (s .members)) .1)
 
 pub data-poll-honest : (id time max-events : ℕ) (lent : Lent) (s : State) → one-twice (each id-of (s .members)) ≡ false
-    → queued-at id (s .members) ≡ collected-from id (perform (data-poll time max-events) lent s .log) ++ queued-at id (perform (data-poll time max-events) lent s .state .members)
+    → queued-at id (s .members) ≡ collected-from id (perform (call-poll-data-bounded time max-events) lent s .log) ++ queued-at id (perform (call-poll-data-bounded time max-events) lent s .state .members)
 unfolding perform with-bytes step-of poll-data-call data-poll-body
 data-poll-honest id time max-events lent s u =
     guard-elim (Taken-off id (s .members)) _ s _ (λ code. refused-honest id (s .members))

@@ -1,6 +1,6 @@
 -- The calls with what they are lent: the store, the output and the list of sends. Document 01, "Receiving" and "The stand-in
 -- leg": a payload is put into its cell and its other bytes stay; a delivered payload is written from byte 12 of the output,
--- the rest stays; the sends fill the list's first rows, the others stay. Assumes nothing.
+-- the rest stays; the sends fill the list's first rows, the others stay.
 use mathlib.Core.Bool.{Bool}
 use mathlib.Core.List.{List, [], _∷_, _++_}
 use mathlib.Core.Option.{Option, none, some}
@@ -47,9 +47,10 @@ delivered-by (memberships ms) = none
 abbrev pub payload-of : Packet → List ℕ → List ℕ
 payload-of p = cell-bytes (p .content .cell) (p .content .length)
 
-unfoldable pub shown : Option Packet → (store output : List ℕ) → List ℕ
-shown none store output = output
-shown (some p) store output = overwritten head-size (payload-of p store) output
+-- the output, with a delivered payload written over it from byte 12 on
+unfoldable pub written-out : Option Packet → (store output : List ℕ) → List ℕ
+written-out none store output = output
+written-out (some p) store output = overwritten head-size (payload-of p store) output
 
 unfoldable pub list-rows : List Sent → List ℕ
 list-rows [] = []
@@ -72,7 +73,7 @@ with-bytes lent step =
       lent =
           record {
             store = stored (step .put) (lent .store);
-            output = shown (delivered-by (step .answer)) (lent .store) (lent .output);
+            output = written-out (delivered-by (step .answer)) (lent .store) (lent .output);
             list = overwritten 0 (list-rows (step .sends)) (lent .list);
           };
       code = step .code;
@@ -83,60 +84,67 @@ with-bytes lent step =
 
 -- ---- all calls but `new`
 
+-- the calls that only look
+pub data Look : Type 0 where
+  look-member : (id : ℕ) → Look
+  look-time-until-send : (time : ℕ) → Look
+  look-backup-stability-timeout-micros : (id : ℕ) → Look
+  look-group-id : Look
+  look-members : Look
+  look-mode : Look
+  look-peer-group-id : Look
+  look-skipped-receive-packets : Look
+  look-has-pending-data : Look
+  look-has-receive-continuation : Look
+
+unfoldable pub look-at : Look → State → Step
+look-at (look-member id) s = member id s
+look-at (look-time-until-send time) s = time-until-send time s
+look-at (look-backup-stability-timeout-micros id) s = backup-stability-timeout-micros id s
+look-at look-group-id s = group-id s
+look-at look-members s = members-call s
+look-at look-mode s = mode s
+look-at look-peer-group-id s = peer-group-id s
+look-at look-skipped-receive-packets s = skipped-receive-packets s
+look-at look-has-pending-data s = has-pending-data-call s
+look-at look-has-receive-continuation s = has-receive-continuation s
+
 pub data Call : Type 0 where
-  addition : (id weight : ℕ) → Leg → (queue : List Event) → Call
-  broken-mark : (id : ℕ) → Call
-  removal : (id : ℕ) → Call
-  member-look : (id : ℕ) → Call
-  refreshing : Call
-  disconnection : (time : ℕ) → Call
-  event-poll : (time : ℕ) → Call
-  data-poll : (time max-events : ℕ) → Call
-  sending : (time : ℕ) (payload : List ℕ) → Call
-  readiness : Call
-  paced-readiness : (time : ℕ) → Call
-  send-wait : (time : ℕ) → Call
-  stability : (id : ℕ) → Call
-  group-look : Call
-  members-look : Call
-  mode-look : Call
-  peer-look : Call
-  skipped-look : Call
-  pending-look : Call
-  continuation-look : Call
-  reading : (id field n : ℕ) → Call
-  queued-data : (id : ℕ) → Data → (payload : List ℕ) → Call
-  queued-event : (id kind reason : ℕ) → Call
+  call-add-member : (id weight : ℕ) → Leg → (queue : List Event) → Call
+  call-mark-member-broken : (id : ℕ) → Call
+  call-remove-member-connection : (id : ℕ) → Call
+  call-refresh-member-states : Call
+  call-disconnect : (time : ℕ) → Call
+  call-poll-event : (time : ℕ) → Call
+  call-poll-data-bounded : (time max-events : ℕ) → Call
+  call-send : (time : ℕ) (payload : List ℕ) → Call
+  call-can-send : Call
+  call-can-send-with-pacing : (time : ℕ) → Call
+  call-look : Look → Call
+  call-read-leg : (id field n : ℕ) → Call
+  call-queue-data : (id : ℕ) → Data → (payload : List ℕ) → Call
+  call-queue-event : (id kind reason : ℕ) → Call
 
 -- `poll_data`
-abbrev pub poll-data : (time : ℕ) → Call
-poll-data time = data-poll time max-visits
+abbrev pub call-poll-data : (time : ℕ) → Call
+call-poll-data time = call-poll-data-bounded time max-visits
 
 -- a call, lent a store, an output and a list of these lengths
 unfoldable pub step-of : (store output list : ℕ) → Call → State → Step
-step-of store output list (addition id weight l queue) s = add-member id weight l queue s
-step-of store output list (broken-mark id) s = mark-member-broken id s
-step-of store output list (removal id) s = remove-member-connection id s
-step-of store output list (member-look id) s = member id s
-step-of store output list refreshing s = refresh-member-states s
-step-of store output list (disconnection time) s = disconnect time s
-step-of store output list (event-poll time) s = poll-event-call store output time s
-step-of store output list (data-poll time max-events) s = poll-data-call store output time max-events s
-step-of store output list (sending time payload) s = send store list time payload s
-step-of store output list readiness s = can-send-call s
-step-of store output list (paced-readiness time) s = can-send-with-pacing-call time s
-step-of store output list (send-wait time) s = time-until-send time s
-step-of store output list (stability id) s = backup-stability-timeout-micros id s
-step-of store output list group-look s = group-id s
-step-of store output list members-look s = members-call s
-step-of store output list mode-look s = mode s
-step-of store output list peer-look s = peer-group-id s
-step-of store output list skipped-look s = skipped-receive-packets s
-step-of store output list pending-look s = has-pending-data-call s
-step-of store output list continuation-look s = has-receive-continuation s
-step-of store output list (reading id field n) s = read-leg id field n s
-step-of store output list (queued-data id d payload) s = queue-data store id d payload s
-step-of store output list (queued-event id kind reason) s = queue-event id kind reason s
+step-of store output list (call-add-member id weight l queue) s = add-member id weight l queue s
+step-of store output list (call-mark-member-broken id) s = mark-member-broken id s
+step-of store output list (call-remove-member-connection id) s = remove-member-connection id s
+step-of store output list call-refresh-member-states s = refresh-member-states s
+step-of store output list (call-disconnect time) s = disconnect time s
+step-of store output list (call-poll-event time) s = poll-event-call store output time s
+step-of store output list (call-poll-data-bounded time max-events) s = poll-data-call store output time max-events s
+step-of store output list (call-send time payload) s = send store list time payload s
+step-of store output list call-can-send s = can-send-call s
+step-of store output list (call-can-send-with-pacing time) s = can-send-with-pacing-call time s
+step-of store output list (call-look look) s = look-at look s
+step-of store output list (call-read-leg id field n) s = read-leg id field n s
+step-of store output list (call-queue-data id d payload) s = queue-data store id d payload s
+step-of store output list (call-queue-event id kind reason) s = queue-event id kind reason s
 
 unfoldable pub perform : Call → Lent → State → Result
 perform call lent s =

@@ -24,7 +24,9 @@ pub mod Cases
 pub mod Misreadings
 -- Laws that a reader would ask for.
 pub mod Reason
+pub mod FlagLaws
 pub mod CircleLaws
+pub mod Arrivals
 pub mod Refusals
 pub mod Moves
 pub mod Frame
@@ -59,3 +61,5 @@ pub mod EveryCall
 pub mod MemberMoves
 pub mod Valid
 pub mod Sound
+-- What a poll gives lies in the store.
+pub mod Given

@@ -1,19 +1,20 @@
 -- The replay listing over the definitions: document 01, "The replay listing". A line is its eight numbers; what it prints is
--- six. The lent store has 40 cells; its bytes are not needed, since no column shows a payload. Assumes nothing.
+-- six. The lent store has 40 cells; its bytes are not needed, since no column shows a payload.
 use mathlib.Core.Bool.{Bool, true, false, not, _&&_, _||_}
 use mathlib.Core.List.{List, [], _∷_, _++_}
 use mathlib.Core.Option.{Option, none, some}
 use Prim.Native.Nat.{ℕ, zero, suc, _+_, _*_}
 use lib.Dec.{eqb}
 use lib.ListN.{getD}
-use Rattle.srt_protocol.specs.Cells.{cell-size}
+use Rattle.srt_protocol.specs.Cells.{cell-size, output-size}
 use Rattle.srt_group_model.specs.Tools.{if_then_else_, if-some_give_otherwise_, at-place}
 use Rattle.srt_group_model.specs.State.{State}
 use Rattle.srt_group_model.specs.Legs.{moment}
 use Rattle.srt_group_model.specs.Delivery.{max-visits}
 use Rattle.srt_group_model.specs.Validity.{above}
+use Rattle.srt_group_model.specs.Sending.{list-size}
 use Rattle.srt_group_model.specs.Guards.{Answer, no-answer, truth, number, optional, polled, data-polled, leg-back, membership, memberships, Step, refuse}
-use Rattle.srt_group_model.specs.Calls.{new, new-code, mode-of, add-member, mark-member-broken, remove-member-connection, poll-data-call, send, read-leg, queue-data, queue-event}
+use Rattle.srt_group_model.specs.Calls.{new, new-code, add-member, mark-member-broken, remove-member-connection, poll-data-call, send, read-leg, queue-data, queue-event}
 use Rattle.srt_group_model.specs.declared.Leg.{Leg}
 
 abbrev pub Line : Type 0
@@ -25,12 +26,6 @@ column k line = getD line k 0
 
 abbrev pub store-length : ℕ
 store-length = 40 * cell-size
-
-abbrev pub output-length : ℕ
-output-length = 1468
-
-abbrev pub list-length : ℕ
-list-length = 5500
 
 -- ---- what a verb does to a group
 
@@ -76,8 +71,8 @@ verbs =
     }
     (column 5 line ∷ []) s)
     s)
-    ∷ (λ line. poll-data-call store-length output-length (column 1 line) max-visits)
-    ∷ (λ line s. with-byte (column 1 line) (send store-length list-length (column 2 line) (column 1 line ∷ []) s) s)
+    ∷ (λ line. poll-data-call store-length output-size (column 1 line) max-visits)
+    ∷ (λ line s. with-byte (column 1 line) (send store-length list-size (column 2 line) (column 1 line ∷ []) s) s)
     ∷ (λ line. remove-member-connection (column 1 line)) ∷ (λ line. mark-member-broken (column 1 line))
     ∷ (λ line. queue-event (column 1 line) (column 2 line) (column 3 line)) ∷ []
 
@@ -116,7 +111,7 @@ tell-new line old =
     if eqb code 0
     then
     record {
-      group = some (new (column 1 line) (mode-of (column 2 line)) store-length);
+      group = some (new (column 1 line) (column 2 line) store-length);
       line = 1 ∷ 0 ∷ 0 ∷ 0 ∷ 0 ∷ 0 ∷ [];
     }
     else record { group = old; line = refused-line 1 code }

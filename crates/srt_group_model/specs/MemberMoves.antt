@@ -1,5 +1,5 @@
 -- What stays with a member whose label or leg moves, and with all members where a packet is delivered: the frames of the moves of
--- CallLaw, for the laws that do not look closer. Assumes nothing.
+-- CallLaw, for the laws that do not look closer.
 use mathlib.Core.Path.{_≡_, refl, sym, ap, subst, _∙_}
 use mathlib.Core.Bool.{Bool, true, false, not, _&&_, _||_}
 use mathlib.Core.List.{List, [], _∷_, _++_}
@@ -104,6 +104,8 @@ relabelled-then a b c h k = record { id = k .id ∙ h .id; queue = k .queue ∙ 
 
 pub record Delivery-frame (s t : State) : Type 0 where
   pub identity : t .identity ≡ s .identity
+  pub mode : t .mode ≡ s .mode
+  pub peer : t .peer ≡ s .peer
   pub send : t .send ≡ s .send
   pub visit : t .visit ≡ s .visit
   pub waiting : t .waiting ≡ s .waiting
@@ -113,23 +115,27 @@ release-frame : (p : Packet) (s : State) → Delivery-frame s (release-pending-r
 unfolding release-pending-reservation
 release-frame p s =
     let same = each-to-same Relabelled relabelled-same (s .members) in
-    if-elim (Delivery-frame s) _ _ _ (λ e. record { identity = refl; send = refl; visit = refl; waiting = refl; members = same })
+    if-elim (Delivery-frame s) _ _ _ (λ e. record { identity = refl; mode = refl; peer = refl; send = refl; visit = refl; waiting = refl; members = same })
     (λ e.
     if-some-elim (Delivery-frame s) _ _ _
     (λ i g.
     record {
       identity = refl;
+      mode = refl;
+      peer = refl;
       send = refl;
       visit = refl;
       waiting = refl;
       members = each-to-change Relabelled relabelled-same i _ (s .members) (λ m at. record { id = refl; queue = refl; broken = λ b. b });
     })
-    (λ g. record { identity = refl; send = refl; visit = refl; waiting = refl; members = same }))
+    (λ g. record { identity = refl; mode = refl; peer = refl; send = refl; visit = refl; waiting = refl; members = same }))
 
 frame-then : (s t u : State) → Delivery-frame s t → Delivery-frame t u → Delivery-frame s u
 frame-then s t u h k =
     record {
       identity = k .identity ∙ h .identity;
+      mode = k .mode ∙ h .mode;
+      peer = k .peer ∙ h .peer;
       send = k .send ∙ h .send;
       visit = k .visit ∙ h .visit;
       waiting = k .waiting ∙ h .waiting;
@@ -138,7 +144,7 @@ frame-then s t u h k =
 
 release-all-frame : (ps : List Packet) (s : State) → Delivery-frame s (release-all ps s)
 unfolding release-all
-release-all-frame [] s = record { identity = refl; send = refl; visit = refl; waiting = refl; members = each-to-same Relabelled relabelled-same (s .members) }
+release-all-frame [] s = record { identity = refl; mode = refl; peer = refl; send = refl; visit = refl; waiting = refl; members = each-to-same Relabelled relabelled-same (s .members) }
 release-all-frame (p ∷ ps) s = frame-then s _ _ (release-frame p s) (release-all-frame ps (release-pending-reservation p s))
 
 pub deliver-frame : (base : ℕ) (p : Packet) (s : State) → Delivery-frame s (deliver-packet base p s)
@@ -148,6 +154,8 @@ deliver-frame base p s =
     let h = release-all-frame (covered base (p .content .count) (s .receive .pending)) s in
     record {
       identity = h .identity;
+      mode = h .mode;
+      peer = h .peer;
       send = h .send;
       visit = h .visit;
       waiting = h .waiting;

@@ -1,19 +1,17 @@
 -- The members of a group: which are active, who is promoted, admission to the peer group, alignment of send sequences, and
 -- the refresh of the members' states. From `promote_backup_member`, `admit_peer_group`, `align_member_sequence`,
--- `requalify_unstable_members`, `refresh_pending_states`, `refresh_states`; document 01, "Members and sending". Assumes
--- nothing.
+-- `requalify_unstable_members`, `refresh_pending_states`, `refresh_states`; document 01, "Members and sending".
 use mathlib.Core.Bool.{Bool, true, false, not, _&&_, _||_}
 use mathlib.Core.List.{List, [], _∷_, _++_}
 use mathlib.Core.Option.{Option, none, some}
 use Prim.Native.Nat.{ℕ, zero, suc, _+_}
 use lib.Dec.{leb, ltb, eqb}
 use lib.ListN.{length}
-use Rattle.srt_group_model.specs.Tools.{if_then_else_, if-some_give_otherwise_, or-else, any, all, first-such, place-of, at-place, change, each}
+use Rattle.srt_group_model.specs.Tools.{if_then_else_, if-some_give_otherwise_, or-else, any, all, first-such, place-of, at-place, change, each, flagged, first-given}
 use Rattle.srt_group_model.specs.State.{Member, is-backup, with-leg, on-membership, with-admitted, with-collision, turned}
 use Rattle.srt_group_model.specs.State.{pending-state, active-state, standby-state, unstable-state, broken-state}
 use Rattle.srt_group_model.specs.Legs.{is-connected, is-disconnected, can-send, has-sender, next-sequence-number, peer-initial-sequence, synchronize-send-sequence}
 use Rattle.srt_group_model.specs.declared.Leg.{Leg}
-use Rattle.srt_group_model.specs.declared.GroupMode.{GroupMode}
 
 -- ---- finding
 
@@ -43,6 +41,19 @@ has-active-member = any is-active
 abbrev pub first-active : List Member → Option ℕ
 first-active = place-of is-active
 
+-- a member and its place
+pub record Placed : Type 0 where
+  pub place : ℕ
+  pub member : Member
+
+-- the first that passes the test
+unfoldable pub found : (Member → Bool) → List Member → Option Placed
+found test [] = none
+found test (m ∷ ms) =
+    if test m
+    then some record { place = 0; member = m }
+    else (if-some found test ms give (λ f. some record { place = suc (f .place); member = f .member }) otherwise none)
+
 -- ---- promotion: the highest weight, then the lowest id, among connected Standby legs
 
 unfoldable pub outranks : Member → Member → Bool
@@ -50,12 +61,8 @@ outranks a b =
     ltb (b .membership .weight) (a .membership .weight)
     || (eqb (a .membership .weight) (b .membership .weight) && ltb (id-of a) (id-of b))
 
-pub record Ranked : Type 0 where
-  pub place : ℕ
-  pub member : Member
-
 -- the first of all in rank, of the candidates
-unfoldable pub first-in-rank : (Member → Bool) → List Member → Option Ranked
+unfoldable pub first-in-rank : (Member → Bool) → List Member → Option Placed
 first-in-rank candidate [] = none
 first-in-rank candidate (m ∷ ms) =
     if-some first-in-rank candidate ms
@@ -73,7 +80,7 @@ unfoldable pub promote-backup-member : List Member → List Member
 promote-backup-member ms = if-some promotion ms give (λ i. change i (turned active-state) ms) otherwise ms
 
 -- in Backup, if no member is active
-unfoldable pub promote-if-none : GroupMode → List Member → List Member
+unfoldable pub promote-if-none : ℕ → List Member → List Member
 promote-if-none mode ms = if is-backup mode && not (has-active-member ms) then promote-backup-member ms else ms
 
 -- ---- admission: a member whose handshake completed since the last look
@@ -82,15 +89,22 @@ unfoldable pub arrives : Member → Bool
 arrives m =
     eqb (m .membership .admitted) 0 && (not (in-state broken-state m) && is-connected (m .leg))
 
--- The first connected member fixes the base, if none is set: before it is compared, so that one that collides does too.
-unfoldable pub base-after : Option ℕ → List Member → Option ℕ
-base-after base [] = base
-base-after base (m ∷ ms) = base-after (if arrives m then or-else base (peer-initial-sequence (m .leg)) else base) ms
+-- what a member that arrives brings: the peer's first sequence, and the peer group that it answers from, 0 being none
+unfoldable pub sequence-brought : Member → Option ℕ
+sequence-brought m = if arrives m then peer-initial-sequence (m .leg) else none
 
--- the first peer group that a member answers from binds the group; 0 is none
+unfoldable pub group-brought : Member → Option ℕ
+group-brought m = flagged (arrives m && not (eqb (m .leg .link .peer) 0)) (m .leg .link .peer)
+
+-- The first sequence that is brought fixes the base, if none is set: before its member is compared, so that one that collides
+-- does too.
+unfoldable pub base-after : Option ℕ → List Member → Option ℕ
+base-after base ms = or-else base (first-given sequence-brought ms)
+
+-- the first peer group that is brought binds the group, if it is bound to none, 0
 unfoldable pub peer-after : ℕ → List Member → ℕ
-peer-after peer [] = peer
-peer-after peer (m ∷ ms) = peer-after (if arrives m && eqb peer 0 then m .leg .link .peer else peer) ms
+peer-after peer ms =
+    if eqb peer 0 then (if-some first-given group-brought ms give (λ brought. brought) otherwise 0) else peer
 
 -- `admit_peer_group`, once the group is bound to `peer`: an answer from no group, or from that one, is admitted
 unfoldable pub admit-peer-group : ℕ → Member → Member
@@ -150,24 +164,24 @@ turn-aligned test state number i ms =
     otherwise ms
 
 -- a Pending member that has connected turns Active, in Backup Standby
-unfoldable pub settle : GroupMode → Option ℕ → ℕ → List Member → List Member
+unfoldable pub settle : ℕ → Option ℕ → ℕ → List Member → List Member
 settle mode =
     turn-aligned (λ m. in-state pending-state m && is-connected (m .leg))
     (λ ms. if is-backup mode then standby-state else active-state)
 
 -- an Unstable member that can send again turns Active, in Backup Standby if another is active
-unfoldable pub requalify : GroupMode → Option ℕ → ℕ → List Member → List Member
+unfoldable pub requalify : ℕ → Option ℕ → ℕ → List Member → List Member
 requalify mode =
     turn-aligned (λ m. in-state unstable-state m && (is-connected (m .leg) && can-send (m .leg)))
     (λ ms. if is-backup mode && has-active-member ms then standby-state else active-state)
 
 -- what is left of `refresh_pending_states` after admission
-unfoldable pub settle-members : GroupMode → Option ℕ → List Member → List Member
+unfoldable pub settle-members : ℕ → Option ℕ → List Member → List Member
 settle-members mode number ms = promote-if-none mode (at-each-place (settle mode number) ms)
 
 unfoldable pub break-disconnected : Member → Member
 break-disconnected m = if is-disconnected (m .leg) then turned broken-state m else m
 
 -- what is left of `refresh_states` after that
-unfoldable pub requalify-members : GroupMode → Option ℕ → List Member → List Member
+unfoldable pub requalify-members : ℕ → Option ℕ → List Member → List Member
 requalify-members mode number ms = promote-if-none mode (at-each-place (requalify mode number) (each break-disconnected ms))

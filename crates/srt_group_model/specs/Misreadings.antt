@@ -1,24 +1,24 @@
 -- Readings of document 01 that are shut out, and the lent bytes, by computed calls that no listing can show. The other
 -- misreadings are shut out in Examples.antt (`give-up-not-repeated`, `nearest-not-lowest`, `error-promotes-beside-active`).
--- Assumes nothing.
 use mathlib.Core.Path.{_≡_, refl}
 use mathlib.Core.Bool.{Bool, true, false}
 use mathlib.Core.List.{List, [], _∷_, _++_}
 use mathlib.Core.Option.{Option, none, some}
 use Prim.Native.Nat.{ℕ}
 use lib.ListN.{length, replicate}
-use Rattle.srt_group_model.specs.State.{State}
+use Rattle.srt_group_model.specs.State.{State, broadcast-mode}
 use Rattle.srt_group_model.specs.Legs.{moment, no-sequence, on-sender, on-receiver}
-use Rattle.srt_group_model.specs.Lent.{Lent, Result, Call, addition, data-poll, queued-data, sending, poll-data, perform}
+use Rattle.srt_group_model.specs.Lent.{Lent, Result, Call, call-add-member, call-queue-data, call-send, call-poll-data, perform}
 use Rattle.srt_group_model.specs.Calls.{new}
 use Rattle.srt_group_model.specs.Cases.{leg}
 use Rattle.srt_group_model.specs.Computed.{definitions}
+use Rattle.srt_group_model.specs.Sending.{list-size}
+use Rattle.srt_protocol.specs.Cells.{output-size}
 use Rattle.srt_group_model.specs.declared.Leg.{Leg}
-use Rattle.srt_group_model.specs.declared.GroupMode.the-variants.{Broadcast, Backup}
 
 -- a store of two cells of 7, an output of 9 and a list of 8
 lent : Lent
-lent = record { store = replicate 2912 7; output = replicate 1468 9; list = replicate 5500 8 }
+lent = record { store = replicate 2912 7; output = replicate output-size 9; list = replicate list-size 8 }
 
 -- what the calls of a list leave, one after the other
 after : Lent → State → List Call → List Result
@@ -42,8 +42,8 @@ busy =
 -- It cannot be aligned with the first leg's number: 22, and it is a member from then on.
 unaligned : List Result
 unaligned =
-    after lent (new 1073741825 Broadcast 2912)
-    (addition 1 0 (leg 0 8 0 0) [] ∷ addition 2 0 busy [] ∷ addition 2 0 busy [] ∷ [])
+    after lent (new 1073741825 broadcast-mode 2912)
+    (call-add-member 1 0 (leg 0 8 0 0) [] ∷ call-add-member 2 0 busy [] ∷ call-add-member 2 0 busy [] ∷ [])
 
 addition-stays-added : (codes unaligned ≡ 0 ∷ 22 ∷ 21 ∷ []) × (members-left unaligned ≡ 1 ∷ 2 ∷ 2 ∷ [])
 unfolding definitions leg lent after codes members-left busy unaligned
@@ -54,10 +54,10 @@ addition-stays-added = (refl, refl)
 -- a packet 0 with two bytes, delivered; the leg has no first sequence, so the packet sets the base
 delivering : List Result
 delivering =
-    after lent (new 1073741825 Broadcast 2912)
-    (addition 1 0 (on-receiver (λ x. record { first = no-sequence; window = 8192; latency = 0; reserved = 0; advanced = 0 }) (leg 0 8 0 0)) []
-    ∷ queued-data 1 record { sequence = 0; count = 1; message = 0; timestamp = 0; source = moment 0; cell = 0; length = 0 } (65 ∷ 66 ∷ [])
-    ∷ poll-data 0 ∷ sending 5 (67 ∷ []) ∷ [])
+    after lent (new 1073741825 broadcast-mode 2912)
+    (call-add-member 1 0 (on-receiver (λ x. record { first = no-sequence; window = 8192; latency = 0; reserved = 0; advanced = 0 }) (leg 0 8 0 0)) []
+    ∷ call-queue-data 1 record { sequence = 0; count = 1; message = 0; timestamp = 0; source = moment 0; cell = 0; length = 0 } (65 ∷ 66 ∷ [])
+    ∷ call-poll-data 0 ∷ call-send 5 (67 ∷ []) ∷ [])
 
 last-lent : List Result → Lent
 last-lent [] = lent

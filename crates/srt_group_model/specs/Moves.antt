@@ -1,5 +1,5 @@
 -- What receiving can move. A `Law` names the few moves, and one walk shows that whatever they keep is kept by every call, with
--- its log. The laws of the skipped total, of the base and demand 3 are instances. Assumes nothing.
+-- its log. The laws of the skipped total, of the base and demand 3 are instances.
 use mathlib.Core.Path.{_≡_, refl, sym, ap, subst, _∙_}
 use mathlib.Core.Bool.{Bool, true, false, not, _&&_, _||_}
 use mathlib.Core.List.{List, [], _∷_, _++_}
@@ -7,12 +7,12 @@ use mathlib.Core.Option.{Option, none, some}
 use Prim.Native.Nat.{ℕ, zero, suc, _+_, _-_, _%_, min}
 use lib.Dec.{leb, eqb}
 use Rattle.srt_protocol.specs.Sequence.{sequence-distance}
-use Rattle.srt_group_model.specs.Tools.{if_then_else_, if-some_give_otherwise_, flagged, is-empty, such-that, each}
+use Rattle.srt_group_model.specs.Tools.{if_then_else_, if-some_give_otherwise_, is-set, flagged, is-empty, such-that, each}
 use Rattle.srt_group_model.specs.Reason.{if-elim, if-some-elim, by-test, not-both, none-some, or-right}
 use Rattle.srt_group_model.specs.State.{Member, Receive, State, next-receive-sequence, with-receive, with-base, with-pending}
 use Rattle.srt_group_model.specs.Nearest.{sequence-of, has-sequence, is-held, held-at, insert, nearest}
 use Rattle.srt_group_model.specs.Run.{Mark, put, base-set, collected, gap-skipped, delivered, Run, set-base, admit-connected-peer-groups, refresh-pending-states, refresh-states}
-use Rattle.srt_group_model.specs.Collecting.{is-discarded, retain-group-packet, report-event, collect-member-event, Visited, take-front, collect-one-event, collect-until-held, collect-until-empty}
+use Rattle.srt_group_model.specs.Collecting.{is-discarded, retain-group-packet, report-event, collect-member-event, Visited, take-front, collect-one-event, collect-until-held, Emptied, collect-until-empty}
 use Rattle.srt_group_model.specs.Delivery.{release-pending-reservation, release-all, pass-run, Polled, nothing, event, packet, Poll, advance-legs, deliver-packet, deliver, skip-to, give-waiting, skip-after, skip-given-up-gap, max-visits}
 use Rattle.srt_group_model.specs.Polls.{deliver-next, poll-event, DataPoll, pass-events, poll-until-data, poll-data-bounded, delivery-budget}
 use Rattle.srt_group_model.specs.Removal.{own-packet}
@@ -75,7 +75,7 @@ collect-one-numbers r =
 
 -- where nothing was collected, nothing is moved
 abbrev pub Idle : Run → Visited → Type 0
-Idle r v = v .went ≡ false → v .run .state .receive ≡ r .state .receive
+Idle r v = v .took ≡ false → v .run .state .receive ≡ r .state .receive
 
 take-front-idle : (i : ℕ) (m : Member) (r : Run) → Idle r (take-front i m r)
 unfolding take-front
@@ -93,15 +93,15 @@ until-empty-numbers : (n sequence : ℕ) (r : Run) → Same-numbers (r .state) (
 unfolding collect-until-empty
 until-empty-numbers zero sequence r = refl
 until-empty-numbers (suc n) sequence r =
-    if-elim (λ (v : Visited). Same-numbers (r .state) (v .run)) _ _ _ (λ h. refl)
+    if-elim (λ (v : Emptied). Same-numbers (r .state) (v .run)) _ _ _ (λ h. refl)
     (λ h.
-    if-elim (λ (v : Visited). Same-numbers (r .state) (v .run)) _ _ _
+    if-elim (λ (v : Emptied). Same-numbers (r .state) (v .run)) _ _ _
     (λ k. until-empty-numbers n sequence (collect-one-event r .run) ∙ collect-one-numbers r)
     (λ k. collect-one-numbers r))
 
 -- the queues ended empty only if the sequence is not held
-abbrev pub Not-held : ℕ → Visited → Type 0
-Not-held sequence v = v .went ≡ true → is-held sequence (v .run .state .receive .pending) ≡ false
+abbrev pub Not-held : ℕ → Emptied → Type 0
+Not-held sequence v = v .emptied ≡ true → is-held sequence (v .run .state .receive .pending) ≡ false
 
 pub until-empty-not-held : (n sequence : ℕ) (r : Run) → Not-held sequence (collect-until-empty n sequence r)
 unfolding collect-until-empty
@@ -112,11 +112,11 @@ until-empty-not-held (suc n) sequence r =
     if-elim (Not-held sequence) _ _ _ (λ g. until-empty-not-held n sequence (collect-one-event r .run))
     (λ g k.
     ap (λ (x : Receive). is-held sequence (x .pending)) (collect-one-idle r g)
-    ∙ or-right (r .state .visit .continuation) (is-held sequence (r .state .receive .pending)) h))
+    ∙ or-right (is-set (r .state .visit .continuation)) (is-held sequence (r .state .receive .pending)) h))
 
 pub until-empty-base : (n sequence : ℕ) (r : Run)
     → next-receive-sequence (collect-until-empty n sequence r .run .state .receive) ≡ next-receive-sequence (r .state .receive)
-until-empty-base n sequence r = ap (λ (x : Receiving). flagged (x .based) (x .base)) (until-empty-numbers n sequence r)
+until-empty-base n sequence r = ap (λ (x : Receiving). flagged (is-set (x .based)) (x .base)) (until-empty-numbers n sequence r)
 
 -- after a skip, and after the base was set, it is where it was put
 pub skip-base : (base next : ℕ) (x : Receive) → next-receive-sequence (skip-to base next x) ≡ some next

@@ -1,5 +1,5 @@
 -- Why the nearest held packet is the right one: where all held packets lie within half a circle ahead of the base, it is the one
--- least far ahead. Document 01, "Nearest held packet". Assumes nothing.
+-- least far ahead. Document 01, "Nearest held packet".
 use mathlib.Core.Path.{_≡_, refl, sym, ap, subst, _∙_}
 use mathlib.Core.Logic.{_⊎_, inl, inr}
 use mathlib.Core.Bool.{Bool, true, false}

@@ -1,4 +1,4 @@
--- The places of a list, in the library's words: for code that reads and writes rows by their index. Assumes nothing.
+-- The places of a list, in the library's words: for code that reads and writes rows by their index.
 use mathlib.Core.Path.{_≡_, refl, sym, ap, _∙_}
 use mathlib.Core.Bool.{Bool, true, false}
 use mathlib.Core.List.{List, [], _∷_, _++_}
@@ -22,6 +22,12 @@ module _ {A : Type 0} where
   change-is-set [] (suc i) f d = refl
   change-is-set (x ∷ xs) zero f d = refl
   change-is-set (x ∷ xs) (suc i) f d = ap {B = List A} (λ r. x ∷ r) (change-is-set xs i f d)
+
+  pub change-nothing : (i : ℕ) (l : List A) → change i (λ x. x) l ≡ l
+  unfolding change
+  change-nothing i [] = refl
+  change-nothing zero (x ∷ xs) = refl
+  change-nothing (suc i) (x ∷ xs) = ap {B = List A} (λ r. x ∷ r) (change-nothing i xs)
 
   pub without-place-is-cut : (l : List A) (i : ℕ) → i < length l → without-place i l ≡ take i l ++ drop (suc i) l
   unfolding without-place

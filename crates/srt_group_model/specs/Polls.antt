@@ -1,9 +1,9 @@
--- The polls: `poll_event`, `poll_data_bounded`. Assumes nothing.
+-- The polls: `poll_event`, `poll_data_bounded`.
 use mathlib.Core.Bool.{Bool, true, false, not, _||_}
 use mathlib.Core.Option.{Option, none, some}
 use Prim.Native.Nat.{ℕ, zero, suc, min}
 use lib.Dec.{eqb}
-use Rattle.srt_group_model.specs.Tools.{if_then_else_, if-some_give_otherwise_, is-empty}
+use Rattle.srt_group_model.specs.Tools.{if_then_else_, if-some_give_otherwise_, is-set, is-empty}
 use Rattle.srt_group_model.specs.State.{State, next-receive-sequence, with-continuation}
 use Rattle.srt_group_model.specs.Nearest.{sequence-of, nearest}
 use Rattle.srt_group_model.specs.Run.{Run, set-base, refresh-pending-states, refresh-states}
@@ -41,7 +41,7 @@ pub record DataPoll : Type 0 where
 
 -- an event that waited is passed over
 unfoldable pub pass-events : Polled → Run → DataPoll → DataPoll
-pass-events nothing r later = record { gave = none; continuation = r .state .visit .continuation; run = r }
+pass-events nothing r later = record { gave = none; continuation = is-set (r .state .visit .continuation); run = r }
 pass-events (event w) r later = later
 pass-events (packet p) r later = record { gave = some p; continuation = false; run = r }
 

@@ -1,5 +1,5 @@
 -- What a poll can do to the members: take the front of a queue, with the mark of what it collected, and change labels, sums and
--- sending sides. Walk shows that whatever these keep is kept by the polls. Assumes nothing.
+-- sending sides. Walk shows that whatever these keep is kept by the polls.
 use mathlib.Core.Path.{_≡_, refl, sym, ap, subst, _∙_}
 use mathlib.Core.Bool.{Bool, true, false, not, _&&_, _||_}
 use mathlib.Core.List.{List, [], _∷_, _++_}

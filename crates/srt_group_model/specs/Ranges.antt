@@ -1,5 +1,5 @@
 -- Every number of a state stays in its range: what `sequence-too-large` and `field-out-of-range` ask, as statements, and how the
--- moves of a poll keep them. Assumes nothing.
+-- moves of a poll keep them.
 use mathlib.Core.Path.{_≡_, refl, sym, ap, ap₂, subst, _∙_}
 use mathlib.Core.Bool.{Bool, true, false, not, _&&_, _||_}
 use mathlib.Core.List.{List, [], _∷_, _++_}
@@ -12,12 +12,13 @@ use lib.Dec.{leb, ltb, eqb}
 use lib.ListN.{length, drop}
 use Rattle.srt_protocol.specs.Circle.{further, distance}
 use Rattle.srt_protocol.specs.Sequence.{half, sequence-further}
+use Rattle.srt_group_model.specs.Arrivals.{base-after-elim, peer-after-elim}
 use Rattle.srt_group_model.specs.Tools.{if_then_else_, if-some_give_otherwise_, or-else, flagged, any, such-that, first-such, place-of, at-place, change, each}
 use Rattle.srt_group_model.specs.Reason.{if-elim, if-some-elim, by-test, not-both, none-some, some-inj, and-left, and-right, or-left, or-right, All, all-map, all-append}
 use Rattle.srt_group_model.specs.State.{Member, turned, with-leg, on-membership, with-admitted, with-collision}
 use Rattle.srt_group_model.specs.Legs.{is-connected, has-sender, can-send, no-sequence, next-sequence-number, peer-initial-sequence, send-shared-with-sequence, synchronize-send-sequence, release-data-reservation, advance-receive-sequence, largest-sequence, largest-16, largest-32, largest-64}
 use Rattle.srt_group_model.specs.Members.{id-of, arrives, base-after, peer-after, alignment-source, align-leg}
-use Rattle.srt_group_model.specs.Validity.{above, max-events, is-too-large, event-out-of-range}
+use Rattle.srt_group_model.specs.Validity.{above, max-queued, is-too-large, event-out-of-range}
 use Rattle.srt_group_model.specs.Cells.{is-data}
 use Rattle.srt_protocol.specs.declared.time.Timestamp.{Timestamp}
 use Rattle.srt_group_model.specs.declared.Leg.{Leg}
@@ -137,7 +138,7 @@ pub record Member-fit (m : Member) : Type 0 where
   pub expected : m .membership .collision .expected ≤ largest-32
   pub actual : m .membership .collision .actual ≤ largest-32
   pub queue : All Event-fit (m .queue)
-  pub short : length (m .queue) ≤ max-events
+  pub short : length (m .queue) ≤ max-queued
 
 abbrev pub All-fit : List Member → Type 0
 All-fit = All Member-fit
@@ -229,18 +230,19 @@ first-fit l f n e = first-of (eqb (l .receiver .first) no-sequence) (l .receiver
         and-true true g = g
         and-true false g = refl
 
+fit-at : (i : ℕ) (m : Member) (ms : List Member) → at-place i ms ≡ some m → All-fit ms → Member-fit m
+unfolding at-place
+fit-at zero m (x ∷ ms) at h = subst Member-fit (some-inj at) (h .0)
+fit-at (suc i) m (x ∷ ms) at h = fit-at i m ms at (h .1)
+fit-at zero m [] at h = none-some at
+fit-at (suc i) m [] at h = none-some at
+
 pub base-after-fit : (o : Option ℕ) (ms : List Member) → Option-fit o → All-fit ms → Option-fit (base-after o ms)
-unfolding base-after or-else
-base-after-fit o [] b h = b
-base-after-fit none (m ∷ ms) b h = base-after-fit _ ms (if-elim Option-fit (arrives m) _ _ (λ e. first-fit (m .leg) (h .0 .leg)) (λ e. b)) (h .1)
-base-after-fit (some n) (m ∷ ms) b h =
-    base-after-fit _ ms (if-elim Option-fit (arrives m) _ _ (λ e. b) (λ e. b)) (h .1)
+base-after-fit o ms b h = base-after-elim Option-fit o ms b (λ i m at a. first-fit (m .leg) (fit-at i m ms at h .leg))
 
 pub peer-after-fit : (peer : ℕ) (ms : List Member) → peer ≤ largest-32 → All-fit ms → peer-after peer ms ≤ largest-32
-unfolding peer-after
-peer-after-fit peer [] b h = b
-peer-after-fit peer (m ∷ ms) b h =
-    peer-after-fit _ ms (if-elim (λ (n : ℕ). n ≤ largest-32) _ _ _ (λ e. h .0 .leg .peer) (λ e. b)) (h .1)
+peer-after-fit peer ms b h =
+    peer-after-elim (λ (n : ℕ). n ≤ largest-32) peer ms b (λ n i m at a k. fit-at i m ms at h .leg .peer)
 
 pub admitted-fit : (m : Member) → Member-fit m → Member-fit (on-membership with-admitted m)
 admitted-fit m h =

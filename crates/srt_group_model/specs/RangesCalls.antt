@@ -1,4 +1,4 @@
--- Every number of a state stays in its range over every call. Assumes nothing.
+-- Every number of a state stays in its range over every call.
 use mathlib.Core.Path.{_≡_, refl, sym, ap, ap₂, subst, _∙_}
 use mathlib.Core.Bool.{Bool, true, false, not, _&&_, _||_}
 use mathlib.Core.List.{List, [], _∷_, _++_}
@@ -11,6 +11,7 @@ use lib.ListN.{length, length-append, drop}
 use Rattle.srt_protocol.specs.Sequence.{sequence-distance, sequence-before, sequence-further}
 use Rattle.srt_protocol.specs.Cells.{cell-size}
 use Rattle.srt_group_model.specs.Tools.{if_then_else_, if-some_give_otherwise_, at-place, change, each, without-place}
+use Rattle.srt_group_model.specs.FlagLaws.{bit-most}
 use Rattle.srt_group_model.specs.Reason.{if-elim, if-some-elim, by-test, not-both, none-some, some-inj, and-left, and-right, or-left, or-right, All, all-map, all-append}
 use Rattle.srt_group_model.specs.State.{Member, Send, State, next-send-sequence, with-receive, with-send, with-members, on-leg}
 use Rattle.srt_group_model.specs.Legs.{moment, Reading, readings, reading-of, goes-back, read-state, acknowledge, handed, disconnect-leg, add-reservation, has-sender, is-connected, oldest-unacked-sequence, send-shared-with-sequence, synchronize-send-sequence, largest-sequence, largest-16, largest-32, largest-64}
@@ -19,7 +20,7 @@ use Rattle.srt_group_model.specs.Nearest.{sequence-of, nearest}
 use Rattle.srt_group_model.specs.Delivery.{skip-to}
 use Rattle.srt_group_model.specs.Removal.{own-packet, retire, take-out}
 use Rattle.srt_group_model.specs.Backup.{max-history, drop-before, trim-backup-history, append-history}
-use Rattle.srt_group_model.specs.Validity.{above, is-too-large, max-events, data-out-of-range, event-out-of-range, leg-out-of-range, leg-sequence-too-large}
+use Rattle.srt_group_model.specs.Validity.{above, is-too-large, max-queued, data-out-of-range, event-out-of-range, leg-out-of-range, leg-sequence-too-large}
 use Rattle.srt_group_model.specs.Calls.{queue-full, enqueue, data-event, data-unfit, no-data, reading-out-of-range, read-field, state-at-addition, new-member}
 use Rattle.srt_group_model.specs.Lent.{Lent, Call, perform}
 use Rattle.srt_group_model.specs.Sums.{all-such-that, inserted-all}
@@ -29,7 +30,7 @@ use Rattle.srt_group_model.specs.CallLaw.{Member-move, unmoved, turn, ad
 use Rattle.srt_group_model.specs.EveryCall.{call-keeps}
 use Rattle.srt_group_model.specs.Acknowledging.{acknowledged-less}
 use Rattle.srt_group_model.specs.Ranges.{Leg-fit, further-fits, synchronize-fit, send-fit, align-leg-fit, Event-fit, Member-fit, All-fit, turned-fit, with-leg-fit, at-fit, at-change-fit, source-fit, first-fit, admitted-fit, collided-fit}
-use Rattle.srt_group_model.specs.RangesKept.{Packet-fit, Entry-fit, Waiting-fit, Fit, number-fit, drop-fit, pop-fit, release-leg-fit, advance-leg-fit, reserved-fit, front-fit, packet-fit, waiting-fit, members-fit, receive-fit, sending-fit, events-fit, peer-fit, visit-fit, delivers-fit, nearest-fit}
+use Rattle.srt_group_model.specs.RangesKept.{Packet-fit, Entry-fit, Waiting-fit, Receiving-fit, Sending-fit, Fit, number-fit, drop-fit, pop-fit, release-leg-fit, advance-leg-fit, reserved-fit, front-fit, packet-fit, waiting-fit, members-fit, receive-fit, sending-fit, events-fit, peer-fit, visit-fit, delivers-fit, nearest-fit}
 use Rattle.srt_group_model.specs.declared.Leg.{Leg}
 use Rattle.srt_group_model.specs.declared.Data.{Data}
 use Rattle.srt_group_model.specs.declared.Event.{Event}
@@ -116,9 +117,11 @@ append-most carrier e x h =
     one-less [] k = omega arith
     one-less (y ∷ l) k = omega arith
 
-trim-next : (l : Leg) (x : Send) → trim-backup-history l x .numbers .next ≡ x .numbers .next
+trim-numbers-fit : (l : Leg) (x : Send) → Sending-fit (x .numbers) → Sending-fit (trim-backup-history l x .numbers)
 unfolding trim-backup-history
-trim-next l x = if-elim (λ (y : Send). y .numbers .next ≡ x .numbers .next) _ _ _ (λ e. refl) (λ e. refl)
+trim-numbers-fit l x h =
+    if-elim (λ (y : Send). Sending-fit (y .numbers)) _ _ _
+    (λ e. record { numbered = h .numbered; next = h .next; carried = h .carried; carrier = h .carrier; gap = bit-most _ }) (λ e. h)
 
 front-entry-fit : (e : Entry) (es : List Entry) → at-place 0 es ≡ some e → All Entry-fit es → Entry-fit e
 unfolding at-place
@@ -136,9 +139,10 @@ append-history-fit carrier e x k h =
     all-append Entry-fit (if full then drop 1 (x .history) else x .history) (e ∷ [])
     (if-elim (All Entry-fit) full (drop 1 (x .history)) (x .history) (λ g. drop-one-fit (x .history) h) (λ g. h)) (k, tt)
 
-append-next : (carrier : ℕ) (e : Entry) (x : Send) → append-history carrier e x .numbers .next ≡ x .numbers .next
+append-numbers-fit : (carrier : ℕ) (e : Entry) (x : Send) → carrier ≤ largest-32 → Sending-fit (x .numbers) → Sending-fit (append-history carrier e x .numbers)
 unfolding append-history
-append-next carrier e x = refl
+append-numbers-fit carrier e x k h =
+    record { numbered = h .numbered; next = h .next; carried = omega arith; carrier = k; gap = h .gap }
 
 -- ---- members and held packets
 
@@ -186,7 +190,7 @@ read-leg-fit field n m b g h = with-leg-fit (read-field field n (m .leg)) m (rea
 
 enqueue-fit : (e : Event) (m : Member) → Event-fit e → queue-full m ≡ false → Member-fit m → Member-fit (enqueue e m)
 enqueue-fit e m k f h =
-    record { leg = h .leg; id = h .id; weight = h .weight; state = h .state; admitted = h .admitted; expected = h .expected; actual = h .actual; queue = all-append Event-fit (m .queue) (e ∷ []) (h .queue) (k, tt); short = omega (arith, length-append (m .queue) (e ∷ []), leb-false max-events (length (m .queue)) f) }
+    record { leg = h .leg; id = h .id; weight = h .weight; state = h .state; admitted = h .admitted; expected = h .expected; actual = h .actual; queue = all-append Event-fit (m .queue) (e ∷ []) (h .queue) (k, tt); short = omega (arith, length-append (m .queue) (e ∷ []), leb-false max-queued (length (m .queue)) f) }
 
 reserve-fit : (n : ℕ) (m : Member) → Member-fit m → Member-fit (on-leg (add-reservation n) m)
 reserve-fit n m h =
@@ -321,7 +325,7 @@ move-fit : (s : State) (m n : Member) → Member-move s m n → Fit s → Member
 move-fit s m n unmoved h k = k
 move-fit s m n (turn state fits stays) h k = turned-fit state m fits k
 move-fit s m n (admission e) h k = admitted-fit m k
-move-fit s m n (colliding e) h k = collided-fit (s .identity .peer) m (h .peer) k
+move-fit s m n (colliding e) h k = collided-fit (s .peer) m (h .peer) k
 move-fit s m n (alignment sequence l source e) h k =
     with-leg-fit l m (align-leg-fit sequence (m .leg) (source-fit (next-send-sequence (s .send)) (id-of m) (s .members) (number-fit s h) (h .members) sequence source) (k .leg) l e) k
 move-fit s m n (catching-up entry l there e) h k =
@@ -340,14 +344,18 @@ base-fit : (s : State) (b : ℕ) → Base-source s b → Fit s → b ≤ largest
 base-fit s b (first-of i m at a e) h = first-fit (m .leg) (at-fit i m (s .members) at (h .members) .leg) b e
 base-fit s b (nearest-held p g e) h = subst (λ (n : ℕ). n ≤ largest-sequence) e (nearest-fit (s .receive .pending) (h .pending) p g .sequence)
 
+-- a base that is set
+based-fit : {n total : ℕ} → n ≤ largest-sequence → Receiving-fit record { based = 1; base = n; skipped = total }
+based-fit h = record { based = omega arith; base = h }
+
 skips-fit : (s : State) (base : ℕ) (p : Packet) → nearest (s .receive .pending) ≡ some p → Fit s → Fit (with-receive (skip-to base (sequence-of p) (s .receive)) s)
 unfolding skip-to
-skips-fit s base p near h = receive-fit _ s (h .pending) (nearest-fit (s .receive .pending) (h .pending) p near .sequence) h
+skips-fit s base p near h = receive-fit _ s (h .pending) (based-fit (nearest-fit (s .receive .pending) (h .pending) p near .sequence)) h
 
 trims-fit : (s : State) (l : Leg) → Fit s → Fit (with-send (trim-backup-history l (s .send)) s)
 trims-fit s l h =
     sending-fit _ s (trim-history-fit l (s .send) (h .history)) (omega (arith, trim-shorter l (s .send), h .remembered))
-    (subst (λ (n : ℕ). n ≤ largest-sequence) (sym (trim-next l (s .send))) (h .next)) h
+    (trim-numbers-fit l (s .send) (h .sending)) h
 
 reports-fit : (s : State) (i : ℕ) (m : Member) (e : Event) → In-front s i m e → eqb (e .kind) 0 ≡ false → Fit s → Fit (reported i m e s)
 reports-fit s i m e f d h =
@@ -360,15 +368,15 @@ fit-polls =
     record {
       moves = λ s i m f at move h. changes-fit s i m f at (move-fit s m (f m) move h) h;
       binds = λ s i m at a h. peer-fit _ s (at-fit i m (s .members) at (h .members) .leg .peer) h;
-      sets-base = λ s b e source h. receive-fit _ s (h .pending) (base-fit s b source h) h;
-      continues = λ s b h. visit-fit _ s h;
-      turns = λ s i m at h. visit-fit _ s h;
+      sets-base = λ s b e source h. receive-fit _ s (h .pending) (based-fit (base-fit s b source h)) h;
+      continues = λ s b h. visit-fit _ s (bit-most b) h;
+      turns = λ s i m at h. visit-fit _ s (h .continuation) h;
       discards =
           λ s i m e f d g h. changes-fit s i m _ (f .stands) (λ k. release-leg-fit (e .content .count) (pop m) (pop-fit m k)) h;
       holds =
           λ s i m e f d g h.
           let mine = at-fit i m (s .members) (f .stands) (h .members) in
-          receive-fit _ _ (inserted-all Packet-fit (packet-of m e) (s .receive .pending) (packet-fit m e mine (front-fit (m .queue) e (f .first) (mine .queue)) d) (h .pending)) (h .base)
+          receive-fit _ _ (inserted-all Packet-fit (packet-of m e) (s .receive .pending) (packet-fit m e mine (front-fit (m .queue) e (f .first) (mine .queue)) d) (h .pending)) (h .receiving)
           (changes-fit s i m _ (f .stands) (λ k. reserved-fit (λ n. n + e .content .count) (pop m) (pop-fit m k)) h);
       reports = λ s i m e f d few h. reports-fit s i m e f d h;
       gives = λ s h. events-fit _ s (drop-fit Waiting-fit (s .waiting) (h .waiting)) h;
@@ -388,10 +396,10 @@ fit-moves c cells =
           (new-member-fit id weight (handed l) s (j .id-fits) (j .weight-fits) (leg-of-rules (handed l) (j .leg-fits) (handed-sequences l ∙ j .sequences-fit)), tt)) h;
       leaves =
           λ s i m is at h.
-          record { members = without-fit i (s .members) (h .members); pending = own-fit (id-of m) (s .receive .pending) (h .pending); history = h .history; remembered = h .remembered; waiting = h .waiting; base = h .base; next = h .next; peer = h .peer };
+          record { members = without-fit i (s .members) (h .members); pending = own-fit (id-of m) (s .receive .pending) (h .pending); history = h .history; remembered = h .remembered; waiting = h .waiting; receiving = h .receiving; sending = h .sending; continuation = h .continuation; peer = h .peer };
       retires =
           λ s base p e h.
-          record { members = h .members; pending = all-such-that Packet-fit _ (s .receive .pending) (h .pending); history = h .history; remembered = h .remembered; waiting = h .waiting; base = h .base; next = h .next; peer = h .peer };
+          record { members = h .members; pending = all-such-that Packet-fit _ (s .receive .pending) (h .pending); history = h .history; remembered = h .remembered; waiting = h .waiting; receiving = h .receiving; sending = h .sending; continuation = h .continuation; peer = h .peer };
       takes = λ s e h. h;
       puts = λ s cell payload h. h;
       lets-go = λ s cell h. h;
@@ -400,20 +408,24 @@ fit-moves c cells =
           changes-fit s i m _ at (λ k. reserve-fit (d .count) _ (enqueue-fit _ m (data-event-fit id cell (length payload) d unfit short) full k)) h;
       queues-event =
           λ s i m id kind reason is at full some-kind known fits h. changes-fit s i m _ at (enqueue-fit _ m (event-event-fit kind reason some-kind known fits) full) h;
-      numbers = λ s sequence h. sending-fit _ s (h .history) (h .remembered) (further-fits sequence 1) h;
+      numbers =
+          λ s sequence h.
+          let x = h .sending in
+          sending-fit _ s (h .history) (h .remembered)
+          record { numbered = omega arith; next = further-fits sequence 1; carried = x .carried; carrier = x .carrier; gap = x .gap } h;
       remembers =
           λ s i m e at next short fits h.
           sending-fit _ s
           (append-history-fit (id-of m) e (s .send)
           record { sequence = subst (λ (n : ℕ). n ≤ largest-sequence) (sym next) (at-fit i m (s .members) at (h .members) .leg .next); size = short; source = fits } (h .history))
-          (append-most (id-of m) e (s .send) (h .remembered)) (subst (λ (n : ℕ). n ≤ largest-sequence) (sym (append-next (id-of m) e (s .send))) (h .next)) h;
+          (append-most (id-of m) e (s .send) (h .remembered)) (append-numbers-fit (id-of m) e (s .send) (at-fit i m (s .members) at (h .members) .id) (h .sending)) h;
       trims = λ s l h. trims-fit s l h;
     }
 
 pub fit-law : State-law Fit
 fit-law =
     state-law-of (λ hand s log. Fit s) Fit fit-polls (λ s log h. h) (λ s log h. h) reports-fit delivers-fit skips-fit
-    (λ s p near h. receive-fit _ s (h .pending) (nearest-fit (s .receive .pending) (h .pending) p near .sequence) h)
+    (λ s p near h. receive-fit _ s (h .pending) (based-fit (nearest-fit (s .receive .pending) (h .pending) p near .sequence)) h)
 
 pub fit-kept : (c : Call) (lent : Lent) (s : State) → Fit s → Fit (perform c lent s .state)
 fit-kept c lent s h = call-keeps (λ hand s log. Fit s) c lent s (fit-moves c _) h

@@ -1,4 +1,4 @@
--- Every number of a state stays in its range over the polls. Assumes nothing.
+-- Every number of a state stays in its range over the polls.
 use mathlib.Core.Path.{_≡_, refl, sym, ap, ap₂, subst, _∙_}
 use mathlib.Core.Bool.{Bool, true, false, not, _&&_, _||_}
 use mathlib.Core.List.{List, [], _∷_, _++_}
@@ -10,7 +10,7 @@ use lib.Dec.{leb, ltb, eqb}
 use lib.ListN.{length, drop}
 use Rattle.srt_protocol.specs.Sequence.{sequence-further}
 use Rattle.srt_protocol.specs.Cells.{cell-size}
-use Rattle.srt_group_model.specs.Tools.{if_then_else_, if-some_give_otherwise_, or-else, flagged, such-that, at-place, change, each}
+use Rattle.srt_group_model.specs.Tools.{if_then_else_, if-some_give_otherwise_, is-set, or-else, flagged, such-that, at-place, change, each}
 use Rattle.srt_group_model.specs.Reason.{if-elim, if-some-elim, by-test, not-both, none-some, some-inj, and-left, and-right, or-left, or-right, All, all-map, all-append}
 use Rattle.srt_group_model.specs.State.{Member, Receive, Send, State, next-send-sequence, with-receive, with-send, with-visit, with-members, with-waiting, with-peer, with-queue, on-leg, on-membership, with-reserved}
 use Rattle.srt_group_model.specs.Legs.{release-data-reservation, advance-receive-sequence, largest-sequence, largest-16, largest-32, largest-64}
@@ -20,7 +20,7 @@ use Rattle.srt_group_model.specs.Collecting.{front}
 use Rattle.srt_group_model.specs.Delivery.{release-pending-reservation, release-all, advance-legs, deliver-packet, pass-run}
 use Rattle.srt_group_model.specs.Backup.{max-history}
 use Rattle.srt_group_model.specs.Cells.{is-data}
-use Rattle.srt_group_model.specs.Validity.{above, is-too-large, max-events, data-out-of-range, event-out-of-range}
+use Rattle.srt_group_model.specs.Validity.{above, is-too-large, max-queued, data-out-of-range, event-out-of-range}
 use Rattle.srt_group_model.specs.Queues.{pop, packet-of}
 use Rattle.srt_group_model.specs.Sums.{all-such-that}
 use Rattle.srt_group_model.specs.Ranges.{Leg-fit, further-fits, Option-fit, Event-fit, Member-fit, All-fit, change-fit, each-fit, flagged-fit}
@@ -28,6 +28,8 @@ use Rattle.srt_group_model.specs.declared.Event.{Event}
 use Rattle.srt_group_model.specs.declared.Packet.{Packet}
 use Rattle.srt_group_model.specs.declared.Waiting.{Waiting}
 use Rattle.srt_group_model.specs.declared.Entry.{Entry}
+use Rattle.srt_group_model.specs.declared.Receiving.{Receiving}
+use Rattle.srt_group_model.specs.declared.Sending.{Sending}
 use Rattle.srt_group_model.specs.declared.Visit.{Visit}
 
 pub record Packet-fit (p : Packet) : Type 0 where
@@ -47,18 +49,31 @@ pub record Waiting-fit (w : Waiting) : Type 0 where
   pub some-kind : eqb (w .kind) 0 ≡ false
   pub reason : w .reason ≤ largest-32
 
+pub record Receiving-fit (x : Receiving) : Type 0 where
+  pub based : x .based ≤ 1
+  pub base : x .base ≤ largest-sequence
+
+pub record Sending-fit (x : Sending) : Type 0 where
+  pub numbered : x .numbered ≤ 1
+  pub next : x .next ≤ largest-sequence
+  pub carried : x .carried ≤ 1
+  pub carrier : x .carrier ≤ largest-32
+  pub gap : x .gap ≤ 1
+
+-- the id and the mode are not here: no call moves them
 pub record Fit (s : State) : Type 0 where
   pub members : All-fit (s .members)
   pub pending : All Packet-fit (s .receive .pending)
   pub history : All Entry-fit (s .send .history)
   pub remembered : length (s .send .history) ≤ max-history
   pub waiting : All Waiting-fit (s .waiting)
-  pub base : s .receive .numbers .base ≤ largest-sequence
-  pub next : s .send .numbers .next ≤ largest-sequence
-  pub peer : s .identity .peer ≤ largest-32
+  pub receiving : Receiving-fit (s .receive .numbers)
+  pub sending : Sending-fit (s .send .numbers)
+  pub continuation : s .visit .continuation ≤ 1
+  pub peer : s .peer ≤ largest-32
 
 pub number-fit : (s : State) → Fit s → Option-fit (next-send-sequence (s .send))
-number-fit s h = flagged-fit (s .send .numbers .numbered) (s .send .numbers .next) (h .next)
+number-fit s h = flagged-fit (is-set (s .send .numbers .numbered)) (s .send .numbers .next) (h .sending .next)
 
 -- ---- collecting
 
@@ -66,7 +81,7 @@ pub drop-fit : {A : Type 0} (P : A → Type 0) (l : List A) → All P l → All 
 drop-fit P [] h = tt
 drop-fit P (x ∷ l) h = h .1
 
-drop-short : {A : Type 0} (l : List A) → length (drop 1 l) ≤ length l
+pub drop-short : {A : Type 0} (l : List A) → length (drop 1 l) ≤ length l
 drop-short [] = omega arith
 drop-short (x ∷ l) = omega arith
 
@@ -200,27 +215,27 @@ waiting-fit m e h k d =
 
 pub members-fit : (ms : List Member) (s : State) → All-fit ms → Fit s → Fit (with-members ms s)
 members-fit ms s k h =
-    record { members = k; pending = h .pending; history = h .history; remembered = h .remembered; waiting = h .waiting; base = h .base; next = h .next; peer = h .peer }
+    record { members = k; pending = h .pending; history = h .history; remembered = h .remembered; waiting = h .waiting; receiving = h .receiving; sending = h .sending; continuation = h .continuation; peer = h .peer }
 
-pub receive-fit : (x : Receive) (s : State) → All Packet-fit (x .pending) → x .numbers .base ≤ largest-sequence → Fit s → Fit (with-receive x s)
+pub receive-fit : (x : Receive) (s : State) → All Packet-fit (x .pending) → Receiving-fit (x .numbers) → Fit s → Fit (with-receive x s)
 receive-fit x s k b h =
-    record { members = h .members; pending = k; history = h .history; remembered = h .remembered; waiting = h .waiting; base = b; next = h .next; peer = h .peer }
+    record { members = h .members; pending = k; history = h .history; remembered = h .remembered; waiting = h .waiting; receiving = b; sending = h .sending; continuation = h .continuation; peer = h .peer }
 
-pub sending-fit : (x : Send) (s : State) → All Entry-fit (x .history) → length (x .history) ≤ max-history → x .numbers .next ≤ largest-sequence → Fit s → Fit (with-send x s)
+pub sending-fit : (x : Send) (s : State) → All Entry-fit (x .history) → length (x .history) ≤ max-history → Sending-fit (x .numbers) → Fit s → Fit (with-send x s)
 sending-fit x s k r n h =
-    record { members = h .members; pending = h .pending; history = k; remembered = r; waiting = h .waiting; base = h .base; next = n; peer = h .peer }
+    record { members = h .members; pending = h .pending; history = k; remembered = r; waiting = h .waiting; receiving = h .receiving; sending = n; continuation = h .continuation; peer = h .peer }
 
 pub events-fit : (ws : List Waiting) (s : State) → All Waiting-fit ws → Fit s → Fit (with-waiting ws s)
 events-fit ws s k h =
-    record { members = h .members; pending = h .pending; history = h .history; remembered = h .remembered; waiting = k; base = h .base; next = h .next; peer = h .peer }
+    record { members = h .members; pending = h .pending; history = h .history; remembered = h .remembered; waiting = k; receiving = h .receiving; sending = h .sending; continuation = h .continuation; peer = h .peer }
 
 pub peer-fit : (n : ℕ) (s : State) → n ≤ largest-32 → Fit s → Fit (with-peer n s)
 peer-fit n s k h =
-    record { members = h .members; pending = h .pending; history = h .history; remembered = h .remembered; waiting = h .waiting; base = h .base; next = h .next; peer = k }
+    record { members = h .members; pending = h .pending; history = h .history; remembered = h .remembered; waiting = h .waiting; receiving = h .receiving; sending = h .sending; continuation = h .continuation; peer = k }
 
-pub visit-fit : (v : Visit) (s : State) → Fit s → Fit (with-visit v s)
-visit-fit v s h =
-    record { members = h .members; pending = h .pending; history = h .history; remembered = h .remembered; waiting = h .waiting; base = h .base; next = h .next; peer = h .peer }
+pub visit-fit : (v : Visit) (s : State) → v .continuation ≤ 1 → Fit s → Fit (with-visit v s)
+visit-fit v s k h =
+    record { members = h .members; pending = h .pending; history = h .history; remembered = h .remembered; waiting = h .waiting; receiving = h .receiving; sending = h .sending; continuation = k; peer = h .peer }
 
 -- ---- delivery
 
@@ -229,7 +244,7 @@ unfolding release-pending-reservation
 release-fit p s h =
     if-elim Fit _ _ _
     (λ e.
-    record { members = h .members; pending = h .pending; history = h .history; remembered = h .remembered; waiting = h .waiting; base = h .base; next = h .next; peer = h .peer })
+    record { members = h .members; pending = h .pending; history = h .history; remembered = h .remembered; waiting = h .waiting; receiving = h .receiving; sending = h .sending; continuation = h .continuation; peer = h .peer })
     (λ e.
     if-some-elim Fit _ _ _
     (λ i g.
@@ -239,8 +254,9 @@ release-fit p s h =
       history = h .history;
       remembered = h .remembered;
       waiting = h .waiting;
-      base = h .base;
-      next = h .next;
+      receiving = h .receiving;
+      sending = h .sending;
+      continuation = h .continuation;
       peer = h .peer;
     })
     (λ g. h))
@@ -260,8 +276,9 @@ delivers-fit s base p h =
       history = r .history;
       remembered = r .remembered;
       waiting = r .waiting;
-      base = further-fits base (p .content .count);
-      next = r .next;
+      receiving = record { based = omega arith; base = further-fits base (p .content .count) };
+      sending = r .sending;
+      continuation = r .continuation;
       peer = r .peer;
     }
 

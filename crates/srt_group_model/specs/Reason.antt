@@ -1,4 +1,4 @@
--- Ways to go through a choice, an option and a list in a proof. Assumes nothing.
+-- Ways to go through a choice, an option and a list in a proof.
 use mathlib.Core.Path.{_≡_, refl, sym, ap, subst, _∙_}
 use mathlib.Core.Bool.{Bool, true, false, not, _&&_, _||_}
 use mathlib.Core.List.{List, [], _∷_, _++_}
@@ -14,6 +14,14 @@ pub if-elim : {A : Type 0} (P : A → Type 0) (t : Bool) (a b : A) → (t ≡ tr
 unfolding if_then_else_
 if-elim P true a b f g = f refl
 if-elim P false a b f g = g refl
+
+pub if-true : {A : Type 0} (t : Bool) (a b : A) → t ≡ true → (if t then a else b) ≡ a
+unfolding if_then_else_
+if-true t a b e = rw e
+
+pub if-false : {A : Type 0} (t : Bool) (a b : A) → t ≡ false → (if t then a else b) ≡ b
+unfolding if_then_else_
+if-false t a b e = rw e
 
 pub by-test : {B : Type 0} (t : Bool) → (t ≡ true → B) → (t ≡ false → B) → B
 by-test true f g = f refl
@@ -37,6 +45,14 @@ or-left false b e = refl
 pub or-right : (a b : Bool) → a || b ≡ false → b ≡ false
 or-right true b e = not-both {t = true} refl e
 or-right false b e = e
+
+pub or-assoc : (a b c : Bool) → ((a || b) || c) ≡ (a || (b || c))
+or-assoc true b c = refl
+or-assoc false b c = refl
+
+pub or-no : (a : Bool) → (a || false) ≡ a
+or-no true = refl
+or-no false = refl
 
 pub or-cases : {C : Type 0} (a b : Bool) → a || b ≡ true → (a ≡ true → C) → (b ≡ true → C) → C
 or-cases true b e f g = f refl

@@ -1,5 +1,5 @@
 -- Laws of refusals: after 1 to 6, 20, 21 and 30 to 32 everything is as it was, and no refusal at all writes the output or the
--- store. Document 01, "Codes from the input" and "No code writes to the output". Assumes nothing.
+-- store. Document 01, "Codes from the input" and "No code writes to the output".
 use mathlib.Core.Path.{_≡_, refl, sym, ap, subst, _∙_}
 use mathlib.Core.Logic.{_⊎_, inl, inr}
 use mathlib.Core.Bool.{Bool, true, false, not, _&&_, _||_}
@@ -17,11 +17,11 @@ use Rattle.srt_group_model.specs.State.{State, Member}
 use Rattle.srt_group_model.specs.Run.{Run}
 use Rattle.srt_group_model.specs.Sending.{Flow, _and-then_, send-broadcast}
 use Rattle.srt_group_model.specs.Backup.{replay-on, replay-flight, align-carrier, take-over-backup-flight, send-own, send-after-promotion, send-at-place, send-backup}
-use Rattle.srt_group_model.specs.Guards.{Answer, no-answer, Put, Step, refuse, Check, guard}
+use Rattle.srt_group_model.specs.Guards.{Answer, no-answer, Put, Step, refuse, accept, Check, guard}
 use Rattle.srt_group_model.specs.Calls.{add-body, add-member, mark-member-broken, remove-body, remove-member-connection, member, refresh-member-states, disconnect, event-poll-body, poll-event-call, data-poll-body, poll-data-call, left-by-send, send-flow, send-body, send, can-send-body, can-send-call, can-send-with-pacing-body, can-send-with-pacing-call, time-until-send, backup-stability-timeout-micros, group-id, members-call, mode, peer-group-id, skipped-receive-packets, has-pending-data-call, has-receive-continuation, read-leg, queue-data-body, queue-data, queue-event}
 use Rattle.srt_group_model.specs.declared.Leg.{Leg}
 use Rattle.srt_group_model.specs.declared.Entry.{Entry}
-use Rattle.srt_group_model.specs.Lent.{Lent, Result, Call, addition, broken-mark, removal, member-look, refreshing, disconnection, event-poll, data-poll, sending, readiness, paced-readiness, send-wait, stability, group-look, members-look, mode-look, peer-look, skipped-look, pending-look, continuation-look, reading, queued-data, queued-event, stored, delivered-by, shown, list-rows, with-bytes, step-of, perform}
+use Rattle.srt_group_model.specs.Lent.{Lent, Result, Call, call-add-member, call-mark-member-broken, call-remove-member-connection, call-refresh-member-states, call-disconnect, call-poll-event, call-poll-data-bounded, call-send, call-can-send, call-can-send-with-pacing, Look, look-member, look-time-until-send, look-backup-stability-timeout-micros, look-group-id, look-members, look-mode, look-peer-group-id, look-skipped-receive-packets, look-has-pending-data, look-has-receive-continuation, look-at, call-look, call-read-leg, call-queue-data, call-queue-event, stored, delivered-by, written-out, list-rows, with-bytes, step-of, perform}
 
 -- the codes after which nothing has changed
 unfoldable pub changes-nothing : ℕ → Bool
@@ -47,6 +47,48 @@ unfolding guard
 guard-passed P [] s body h k = k tt
 guard-passed P (c ∷ cs) s body h k =
     if-elim P (c .fails) _ _ (λ e. h (c .code)) (λ e. guard-passed P cs s body h (λ g. k (e, g)))
+
+-- a check that fails refuses; one that does not leaves it to those behind it
+pub guard-stops : (c : Check) (cs : List Check) (s : State) (body : Step) → c .fails ≡ true → guard (c ∷ cs) s body ≡ refuse (c .code) s
+unfolding guard if_then_else_
+guard-stops c cs s body fails = rw fails
+
+pub guard-goes-on : (c : Check) (cs : List Check) (s : State) (body : Step) → c .fails ≡ false → guard (c ∷ cs) s body ≡ guard cs s body
+unfolding guard if_then_else_
+guard-goes-on c cs s body passes = rw passes
+
+-- ---- looks
+
+-- of what a look leaves
+pub look-elim : (P : Step → Type 0) (look : Look) (s : State) → ((code : ℕ) → P (refuse code s))
+    → ((answer : Answer) → delivered-by answer ≡ none → P (accept s answer)) → P (look-at look s)
+unfolding look-at member time-until-send backup-stability-timeout-micros group-id members-call mode peer-group-id skipped-receive-packets has-pending-data-call has-receive-continuation delivered-by
+look-elim P (look-member id) s h k =
+    guard-elim P _ s _ h (k _ (if-some-elim (λ (a : Answer). delivered-by a ≡ none) _ _ _ (λ m e. refl) (λ e. refl)))
+look-elim P (look-time-until-send time) s h k = guard-elim P _ s _ h (k _ refl)
+look-elim P (look-backup-stability-timeout-micros id) s h k = guard-elim P _ s _ h (k _ refl)
+look-elim P look-group-id s h k = guard-elim P _ s _ h (k _ refl)
+look-elim P look-members s h k = guard-elim P _ s _ h (k _ refl)
+look-elim P look-mode s h k = guard-elim P _ s _ h (k _ refl)
+look-elim P look-peer-group-id s h k = guard-elim P _ s _ h (k _ refl)
+look-elim P look-skipped-receive-packets s h k = guard-elim P _ s _ h (k _ refl)
+look-elim P look-has-pending-data s h k = guard-elim P _ s _ h (k _ refl)
+look-elim P look-has-receive-continuation s h k = guard-elim P _ s _ h (k _ refl)
+
+pub record Only-looked (s : State) (step : Step) : Type 0 where
+  pub state : step .state ≡ s
+  pub put : step .put ≡ none
+  pub sends : step .sends ≡ []
+  pub log : step .log ≡ []
+  pub delivered : delivered-by (step .answer) ≡ none
+
+-- A look leaves the state as it is, puts, sends, marks and delivers nothing, refused or accepted.
+pub look-changes-nothing : (look : Look) (s : State) → Only-looked s (look-at look s)
+unfolding delivered-by
+look-changes-nothing look s =
+    look-elim (Only-looked s) look s
+    (λ code. record { state = refl; put = refl; sends = refl; log = refl; delivered = refl })
+    (λ answer none-given. record { state = refl; put = refl; sends = refl; log = refl; delivered = none-given })
 
 guard-ends : (cs : List Check) (s : State) (body : Step) → Ends s body → Ends s (guard cs s body)
 guard-ends cs s body = guard-elim (Ends s) cs s body (λ code. untouched code refl)
@@ -160,9 +202,7 @@ add-body-ends id weight l s =
 remove-body-ends : (id : ℕ) (s : State) → Ends s (remove-body id s)
 unfolding remove-body
 remove-body-ends id s =
-    if-some-elim (Ends s) _ _ _
-    (λ i g. if-some-elim (Ends s) _ _ _ (λ m h. accepted refl) (λ h. untouched 3 refl))
-    (λ g. untouched 3 refl)
+    if-some-elim (Ends s) _ _ _ (λ f g. accepted refl) (λ g. untouched 3 refl)
 
 can-send-body-ends : (s : State) → Ends s (can-send-body s)
 unfolding can-send-body
@@ -175,30 +215,21 @@ can-send-with-pacing-body-ends time s = if-elim (Ends s) _ _ _ (λ e. accepted r
 -- ---- every call
 
 pub call-ends : (store output list : ℕ) (c : Call) (s : State) → Ends s (step-of store output list c s)
-unfolding step-of add-member mark-member-broken remove-member-connection member refresh-member-states disconnect event-poll-body poll-event-call data-poll-body poll-data-call send can-send-call can-send-with-pacing-call time-until-send backup-stability-timeout-micros group-id members-call mode peer-group-id skipped-receive-packets has-pending-data-call has-receive-continuation read-leg queue-data-body queue-data queue-event
-call-ends store output list (addition id weight l queue) s = guard-ends _ s _ (add-body-ends id weight l s)
-call-ends store output list (broken-mark id) s = guard-ends _ s _ (accepted refl)
-call-ends store output list (removal id) s = guard-ends _ s _ (remove-body-ends id s)
-call-ends store output list (member-look id) s = guard-ends _ s _ (accepted refl)
-call-ends store output list refreshing s = guard-ends _ s _ (accepted refl)
-call-ends store output list (disconnection time) s = guard-ends _ s _ (accepted refl)
-call-ends store output list (event-poll time) s = guard-ends _ s _ (accepted refl)
-call-ends store output list (data-poll time max-events) s = guard-ends _ s _ (accepted refl)
-call-ends store output list (sending time payload) s = guard-ends _ s _ (send-body-ends _ time payload s)
-call-ends store output list readiness s = guard-ends _ s _ (can-send-body-ends s)
-call-ends store output list (paced-readiness time) s = guard-ends _ s _ (can-send-with-pacing-body-ends time s)
-call-ends store output list (send-wait time) s = guard-ends _ s _ (accepted refl)
-call-ends store output list (stability id) s = guard-ends _ s _ (accepted refl)
-call-ends store output list group-look s = guard-ends _ s _ (accepted refl)
-call-ends store output list members-look s = guard-ends _ s _ (accepted refl)
-call-ends store output list mode-look s = guard-ends _ s _ (accepted refl)
-call-ends store output list peer-look s = guard-ends _ s _ (accepted refl)
-call-ends store output list skipped-look s = guard-ends _ s _ (accepted refl)
-call-ends store output list pending-look s = guard-ends _ s _ (accepted refl)
-call-ends store output list continuation-look s = guard-ends _ s _ (accepted refl)
-call-ends store output list (reading id field n) s = guard-ends _ s _ (accepted refl)
-call-ends store output list (queued-data id d payload) s = guard-ends _ s _ (accepted refl)
-call-ends store output list (queued-event id kind reason) s = guard-ends _ s _ (accepted refl)
+unfolding step-of add-member mark-member-broken remove-member-connection refresh-member-states disconnect event-poll-body poll-event-call data-poll-body poll-data-call send can-send-call can-send-with-pacing-call read-leg queue-data-body queue-data queue-event
+call-ends store output list (call-add-member id weight l queue) s = guard-ends _ s _ (add-body-ends id weight l s)
+call-ends store output list (call-mark-member-broken id) s = guard-ends _ s _ (accepted refl)
+call-ends store output list (call-remove-member-connection id) s = guard-ends _ s _ (remove-body-ends id s)
+call-ends store output list call-refresh-member-states s = guard-ends _ s _ (accepted refl)
+call-ends store output list (call-disconnect time) s = guard-ends _ s _ (accepted refl)
+call-ends store output list (call-poll-event time) s = guard-ends _ s _ (accepted refl)
+call-ends store output list (call-poll-data-bounded time max-events) s = guard-ends _ s _ (accepted refl)
+call-ends store output list (call-send time payload) s = guard-ends _ s _ (send-body-ends _ time payload s)
+call-ends store output list call-can-send s = guard-ends _ s _ (can-send-body-ends s)
+call-ends store output list (call-can-send-with-pacing time) s = guard-ends _ s _ (can-send-with-pacing-body-ends time s)
+call-ends store output list (call-look look) s = look-elim (Ends s) look s (λ code. untouched code refl) (λ answer e. accepted refl)
+call-ends store output list (call-read-leg id field n) s = guard-ends _ s _ (accepted refl)
+call-ends store output list (call-queue-data id d payload) s = guard-ends _ s _ (accepted refl)
+call-ends store output list (call-queue-event id kind reason) s = guard-ends _ s _ (accepted refl)
 
 -- ---- the laws
 
@@ -210,7 +241,7 @@ pub record Unchanged (lent : Lent) (s : State) (r : Result) : Type 0 where
   pub log : r .log ≡ []
 
 refused-unchanged : (code : ℕ) (lent : Lent) (s : State) → Unchanged lent s (with-bytes lent (refuse code s))
-unfolding with-bytes stored shown delivered-by list-rows overwritten
+unfolding with-bytes stored written-out delivered-by list-rows overwritten
 refused-unchanged code lent s = record { state = refl; lent-same = refl; answer = refl; rows = refl; log = refl }
 
 zero-changes : changes-nothing 0 ≡ false
@@ -233,14 +264,14 @@ pub record Bytes-stay (lent : Lent) (r : Result) : Type 0 where
   pub output : r .lent .output ≡ lent .output
 
 ends-bytes : (lent : Lent) (s : State) (step : Step) → Ends s step → (step .code ≡ 0 → ⊥) → Bytes-stay lent (with-bytes lent step)
-unfolding with-bytes stored shown delivered-by
+unfolding with-bytes stored written-out delivered-by
 ends-bytes lent s step (untouched code e) h =
     subst (λ (x : Step). Bytes-stay lent (with-bytes lent x)) (sym e) record { store = refl; output = refl }
 ends-bytes lent s step (accepted e) h = absurd (h e)
 ends-bytes lent s step (midway e a p) h =
     record {
       store = ap (λ (o : Option Put). stored o (lent .store)) p;
-      output = ap (λ (x : Answer). shown (delivered-by x) (lent .store) (lent .output)) a;
+      output = ap (λ (x : Answer). written-out (delivered-by x) (lent .store) (lent .output)) a;
     }
 
 -- no code writes to the output, and none to the store

@@ -1,4 +1,4 @@
--- Removing a member: `remove_member_connection` and `bound_group_owned_pending`; document 01, "Removal". Assumes nothing.
+-- Removing a member: `remove_member_connection` and `bound_group_owned_pending`; document 01, "Removal".
 use mathlib.Core.Bool.{Bool, true, false, not, _&&_, _||_}
 use mathlib.Core.List.{List, [], _∷_}
 use mathlib.Core.Option.{Option, none, some}

@@ -1,4 +1,4 @@
--- The round's place is that of a member, or 0 with none: the rule of counts on it is kept over every call. Assumes nothing.
+-- The round's place is that of a member, or 0 with none: the rule of counts on it is kept over every call.
 use mathlib.Core.Path.{_≡_, refl, sym, ap, subst, _∙_}
 use mathlib.Core.List.{List, [], _∷_, _++_}
 use mathlib.Core.Option.{Option, none, some}

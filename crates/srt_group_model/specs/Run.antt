@@ -1,5 +1,5 @@
 -- A call under way: its state, its log and its budget; and the refresh of the members' states, which may set the base. From
--- `admit_connected_peer_groups`, `refresh_pending_states`, `refresh_states`. Assumes nothing.
+-- `admit_connected_peer_groups`, `refresh_pending_states`, `refresh_states`.
 use mathlib.Core.List.{List, [], _∷_}
 use mathlib.Core.Option.{Option, none}
 use Prim.Native.Nat.{ℕ}
@@ -48,7 +48,7 @@ set-base base r =
 unfoldable pub admit-connected-peer-groups : Run → Run
 admit-connected-peer-groups r =
     let ms = r .state .members in
-    let peer = peer-after (r .state .identity .peer) ms in
+    let peer = peer-after (r .state .peer) ms in
     on-state (λ s. with-peer peer (with-members (each (admit-peer-group peer) ms) s))
     (set-base (base-after none ms) r)
 
@@ -57,8 +57,8 @@ on-members f = on-state (λ s. with-members (f s (s .members)) s)
 
 unfoldable pub refresh-pending-states : Run → Run
 refresh-pending-states r =
-    on-members (λ s. settle-members (s .identity .mode) (next-send-sequence (s .send))) (admit-connected-peer-groups r)
+    on-members (λ s. settle-members (s .mode) (next-send-sequence (s .send))) (admit-connected-peer-groups r)
 
 unfoldable pub refresh-states : Run → Run
 refresh-states r =
-    on-members (λ s. requalify-members (s .identity .mode) (next-send-sequence (s .send))) (refresh-pending-states r)
+    on-members (λ s. requalify-members (s .mode) (next-send-sequence (s .send))) (refresh-pending-states r)

@@ -1,9 +1,9 @@
 -- Sending: what a send attempts on a leg, and Broadcast. From `sequence_for_send`, `mark_send_failure`, `send_broadcast`;
--- document 01, "The stand-in leg" and the codes 23 to 26. Assumes nothing.
+-- document 01, "The stand-in leg" and the codes 23 to 26.
 use mathlib.Core.Bool.{Bool, true, false, not, _&&_, _||_}
 use mathlib.Core.List.{List, [], _∷_, _++_}
 use mathlib.Core.Option.{Option, none, some}
-use Prim.Native.Nat.{ℕ, zero, suc, _+_}
+use Prim.Native.Nat.{ℕ, zero, suc, _+_, _*_}
 use lib.Dec.{leb, ltb, eqb}
 use Rattle.srt_protocol.specs.Sequence.{sequence-further}
 use Rattle.srt_group_model.specs.Tools.{if_then_else_, if-some_give_otherwise_, is-empty, any, such-that, at-place, each}
@@ -21,6 +21,16 @@ pub record Sent : Type 0 where
 
 abbrev pub own-payload : ℕ
 own-payload = 4294967295
+
+-- the words of a row, the rows of a list (more than the sends that one call can make), and the words of the list
+abbrev pub sent-row-size : ℕ
+sent-row-size = 5
+
+abbrev pub max-sent : ℕ
+max-sent = 1100
+
+abbrev pub list-size : ℕ
+list-size = max-sent * sent-row-size
 
 abbrev pub own-send : (time sequence : ℕ) → Member → Sent
 own-send time sequence m =
@@ -66,7 +76,7 @@ with-send-number n s =
     record {
       numbers =
           record {
-            numbered = true;
+            numbered = 1;
             next = n;
             carried = s .send .numbers .carried;
             carrier = s .send .numbers .carrier;

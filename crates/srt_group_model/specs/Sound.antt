@@ -1,14 +1,15 @@
 -- What holds of a valid state, and of every state between the steps of a poll: the rules of document 01's code 6 that the code
--- rests on while a call is under way. A law of the steps, and what it says of the event in front of a queue. Assumes nothing.
-use mathlib.Core.Path.{_≡_, refl, sym, ap, ap₂, subst, _∙_}
-use mathlib.Core.Bool.{Bool, true, false, not, _&&_, _||_}
+-- rests on while a call is under way. A law of the steps, and what it says of the event in front of a queue.
+use mathlib.Core.Path.{_≡_, refl, sym, ap₂, subst, _∙_}
+use mathlib.Core.Bool.{Bool, true, false, _&&_, _||_}
 use mathlib.Core.List.{List, [], _∷_, _++_}
 use mathlib.Core.Option.{Option, none, some}
 use Prim.Native.Nat.{ℕ, zero, suc, _+_, _-_, _*_, _≤_, _<_}
 use native.Mathlib.Omega.{arith}
-use borrow.Author.Tests.{eqb-true, ltb-false, ltb-true}
+use borrow.Author.Tests.{eqb-true, ltb-false, ltb-true, not-false}
 use lib.Dec.{leb, ltb, eqb}
 use lib.ListN.{length}
+use Rattle.srt_protocol.specs.Cells.{max-cells}
 use Rattle.srt_group_model.specs.Tools.{if_then_else_, if-some_give_otherwise_, such-that, at-place, change, each, any, total}
 use Rattle.srt_group_model.specs.Reason.{if-elim, if-some-elim, by-test, not-both, none-some, some-inj, or-left, or-right, All}
 use Rattle.srt_group_model.specs.State.{Member, Receive, Send, State, with-send, with-history}
@@ -19,16 +20,16 @@ use Rattle.srt_group_model.specs.Run.{Run, set-base, admit-connected-pee
 use Rattle.srt_group_model.specs.Collecting.{front, is-late, is-discarded, retain-group-packet, report-event}
 use Rattle.srt_group_model.specs.Delivery.{deliver-packet, pass-run, skip-to}
 use Rattle.srt_group_model.specs.Cells.{is-data, is-among, used-cells, queued-cells}
-use Rattle.srt_group_model.specs.Validity.{above, ascends, is-too-large, data-out-of-range, event-out-of-range, held-sequence-twice, id-twice, cell-twice, cell-beyond-store, is-invalid, queued-count}
+use Rattle.srt_group_model.specs.Validity.{above, ascends, is-too-large, data-out-of-range, event-out-of-range, held-sequence-twice, id-twice, cell-twice, cell-beyond-store, is-invalid, queued-count, max-queued, max-pending}
 use Rattle.srt_group_model.specs.Queues.{pop, packet-of}
 use Rattle.srt_group_model.specs.Steps.{State-law, popped}
 use Rattle.srt_group_model.specs.Ascending.{insert-ascends, such-that-ascends}
 use Rattle.srt_group_model.specs.CellsKept.{Apart, Within, room, room-inside, room-most, one, one-same, occurs, absent, present, uses, pending-cells, history-cells, popped-data, apart-of-rules, uses-used}
 use Rattle.srt_group_model.specs.CellsCalls.{within-law}
-use Rattle.srt_group_model.specs.Counts.{apart-few}
+use Rattle.srt_group_model.specs.Counts.{apart-few, pending-length}
 use Rattle.srt_group_model.specs.Rounds.{In-round, round-law}
 use Rattle.srt_group_model.specs.Ranges.{Event-fit, Member-fit, at-fit}
-use Rattle.srt_group_model.specs.RangesKept.{Packet-fit, Fit}
+use Rattle.srt_group_model.specs.RangesKept.{Packet-fit, Fit, front-fit}
 use Rattle.srt_group_model.specs.RangesCalls.{fit-law}
 use Rattle.srt_group_model.specs.Sums.{Sums-right, Summed, held-for, for-member}
 use Rattle.srt_group_model.specs.SumsRemoval.{Right}
@@ -40,13 +41,9 @@ use Rattle.srt_group_model.specs.declared.Packet.{Packet}
 
 -- ---- the statement
 
--- the most cells that a store has
-abbrev pub most-cells : ℕ
-most-cells = 2048
-
 pub record Sound (s : State) : Type 0 where
   pub ascending : ascends (s .receive .pending) ≡ true
-  pub cells : Within (room most-cells) s
+  pub cells : Within (room max-cells) s
   pub fit : Fit s
   pub sums : Sums-right s
   pub round : In-round s
@@ -72,12 +69,12 @@ module _ (P Q : State → Type 0) (p : State-law P) (q : State-law Q) where
       }
 
 All-four : State → Type 0
-All-four s = Right s × (Within (room most-cells) s × (Fit s × In-round s))
+All-four s = Right s × (Within (room max-cells) s × (Fit s × In-round s))
 
 four-law : State-law All-four
 unfolding All-four
 four-law =
-    both-laws _ _ right-law (both-laws _ _ (within-law most-cells) (both-laws _ _ fit-law round-law))
+    both-laws _ _ right-law (both-laws _ _ (within-law max-cells) (both-laws _ _ fit-law round-law))
 
 of-sound : (s : State) → Sound s → All-four s
 unfolding All-four
@@ -105,27 +102,23 @@ sound-law =
 
 -- ---- a valid state has it
 
-not-not : (b : Bool) → not b ≡ false → b ≡ true
-not-not true e = refl
-not-not false e = not-both {t = true} refl e
-
-room-wider : (cells n : ℕ) → cells ≤ most-cells → room cells n ≤ room most-cells n
+room-wider : (cells n : ℕ) → cells ≤ max-cells → room cells n ≤ room max-cells n
 room-wider cells n wide =
-    if-elim (λ (a : ℕ). a ≤ room most-cells n) (ltb n cells) 1 0
+    if-elim (λ (a : ℕ). a ≤ room max-cells n) (ltb n cells) 1 0
     (λ e.
-    if-elim (λ (b : ℕ). 1 ≤ b) (ltb n most-cells) 1 0 (λ g. omega arith)
-    (λ g. absurd (omega (arith, wide, ltb-true n cells e, ltb-false n most-cells g))))
+    if-elim (λ (b : ℕ). 1 ≤ b) (ltb n max-cells) 1 0 (λ g. omega arith)
+    (λ g. absurd (omega (arith, wide, ltb-true n cells e, ltb-false n max-cells g))))
     (λ e. omega arith)
 
-pub sound-of-valid : (cells : ℕ) (s : State) → cells ≤ most-cells → s .identity .peer ≤ largest-32 → is-invalid cells s ≡ false → Sound s
+pub sound-of-valid : (cells : ℕ) (s : State) → cells ≤ max-cells → is-invalid cells s ≡ false → Sound s
 unfolding held-sequence-twice cell-twice cell-beyond-store id-twice
-sound-of-valid cells s wide peer fine =
+sound-of-valid cells s wide fine =
     let h = valid-of cells s fine in
     let apart = apart-of-rules cells (used-cells s) (h .cells-once) (h .cells-inside) in
     record {
-      ascending = not-not (ascends (s .receive .pending)) (h .ascending);
+      ascending = not-false (ascends (s .receive .pending)) (h .ascending);
       cells = λ n. omega (arith, apart n, uses-used n s, room-wider cells n wide);
-      fit = fit-of cells s h peer;
+      fit = fit-of cells s h;
       sums = sums-of-rule s (h .ids-once) (h .sums);
       round = counted-of s (h .counts) .round;
     }
@@ -144,8 +137,9 @@ sound-without-history s h =
             history = tt;
             remembered = omega arith;
             waiting = h .fit .waiting;
-            base = h .fit .base;
-            next = h .fit .next;
+            receiving = h .fit .receiving;
+            sending = h .fit .sending;
+            continuation = h .fit .continuation;
             peer = h .fit .peer;
           };
       sums = record { unique = h .sums .unique; members = h .sums .members; placed = h .sums .placed; own = h .sums .own };
@@ -158,24 +152,19 @@ sound-without-history s h =
 pub record Front-data (s : State) (m : Member) (e : Event) : Type 0 where
   pub sequence : e .content .sequence ≤ largest-sequence
   pub count : e .content .count ≤ largest-16
-  pub cell : e .content .cell < most-cells
+  pub cell : e .content .cell < max-cells
   pub apart : is-among (e .content .cell) (pending-cells (s .receive .pending)) ≡ false
-  pub held : length (s .receive .pending) < most-cells
-  pub reserved : m .membership .reserved ≤ largest-16 * most-cells
+  pub held : length (s .receive .pending) < max-pending
+  pub reserved : m .membership .reserved ≤ largest-16 * max-pending
   pub id : id-of m ≤ largest-32
 
 right-of : (a b : Bool) → a ≡ true → a && b ≡ false → b ≡ false
 right-of true b t e = e
 right-of false b t e = not-both t refl
 
-count-fits : (d : Data) → data-out-of-range d ≡ false → d .count ≤ largest-16
+pub count-fits : (d : Data) → data-out-of-range d ≡ false → d .count ≤ largest-16
 unfolding data-out-of-range
 count-fits d h = ltb-false largest-16 (d .count) (or-left (above largest-16 (d .count)) _ (or-right (eqb (d .count) 0) _ h))
-
-cells-length : (ps : List Packet) → length (pending-cells ps) ≡ length ps
-unfolding each
-cells-length [] = refl
-cells-length (p ∷ ps) = ap suc (cells-length ps)
 
 -- the counts of packets held for a member: at most 65,535 each
 held-for-most : (id : ℕ) (ps : List Packet) → All Packet-fit ps → held-for id ps ≤ largest-16 * length ps
@@ -190,12 +179,6 @@ held-for-most id (p ∷ ps) h =
     count-for : for-member id p ≤ largest-16
     count-for = if-elim (λ (k : ℕ). k ≤ largest-16) _ _ _ (λ e. count-most) (λ e. omega arith)
 
--- the front event is one of the queue's, in range
-front-fit : (q : List Event) (e : Event) → All Event-fit q → front q ≡ some e → Event-fit e
-unfolding at-place
-front-fit [] e h f = none-some f
-front-fit (x ∷ q) e h f = subst Event-fit (some-inj f) (h .0)
-
 all-at : (P : Member → Type 0) (ms : List Member) (i : ℕ) (m : Member) → All P ms → at-place i ms ≡ some m → P m
 unfolding at-place
 all-at P [] i m h at = none-some at
@@ -208,15 +191,15 @@ module _ (s : State) (i : ℕ) (m : Member) (e : Event) (sound : Sound s) (at : 
   member-fits = all-at Member-fit (s .members) i m (sound .fit .members) at
 
   event-fits : Event-fit e
-  event-fits = front-fit (m .queue) e (member-fits .queue) in-front
+  event-fits = front-fit (m .queue) e in-front (member-fits .queue)
 
   -- its cell is used once more than by the held packets
-  used-once : (n : ℕ) → one (e .content .cell) n + occurs n (pending-cells (s .receive .pending)) ≤ room most-cells n
+  used-once : (n : ℕ) → one (e .content .cell) n + occurs n (pending-cells (s .receive .pending)) ≤ room max-cells n
   used-once n = omega (arith, sound .cells n, popped-data n i m e (s .members) at in-front is-packet)
 
-  few : suc (length (pending-cells (s .receive .pending))) ≤ most-cells
+  few : suc (length (pending-cells (s .receive .pending))) ≤ max-cells
   unfolding occurs
-  few = apart-few most-cells (e .content .cell ∷ pending-cells (s .receive .pending)) used-once
+  few = apart-few max-cells (e .content .cell ∷ pending-cells (s .receive .pending)) used-once
 
   fields-fit : data-out-of-range (e .content) ≡ false
   unfolding event-out-of-range
@@ -230,7 +213,7 @@ module _ (s : State) (i : ℕ) (m : Member) (e : Event) (sound : Sound s) (at : 
         sequence = ltb-false largest-sequence (e .content .sequence) (right-of (is-data e) _ is-packet (event-fits .sequence));
         count = count-fits (e .content) fields-fit;
         cell =
-            room-inside most-cells (e .content .cell)
+            room-inside max-cells (e .content .cell)
             (omega (arith, used-once (e .content .cell), one-same (e .content .cell)));
         apart =
             by-test (is-among (e .content .cell) (pending-cells (s .receive .pending)))
@@ -241,17 +224,17 @@ module _ (s : State) (i : ℕ) (m : Member) (e : Event) (sound : Sound s) (at : 
               present (e .content .cell) (pending-cells (s .receive .pending)) among,
               used-once (e .content .cell),
               one-same (e .content .cell),
-              room-most most-cells (e .content .cell),
+              room-most max-cells (e .content .cell),
             )))
             (λ g. g);
-        held = omega (arith, few, cells-length (s .receive .pending));
+        held = omega (arith, few, pending-length (s .receive .pending));
         reserved =
             omega (
               arith,
               all-at (Summed (s .receive .pending)) (s .members) i m (sound .sums .members) at .reserved,
               held-for-most (id-of m) (s .receive .pending) (sound .fit .pending),
               few,
-              cells-length (s .receive .pending),
+              pending-length (s .receive .pending),
             );
         id = member-fits .id;
       }
@@ -270,15 +253,15 @@ queued-most (e ∷ q) h =
 
 -- it is the counts of at most 2,048 held packets and 16 queued ones
 pub reservation-most : (s : State) (i : ℕ) (m : Member) → Sound s → at-place i (s .members) ≡ some m
-    → m .leg .receiver .reserved ≤ largest-16 * (most-cells + 16)
+    → m .leg .receiver .reserved ≤ largest-16 * (max-pending + max-queued)
 reservation-most s i m sound at =
     let fits = all-at Member-fit (s .members) i m (sound .fit .members) at in
     omega (
       arith,
       all-at (Summed (s .receive .pending)) (s .members) i m (sound .sums .members) at .reservation,
       held-for-most (id-of m) (s .receive .pending) (sound .fit .pending),
-      apart-few most-cells (pending-cells (s .receive .pending)) (λ n. omega (arith, sound .cells n)),
-      cells-length (s .receive .pending),
+      apart-few max-cells (pending-cells (s .receive .pending)) (λ n. omega (arith, sound .cells n)),
+      pending-length (s .receive .pending),
       queued-most (m .queue) (fits .queue),
       fits .short,
     )

@@ -1,11 +1,10 @@
 -- The state of a group, as lists and small records of the types in src/lib.rt, and the functions that change one part of
 -- it. Document 01's lent state: the group record, the members with their legs, the held packets, the waiting events.
--- Assumes nothing.
 use mathlib.Core.Bool.{Bool, true, false}
 use mathlib.Core.List.{List, [], _∷_}
 use mathlib.Core.Option.{Option, none, some}
 use Prim.Native.Nat.{ℕ}
-use Rattle.srt_group_model.specs.Tools.{flagged}
+use Rattle.srt_group_model.specs.Tools.{is-set, bit, flagged}
 use Rattle.srt_group_model.specs.declared.Event.{Event}
 use Rattle.srt_group_model.specs.declared.Packet.{Packet}
 use Rattle.srt_group_model.specs.declared.Waiting.{Waiting}
@@ -16,8 +15,6 @@ use Rattle.srt_group_model.specs.declared.Receiving.{Receiving}
 use Rattle.srt_group_model.specs.declared.Sending.{Sending}
 use Rattle.srt_group_model.specs.declared.Visit.{Visit}
 use Rattle.srt_group_model.specs.declared.Entry.{Entry}
-use Rattle.srt_group_model.specs.declared.GroupMode.{GroupMode}
-use Rattle.srt_group_model.specs.declared.GroupMode.the-variants.{Broadcast, Backup}
 
 -- `SrtGroupMember`: its membership, its leg (document 01's stand-in for `SrtConnection`) and that leg's queue of events
 pub record Member : Type 0 where
@@ -35,9 +32,12 @@ pub record Send : Type 0 where
   pub numbers : Sending
   pub history : List Entry
 
--- `SrtGroup`. `owned` is the sum of the counts of the packets that the group holds itself; `waiting` the events not yet given
+-- `SrtGroup`. The identity and the mode are fixed at creation; `peer` is the peer group, 0 while the group is not bound; `owned` is
+-- the sum of the counts of the packets that the group holds itself; `waiting` the events not yet given
 pub record State : Type 0 where
   pub identity : Identity
+  pub mode : ℕ
+  pub peer : ℕ
   pub receive : Receive
   pub send : Send
   pub visit : Visit
@@ -47,27 +47,25 @@ pub record State : Type 0 where
 
 -- ---- what is read from it
 
-abbrev pub is-backup : GroupMode → Bool
-is-backup Broadcast = false
-is-backup Backup = true
+-- the mode's number: 0 Broadcast, 1 Backup
+abbrev pub broadcast-mode : ℕ
+broadcast-mode = 0
 
--- an identity with this peer; the rest is fixed at creation
-abbrev pub bound-to : ℕ → Identity → Identity
-bound-to n x = record { id = x .id; mode = x .mode; length = x .length; peer = n }
+abbrev pub backup-mode : ℕ
+backup-mode = 1
 
--- what is fixed at creation
-abbrev pub fixed : Identity → Identity
-fixed = bound-to 0
+abbrev pub is-backup : ℕ → Bool
+is-backup = is-set
 
 -- document 01's base, if it is set
 abbrev pub next-receive-sequence : Receive → Option ℕ
-next-receive-sequence x = flagged (x .numbers .based) (x .numbers .base)
+next-receive-sequence x = flagged (is-set (x .numbers .based)) (x .numbers .base)
 
 abbrev pub next-send-sequence : Send → Option ℕ
-next-send-sequence x = flagged (x .numbers .numbered) (x .numbers .next)
+next-send-sequence x = flagged (is-set (x .numbers .numbered)) (x .numbers .next)
 
 abbrev pub backup-carrier : Send → Option ℕ
-backup-carrier x = flagged (x .numbers .carried) (x .numbers .carrier)
+backup-carrier x = flagged (is-set (x .numbers .carried)) (x .numbers .carrier)
 
 -- ---- one part is changed
 
@@ -75,6 +73,8 @@ abbrev pub with-receive : Receive → State → State
 with-receive x s =
     record {
       identity = s .identity;
+      mode = s .mode;
+      peer = s .peer;
       receive = x;
       send = s .send;
       visit = s .visit;
@@ -87,6 +87,8 @@ abbrev pub with-send : Send → State → State
 with-send x s =
     record {
       identity = s .identity;
+      mode = s .mode;
+      peer = s .peer;
       receive = s .receive;
       send = x;
       visit = s .visit;
@@ -99,6 +101,8 @@ abbrev pub with-visit : Visit → State → State
 with-visit x s =
     record {
       identity = s .identity;
+      mode = s .mode;
+      peer = s .peer;
       receive = s .receive;
       send = s .send;
       visit = x;
@@ -111,6 +115,8 @@ abbrev pub with-owned : ℕ → State → State
 with-owned n s =
     record {
       identity = s .identity;
+      mode = s .mode;
+      peer = s .peer;
       receive = s .receive;
       send = s .send;
       visit = s .visit;
@@ -123,6 +129,8 @@ abbrev pub with-members : List Member → State → State
 with-members ms s =
     record {
       identity = s .identity;
+      mode = s .mode;
+      peer = s .peer;
       receive = s .receive;
       send = s .send;
       visit = s .visit;
@@ -135,6 +143,8 @@ abbrev pub with-waiting : List Waiting → State → State
 with-waiting ws s =
     record {
       identity = s .identity;
+      mode = s .mode;
+      peer = s .peer;
       receive = s .receive;
       send = s .send;
       visit = s .visit;
@@ -146,7 +156,9 @@ with-waiting ws s =
 abbrev pub with-peer : ℕ → State → State
 with-peer n s =
     record {
-      identity = bound-to n (s .identity);
+      identity = s .identity;
+      mode = s .mode;
+      peer = n;
       receive = s .receive;
       send = s .send;
       visit = s .visit;
@@ -157,13 +169,13 @@ with-peer n s =
 
 abbrev pub with-base : ℕ → Receive → Receive
 with-base n x =
-    record { numbers = record { based = true; base = n; skipped = x .numbers .skipped }; pending = x .pending }
+    record { numbers = record { based = 1; base = n; skipped = x .numbers .skipped }; pending = x .pending }
 
 abbrev pub with-pending : List Packet → Receive → Receive
 with-pending ps x = record { numbers = x .numbers; pending = ps }
 
 abbrev pub with-continuation : Bool → State → State
-with-continuation b s = with-visit record { continuation = b; round = s .visit .round } s
+with-continuation b s = with-visit record { continuation = bit b; round = s .visit .round } s
 
 abbrev pub with-round : ℕ → State → State
 with-round n s = with-visit record { continuation = s .visit .continuation; round = n } s

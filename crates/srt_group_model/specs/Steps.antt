@@ -1,5 +1,5 @@
 -- A walk over the whole state: what the refresh, a collected event, a delivery and a skip each keep, the polls keep. For laws
--- that speak of members and held packets together, as the rules of validity do. Assumes nothing.
+-- that speak of members and held packets together, as the rules of validity do.
 use mathlib.Core.Path.{_≡_, refl, sym, ap, subst, _∙_}
 use mathlib.Core.Bool.{Bool, true, false, not, _&&_, _||_}
 use mathlib.Core.List.{List, [], _∷_, _++_}
@@ -14,7 +14,7 @@ use Rattle.srt_group_model.specs.State.{Member, Receive, State, with-rec
 use Rattle.srt_group_model.specs.Members.{id-of, settle-members, requalify-members}
 use Rattle.srt_group_model.specs.Nearest.{sequence-of, held-at, nearest}
 use Rattle.srt_group_model.specs.Run.{Mark, gap-skipped, Run, marking, set-base, admit-connected-peer-groups, refresh-pending-states, refresh-states}
-use Rattle.srt_group_model.specs.Collecting.{retain-group-packet, report-event, collect-member-event, front, Visited, take-front, collect-one-event, collect-until-held, collect-until-empty}
+use Rattle.srt_group_model.specs.Collecting.{retain-group-packet, report-event, collect-member-event, front, Visited, take-front, collect-one-event, collect-until-held, Emptied, collect-until-empty}
 use Rattle.srt_group_model.specs.Delivery.{Polled, nothing, event, packet, Poll, deliver-packet, deliver, skip-to, give-waiting, skip-after, max-visits, skip-given-up-gap}
 use Rattle.srt_group_model.specs.Polls.{deliver-next, poll-event, DataPoll, pass-events, poll-until-data, poll-data-bounded}
 use Rattle.srt_group_model.specs.Queues.{pop, packet-of}
@@ -30,8 +30,8 @@ popped i s = with-members (change i pop (s .members)) s
 
 pub record State-law (Good : State → Type 0) : Type 0 where
   pub admits : (r : Run) → Good (r .state) → Good (admit-connected-peer-groups r .state)
-  pub settles : (s : State) → Good s → Good (with-members (settle-members (s .identity .mode) (next-send-sequence (s .send)) (s .members)) s)
-  pub requalifies : (s : State) → Good s → Good (with-members (requalify-members (s .identity .mode) (next-send-sequence (s .send)) (s .members)) s)
+  pub settles : (s : State) → Good s → Good (with-members (settle-members (s .mode) (next-send-sequence (s .send)) (s .members)) s)
+  pub requalifies : (s : State) → Good s → Good (with-members (requalify-members (s .mode) (next-send-sequence (s .send)) (s .members)) s)
   pub continues : (s : State) (b : Bool) → Good s → Good (with-continuation b s)
   pub turns : (s : State) (i : ℕ) (m : Member) → at-place i (s .members) ≡ some m → Good s → Good (with-round (suc i % length (s .members)) s)
   pub takes : (s : State) (i : ℕ) (m : Member) (e : Event) → at-place i (s .members) ≡ some m → front (m .queue) ≡ some e
@@ -55,8 +55,8 @@ module _ (P : Option ℕ → State → List Mark → Type 0) (Good : State → T
   state-law-of reports delivers skips bases =
       record {
         admits = λ r h. from _ _ (admits-all P law none r (to _ _ h));
-        settles = λ s h. from _ [] (settles P law none [] s (s .identity .mode) (s .members) (to s [] h));
-        requalifies = λ s h. from _ [] (requalifies P law none [] s (s .identity .mode) (s .members) (to s [] h));
+        settles = λ s h. from _ [] (settles P law none [] s (s .mode) (s .members) (to s [] h));
+        requalifies = λ s h. from _ [] (requalifies P law none [] s (s .mode) (s .members) (to s [] h));
         continues = λ s b h. from _ [] (law .continues s b (to s [] h));
         turns = λ s i m at h. from _ [] (law .turns s i m at (to s [] h));
         takes = λ s i m e at f d h. from _ _ (retains P law none [] s i m e record { stands = at; first = f } d (to s [] h));
@@ -120,9 +120,9 @@ module _ (Good : State → Type 0) (law : State-law Good) where
   unfolding collect-until-empty
   until-empty-has zero sequence r h = law .continues _ _ h
   until-empty-has (suc n) sequence r h =
-      if-elim (λ (v : Visited). Has (v .run)) _ _ _ (λ e. h)
+      if-elim (λ (v : Emptied). Has (v .run)) _ _ _ (λ e. h)
       (λ e.
-      if-elim (λ (v : Visited). Has (v .run)) _ _ _ (λ g. until-empty-has n sequence _ (collect-one-has r h))
+      if-elim (λ (v : Emptied). Has (v .run)) _ _ _ (λ g. until-empty-has n sequence _ (collect-one-has r h))
       (λ g. collect-one-has r h))
 
   pub deliver-has : (base : ℕ) (r : Run) → Has r → Has (deliver base r .run)

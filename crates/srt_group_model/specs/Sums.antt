@@ -1,6 +1,5 @@
 -- The reserved sums are the sums: a member's reserved packets are those held for it, its leg's reservation is those and the
--- queued ones, and the group's own sum is that of the packets it owns. Here: how each move of a poll keeps this. Assumes
--- nothing.
+-- queued ones, and the group's own sum is that of the packets it owns. Here: how each move of a poll keeps this.
 use mathlib.Core.Path.{_≡_, refl, sym, ap, ap₂, subst, _∙_}
 use mathlib.Core.Bool.{Bool, true, false, not, _&&_, _||_}
 use mathlib.Core.List.{List, [], _∷_, _++_}

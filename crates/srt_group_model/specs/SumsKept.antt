@@ -1,5 +1,5 @@
 -- The reserved sums stay right over every call: with unique ids and ascending held packets, the rule `reserved-sum-wrong` of
--- validity is kept. Assumes nothing.
+-- validity is kept.
 use mathlib.Core.Path.{_≡_, refl, sym, ap, ap₂, subst, _∙_}
 use mathlib.Core.Bool.{Bool, true, false, not, _&&_, _||_}
 use mathlib.Core.List.{List, [], _∷_, _++_}
@@ -27,6 +27,7 @@ use Rattle.srt_group_model.specs.Ascending.{insert-ascends, such-that-as
 use Rattle.srt_group_model.specs.Steps.{State-law, state-law-of}
 use Rattle.srt_group_model.specs.CallLaw.{Joining, Poll-law, Call-law}
 use Rattle.srt_group_model.specs.EveryCall.{call-keeps}
+use Rattle.srt_group_model.specs.CellsCalls.{data-append}
 use Rattle.srt_group_model.specs.Sums.{for-member, for-other, for-owned, held-for, held-own, held-for-is, held-own-is, Summed, Placed, Sums, Sums-right, moves-sums, changes-sums, discards-sums, holds-sums, reports-sums, delivers-sums, same-sums}
 use Rattle.srt_group_model.specs.SumsRemoval.{Right, retire-right, take-out-right}
 use Rattle.srt_group_model.specs.declared.Leg.{Leg}
@@ -35,16 +36,6 @@ use Rattle.srt_group_model.specs.declared.Event.{Event}
 use Rattle.srt_group_model.specs.declared.Packet.{Packet}
 
 -- ---- a queue with one event more
-
-chosen-append : (t : Bool) (x : Event) (p q r : List Event) → p ≡ q ++ r → (if t then x ∷ p else p) ≡ (if t then x ∷ q else q) ++ r
-unfolding if_then_else_
-chosen-append true x p q r e = ap (λ (l : List Event). x ∷ l) e
-chosen-append false x p q r e = e
-
-data-append : (q r : List Event) → such-that is-data (q ++ r) ≡ such-that is-data q ++ such-that is-data r
-unfolding such-that
-data-append [] r = refl
-data-append (x ∷ q) r = chosen-append (is-data x) x _ _ _ (data-append q r)
 
 total-append : (q r : List Event) → total (λ (e : Event). e .content .count) (q ++ r) ≡ total (λ (e : Event). e .content .count) q + total (λ (e : Event). e .content .count) r
 unfolding total

@@ -1,5 +1,5 @@
 -- The reserved sums over an addition and a removal: a removed leg's packets become the group's, and those retired are taken off
--- the group's sum. Assumes nothing.
+-- the group's sum.
 use mathlib.Core.Path.{_≡_, refl, sym, ap, ap₂, subst, _∙_}
 use mathlib.Core.Logic.{_⊎_, inl, inr}
 use mathlib.Core.Bool.{Bool, true, false, not, _&&_, _||_}

@@ -1,4 +1,4 @@
--- A choice by a test, a case on an option, and searches in a list. Assumes nothing.
+-- A choice by a test, a flag of the record, a case on an option, and searches in a list.
 use mathlib.Core.Path.{_≡_, refl, sym, ap, subst, _∙_}
 use mathlib.Core.Bool.{Bool, true, false, not, _&&_, _||_}
 use mathlib.Core.List.{List, [], _∷_, _++_}
@@ -13,6 +13,16 @@ unfoldable pub if_then_else_ {ℓ} : {A : Type ℓ} → Bool → A → A → A
 if_then_else_ true a b = a
 if_then_else_ false a b = b
 
+-- ---- a flag: a word that is 0 or 1. A flag above 1 breaks a rule; until that is tested it counts as set
+
+abbrev pub is-set : ℕ → Bool
+is-set zero = false
+is-set (suc n) = true
+
+unfoldable pub bit : Bool → ℕ
+bit false = 0
+bit true = 1
+
 -- ---- an option
 
 unfoldable pub if-some_give_otherwise_ {ℓ} : {A : Type 0} {B : Type ℓ} → Option A → (A → B) → B → B
@@ -24,7 +34,7 @@ unfoldable pub or-else : {A : Type 0} → Option A → Option A → Option A
 or-else none b = b
 or-else (some a) b = some a
 
--- a number with its flag, as an option
+-- a number, if it is there
 unfoldable pub flagged : Bool → ℕ → Option ℕ
 flagged false n = none
 flagged true n = some n
@@ -53,6 +63,11 @@ module _ {A : Type 0} where
   unfoldable pub first-such : (A → Bool) → List A → Option A
   first-such test [] = none
   first-such test (x ∷ xs) = if test x then some x else first-such test xs
+
+  -- the first answer that there is
+  unfoldable pub first-given : {B : Type 0} → (A → Option B) → List A → Option B
+  first-given f [] = none
+  first-given f (x ∷ xs) = or-else (f x) (first-given f xs)
 
   unfoldable pub place-of : (A → Bool) → List A → Option ℕ
   place-of test [] = none

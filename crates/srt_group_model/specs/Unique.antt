@@ -1,5 +1,5 @@
 -- Which members there are, over every call: only an addition and a removal change the list of ids, so ids stay unique and members
--- stay at most 64: the rule `id-twice` of validity is kept. Assumes nothing.
+-- stay at most 64: the rule `id-twice` of validity is kept.
 use mathlib.Core.Path.{_≡_, refl, sym, ap, ap₂, _∙_}
 use mathlib.Core.Bool.{Bool, true, false, _||_}
 use mathlib.Core.List.{List, [], _∷_, _++_}

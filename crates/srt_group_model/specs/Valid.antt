@@ -1,22 +1,22 @@
 -- A call keeps validity: from a valid state only valid states come, so 6 never follows from our own calls. Document 01's rules of
--- 6 one by one, with the laws that keep each. Assumes nothing.
+-- 6 one by one, with the laws that keep each.
 use mathlib.Core.Path.{_≡_, refl, sym, ap, ap₂, subst, _∙_}
 use mathlib.Core.Bool.{Bool, true, false, not, _&&_, _||_}
 use mathlib.Core.List.{List, [], _∷_, _++_}
 use Prim.Native.Nat.{ℕ, zero, suc, _+_, _-_, _≤_, _<_, min}
 use native.Mathlib.Omega.{arith}
-use borrow.Author.Tests.{eqb-true, ltb-true, ltb-false, le-ltb, lt-ltb, leb-true, leb-false, lt-leb}
+use borrow.Author.Tests.{eqb-true, ltb-true, ltb-false, le-ltb, lt-ltb, leb-true, leb-false, lt-leb, not-false}
 use lib.Dec.{leb, ltb, eqb}
 use lib.ListN.{length}
 use Rattle.srt_protocol.specs.Handshake.{has-group-mask}
-use Rattle.srt_protocol.specs.Cells.{cell-size, cells-of}
-use Rattle.srt_group_model.specs.Tools.{any, such-that, each, total}
-use Rattle.srt_group_model.specs.Reason.{by-test, not-both, or-left, or-right, All, all-map}
+use Rattle.srt_protocol.specs.Cells.{cell-size, cells-of, max-cells}
+use Rattle.srt_group_model.specs.Tools.{if_then_else_, any, such-that, each, total}
+use Rattle.srt_group_model.specs.Reason.{by-test, or-left, or-right, All, all-map}
 use Rattle.srt_group_model.specs.State.{Member, State}
 use Rattle.srt_group_model.specs.Legs.{largest-sequence, largest-16, largest-32, largest-64}
 use Rattle.srt_group_model.specs.Members.{id-of}
 use Rattle.srt_group_model.specs.Cells.{is-data, queued-cells, used-cells}
-use Rattle.srt_group_model.specs.Validity.{above, is-too-large, is-blank, max-members, max-events, max-pending, max-waiting, count-above-limit, leg-sequence-too-large, sequence-too-large, one-twice, id-twice, ascends, held-sequence-twice, cell-twice, cell-beyond-store, reserved-sum-wrong, data-out-of-range, event-out-of-range, leg-out-of-range, member-out-of-range, field-out-of-range, broken-rules, is-invalid}
+use Rattle.srt_group_model.specs.Validity.{above, is-too-large, is-blank, max-members, max-pending, max-waiting, count-above-limit, leg-sequence-too-large, sequence-too-large, one-twice, id-twice, ascends, held-sequence-twice, cell-twice, cell-beyond-store, reserved-sum-wrong, data-out-of-range, event-out-of-range, leg-out-of-range, member-out-of-range, Ranged, record-words, record-out-of-range, field-out-of-range, broken-rules, is-invalid, max-queued}
 use Rattle.srt_group_model.specs.Lent.{Lent, Call, with-bytes, step-of, perform}
 use Rattle.srt_group_model.specs.Fixed.{identity-kept}
 use Rattle.srt_group_model.specs.Unique.{Named, names-kept}
@@ -30,8 +30,8 @@ use Rattle.srt_group_model.specs.RangesKept.{Packet-fit, Entry-fit, Wait
 use Rattle.srt_group_model.specs.RangesCalls.{leg-of-rules, rules-of-leg, no-either, fit-kept}
 use Rattle.srt_group_model.specs.Counts.{pending-few, waiting-kept}
 use Rattle.srt_group_model.specs.Rounds.{In-round, round-kept}
-use Rattle.srt_group_model.specs.Calls.{new}
-use Rattle.srt_group_model.specs.declared.GroupMode.{GroupMode}
+use Rattle.srt_group_model.specs.Calls.{new, new-code}
+use Rattle.srt_group_model.specs.Backup.{max-history}
 use Rattle.srt_group_model.specs.declared.Identity.{Identity}
 use Rattle.srt_group_model.specs.declared.Event.{Event}
 use Rattle.srt_group_model.specs.declared.Packet.{Packet}
@@ -49,6 +49,7 @@ pub record Valid (cells : ℕ) (s : State) : Type 0 where
   pub cells-once : cell-twice s ≡ false
   pub cells-inside : cell-beyond-store cells s ≡ false
   pub sums : reserved-sum-wrong s ≡ false
+  pub words : record-out-of-range s ≡ false
   pub fields : field-out-of-range s ≡ false
 
 pub valid-of : (cells : ℕ) (s : State) → is-invalid cells s ≡ false → Valid cells s
@@ -63,6 +64,7 @@ valid-of cells s h =
     let r6 = or-right (cell-twice s) _ r5 in
     let r7 = or-right (cell-beyond-store cells s) _ r6 in
     let r8 = or-right (reserved-sum-wrong s) _ r7 in
+    let r9 = or-right (record-out-of-range s) _ r8 in
     record {
       blank = or-left (is-blank s) _ r0;
       counts = or-left (count-above-limit s) _ r1;
@@ -72,13 +74,14 @@ valid-of cells s h =
       cells-once = or-left (cell-twice s) _ r5;
       cells-inside = or-left (cell-beyond-store cells s) _ r6;
       sums = or-left (reserved-sum-wrong s) _ r7;
-      fields = or-left (field-out-of-range s) _ r8;
+      words = or-left (record-out-of-range s) _ r8;
+      fields = or-left (field-out-of-range s) _ r9;
     }
 
 pub of-valid : (cells : ℕ) (s : State) → Valid cells s → is-invalid cells s ≡ false
 unfolding is-invalid broken-rules any
 of-valid cells s h =
-    no-either _ _ (h .blank) (no-either _ _ (h .counts) (no-either _ _ (h .sequences) (no-either _ _ (h .ids-once) (no-either _ _ (h .ascending) (no-either _ _ (h .cells-once) (no-either _ _ (h .cells-inside) (no-either _ _ (h .sums) (no-either _ _ (h .fields) (refl)))))))))
+    no-either _ _ (h .blank) (no-either _ _ (h .counts) (no-either _ _ (h .sequences) (no-either _ _ (h .ids-once) (no-either _ _ (h .ascending) (no-either _ _ (h .cells-once) (no-either _ _ (h .cells-inside) (no-either _ _ (h .sums) (no-either _ _ (h .words) (no-either _ _ (h .fields) (refl))))))))))
 
 -- ---- ranges
 
@@ -93,7 +96,7 @@ events-fit (e ∷ q) h k = (
   events-fit q (or-right (event-out-of-range e) _ h) (or-right (is-data e && is-too-large (e .content .sequence)) _ k),
 )
 
-member-of-rules : (m : Member) → member-out-of-range m ≡ false → (leg-sequence-too-large (m .leg) || any too-large-data (m .queue)) ≡ false → above max-events (length (m .queue)) ≡ false → Member-fit m
+member-of-rules : (m : Member) → member-out-of-range m ≡ false → (leg-sequence-too-large (m .leg) || any too-large-data (m .queue)) ≡ false → above max-queued (length (m .queue)) ≡ false → Member-fit m
 unfolding member-out-of-range
 member-of-rules m h k n =
     let r0 = h in
@@ -112,7 +115,7 @@ member-of-rules m h k n =
       expected = ltb-false largest-32 (m .membership .collision .expected) (or-left (above largest-32 (m .membership .collision .expected)) _ r4);
       actual = ltb-false largest-32 (m .membership .collision .actual) (or-left (above largest-32 (m .membership .collision .actual)) _ r5);
       queue = events-fit (m .queue) (or-right (leg-out-of-range (m .leg)) _ r6) (or-right (leg-sequence-too-large (m .leg)) _ k);
-      short = ltb-false max-events (length (m .queue)) n;
+      short = ltb-false max-queued (length (m .queue)) n;
     }
 
 rules-of-member : (m : Member) → Member-fit m → member-out-of-range m ≡ false
@@ -193,7 +196,7 @@ rules-of-waiting w h =
 
 -- ---- counts
 
-round-of-rule : (r n : ℕ) → (ltb 0 r && leb n r) ≡ false → r ≤ n - 1
+pub round-of-rule : (r n : ℕ) → (ltb 0 r && leb n r) ≡ false → r ≤ n - 1
 round-of-rule r n h =
     by-test (ltb 0 r)
     (λ e. omega (arith, leb-false n r (ap (λ (b : Bool). b && leb n r) (sym e) ∙ h)))
@@ -207,30 +210,30 @@ rule-of-round r n h =
 
 -- a queue above its limit
 abbrev pub long-queue : Member → Bool
-long-queue m = above max-events (length (m .queue))
+long-queue m = above max-queued (length (m .queue))
 
 pub record Counted (s : State) : Type 0 where
   pub members : length (s .members) ≤ max-members
   pub queues : any long-queue (s .members) ≡ false
   pub pending : length (s .receive .pending) ≤ max-pending
   pub waiting : length (s .waiting) ≤ max-waiting
-  pub history : length (s .send .history) ≤ 512
+  pub history : length (s .send .history) ≤ max-history
   pub round : In-round s
 
 pub counted-of : (s : State) → count-above-limit s ≡ false → Counted s
 unfolding count-above-limit
 counted-of s h =
     let r1 = or-right (above max-members (length (s .members))) _ h in
-    let r2 = or-right (any (λ (m : Member). above max-events (length (m .queue))) (s .members)) _ r1 in
+    let r2 = or-right (any (λ (m : Member). above max-queued (length (m .queue))) (s .members)) _ r1 in
     let r3 = or-right (above max-pending (length (s .receive .pending))) _ r2 in
     let r4 = or-right (above max-waiting (length (s .waiting))) _ r3 in
-    let r5 = or-right (above 512 (length (s .send .history))) _ r4 in
+    let r5 = or-right (above max-history (length (s .send .history))) _ r4 in
     record {
       members = ltb-false max-members (length (s .members)) (or-left (above max-members (length (s .members))) _ h);
-      queues = or-left (any (λ (m : Member). above max-events (length (m .queue))) (s .members)) _ r1;
+      queues = or-left (any (λ (m : Member). above max-queued (length (m .queue))) (s .members)) _ r1;
       pending = ltb-false max-pending (length (s .receive .pending)) (or-left (above max-pending (length (s .receive .pending))) _ r2);
       waiting = ltb-false max-waiting (length (s .waiting)) (or-left (above max-waiting (length (s .waiting))) _ r3);
-      history = ltb-false 512 (length (s .send .history)) (or-left (above 512 (length (s .send .history))) _ r4);
+      history = ltb-false max-history (length (s .send .history)) (or-left (above max-history (length (s .send .history))) _ r4);
       round = round-of-rule (s .visit .round) (length (s .members)) r5;
     }
 
@@ -241,13 +244,64 @@ of-counted s h =
     (no-either _ _ (h .queues)
     (no-either _ _ (le-ltb max-pending (length (s .receive .pending)) (h .pending))
     (no-either _ _ (le-ltb max-waiting (length (s .waiting)) (h .waiting))
-    (no-either _ _ (le-ltb 512 (length (s .send .history)) (h .history)) (rule-of-round (s .visit .round) (length (s .members)) (h .round))))))
+    (no-either _ _ (le-ltb max-history (length (s .send .history)) (h .history)) (rule-of-round (s .visit .round) (length (s .members)) (h .round))))))
+
+-- ---- the words of the record
+
+abbrev pub In-range : Ranged → Type 0
+In-range x = x .value ≤ x .largest
+
+above-range : Ranged → Bool
+above-range x = above (x .largest) (x .value)
+
+-- each word of the record, in the order of `record-words`
+pub record Words-fit (s : State) : Type 0 where
+  pub id : s .identity .id ≤ largest-32
+  pub mode : s .mode ≤ 1
+  pub peer : s .peer ≤ largest-32
+  pub based : s .receive .numbers .based ≤ 1
+  pub numbered : s .send .numbers .numbered ≤ 1
+  pub carried : s .send .numbers .carried ≤ 1
+  pub carrier : s .send .numbers .carrier ≤ largest-32
+  pub gap : s .send .numbers .gap ≤ 1
+  pub continuation : s .visit .continuation ≤ 1
+
+in-range-of : (xs : List Ranged) → any above-range xs ≡ false → All In-range xs
+unfolding above-range
+in-range-of xs h = all-map _ In-range (λ x k. ltb-false (x .largest) (x .value) k) xs (none-of above-range xs h)
+
+of-in-range : (xs : List Ranged) → All In-range xs → any above-range xs ≡ false
+unfolding above-range
+of-in-range xs h = of-none above-range xs (all-map In-range _ (λ x k. le-ltb (x .largest) (x .value) k) xs h)
+
+pub words-of : (s : State) → record-out-of-range s ≡ false → Words-fit s
+unfolding record-out-of-range record-words above-range
+words-of s h =
+    let w = in-range-of (record-words s) h in
+    record {
+      id = w .0;
+      mode = w .1 .0;
+      peer = w .1 .1 .0;
+      based = w .1 .1 .1 .0;
+      numbered = w .1 .1 .1 .1 .0;
+      carried = w .1 .1 .1 .1 .1 .0;
+      carrier = w .1 .1 .1 .1 .1 .1 .0;
+      gap = w .1 .1 .1 .1 .1 .1 .1 .0;
+      continuation = w .1 .1 .1 .1 .1 .1 .1 .1 .0;
+    }
+
+pub of-words : (s : State) → Words-fit s → record-out-of-range s ≡ false
+unfolding record-out-of-range record-words above-range
+of-words s h =
+    of-in-range (record-words s)
+    (h .id, (h .mode, (h .peer, (h .based, (h .numbered, (h .carried, (h .carrier, (h .gap, (h .continuation, tt)))))))))
 
 -- ---- ranges of a state
 
-pub fit-of : (cells : ℕ) (s : State) → Valid cells s → s .identity .peer ≤ largest-32 → Fit s
+pub fit-of : (cells : ℕ) (s : State) → Valid cells s → Fit s
 unfolding sequence-too-large field-out-of-range packet-out entry-out waiting-out too-large-data
-fit-of cells s h b =
+fit-of cells s h =
+    let words = words-of s (h .words) in
     let counts = counted-of s (h .counts) in
     let q0 = h .sequences in
     let q1 = or-right (is-too-large (s .receive .numbers .base)) _ q0 in
@@ -276,16 +330,28 @@ fit-of cells s h b =
           (none-of entry-out (s .send .history) (or-left (any entry-out (s .send .history)) _ f2));
       remembered = counts .history;
       waiting = all-map _ Waiting-fit waiting-of-rules (s .waiting) (none-of waiting-out (s .waiting) f3);
-      base = ltb-false largest-sequence (s .receive .numbers .base) (or-left (is-too-large (s .receive .numbers .base)) _ q0);
-      next = ltb-false largest-sequence (s .send .numbers .next) (or-left (is-too-large (s .send .numbers .next)) _ q1);
-      peer = b;
+      receiving =
+          record {
+            based = words .based;
+            base = ltb-false largest-sequence (s .receive .numbers .base) (or-left (is-too-large (s .receive .numbers .base)) _ q0);
+          };
+      sending =
+          record {
+            numbered = words .numbered;
+            next = ltb-false largest-sequence (s .send .numbers .next) (or-left (is-too-large (s .send .numbers .next)) _ q1);
+            carried = words .carried;
+            carrier = words .carrier;
+            gap = words .gap;
+          };
+      continuation = words .continuation;
+      peer = words .peer;
     }
 
 sequences-of : (s : State) → Fit s → sequence-too-large s ≡ false
 unfolding sequence-too-large too-large-data
 sequences-of s h =
-    no-either _ _ (le-ltb largest-sequence (s .receive .numbers .base) (h .base))
-    (no-either _ _ (le-ltb largest-sequence (s .send .numbers .next) (h .next))
+    no-either _ _ (le-ltb largest-sequence (s .receive .numbers .base) (h .receiving .base))
+    (no-either _ _ (le-ltb largest-sequence (s .send .numbers .next) (h .sending .next))
     (no-either _ _
     (of-none (λ (p : Packet). is-too-large (p .content .sequence)) (s .receive .pending) (all-map Packet-fit _ (λ p k. le-ltb largest-sequence (p .content .sequence) (k .sequence)) (s .receive .pending) (h .pending)))
     (no-either _ _
@@ -302,22 +368,17 @@ fields-of s h =
 
 queues-of : (s : State) → Fit s → any long-queue (s .members) ≡ false
 queues-of s h =
-    of-none long-queue (s .members) (all-map Member-fit _ (λ m k. le-ltb max-events (length (m .queue)) (k .short)) (s .members) (h .members))
+    of-none long-queue (s .members) (all-map Member-fit _ (λ m k. le-ltb max-queued (length (m .queue)) (k .short)) (s .members) (h .members))
 
-not-not : (b : Bool) → not b ≡ false → b ≡ true
-not-not true e = refl
-not-not false e = not-both {t = true} refl e
-
-cells-most : (length : ℕ) → cells-of length ≤ max-pending
+cells-most : (length : ℕ) → cells-of length ≤ max-cells
 cells-most length = omega arith
 
 -- ---- the law
 
--- The group's peer id is a 32-bit number, as its type says; it stays one.
-pub valid-kept : (c : Call) (lent : Lent) (s : State) → s .identity .peer ≤ largest-32 → is-invalid (cells-of (length (lent .store))) s ≡ false
-    → (is-invalid (cells-of (length (lent .store))) (perform c lent s .state) ≡ false) × (perform c lent s .state .identity .peer ≤ largest-32)
+pub valid-kept : (c : Call) (lent : Lent) (s : State) → is-invalid (cells-of (length (lent .store))) s ≡ false
+    → is-invalid (cells-of (length (lent .store))) (perform c lent s .state) ≡ false
 unfolding id-twice held-sequence-twice is-blank cell-twice cell-beyond-store
-valid-kept c lent s b invalid =
+valid-kept c lent s invalid =
     let cells = cells-of (length (lent .store)) in
     let h = valid-of cells s invalid in
     let counts = counted-of s (h .counts) in
@@ -326,37 +387,56 @@ valid-kept c lent s b invalid =
     let apart = cells-kept c lent s (h .cells-once) (h .cells-inside) in
     let right =
     sums-kept c lent s
-    record { sums = sums-of-rule s (h .ids-once) (h .sums); ascending = not-not (ascends (s .receive .pending)) (h .ascending) }
+    record { sums = sums-of-rule s (h .ids-once) (h .sums); ascending = not-false (ascends (s .receive .pending)) (h .ascending) }
     in
-    let fit = fit-kept c lent s (fit-of cells s h b) in (
-      of-valid cells t
+    let fixed = identity-kept c lent s in
+    let words = words-of s (h .words) in
+    let fit = fit-kept c lent s (fit-of cells s h) in
+    of-valid cells t
+    record {
+      blank = ap (λ (x : Identity). not (has-group-mask (x .id))) (fixed .0) ∙ h .blank;
+      counts =
+          of-counted t
           record {
-            blank = ap (λ (x : Identity). not (has-group-mask (x .id))) (identity-kept c lent s) ∙ h .blank;
-            counts =
-                of-counted t
-                record {
-                  members = named .few;
-                  queues = queues-of t fit;
-                  pending = omega (arith, pending-few cells t (apart-of-rules cells (used-cells t) (apart .0) (apart .1)), cells-most (length (lent .store)));
-                  waiting = waiting-kept c lent s (counts .waiting);
-                  history = fit .remembered;
-                  round = round-kept c lent s (counts .round);
-                };
-            sequences = sequences-of t fit;
-            ids-once = named .unique;
-            ascending = ascending-kept c lent s (h .ascending);
-            cells-once = apart .0;
-            cells-inside = apart .1;
-            sums = rule-of-sums t (right .sums);
-            fields = fields-of t fit;
-          },
-      fit .peer,
-    )
+            members = named .few;
+            queues = queues-of t fit;
+            pending = omega (arith, pending-few cells t (apart-of-rules cells (used-cells t) (apart .0) (apart .1)), cells-most (length (lent .store)));
+            waiting = waiting-kept c lent s (counts .waiting);
+            history = fit .remembered;
+            round = round-kept c lent s (counts .round);
+          };
+      sequences = sequences-of t fit;
+      ids-once = named .unique;
+      ascending = ascending-kept c lent s (h .ascending);
+      cells-once = apart .0;
+      cells-inside = apart .1;
+      sums = rule-of-sums t (right .sums);
+      words =
+          of-words t
+          record {
+            id = subst (λ (x : Identity). x .id ≤ largest-32) (sym (fixed .0)) (words .id);
+            mode = subst (λ (n : ℕ). n ≤ 1) (sym (fixed .1)) (words .mode);
+            peer = fit .peer;
+            based = fit .receiving .based;
+            numbered = fit .sending .numbered;
+            carried = fit .sending .carried;
+            carrier = fit .sending .carrier;
+            gap = fit .sending .gap;
+            continuation = fit .continuation;
+          };
+      fields = fields-of t fit;
+    }
 
 -- a group that was just made is valid
-pub new-valid : (id length cells : ℕ) (mode : GroupMode) → has-group-mask id ≡ true → is-invalid cells (new id mode length) ≡ false
-unfolding new is-invalid broken-rules any is-blank count-above-limit sequence-too-large id-twice one-twice held-sequence-twice ascends cell-twice cell-beyond-store used-cells queued-cells each reserved-sum-wrong such-that total field-out-of-range
-new-valid id length cells mode h = ap (λ (b : Bool). not b || false) h
+pub new-valid : (id length cells mode : ℕ) → new-code id mode ≡ 0 → is-invalid cells (new id mode length) ≡ false
+unfolding new is-invalid broken-rules any is-blank count-above-limit sequence-too-large id-twice one-twice held-sequence-twice ascends cell-twice cell-beyond-store used-cells queued-cells each reserved-sum-wrong such-that total record-out-of-range record-words field-out-of-range new-code if_then_else_
+new-valid id length cells mode h = accepted (above largest-32 id) (above 1 mode) (has-group-mask id) h
+  where
+    accepted : (a b mask : Bool) → _≡_ {A = ℕ} (if a || b then 2 else (if mask then 0 else 1)) 0 → (not mask || ((a || (b || false)) || false)) ≡ false
+    accepted true b mask e = absurd (omega (arith, e))
+    accepted false true mask e = absurd (omega (arith, e))
+    accepted false false true e = refl
+    accepted false false false e = absurd (omega (arith, e))
 
 -- Validity over a store is validity over a larger one: a call that is lent no store asks for no less.
 pub valid-wider : (cells more : ℕ) (s : State) → cells ≤ more → is-invalid cells s ≡ false → is-invalid more s ≡ false
@@ -375,5 +455,6 @@ valid-wider cells more s wide invalid =
           of-none (leb more) (used-cells s)
           (all-map _ _ (λ n k. lt-leb more n (omega (arith, wide, leb-false cells n k))) (used-cells s) (none-of (leb cells) (used-cells s) (h .cells-inside)));
       sums = h .sums;
+      words = h .words;
       fields = h .fields;
     }

@@ -1,5 +1,5 @@
 -- When a lent state is refused with 6, rule by rule: document 01, "the lent state breaks a rule". Each test is true of a state
--- that breaks its rule; the last is "a field above its range" in a row of a lent table. Assumes nothing.
+-- that breaks its rule; the last two are "a field above its range", in the record and in a row of a lent table.
 use mathlib.Core.Bool.{Bool, true, false, not, _&&_, _||_}
 use mathlib.Core.List.{List, [], _∷_, _++_}
 use Prim.Native.Nat.{ℕ, zero, suc, _+_}
@@ -33,8 +33,8 @@ is-blank s = not (has-group-mask (s .identity .id))
 abbrev pub max-members : ℕ
 max-members = 64
 
-abbrev pub max-events : ℕ
-max-events = 16
+abbrev pub max-queued : ℕ
+max-queued = 16
 
 abbrev pub max-pending : ℕ
 max-pending = 2048
@@ -46,7 +46,7 @@ max-waiting = 64
 unfoldable pub count-above-limit : State → Bool
 count-above-limit s =
     above max-members (length (s .members))
-    || (any (λ m. above max-events (length (m .queue))) (s .members)
+    || (any (λ m. above max-queued (length (m .queue))) (s .members)
     || (above max-pending (length (s .receive .pending))
     || (above max-waiting (length (s .waiting))
     || (above max-history (length (s .send .history))
@@ -123,6 +123,29 @@ reserved-sum-wrong s =
     || (any (is-unreserved (s .members)) (s .receive .pending)
     || not (eqb (s .owned) (total (λ p. p .content .count) (such-that is-owned (s .receive .pending)))))
 
+-- ---- a word of the record above its range
+
+-- a word, and the largest that it may be
+pub record Ranged : Type 0 where
+  pub value : ℕ
+  pub largest : ℕ
+
+infix 20 _at-most_
+abbrev pub _at-most_ : ℕ → ℕ → Ranged
+value at-most largest = record { value = value; largest = largest }
+
+-- An id is 32 bits, a flag 0 or 1, the mode 0 or 1. The base and the next send number are among the sequences; what counts
+-- rows is among the counts or the sums; any word is a length of the store, a skipped total.
+unfoldable pub record-words : State → List Ranged
+record-words s =
+    (s .identity .id at-most largest-32) ∷ (s .mode at-most 1) ∷ (s .peer at-most largest-32)
+    ∷ (s .receive .numbers .based at-most 1) ∷ (s .send .numbers .numbered at-most 1)
+    ∷ (s .send .numbers .carried at-most 1) ∷ (s .send .numbers .carrier at-most largest-32)
+    ∷ (s .send .numbers .gap at-most 1) ∷ (s .visit .continuation at-most 1) ∷ []
+
+unfoldable pub record-out-of-range : State → Bool
+record-out-of-range s = any (λ x. above (x .largest) (x .value)) (record-words s)
+
 -- ---- a field of a row above its range
 
 unfoldable pub data-out-of-range : Data → Bool
@@ -177,7 +200,7 @@ field-out-of-range s =
 unfoldable pub broken-rules : ℕ → State → List Bool
 broken-rules cells s =
     is-blank s ∷ count-above-limit s ∷ sequence-too-large s ∷ id-twice s ∷ held-sequence-twice s ∷ cell-twice s
-    ∷ cell-beyond-store cells s ∷ reserved-sum-wrong s ∷ field-out-of-range s ∷ []
+    ∷ cell-beyond-store cells s ∷ reserved-sum-wrong s ∷ record-out-of-range s ∷ field-out-of-range s ∷ []
 
 unfoldable pub is-invalid : ℕ → State → Bool
 is-invalid cells s = any (λ rule. rule) (broken-rules cells s)

@@ -1,4 +1,4 @@
--- How many events wait: a visit adds one at most, and the refresh none. Assumes nothing.
+-- How many events wait: a visit adds one at most, and the refresh none.
 use mathlib.Core.Path.{_≡_, refl, ap, _∙_}
 use mathlib.Core.Bool.{Bool, true, false, not}
 use mathlib.Core.List.{List, [], _∷_}

@@ -1,5 +1,5 @@
 -- Two narrower laws as instances of the one over every call: what the moves of receiving keep (Moves), every call keeps, and what the
--- moves of the queues keep (Queues), every poll keeps. Assumes nothing.
+-- moves of the queues keep (Queues), every poll keeps.
 use mathlib.Core.Path.{_≡_, refl, subst}
 use mathlib.Core.List.{List, [], _∷_}
 use mathlib.Core.Option.{Option, none, some}

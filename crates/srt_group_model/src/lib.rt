@@ -113,72 +113,77 @@ pub struct Membership {
 }
 
 // ---- the group's own numbers
+//
+// Every field of the record is a 64-bit word, so that any record a host lends can be read, shown and, if a word is beyond
+// its range, refused: a flag is 0 or 1, the mode 0 for Broadcast or 1 for Backup.
 
-pub enum GroupMode {
-    Broadcast,
-    Backup,
-}
-
+// What is fixed at creation and no poll needs.
+#[repr(C)]
 pub struct Identity {
     // group_id
-    pub id: u32,
-    pub mode: GroupMode,
+    pub id: u64,
     // the store's length given at the start, or 0
     pub length: usize,
-    // peer_group_id, 0 while the group is not bound
-    pub peer: u32,
 }
 
 // What receiving moves, with the pending packets.
+#[repr(C)]
 pub struct Receiving {
     // next_receive_sequence, the base, and whether it is set
-    pub based: bool,
-    pub base: u32,
+    pub based: u64,
+    pub base: u64,
     // skipped_receive_packets
     pub skipped: u64,
 }
 
 // What sending moves, with the history.
+#[repr(C)]
 pub struct Sending {
     // next_send_sequence, and whether it is set
-    pub numbered: bool,
-    pub next: u32,
+    pub numbered: u64,
+    pub next: u64,
     // backup_carrier, and whether there is one
-    pub carried: bool,
-    pub carrier: u32,
+    pub carried: u64,
+    pub carrier: u64,
     // backup_history_gap
-    pub gap: bool,
+    pub gap: u64,
 }
 
+#[repr(C)]
 pub struct Visit {
     // receive_continuation
-    pub continuation: bool,
+    pub continuation: u64,
     // next_event_member
     pub round: usize,
 }
 
 // How many rows of each lent table are in use: members, pending packets, waiting events.
+#[repr(C)]
 pub struct Counts {
     pub members: usize,
     pub pending: usize,
     pub waiting: usize,
 }
 
-// All scalars of the group. owned is owned_packets.
+// What a poll carries through by value.
+#[repr(C)]
 pub struct Core {
+    // mode
+    pub mode: u64,
+    // peer_group_id, 0 while the group is not bound
+    pub peer: u64,
     pub counts: Counts,
-    pub identity: Identity,
     pub receiving: Receiving,
-    pub sending: Sending,
     pub visit: Visit,
+    // owned_packets
     pub owned: u64,
 }
 
-// An entry of backup_history: the payload that went out at a sequence, in its cell, with its source time. It stands in the record
-// by value, 512 of them, so its fields are no wider than they need be.
+// An entry of backup_history: the payload that was sent at a sequence, in its cell, with its source time.
+#[repr(C)]
 pub struct Entry {
-    pub sequence: u32,
-    pub cell: u16,
-    pub length: u16,
+    pub sequence: u64,
+    pub cell: u64,
+    pub length: u64,
     pub source: Timestamp,
 }

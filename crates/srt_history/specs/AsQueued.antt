@@ -2,8 +2,7 @@
 -- accepted: its sequence, count, message number, timestamp and source time are those that this call was given, its length is
 -- that of the payload given, its cell the one that the call took; and the payload that the premise `FromSchedule` reads for
 -- it, last put into that cell, is the payload given. No premise on the store is needed for that: a payload is put only into a
--- cell that no queued and no held packet has. With one store, all that is delivered was so given, byte for byte. Assumes
--- nothing.
+-- cell that no queued and no held packet has. With one store, all that is delivered was so given, byte for byte.
 use mathlib.Core.Path.{_≡_, refl, sym, ap, _∙_, subst, fun-ext}
 use mathlib.Core.Bool.{Bool, true, false}
 use mathlib.Core.List.{List, [], _∷_, _++_, append-assoc, append-nil}
@@ -19,7 +18,7 @@ use Rattle.srt_group_model.specs.Delivery.{pass-run, skip-to}
 use Rattle.srt_group_model.specs.Refusals.{guard-passed}
 use Rattle.srt_group_model.specs.Guards.{Step, refuse}
 use Rattle.srt_group_model.specs.Calls.{new, data-event, left-by-send, send-body, send, no-free-cell, taken-cell, queue-data-body, queue-data}
-use Rattle.srt_group_model.specs.Calls.{member, time-until-send, backup-stability-timeout-micros, group-id, members-call, mode, peer-group-id, skipped-receive-packets, has-pending-data-call, has-receive-continuation}
+use Rattle.srt_group_model.specs.Calls.{}
 use Rattle.srt_group_model.specs.declared.Data.{Data}
 use Rattle.srt_group_model.specs.declared.Event.{Event}
 use Rattle.srt_group_model.specs.declared.Packet.{Packet}
@@ -37,7 +36,7 @@ use Rattle.srt_history.specs.Shape.{Shape, call-shape}
 use Rattle.srt_history.specs.ClerkClaim.{given-as-queued, delivered-as-queued}
 use Rattle.srt_history.specs.Bytes.{Live, sides-change, held-change, delivered-is-as-queued, new-alive}
 use Rattle.srt_history.specs.Gateways.{state-after-both, log-after-both}
-use Rattle.srt_group_model.specs.Lent.{Call, addition, broken-mark, removal, member-look, refreshing, disconnection, event-poll, data-poll, sending, readiness, paced-readiness, send-wait, stability, group-look, members-look, mode-look, peer-look, skipped-look, pending-look, continuation-look, reading, queued-data, queued-event}
+use Rattle.srt_group_model.specs.Lent.{Call, call-add-member, call-mark-member-broken, call-remove-member-connection, call-refresh-member-states, call-disconnect, call-poll-event, call-poll-data-bounded, call-send, call-can-send, call-can-send-with-pacing, call-look, call-read-leg, call-queue-data, call-queue-event}
 use Rattle.srt_group_model.specs.Lent.{Lent, delivered-by, with-bytes, step-of, perform}
 use Rattle.srt_history.specs.Calls.{Asked, do-call, step, Making, made, state-after, log-after, Delivery, deliveries}
 
@@ -45,7 +44,7 @@ use Rattle.srt_history.specs.Calls.{Asked, do-call, step, Making, made, 
 
 -- the call that queues this data with this payload
 abbrev pub queueing : (id : ℕ) (given : Data) (payload : List ℕ) → Lent → Asked
-queueing id given payload lent = record { call = queued-data id given payload; lent = lent }
+queueing id given payload lent = record { call = call-queue-data id given payload; lent = lent }
 
 -- what it queues: the data given, in the cell that it takes
 abbrev pub queued-as : (given : Data) (payload : List ℕ) → Lent → State → Data
@@ -391,16 +390,16 @@ module _ (g : Making) (before : List Asked) where
           if-elim (Fine asked) _ _ _
           (λ e.
           let m : List Mark =
-          if is-backup (refresh-states (start reached) .state .identity .mode)
+          if is-backup (refresh-states (start reached) .state .mode)
           then put cell payload ∷ refresh-states (start reached) .log
           else refresh-states (start reached) .log
           in
           let w : AsGiven g before log m × Live (Then asked m) _ =
-          sent-fine (is-backup (refresh-states (start reached) .state .identity .mode)) cell payload _
+          sent-fine (is-backup (refresh-states (start reached) .state .mode)) cell payload _
           (send-flow-leaves cell time payload reached)
           (λ backup.
           taken-cell-unused (cells-of store) reached
-          (and-true-left (is-backup (reached .identity .mode)) (no-free-cell (cells-of store) reached)
+          (and-true-left (is-backup (reached .mode)) (no-free-cell (cells-of store) reached)
           (ap is-backup (sym (refresh-states-mode (start reached))) ∙ backup) (c .1 .1 .1 .1 .0)))
           in
           record { ok = w .0; left = w .1 })
@@ -414,30 +413,21 @@ module _ (g : Making) (before : List Asked) where
     step-fine : (call : Call) (lent : Lent)
         → Fine record { call = call; lent = lent }
         (step-of (length (lent .store)) (length (lent .output)) (length (lent .list)) call reached)
-    unfolding step-of member time-until-send backup-stability-timeout-micros group-id members-call mode peer-group-id skipped-receive-packets has-pending-data-call has-receive-continuation
-    step-fine (addition id weight leg queue) lent = kept-fine record { call = addition id weight leg queue; lent = lent } _ (add-kept Was AnyNumber Gathers gathers-law reached (alive .queued) begun (λ n f. tt) id weight leg queue)
-    step-fine (broken-mark id) lent = kept-fine record { call = broken-mark id; lent = lent } _ (mark-member-broken-kept Was AnyNumber Gathers gathers-law reached (alive .queued) begun id)
-    step-fine (removal id) lent = kept-fine record { call = removal id; lent = lent } _ (remove-kept Was AnyNumber Gathers gathers-law reached (alive .queued) begun id)
-    step-fine (member-look id) lent = kept-fine record { call = member-look id; lent = lent } _ (look-kept Was AnyNumber Gathers gathers-law reached (alive .queued) begun _ _)
-    step-fine refreshing lent = kept-fine record { call = refreshing; lent = lent } _ (refresh-kept Was AnyNumber Gathers gathers-law reached (alive .queued) begun)
-    step-fine (disconnection time) lent = kept-fine record { call = disconnection time; lent = lent } _ (disconnect-kept Was AnyNumber Gathers gathers-law reached (alive .queued) begun time)
-    step-fine (event-poll time) lent = kept-fine record { call = event-poll time; lent = lent } _ (poll-event-kept Was AnyNumber Gathers gathers-law reached (alive .queued) begun (length (lent .store)) (length (lent .output)) time)
-    step-fine (data-poll time max-events) lent = kept-fine record { call = data-poll time max-events; lent = lent } _ (poll-data-kept Was AnyNumber Gathers gathers-law reached (alive .queued) begun (length (lent .store)) (length (lent .output)) time max-events)
-    step-fine (sending time payload) lent = send-fine record { call = sending time payload; lent = lent } (length (lent .store)) (length (lent .list)) time payload
-    step-fine readiness lent = kept-fine record { call = readiness; lent = lent } _ (can-send-kept Was AnyNumber Gathers gathers-law reached (alive .queued) begun)
-    step-fine (paced-readiness time) lent = kept-fine record { call = paced-readiness time; lent = lent } _ (can-send-with-pacing-kept Was AnyNumber Gathers gathers-law reached (alive .queued) begun time)
-    step-fine (send-wait time) lent = kept-fine record { call = send-wait time; lent = lent } _ (look-kept Was AnyNumber Gathers gathers-law reached (alive .queued) begun _ _)
-    step-fine (stability id) lent = kept-fine record { call = stability id; lent = lent } _ (look-kept Was AnyNumber Gathers gathers-law reached (alive .queued) begun _ _)
-    step-fine group-look lent = kept-fine record { call = group-look; lent = lent } _ (look-kept Was AnyNumber Gathers gathers-law reached (alive .queued) begun _ _)
-    step-fine members-look lent = kept-fine record { call = members-look; lent = lent } _ (look-kept Was AnyNumber Gathers gathers-law reached (alive .queued) begun _ _)
-    step-fine mode-look lent = kept-fine record { call = mode-look; lent = lent } _ (look-kept Was AnyNumber Gathers gathers-law reached (alive .queued) begun _ _)
-    step-fine peer-look lent = kept-fine record { call = peer-look; lent = lent } _ (look-kept Was AnyNumber Gathers gathers-law reached (alive .queued) begun _ _)
-    step-fine skipped-look lent = kept-fine record { call = skipped-look; lent = lent } _ (look-kept Was AnyNumber Gathers gathers-law reached (alive .queued) begun _ _)
-    step-fine pending-look lent = kept-fine record { call = pending-look; lent = lent } _ (look-kept Was AnyNumber Gathers gathers-law reached (alive .queued) begun _ _)
-    step-fine continuation-look lent = kept-fine record { call = continuation-look; lent = lent } _ (look-kept Was AnyNumber Gathers gathers-law reached (alive .queued) begun _ _)
-    step-fine (reading id field n) lent = kept-fine record { call = reading id field n; lent = lent } _ (read-leg-kept Was AnyNumber Gathers gathers-law reached (alive .queued) begun id field n)
-    step-fine (queued-data id content payload) lent = queue-data-fine id content payload lent
-    step-fine (queued-event id kind reason) lent = kept-fine record { call = queued-event id kind reason; lent = lent } _ (queue-event-kept Was AnyNumber Gathers gathers-law reached (alive .queued) begun id kind reason)
+    unfolding step-of
+    step-fine (call-add-member id weight leg queue) lent = kept-fine record { call = call-add-member id weight leg queue; lent = lent } _ (add-kept Was AnyNumber Gathers gathers-law reached (alive .queued) begun (λ n f. tt) id weight leg queue)
+    step-fine (call-mark-member-broken id) lent = kept-fine record { call = call-mark-member-broken id; lent = lent } _ (mark-member-broken-kept Was AnyNumber Gathers gathers-law reached (alive .queued) begun id)
+    step-fine (call-remove-member-connection id) lent = kept-fine record { call = call-remove-member-connection id; lent = lent } _ (remove-kept Was AnyNumber Gathers gathers-law reached (alive .queued) begun id)
+    step-fine call-refresh-member-states lent = kept-fine record { call = call-refresh-member-states; lent = lent } _ (refresh-kept Was AnyNumber Gathers gathers-law reached (alive .queued) begun)
+    step-fine (call-disconnect time) lent = kept-fine record { call = call-disconnect time; lent = lent } _ (disconnect-kept Was AnyNumber Gathers gathers-law reached (alive .queued) begun time)
+    step-fine (call-poll-event time) lent = kept-fine record { call = call-poll-event time; lent = lent } _ (poll-event-kept Was AnyNumber Gathers gathers-law reached (alive .queued) begun (length (lent .store)) (length (lent .output)) time)
+    step-fine (call-poll-data-bounded time max-events) lent = kept-fine record { call = call-poll-data-bounded time max-events; lent = lent } _ (poll-data-kept Was AnyNumber Gathers gathers-law reached (alive .queued) begun (length (lent .store)) (length (lent .output)) time max-events)
+    step-fine (call-send time payload) lent = send-fine record { call = call-send time payload; lent = lent } (length (lent .store)) (length (lent .list)) time payload
+    step-fine call-can-send lent = kept-fine record { call = call-can-send; lent = lent } _ (can-send-kept Was AnyNumber Gathers gathers-law reached (alive .queued) begun)
+    step-fine (call-can-send-with-pacing time) lent = kept-fine record { call = call-can-send-with-pacing time; lent = lent } _ (can-send-with-pacing-kept Was AnyNumber Gathers gathers-law reached (alive .queued) begun time)
+    step-fine (call-look look) lent = kept-fine record { call = call-look look; lent = lent } _ (look-kept Was AnyNumber Gathers gathers-law reached (alive .queued) begun look)
+    step-fine (call-read-leg id field n) lent = kept-fine record { call = call-read-leg id field n; lent = lent } _ (read-leg-kept Was AnyNumber Gathers gathers-law reached (alive .queued) begun id field n)
+    step-fine (call-queue-data id content payload) lent = queue-data-fine id content payload lent
+    step-fine (call-queue-event id kind reason) lent = kept-fine record { call = call-queue-event id kind reason; lent = lent } _ (queue-event-kept Was AnyNumber Gathers gathers-law reached (alive .queued) begun id kind reason)
 
     call-fine : (call : Asked) → Fine call (step call reached)
     call-fine call = step-fine (call .call) (call .lent)

@@ -1,5 +1,5 @@
 -- Base arithmetic: the base is its first value and as far on as was delivered and skipped, modulo 2^31; the skipped total is
--- the sum of the distances, up to its ceiling. It needs no premise on when the base was set. Assumes nothing.
+-- the sum of the distances, up to its ceiling. It needs no premise on when the base was set.
 use mathlib.Core.Path.{_≡_, refl, sym, ap, _∙_, subst}
 use mathlib.Core.Logic.{_⊎_, inl, inr}
 use mathlib.Core.List.{List, [], _∷_, _++_, append-nil}
@@ -9,7 +9,7 @@ use native.Mathlib.Nat.{add-zero, add-assoc, mod-eq-of-lt, mod-lt, mod-add-mod}
 use native.Mathlib.Omega.{arith}
 use Rattle.srt_protocol.specs.Circle.{further, further-distance, distance-further}
 use Rattle.srt_protocol.specs.Sequence.{half, sequence-distance, sequence-further}
-use Rattle.srt_protocol.specs.Time.{last-moment}
+use Rattle.srt_group_model.specs.Legs.{largest-64}
 use Rattle.srt_group_model.specs.Tools.{if-some_give_otherwise_, flagged, or-else}
 use Rattle.srt_group_model.specs.State.{State, Receive, next-receive-sequence}
 use Rattle.srt_group_model.specs.Nearest.{sequence-of, nearest}
@@ -79,7 +79,7 @@ SequenceFits d = Fits (d .sequence)
 
 pub record Sums (x : Receive) (log : List Mark) : Type 0 where
   pub stands : Stands (first-base log) (next-receive-sequence x) (place-after log)
-  pub skipped : x .numbers .skipped ≡ min (total-skipped log) last-moment
+  pub skipped : x .numbers .skipped ≡ min (total-skipped log) largest-64
   pub held : All (OfContent SequenceFits) (x .pending)
 
 nearest-fits : (x : Receive) (log : List Mark) (p : Packet) → nearest (x .pending) ≡ some p → Sums x log → Fits (sequence-of p)
@@ -238,7 +238,7 @@ delivered-counts (call ∷ more) s =
 -- ---- the first claim
 
 pub base-claim : (g : Making) (calls : List Asked) (first : ℕ) → first-base (log-after calls (made g)) ≡ some first
-    → skipped-in (state-after calls (made g)) < last-moment → BaseClaim g calls first
+    → skipped-in (state-after calls (made g)) < largest-64 → BaseClaim g calls first
 base-claim g calls first e below =
     record {
       base = sequence-further first (place-after (log-after calls (made g)));

@@ -1,7 +1,6 @@
 -- Byte for byte. Where each accepted call that is lent a store is lent the one that the last such call left, and nobody else
 -- writes it, every queued and held payload stands in its cell as it was queued: a payload is put only into a cell that no
 -- queued and no held packet has. So the payload that a poll copies to byte 12 of the output is the payload as it was queued.
--- Assumes nothing.
 use mathlib.Core.Path.{_≡_, refl, sym, ap, _∙_, subst, fun-ext}
 use mathlib.Core.Bool.{Bool, true, false, not, _&&_}
 use mathlib.Core.Logic.{_⊎_, inl, inr}
@@ -15,19 +14,19 @@ use lib.ListN.{length, take, drop, length-take, length-drop}
 use Rattle.srt_protocol.specs.Cells.{cell-size, head-size, cells-of, overwritten, cell-bytes}
 use Rattle.srt_protocol.specs.CellLaws.{overwritten-length, overwritten-there, overwritten-run}
 use Rattle.srt_group_model.specs.Tools.{if_then_else_, if-some_give_otherwise_, flagged, at-place}
-use Rattle.srt_group_model.specs.State.{Member, State, Receive, is-backup, next-send-sequence}
+use Rattle.srt_group_model.specs.State.{State, Receive, is-backup, next-send-sequence}
 use Rattle.srt_group_model.specs.Legs.{no-sequence}
-use Rattle.srt_group_model.specs.Members.{find, align-member-sequence}
+use Rattle.srt_group_model.specs.Members.{find, align-member-sequence, has-id, found}
 use Rattle.srt_group_model.specs.Nearest.{held-at}
 use Rattle.srt_group_model.specs.Run.{Mark, put, base-set, collected, gap-skipped, delivered, Run, start, refresh-states}
 use Rattle.srt_group_model.specs.Delivery.{pass-run, skip-to}
 use Rattle.srt_group_model.specs.Polls.{poll-event, poll-data-bounded}
 use Rattle.srt_group_model.specs.Sending.{Sent}
 use Rattle.srt_group_model.specs.Validity.{above}
-use Rattle.srt_group_model.specs.Refusals.{guard-passed}
-use Rattle.srt_group_model.specs.Guards.{Answer, no-answer, membership, polled, data-polled, Put, Step, refuse, accept, Check, guard}
-use Rattle.srt_group_model.specs.Calls.{new, add-body, add-member, mark-member-broken, remove-body, remove-member-connection, member, refresh-member-states, disconnect, event-poll-body, poll-event-call, data-poll-body, poll-data-call, left-by, left-by-send, send-body, send, no-free-cell, taken-cell, can-send-body, can-send-call, can-send-with-pacing-body, can-send-with-pacing-call, time-until-send, backup-stability-timeout-micros}
-use Rattle.srt_group_model.specs.Calls.{store-unfit, output-unfit, group-id, members-call, mode, peer-group-id, skipped-receive-packets, has-pending-data-call, has-receive-continuation, read-leg, queue-data-body, queue-data, queue-event}
+use Rattle.srt_group_model.specs.Refusals.{guard-passed, look-elim}
+use Rattle.srt_group_model.specs.Guards.{Answer, no-answer, polled, data-polled, Put, Step, refuse, accept, Check, guard}
+use Rattle.srt_group_model.specs.Calls.{new, add-body, add-member, mark-member-broken, remove-body, remove-member-connection, refresh-member-states, disconnect, event-poll-body, poll-event-call, data-poll-body, poll-data-call, left-by, left-by-send, send-body, send, no-free-cell, taken-cell, can-send-body, can-send-call, can-send-with-pacing-body, can-send-with-pacing-call}
+use Rattle.srt_group_model.specs.Calls.{store-unfit, output-unfit, read-leg, queue-data-body, queue-data, queue-event}
 use Rattle.srt_group_model.specs.declared.Data.{Data}
 use Rattle.srt_group_model.specs.declared.Event.{Event}
 use Rattle.srt_group_model.specs.declared.Packet.{Packet}
@@ -44,8 +43,8 @@ use Rattle.srt_history.specs.CallWalk.{change-member-sides, change-membe
 use Rattle.srt_history.specs.Held.{insert-all, held-at-all, not-covered-all}
 use Rattle.srt_history.specs.Shape.{Shape, polled-shape, poll-event-shape, poll-data-bounded-shape}
 use Rattle.srt_history.specs.ClerkClaim.{given-as-queued, delivered-as-queued}
-use Rattle.srt_group_model.specs.Lent.{Call, addition, broken-mark, removal, member-look, refreshing, disconnection, event-poll, data-poll, sending, readiness, paced-readiness, send-wait, stability, group-look, members-look, mode-look, peer-look, skipped-look, pending-look, continuation-look, reading, queued-data, queued-event}
-use Rattle.srt_group_model.specs.Lent.{Lent, stored, delivered-by, shown, with-bytes, step-of, perform}
+use Rattle.srt_group_model.specs.Lent.{Call, call-add-member, call-mark-member-broken, call-remove-member-connection, call-refresh-member-states, call-disconnect, call-poll-event, call-poll-data-bounded, call-send, call-can-send, call-can-send-with-pacing, Look, look-at, call-look, call-read-leg, call-queue-data, call-queue-event}
+use Rattle.srt_group_model.specs.Lent.{Lent, stored, delivered-by, written-out, with-bytes, step-of, perform}
 use Rattle.srt_history.specs.Calls.{Asked, do-call, step, takes-store, is-poll, store-left, Delivery, delivery-of, given-by, deliveries, Making, made, state-after, log-after}
 
 -- ---- a payload in its cell
@@ -234,7 +233,7 @@ unfolding given-by with-bytes given-as-queued if-some_give_otherwise_
 nothing-given log lent step e =
     ap
     (λ (o : Option Packet).
-    if-some o give (λ p. delivery-of p (shown (delivered-by (step .answer)) (lent .store) (lent .output)) ∷ []) otherwise [])
+    if-some o give (λ p. delivery-of p (written-out (delivered-by (step .answer)) (lent .store) (lent .output)) ∷ []) otherwise [])
     e
     ∙ sym (ap (given-as-queued log) e)
 
@@ -281,10 +280,10 @@ module _ (s : State) (store : List ℕ) (log : List Mark) (alive : Live (InCell 
       → StoreLives store log (r .state .receive) (r .log) → (o : Option Packet) → delivered-by answer ≡ o
       → Shape when o (r .state) (r .log)
       → given-by (with-bytes lent (left-by r answer)) ≡ given-as-queued (r .log ++ log) (delivered-by answer)
-  unfolding given-by with-bytes shown given-as-queued if-some_give_otherwise_
+  unfolding given-by with-bytes written-out given-as-queued if-some_give_otherwise_
   poll-given when lent r answer same room k none is shape = nothing-given (r .log ++ log) lent (left-by r answer) is
   poll-given when lent r answer same room k (some p) is shape =
-      ap (λ (o : Option Packet). if-some o give (λ p. delivery-of p (shown o (lent .store) (lent .output)) ∷ []) otherwise []) is
+      ap (λ (o : Option Packet). if-some o give (λ p. delivery-of p (written-out o (lent .store) (lent .output)) ∷ []) otherwise []) is
       ∙ ap (λ (payload : List ℕ). record { sequence = p .content .sequence; count = p .content .count; payload = payload } ∷ [])
       bytes
       ∙ sym (ap (given-as-queued (r .log ++ log)) is)
@@ -521,11 +520,11 @@ module _ (s : State) (store : List ℕ) (log : List Mark) (alive : Live (InCell 
       let cell : ℕ = taken-cell (cells-of (length (lent .store))) s in
       if-elim (AfterIf s store log alive lent) _ _ _
       (λ e same.
-      sent-after s store log alive lent (is-backup (refresh-states (start s) .state .identity .mode)) cell payload _ _ _ refl
+      sent-after s store log alive lent (is-backup (refresh-states (start s) .state .mode)) cell payload _ _ _ refl
       (send-flow-leaves cell time payload s)
       (λ backup.
       let free : no-free-cell (cells-of (length (lent .store))) s ≡ false =
-      and-true-left (is-backup (s .identity .mode)) (no-free-cell (cells-of (length (lent .store))) s)
+      and-true-left (is-backup (s .mode)) (no-free-cell (cells-of (length (lent .store))) s)
       (ap is-backup (sym (refresh-states-mode (start s))) ∙ backup) (c .1 .1 .1 .1 .0)
       in (
         taken-cell-unused (cells-of (length (lent .store))) s free,
@@ -557,19 +556,12 @@ unfolding remove-member-connection remove-body delivered-by
 remove-silent id s =
     guard-passed Silent _ s _ (silent-refusal s)
     (λ c.
-    if-some-elim Silent (find id (s .members)) _ _ (λ i e.
-    if-some-elim Silent (at-place i (s .members)) _ _ (λ m e. record { no-packet = refl; no-put = refl }) (λ e. silent-refusal s 3))
+    if-some-elim Silent (found (has-id id) (s .members)) _ _ (λ f e. record { no-packet = refl; no-put = refl })
     (λ e. silent-refusal s 3))
 
 -- a look gives no packet
-look-silent : (checks : List Check) (answer : Answer) (s : State) → delivered-by answer ≡ none
-    → Silent (guard checks s (accept s answer))
-look-silent checks answer s e = guard-passed Silent checks s _ (silent-refusal s) (λ c. record { no-packet = e; no-put = refl })
-
-member-no-packet : (o : Option Member) → delivered-by (if-some o give (λ m. membership (m .membership)) otherwise no-answer) ≡ none
-unfolding delivered-by if-some_give_otherwise_
-member-no-packet none = refl
-member-no-packet (some m) = refl
+look-silent : (look : Look) (s : State) → Silent (look-at look s)
+look-silent look s = look-elim Silent look s (silent-refusal s) (λ answer e. record { no-packet = e; no-put = refl })
 
 can-send-silent : (s : State) → Silent (can-send-call s)
 unfolding can-send-call can-send-body delivered-by
@@ -598,64 +590,54 @@ module _ (s : State) (store : List ℕ) (log : List Mark) (alive : Live (InCell 
       → After s store log lent step
   silently = silent-after s store log alive lent
 
-  looked : (checks : List Check) (answer : Answer) → delivered-by answer ≡ none
-      → After s store log lent (guard checks s (accept s answer))
-  looked checks answer e =
-      silently (guard checks s (accept s answer)) (look-silent checks answer s e)
+  looked : (look : Look) → After s store log lent (look-at look s)
+  looked look =
+      silently (look-at look s) (look-silent look s)
       (look-kept (InStore store log) AnyNumber (StoreLives store log) (store-law store log) s (alive .queued)
-      (begun s store log alive) checks answer)
+      (begun s store log alive) look)
 
   pub step-after : (call : Call)
       → (takes-store call ≡ true → step-of (length (lent .store)) (length (lent .output)) (length (lent .list)) call s .code ≡ 0 → lent .store ≡ store)
       → After s store log lent (step-of (length (lent .store)) (length (lent .output)) (length (lent .list)) call s)
-  unfolding step-of takes-store mark-member-broken member disconnect time-until-send backup-stability-timeout-micros group-id members-call mode peer-group-id skipped-receive-packets has-pending-data-call has-receive-continuation read-leg queue-event delivered-by
-  step-after (addition id weight leg queue) same =
+  unfolding step-of takes-store mark-member-broken disconnect read-leg queue-event delivered-by
+  step-after (call-add-member id weight leg queue) same =
       silently (add-member id weight leg queue s) (add-silent id weight leg queue s)
       (add-kept (InStore store log) AnyNumber (StoreLives store log) (store-law store log) s (alive .queued)
       (begun s store log alive) (λ n f. tt) id weight leg queue)
-  step-after (broken-mark id) same =
+  step-after (call-mark-member-broken id) same =
       silently _ (accept-silent _ _ s)
       (mark-member-broken-kept (InStore store log) AnyNumber (StoreLives store log) (store-law store log) s (alive .queued)
       (begun s store log alive) id)
-  step-after (removal id) same =
+  step-after (call-remove-member-connection id) same =
       silently (remove-member-connection id s) (remove-silent id s)
       (remove-kept (InStore store log) AnyNumber (StoreLives store log) (store-law store log) s (alive .queued)
       (begun s store log alive) id)
-  step-after (member-look id) same = looked _ _ (member-no-packet _)
-  step-after refreshing same =
+  step-after call-refresh-member-states same =
       silently (refresh-member-states s) (refresh-silent s)
       (refresh-kept (InStore store log) AnyNumber (StoreLives store log) (store-law store log) s (alive .queued)
       (begun s store log alive))
-  step-after (disconnection time) same =
+  step-after (call-disconnect time) same =
       silently _ (accept-silent _ _ s)
       (disconnect-kept (InStore store log) AnyNumber (StoreLives store log) (store-law store log) s (alive .queued)
       (begun s store log alive) time)
-  step-after (event-poll time) same = poll-event-after s store log alive lent time (same refl)
-  step-after (data-poll time max-events) same = poll-data-after s store log alive lent time max-events (same refl)
-  step-after (sending time payload) same = send-after s store log alive lent (length (lent .list)) time payload (same refl)
-  step-after readiness same =
+  step-after (call-poll-event time) same = poll-event-after s store log alive lent time (same refl)
+  step-after (call-poll-data-bounded time max-events) same = poll-data-after s store log alive lent time max-events (same refl)
+  step-after (call-send time payload) same = send-after s store log alive lent (length (lent .list)) time payload (same refl)
+  step-after call-can-send same =
       silently (can-send-call s) (can-send-silent s)
       (can-send-kept (InStore store log) AnyNumber (StoreLives store log) (store-law store log) s (alive .queued)
       (begun s store log alive))
-  step-after (paced-readiness time) same =
+  step-after (call-can-send-with-pacing time) same =
       silently (can-send-with-pacing-call time s) (can-send-with-pacing-silent time s)
       (can-send-with-pacing-kept (InStore store log) AnyNumber (StoreLives store log) (store-law store log) s (alive .queued)
       (begun s store log alive) time)
-  step-after (send-wait time) same = looked _ _ refl
-  step-after (stability id) same = looked _ _ refl
-  step-after group-look same = looked _ _ refl
-  step-after members-look same = looked _ _ refl
-  step-after mode-look same = looked _ _ refl
-  step-after peer-look same = looked _ _ refl
-  step-after skipped-look same = looked _ _ refl
-  step-after pending-look same = looked _ _ refl
-  step-after continuation-look same = looked _ _ refl
-  step-after (reading id field n) same =
+  step-after (call-look look) same = looked look
+  step-after (call-read-leg id field n) same =
       silently _ (accept-silent _ _ s)
       (read-leg-kept (InStore store log) AnyNumber (StoreLives store log) (store-law store log) s (alive .queued)
       (begun s store log alive) id field n)
-  step-after (queued-data id content payload) same = queue-data-after s store log alive lent id content payload (same refl)
-  step-after (queued-event id kind reason) same =
+  step-after (call-queue-data id content payload) same = queue-data-after s store log alive lent id content payload (same refl)
+  step-after (call-queue-event id kind reason) same =
       silently _ (accept-silent _ _ s)
       (queue-event-kept (InStore store log) AnyNumber (StoreLives store log) (store-law store log) s (alive .queued)
       (begun s store log alive) id kind reason)
@@ -663,30 +645,21 @@ module _ (s : State) (store : List ℕ) (log : List Mark) (alive : Live (InCell 
 -- a call that is lent no store puts nothing
 unlent-puts-nothing : (store output list : ℕ) (call : Call) (s : State) → takes-store call ≡ false
     → step-of store output list call s .put ≡ none
-unfolding step-of takes-store mark-member-broken member disconnect time-until-send backup-stability-timeout-micros group-id members-call mode peer-group-id skipped-receive-packets has-pending-data-call has-receive-continuation read-leg queue-event delivered-by
-unlent-puts-nothing store output list (addition id weight leg queue) s e = add-silent id weight leg queue s .no-put
-unlent-puts-nothing store output list (broken-mark id) s e = accept-silent _ _ s .no-put
-unlent-puts-nothing store output list (removal id) s e = remove-silent id s .no-put
-unlent-puts-nothing store output list (member-look id) s e = look-silent _ _ s (member-no-packet _) .no-put
-unlent-puts-nothing store output list refreshing s e = refresh-silent s .no-put
-unlent-puts-nothing store output list (disconnection time) s e = accept-silent _ _ s .no-put
-unlent-puts-nothing store output list (event-poll time) s e = not-both {t = true} refl e
-unlent-puts-nothing store output list (data-poll time max-events) s e = not-both {t = true} refl e
-unlent-puts-nothing store output list (sending time payload) s e = not-both {t = true} refl e
-unlent-puts-nothing store output list readiness s e = can-send-silent s .no-put
-unlent-puts-nothing store output list (paced-readiness time) s e = can-send-with-pacing-silent time s .no-put
-unlent-puts-nothing store output list (send-wait time) s e = look-silent _ _ s refl .no-put
-unlent-puts-nothing store output list (stability id) s e = look-silent _ _ s refl .no-put
-unlent-puts-nothing store output list group-look s e = look-silent _ _ s refl .no-put
-unlent-puts-nothing store output list members-look s e = look-silent _ _ s refl .no-put
-unlent-puts-nothing store output list mode-look s e = look-silent _ _ s refl .no-put
-unlent-puts-nothing store output list peer-look s e = look-silent _ _ s refl .no-put
-unlent-puts-nothing store output list skipped-look s e = look-silent _ _ s refl .no-put
-unlent-puts-nothing store output list pending-look s e = look-silent _ _ s refl .no-put
-unlent-puts-nothing store output list continuation-look s e = look-silent _ _ s refl .no-put
-unlent-puts-nothing store output list (reading id field n) s e = accept-silent _ _ s .no-put
-unlent-puts-nothing store output list (queued-data id content payload) s e = not-both {t = true} refl e
-unlent-puts-nothing store output list (queued-event id kind reason) s e = accept-silent _ _ s .no-put
+unfolding step-of takes-store mark-member-broken disconnect read-leg queue-event delivered-by
+unlent-puts-nothing store output list (call-add-member id weight leg queue) s e = add-silent id weight leg queue s .no-put
+unlent-puts-nothing store output list (call-mark-member-broken id) s e = accept-silent _ _ s .no-put
+unlent-puts-nothing store output list (call-remove-member-connection id) s e = remove-silent id s .no-put
+unlent-puts-nothing store output list call-refresh-member-states s e = refresh-silent s .no-put
+unlent-puts-nothing store output list (call-disconnect time) s e = accept-silent _ _ s .no-put
+unlent-puts-nothing store output list (call-poll-event time) s e = not-both {t = true} refl e
+unlent-puts-nothing store output list (call-poll-data-bounded time max-events) s e = not-both {t = true} refl e
+unlent-puts-nothing store output list (call-send time payload) s e = not-both {t = true} refl e
+unlent-puts-nothing store output list call-can-send s e = can-send-silent s .no-put
+unlent-puts-nothing store output list (call-can-send-with-pacing time) s e = can-send-with-pacing-silent time s .no-put
+unlent-puts-nothing store output list (call-look look) s e = look-silent look s .no-put
+unlent-puts-nothing store output list (call-read-leg id field n) s e = accept-silent _ _ s .no-put
+unlent-puts-nothing store output list (call-queue-data id content payload) s e = not-both {t = true} refl e
+unlent-puts-nothing store output list (call-queue-event id kind reason) s e = accept-silent _ _ s .no-put
 
 -- ---- only a poll delivers
 
@@ -705,30 +678,21 @@ send-no-packet store list time payload s =
 
 others-deliver-nothing : (store output list : ℕ) (call : Call) (s : State) → is-poll call ≡ false
     → GivesNone (step-of store output list call s)
-unfolding step-of is-poll mark-member-broken member disconnect time-until-send backup-stability-timeout-micros group-id members-call mode peer-group-id skipped-receive-packets has-pending-data-call has-receive-continuation read-leg queue-event delivered-by
-others-deliver-nothing store output list (addition id weight leg queue) s e = add-silent id weight leg queue s .no-packet
-others-deliver-nothing store output list (broken-mark id) s e = accept-silent _ _ s .no-packet
-others-deliver-nothing store output list (removal id) s e = remove-silent id s .no-packet
-others-deliver-nothing store output list (member-look id) s e = look-silent _ _ s (member-no-packet _) .no-packet
-others-deliver-nothing store output list refreshing s e = refresh-silent s .no-packet
-others-deliver-nothing store output list (disconnection time) s e = accept-silent _ _ s .no-packet
-others-deliver-nothing store output list (event-poll time) s e = not-both {t = true} refl e
-others-deliver-nothing store output list (data-poll time max-events) s e = not-both {t = true} refl e
-others-deliver-nothing store output list (sending time payload) s e = send-no-packet store list time payload s
-others-deliver-nothing store output list readiness s e = can-send-silent s .no-packet
-others-deliver-nothing store output list (paced-readiness time) s e = can-send-with-pacing-silent time s .no-packet
-others-deliver-nothing store output list (send-wait time) s e = look-silent _ _ s refl .no-packet
-others-deliver-nothing store output list (stability id) s e = look-silent _ _ s refl .no-packet
-others-deliver-nothing store output list group-look s e = look-silent _ _ s refl .no-packet
-others-deliver-nothing store output list members-look s e = look-silent _ _ s refl .no-packet
-others-deliver-nothing store output list mode-look s e = look-silent _ _ s refl .no-packet
-others-deliver-nothing store output list peer-look s e = look-silent _ _ s refl .no-packet
-others-deliver-nothing store output list skipped-look s e = look-silent _ _ s refl .no-packet
-others-deliver-nothing store output list pending-look s e = look-silent _ _ s refl .no-packet
-others-deliver-nothing store output list continuation-look s e = look-silent _ _ s refl .no-packet
-others-deliver-nothing store output list (reading id field n) s e = accept-silent _ _ s .no-packet
-others-deliver-nothing store output list (queued-data id content payload) s e = queue-data-no-packet store id content payload s
-others-deliver-nothing store output list (queued-event id kind reason) s e = accept-silent _ _ s .no-packet
+unfolding step-of is-poll mark-member-broken disconnect read-leg queue-event delivered-by
+others-deliver-nothing store output list (call-add-member id weight leg queue) s e = add-silent id weight leg queue s .no-packet
+others-deliver-nothing store output list (call-mark-member-broken id) s e = accept-silent _ _ s .no-packet
+others-deliver-nothing store output list (call-remove-member-connection id) s e = remove-silent id s .no-packet
+others-deliver-nothing store output list call-refresh-member-states s e = refresh-silent s .no-packet
+others-deliver-nothing store output list (call-disconnect time) s e = accept-silent _ _ s .no-packet
+others-deliver-nothing store output list (call-poll-event time) s e = not-both {t = true} refl e
+others-deliver-nothing store output list (call-poll-data-bounded time max-events) s e = not-both {t = true} refl e
+others-deliver-nothing store output list (call-send time payload) s e = send-no-packet store list time payload s
+others-deliver-nothing store output list call-can-send s e = can-send-silent s .no-packet
+others-deliver-nothing store output list (call-can-send-with-pacing time) s e = can-send-with-pacing-silent time s .no-packet
+others-deliver-nothing store output list (call-look look) s e = look-silent look s .no-packet
+others-deliver-nothing store output list (call-read-leg id field n) s e = accept-silent _ _ s .no-packet
+others-deliver-nothing store output list (call-queue-data id content payload) s e = queue-data-no-packet store id content payload s
+others-deliver-nothing store output list (call-queue-event id kind reason) s e = accept-silent _ _ s .no-packet
 
 pub only-polls-deliver : (call : Asked) (s : State) (p : Packet) → delivered-by (do-call call s .answer) ≡ some p
     → is-poll (call .call) ≡ true

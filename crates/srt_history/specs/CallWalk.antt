@@ -1,4 +1,4 @@
--- What each move of receiving keeps, every call keeps, refused or not, and so every list of calls. Assumes nothing.
+-- What each move of receiving keeps, every call keeps, refused or not, and so every list of calls.
 use mathlib.Core.Path.{_≡_, refl, sym, ap, _∙_, subst}
 use mathlib.Core.Bool.{Bool, true, false, not, _&&_}
 use mathlib.Core.List.{List, [], _∷_, _++_, append-assoc}
@@ -12,7 +12,7 @@ use Rattle.srt_protocol.specs.Cells.{cells-of}
 use Rattle.srt_group_model.specs.Tools.{if_then_else_, flagged, such-that, at-place, change, each, without-place}
 use Rattle.srt_group_model.specs.State.{Member, State, Receive, is-backup, next-receive-sequence, next-send-sequence, with-members, on-leg, turned, broken-state}
 use Rattle.srt_group_model.specs.Legs.{Reading, readings, reading-of, handed, no-sequence, largest-sequence, largest-16, largest-32, disconnect-leg}
-use Rattle.srt_group_model.specs.Members.{id-of, find, base-after, peer-after, admit-peer-group, align-member-sequence, promote-if-none}
+use Rattle.srt_group_model.specs.Members.{id-of, find, base-after, peer-after, admit-peer-group, align-member-sequence, promote-if-none, has-id, found}
 use Rattle.srt_group_model.specs.Nearest.{farthest}
 use Rattle.srt_group_model.specs.Run.{Mark, put, Run, start, set-base, admit-connected-peer-groups, refresh-pending-states, refresh-states}
 use Rattle.srt_group_model.specs.Polls.{poll-event, poll-data-bounded}
@@ -20,10 +20,10 @@ use Rattle.srt_group_model.specs.Removal.{own-packet, is-owned, retire, bound-g
 use Rattle.srt_group_model.specs.Sending.{Flow}
 use Rattle.srt_group_model.specs.Backup.{demote-stale-backup-carrier, trim-by-carrier}
 use Rattle.srt_group_model.specs.Validity.{above, is-too-large, leg-sequence-too-large, leg-out-of-range}
-use Rattle.srt_group_model.specs.Refusals.{guard-passed}
-use Rattle.srt_group_model.specs.Guards.{Step, Answer, no-answer, refuse, accept, Check, guard}
-use Rattle.srt_group_model.specs.Calls.{new-member, add-body, add-member, change-member, mark-member-broken, remove-body, remove-member-connection, member, refresh-member-states, disconnect, event-poll-body, poll-event-call, data-poll-body, poll-data-call, left-by-send, send-flow, send-body, send, no-free-cell, taken-cell, can-send-body, can-send-call, can-send-with-pacing-body, can-send-with-pacing-call, time-until-send, backup-stability-timeout-micros}
-use Rattle.srt_group_model.specs.Calls.{group-id, members-call, mode, peer-group-id, skipped-receive-packets, has-pending-data-call, has-receive-continuation, read-field, read-leg, enqueue, data-unfit, queue-data-body, queue-data, queue-event}
+use Rattle.srt_group_model.specs.Refusals.{guard-passed, look-elim}
+use Rattle.srt_group_model.specs.Guards.{Step, Answer, no-answer, refuse, accept}
+use Rattle.srt_group_model.specs.Calls.{new-member, add-body, add-member, change-member, mark-member-broken, remove-body, remove-member-connection, refresh-member-states, disconnect, event-poll-body, poll-event-call, data-poll-body, poll-data-call, left-by-send, send-flow, send-body, send, no-free-cell, taken-cell, can-send-body, can-send-call, can-send-with-pacing-body, can-send-with-pacing-call}
+use Rattle.srt_group_model.specs.Calls.{read-field, read-leg, enqueue, data-unfit, queue-data-body, queue-data, queue-event}
 use Rattle.srt_group_model.specs.declared.Data.{Data}
 use Rattle.srt_group_model.specs.declared.Event.{Event}
 use Rattle.srt_group_model.specs.declared.Packet.{Packet}
@@ -33,7 +33,7 @@ use Rattle.srt_history.specs.Cases.{and-with-true, and-true-left, Each, 
 use Rattle.srt_history.specs.Sides.{Side, side, sides, all-sides, all-members, each-leaves, carried-sides, Leaves, leaves-all, framed-leaves}
 use Rattle.srt_group_model.specs.Frame.{all-then, all-kept-carried, kept-framed, admit-all-carried, promote-if-none-carried, align-kept, demote-carried, trim-framed, broadcast-framed, backup-framed}
 use Rattle.srt_history.specs.Law.{OfContent, ElsewhereThan, owned-by-group, EventOk, SideOk, CallLaw, PutLaw}
-use Rattle.srt_group_model.specs.Lent.{Call, addition, broken-mark, removal, member-look, refreshing, disconnection, event-poll, data-poll, sending, readiness, paced-readiness, send-wait, stability, group-look, members-look, mode-look, peer-look, skipped-look, pending-look, continuation-look, reading, queued-data, queued-event}
+use Rattle.srt_group_model.specs.Lent.{Call, call-add-member, call-mark-member-broken, call-remove-member-connection, call-refresh-member-states, call-disconnect, call-poll-event, call-poll-data-bounded, call-send, call-can-send, call-can-send-with-pacing, Look, look-at, call-look, call-read-leg, call-queue-data, call-queue-event}
 use Rattle.srt_group_model.specs.Lent.{step-of, with-bytes, perform}
 use Rattle.srt_history.specs.Calls.{Asked, do-call, step, state-after, log-after}
 use Rattle.srt_history.specs.FreeCells.{taken-cell-unused}
@@ -132,12 +132,12 @@ pub refresh-states-pending : (r : Run) → refresh-states r .state .receive .pen
 unfolding refresh-states refresh-pending-states admit-connected-peer-groups
 refresh-states-pending r = set-base-pending (base-after none (r .state .members)) r
 
-pub refresh-states-mode : (r : Run) → refresh-states r .state .identity .mode ≡ r .state .identity .mode
+pub refresh-states-mode : (r : Run) → refresh-states r .state .mode ≡ r .state .mode
 unfolding refresh-states refresh-pending-states admit-connected-peer-groups set-base
 refresh-states-mode r =
-    if-some-elim (λ (q : Run). q .state .identity .mode ≡ r .state .identity .mode) (next-receive-sequence (r .state .receive)) _ _
+    if-some-elim (λ (q : Run). q .state .mode ≡ r .state .mode) (next-receive-sequence (r .state .receive)) _ _
     (λ b e. refl)
-    (λ e. if-some-elim (λ (q : Run). q .state .identity .mode ≡ r .state .identity .mode) (base-after none (r .state .members)) _ _
+    (λ e. if-some-elim (λ (q : Run). q .state .mode ≡ r .state .mode) (base-after none (r .state .members)) _ _
     (λ b e. refl) (λ e. refl))
 
 trim-leaves : (s : State) → Leaves s (trim-by-carrier s)
@@ -237,8 +237,8 @@ module _ (P : Data → Type 0) (F : ℕ → Type 0) (I : Receive → List Mark �
       (λ c. leaving _ 0 no-answer record { receive = refl; sides = each-leaves (on-leg disconnect-leg) (s .members) (λ m. refl) })
 
   -- a look changes nothing
-  pub look-kept : (checks : List Check) (answer : Answer) → Kept P F I (guard checks s (accept s answer))
-  look-kept checks answer = guard-passed (Kept P F I) checks s _ refused (λ c. record { sides-ok = ok; kept = holds })
+  pub look-kept : (look : Look) → Kept P F I (look-at look s)
+  look-kept look = look-elim (Kept P F I) look s refused (λ answer e. record { sides-ok = ok; kept = holds })
 
   -- the member is taken out, its held packets are the group's, and of those the farthest are retired
   removed : (i : ℕ) (m : Member) (left limit base : ℕ) → {answer : Answer}
@@ -268,8 +268,7 @@ module _ (P : Data → Type 0) (F : ℕ → Type 0) (I : Receive → List Mark �
   remove-kept id =
       guard-passed (Kept P F I) _ s _ refused
       (λ c.
-      if-some-elim (Kept P F I) (find id (s .members)) _ _ (λ i e.
-      if-some-elim (Kept P F I) (at-place i (s .members)) _ _ (λ m e. removed i m _ _ _) (λ e. refused 3))
+      if-some-elim (Kept P F I) (found (has-id id) (s .members)) _ _ (λ f e. removed (f .place) (f .member) _ _ _)
       (λ e. refused 3))
 
   pub refresh-kept : Kept P F I (refresh-member-states s)
@@ -333,7 +332,7 @@ module _ (P : Data → Type 0) (F : ℕ → Type 0) (I : Receive → List Mark �
             (all-then (refresh-states (start s) .state .members)
             (demote-stale-backup-carrier time (refresh-states (start s) .state .members)) _
             (demote-carried time (refresh-states (start s) .state .members))
-            (promote-if-none-carried (s .identity .mode)
+            (promote-if-none-carried (s .mode)
             (demote-stale-backup-carrier time (refresh-states (start s) .state .members))));
       })
       (λ e. refreshed _ record { receive = refl; sides = refl }))
@@ -341,7 +340,7 @@ module _ (P : Data → Type 0) (F : ℕ → Type 0) (I : Receive → List Mark �
       demoted : State
       demoted =
           with-members
-          (promote-if-none (s .identity .mode) (demote-stale-backup-carrier time (refresh-states (start s) .state .members)))
+          (promote-if-none (s .mode) (demote-stale-backup-carrier time (refresh-states (start s) .state .members)))
           (refresh-states (start s) .state)
 
   -- ---- an addition
@@ -385,7 +384,7 @@ module _ (P : Data → Type 0) (F : ℕ → Type 0) (I : Receive → List Mark �
         m = new-member id weight (handed l) s
 
         joined : Member
-        joined = admit-peer-group (peer-after (s .identity .peer) (m ∷ [])) m
+        joined = admit-peer-group (peer-after (s .peer) (m ∷ [])) m
 
         side-ok : SideOk P F (side m)
         side-ok = (tt, first-ok l fits)
@@ -394,7 +393,7 @@ module _ (P : Data → Type 0) (F : ℕ → Type 0) (I : Receive → List Mark �
         joined-ok =
             (all-members (SideOk P F) (joined ∷ [])
             (subst (All (SideOk P F))
-            (sym (carried-sides (m ∷ []) (joined ∷ []) (admit-all-carried (peer-after (s .identity .peer) (m ∷ [])) (m ∷ []))))
+            (sym (carried-sides (m ∷ []) (joined ∷ []) (admit-all-carried (peer-after (s .peer) (m ∷ [])) (m ∷ []))))
             (all-sides (SideOk P F) (m ∷ []) (side-ok, tt)))) .0
 
         added : All (SideOk P F) (sides (s .members ++ (joined ∷ [])))
@@ -445,7 +444,7 @@ module _ (P : Data → Type 0) (F : ℕ → Type 0) (I : Receive → List Mark �
 
   -- a send: refreshed first; then nothing that receiving sees moves; a Backup send that succeeds puts its payload
   left-by-send-kept : Puts → (cell : ℕ) (payload : List ℕ) (flow : Flow) → Leaves (refresh-states (start s) .state) (flow .state)
-      → (is-backup (s .identity .mode) ≡ true → All (OfContent (ElsewhereThan cell)) (s .receive .pending))
+      → (is-backup (s .mode) ≡ true → All (OfContent (ElsewhereThan cell)) (s .receive .pending))
       → Kept P F I (left-by-send cell payload (refresh-states (start s)) flow)
   unfolding left-by-send
   left-by-send-kept on-put cell payload flow e unused =
@@ -455,10 +454,10 @@ module _ (P : Data → Type 0) (F : ℕ → Type 0) (I : Receive → List Mark �
         sides-ok = subst (All (SideOk P F)) (sym (e .sides)) (g .sides-ok);
         kept =
             subst (λ (x : Receive). I x
-            (if is-backup (refresh-states (start s) .state .identity .mode) then put cell payload ∷ refresh-states
+            (if is-backup (refresh-states (start s) .state .mode) then put cell payload ∷ refresh-states
             (start s) .log else refresh-states (start s) .log)) (sym (e .receive))
             (if-elim (I (refresh-states (start s) .state .receive))
-            (is-backup (refresh-states (start s) .state .identity .mode)) _ _
+            (is-backup (refresh-states (start s) .state .mode)) _ _
             (λ backup.
             on-put (refresh-states (start s) .state .receive) (refresh-states (start s) .log) cell payload
             (subst (All (OfContent (ElsewhereThan cell))) (sym (refresh-states-pending (start s)))
@@ -483,37 +482,28 @@ module _ (P : Data → Type 0) (F : ℕ → Type 0) (I : Receive → List Mark �
       left-by-send-kept on-put (taken-cell (cells-of store) s) payload _
       (send-flow-leaves (taken-cell (cells-of store) s) time payload s)
       (λ backup. taken-cell-unused (cells-of store) s
-      (and-true-left (is-backup (s .identity .mode)) (no-free-cell (cells-of store) s) backup (c .1 .1 .1 .1 .0)) .held))
+      (and-true-left (is-backup (s .mode)) (no-free-cell (cells-of store) s) backup (c .1 .1 .1 .1 .0)) .held))
 
   -- every call, lent a store, an output and a list of these lengths
   pub step-of-kept : Puts → ((n : ℕ) → Fits n → F n) → ((d : Data) → Fits (d .sequence) → P d)
       → (store output list : ℕ) (call : Call)
       → Kept P F I (step-of store output list call s)
-  unfolding step-of member time-until-send backup-stability-timeout-micros group-id members-call mode peer-group-id skipped-receive-packets has-pending-data-call has-receive-continuation
-  step-of-kept on-put firsts fitting store output list (addition id weight leg queue) = add-kept firsts id weight leg queue
-  step-of-kept on-put firsts fitting store output list (broken-mark id) = mark-member-broken-kept id
-  step-of-kept on-put firsts fitting store output list (removal id) = remove-kept id
-  step-of-kept on-put firsts fitting store output list (member-look id) = look-kept _ _
-  step-of-kept on-put firsts fitting store output list refreshing = refresh-kept
-  step-of-kept on-put firsts fitting store output list (disconnection time) = disconnect-kept time
-  step-of-kept on-put firsts fitting store output list (event-poll time) = poll-event-kept store output time
-  step-of-kept on-put firsts fitting store output list (data-poll time max-events) = poll-data-kept store output time max-events
-  step-of-kept on-put firsts fitting store output list (sending time payload) = send-kept on-put store list time payload
-  step-of-kept on-put firsts fitting store output list readiness = can-send-kept
-  step-of-kept on-put firsts fitting store output list (paced-readiness time) = can-send-with-pacing-kept time
-  step-of-kept on-put firsts fitting store output list (send-wait time) = look-kept _ _
-  step-of-kept on-put firsts fitting store output list (stability id) = look-kept _ _
-  step-of-kept on-put firsts fitting store output list group-look = look-kept _ _
-  step-of-kept on-put firsts fitting store output list members-look = look-kept _ _
-  step-of-kept on-put firsts fitting store output list mode-look = look-kept _ _
-  step-of-kept on-put firsts fitting store output list peer-look = look-kept _ _
-  step-of-kept on-put firsts fitting store output list skipped-look = look-kept _ _
-  step-of-kept on-put firsts fitting store output list pending-look = look-kept _ _
-  step-of-kept on-put firsts fitting store output list continuation-look = look-kept _ _
-  step-of-kept on-put firsts fitting store output list (reading id field n) = read-leg-kept id field n
-  step-of-kept on-put firsts fitting store output list (queued-data id content payload) =
+  unfolding step-of
+  step-of-kept on-put firsts fitting store output list (call-add-member id weight leg queue) = add-kept firsts id weight leg queue
+  step-of-kept on-put firsts fitting store output list (call-mark-member-broken id) = mark-member-broken-kept id
+  step-of-kept on-put firsts fitting store output list (call-remove-member-connection id) = remove-kept id
+  step-of-kept on-put firsts fitting store output list call-refresh-member-states = refresh-kept
+  step-of-kept on-put firsts fitting store output list (call-disconnect time) = disconnect-kept time
+  step-of-kept on-put firsts fitting store output list (call-poll-event time) = poll-event-kept store output time
+  step-of-kept on-put firsts fitting store output list (call-poll-data-bounded time max-events) = poll-data-kept store output time max-events
+  step-of-kept on-put firsts fitting store output list (call-send time payload) = send-kept on-put store list time payload
+  step-of-kept on-put firsts fitting store output list call-can-send = can-send-kept
+  step-of-kept on-put firsts fitting store output list (call-can-send-with-pacing time) = can-send-with-pacing-kept time
+  step-of-kept on-put firsts fitting store output list (call-look look) = look-kept look
+  step-of-kept on-put firsts fitting store output list (call-read-leg id field n) = read-leg-kept id field n
+  step-of-kept on-put firsts fitting store output list (call-queue-data id content payload) =
       queue-data-kept fitting on-put store id content payload
-  step-of-kept on-put firsts fitting store output list (queued-event id kind reason) = queue-event-kept id kind reason
+  step-of-kept on-put firsts fitting store output list (call-queue-event id kind reason) = queue-event-kept id kind reason
 
 -- ---- lists of calls
 

@@ -1,6 +1,6 @@
 -- Lists of calls: a call with what it is lent, what one call does and delivers, and what a list of them leaves, marks and delivers.
 -- A call is the model's with all its arguments, and what it does is the model's `perform`. Demand 3 is about these lists: each
--- call takes the state that the last one left, and nobody else writes it. Assumes nothing.
+-- call takes the state that the last one left, and nobody else writes it.
 use mathlib.Core.Bool.{Bool, true, false, _&&_}
 use mathlib.Core.List.{List, [], _∷_, _++_}
 use Prim.Native.Nat.{ℕ, _+_}
@@ -12,10 +12,9 @@ use Rattle.srt_group_model.specs.State.{State}
 use Rattle.srt_group_model.specs.Run.{Mark}
 use Rattle.srt_group_model.specs.Guards.{Step}
 use Rattle.srt_group_model.specs.Calls.{new}
-use Rattle.srt_group_model.specs.Lent.{Lent, Result, Call, addition, broken-mark, removal, member-look, refreshing, disconnection, event-poll, data-poll, sending, readiness, paced-readiness, send-wait, stability, group-look, members-look, mode-look, peer-look, skipped-look, pending-look, continuation-look, reading, queued-data, queued-event}
+use Rattle.srt_group_model.specs.Lent.{Lent, Result, Call, call-add-member, call-mark-member-broken, call-remove-member-connection, call-refresh-member-states, call-disconnect, call-poll-event, call-poll-data-bounded, call-send, call-can-send, call-can-send-with-pacing, call-look, call-read-leg, call-queue-data, call-queue-event}
 use Rattle.srt_group_model.specs.Lent.{delivered-by, step-of, perform}
 use Rattle.srt_group_model.specs.declared.Packet.{Packet}
-use Rattle.srt_group_model.specs.declared.GroupMode.{GroupMode}
 
 -- ---- one call
 
@@ -35,81 +34,54 @@ step asked s =
 
 -- the calls that are lent a store: queueing data, the polls and sends
 unfoldable pub takes-store : Call → Bool
-takes-store (addition id weight leg queue) = false
-takes-store (broken-mark id) = false
-takes-store (removal id) = false
-takes-store (member-look id) = false
-takes-store refreshing = false
-takes-store (disconnection time) = false
-takes-store (event-poll time) = true
-takes-store (data-poll time max-events) = true
-takes-store (sending time payload) = true
-takes-store readiness = false
-takes-store (paced-readiness time) = false
-takes-store (send-wait time) = false
-takes-store (stability id) = false
-takes-store group-look = false
-takes-store members-look = false
-takes-store mode-look = false
-takes-store peer-look = false
-takes-store skipped-look = false
-takes-store pending-look = false
-takes-store continuation-look = false
-takes-store (reading id field n) = false
-takes-store (queued-data id content payload) = true
-takes-store (queued-event id kind reason) = false
+takes-store (call-add-member id weight leg queue) = false
+takes-store (call-mark-member-broken id) = false
+takes-store (call-remove-member-connection id) = false
+takes-store call-refresh-member-states = false
+takes-store (call-disconnect time) = false
+takes-store (call-poll-event time) = true
+takes-store (call-poll-data-bounded time max-events) = true
+takes-store (call-send time payload) = true
+takes-store call-can-send = false
+takes-store (call-can-send-with-pacing time) = false
+takes-store (call-look look) = false
+takes-store (call-read-leg id field n) = false
+takes-store (call-queue-data id content payload) = true
+takes-store (call-queue-event id kind reason) = false
 
 -- the polls: no other call delivers
 unfoldable pub is-poll : Call → Bool
-is-poll (addition id weight leg queue) = false
-is-poll (broken-mark id) = false
-is-poll (removal id) = false
-is-poll (member-look id) = false
-is-poll refreshing = false
-is-poll (disconnection time) = false
-is-poll (event-poll time) = true
-is-poll (data-poll time max-events) = true
-is-poll (sending time payload) = false
-is-poll readiness = false
-is-poll (paced-readiness time) = false
-is-poll (send-wait time) = false
-is-poll (stability id) = false
-is-poll group-look = false
-is-poll members-look = false
-is-poll mode-look = false
-is-poll peer-look = false
-is-poll skipped-look = false
-is-poll pending-look = false
-is-poll continuation-look = false
-is-poll (reading id field n) = false
-is-poll (queued-data id content payload) = false
-is-poll (queued-event id kind reason) = false
+is-poll (call-add-member id weight leg queue) = false
+is-poll (call-mark-member-broken id) = false
+is-poll (call-remove-member-connection id) = false
+is-poll call-refresh-member-states = false
+is-poll (call-disconnect time) = false
+is-poll (call-poll-event time) = true
+is-poll (call-poll-data-bounded time max-events) = true
+is-poll (call-send time payload) = false
+is-poll call-can-send = false
+is-poll (call-can-send-with-pacing time) = false
+is-poll (call-look look) = false
+is-poll (call-read-leg id field n) = false
+is-poll (call-queue-data id content payload) = false
+is-poll (call-queue-event id kind reason) = false
 
 -- the time of a poll; no other call can skip
 unfoldable pub time-of : Call → ℕ
-time-of (addition id weight leg queue) = 0
-time-of (broken-mark id) = 0
-time-of (removal id) = 0
-time-of (member-look id) = 0
-time-of refreshing = 0
-time-of (disconnection time) = 0
-time-of (event-poll time) = time
-time-of (data-poll time max-events) = time
-time-of (sending time payload) = 0
-time-of readiness = 0
-time-of (paced-readiness time) = 0
-time-of (send-wait time) = 0
-time-of (stability id) = 0
-time-of group-look = 0
-time-of members-look = 0
-time-of mode-look = 0
-time-of peer-look = 0
-time-of skipped-look = 0
-time-of pending-look = 0
-time-of continuation-look = 0
-time-of (reading id field n) = 0
-time-of (queued-data id content payload) = 0
-time-of (queued-event id kind reason) = 0
+time-of (call-add-member id weight leg queue) = 0
+time-of (call-mark-member-broken id) = 0
+time-of (call-remove-member-connection id) = 0
+time-of call-refresh-member-states = 0
+time-of (call-disconnect time) = 0
+time-of (call-poll-event time) = time
+time-of (call-poll-data-bounded time max-events) = time
+time-of (call-send time payload) = 0
+time-of call-can-send = 0
+time-of (call-can-send-with-pacing time) = 0
+time-of (call-look look) = 0
+time-of (call-read-leg id field n) = 0
+time-of (call-queue-data id content payload) = 0
+time-of (call-queue-event id kind reason) = 0
 
 -- ---- what a call delivered
 
@@ -137,7 +109,7 @@ given-by r = if-some delivered-by (r .answer) give (λ p. delivery-of p (r .lent
 -- what a new group is made of: an id, a mode, and the store's length given at the start, or 0
 pub record Making : Type 0 where
   pub id : ℕ
-  pub mode : GroupMode
+  pub mode : ℕ
   pub store-length : ℕ
 
 abbrev pub made : Making → State

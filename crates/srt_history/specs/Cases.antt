@@ -1,5 +1,5 @@
 -- What proofs need besides the model's Reason: a fact of what an option holds, what tests say of numbers, and facts of each
--- element of a list through the model's list functions. Assumes nothing.
+-- element of a list through the model's list functions.
 use mathlib.Core.Path.{_≡_, refl, sym, subst}
 use mathlib.Core.Bool.{Bool, true, false, not, _&&_, _||_}
 use mathlib.Core.List.{List, [], _∷_}
@@ -8,19 +8,9 @@ use Prim.Native.Nat.{ℕ, zero, suc, _≤_, _<_}
 use lib.Dec.{T, leb, ltb, eqb, leb→le, nleb→lt, nltb→le, eqb→eq, eqb-refl, le→leb}
 use lib.ListN.{drop}
 use Rattle.srt_group_model.specs.Reason.{if-elim, not-both, All}
-use Rattle.srt_group_model.specs.Tools.{if_then_else_, or-else, such-that, first-such, at-place, change, without-place, each}
+use Rattle.srt_group_model.specs.Tools.{or-else, such-that, first-such, at-place, change, without-place, each}
 
 -- ---- a choice and an option
-
-pub if-true : {A : Type 0} (t : Bool) (a b : A) → t ≡ true → (if t then a else b) ≡ a
-unfolding if_then_else_
-if-true true a b e = refl
-if-true false a b e = absurd (subst T (sym e) tt)
-
-pub if-false : {A : Type 0} (t : Bool) (a b : A) → t ≡ false → (if t then a else b) ≡ b
-unfolding if_then_else_
-if-false true a b e = absurd (subst T e tt)
-if-false false a b e = refl
 
 pub by-option : {A B : Type 0} (o : Option A) → (o ≡ none → B) → ((a : A) → o ≡ some a → B) → B
 by-option none f g = f refl

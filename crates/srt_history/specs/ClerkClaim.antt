@@ -1,13 +1,13 @@
 -- The delivered list, each payload as it was queued, is the clerk's: after each call he stands at the base's place, the packets
 -- before him are the schedule's from there on, and where a call delivers, what he gives is what was delivered. That there are
--- packets whose counts add up to each rise of the skipped count is part of it: else he would have no answer. Assumes nothing.
+-- packets whose counts add up to each rise of the skipped count is part of it: else he would have no answer.
 use mathlib.Core.Path.{_≡_, refl, sym, ap, _∙_, subst}
 use mathlib.Core.Bool.{true, false}
 use mathlib.Core.List.{List, [], _∷_, _++_, append-assoc, append-nil}
 use mathlib.Core.Option.{Option, none, some}
 use Prim.Native.Nat.{ℕ, _+_, _-_, _≤_, _<_}
 use native.Mathlib.Omega.{arith}
-use Rattle.srt_protocol.specs.Time.{last-moment}
+use Rattle.srt_group_model.specs.Legs.{largest-64}
 use Rattle.srt_group_model.specs.Tools.{if_then_else_, if-some_give_otherwise_}
 use Rattle.srt_group_model.specs.State.{State}
 use Rattle.srt_group_model.specs.Run.{Mark, put, base-set, collected, gap-skipped, delivered}
@@ -68,7 +68,7 @@ module _ (schedule : List Delivery) (first : ℕ) (runs : Consecutive first sche
       (after : State) (m : List Mark)
       (follows : Follows schedule first runs (s .receive) log)
       (follows-after : Follows schedule first runs (after .receive) (m ++ log))
-      (from : FromSchedule schedule first (m ++ log)) (below : total-skipped (m ++ log) < last-moment) (told : List Told)
+      (from : FromSchedule schedule first (m ++ log)) (below : total-skipped (m ++ log) < largest-64) (told : List Told)
       (ys : List Delivery) where
     known : s .receive .numbers .skipped ≡ total-skipped log
     known = omega (arith, follows .0 .skipped, skipped-rises m log)
@@ -162,7 +162,7 @@ module _ (schedule : List Delivery) (first : ℕ) (runs : Consecutive first sche
   pub clerk-of-calls : (calls : List Asked) (s : State) (log : List Mark) (ahead : List Delivery)
       → pass-to schedule (place-after log) ≡ some ahead
       → Following schedule first runs s log → FromSchedule schedule first (log-after calls s ++ log)
-      → total-skipped (log-after calls s ++ log) < last-moment
+      → total-skipped (log-after calls s ++ log) < largest-64
       → clerk ahead (s .receive .numbers .skipped) (told-by calls s) ≡ some (delivered-as-queued log calls s)
   unfolding log-after told-by delivered-as-queued clerk
   clerk-of-calls [] s log ahead here k from below = refl
@@ -181,11 +181,11 @@ module _ (schedule : List Delivery) (first : ℕ) (runs : Consecutive first sche
       from-after : FromSchedule schedule first (log-after more (do-call call s .state) ++ (do-call call s .log ++ log))
       from-after = rw append-assoc at from
 
-      below-after : total-skipped (log-after more (do-call call s .state) ++ (do-call call s .log ++ log)) < last-moment
+      below-after : total-skipped (log-after more (do-call call s .state) ++ (do-call call s .log ++ log)) < largest-64
       below-after = rw append-assoc at below
 
   pub clerk-as-queued : (g : Making) (calls : List Asked) → FromSchedule schedule first (log-after calls (made g))
-      → skipped-in (state-after calls (made g)) < last-moment
+      → skipped-in (state-after calls (made g)) < largest-64
       → clerk schedule 0 (told-by calls (made g)) ≡ some (delivered-as-queued [] calls (made g))
   unfolding total-delivered total-skipped new
   clerk-as-queued g calls from below =

@@ -1,21 +1,20 @@
 -- Where the clerk stands. After every list of calls, and after every list of a port's steps, what is left before him is the
 -- schedule from the base's place on: from the counts delivered and the skipped count, added up. So the base's place is his.
--- Assumes nothing.
 use mathlib.Core.Path.{_≡_, refl, sym, ap, _∙_, subst}
 use mathlib.Core.Bool.{true, false}
 use mathlib.Core.List.{List, [], _∷_, _++_}
 use mathlib.Core.Option.{Option, none, some}
 use Prim.Native.Nat.{ℕ, _+_, _-_, _≤_}
 use native.Mathlib.Omega.{arith}
-use Rattle.srt_protocol.specs.Time.{last-moment}
+use Rattle.srt_group_model.specs.Legs.{largest-64}
 use Rattle.srt_group_model.specs.Tools.{if_then_else_, if-some_give_otherwise_}
 use Rattle.srt_group_model.specs.State.{State}
 use Rattle.srt_group_model.specs.Calls.{new}
 use Rattle.srt_group_model.specs.Lent.{delivered-by}
 use Rattle.srt_group_model.specs.declared.Packet.{Packet}
-use Rattle.srt_group_model.specs.Reason.{by-test, not-both, none-some, some-inj}
+use Rattle.srt_group_model.specs.Reason.{if-true, if-false, by-test, not-both, none-some, some-inj}
 use Rattle.srt_history.specs.Statement.{total-skipped, Consecutive, pass-to, Told, told-by, give-next, clerk, Fair, when-of, place-of-base}
-use Rattle.srt_history.specs.Cases.{if-true, if-false, by-option}
+use Rattle.srt_history.specs.Cases.{by-option}
 use Rattle.srt_history.specs.Shape.{Shape, call-shape}
 use Rattle.srt_history.specs.Base.{sums-after, quiet-skips-nothing}
 use Rattle.srt_history.specs.Schedule.{pass-to-zero, pass-to-next, pass-to-further, sequence-at-place}
@@ -148,7 +147,7 @@ call-rises g before call = (
     more-marks = log-after-both before (call ∷ []) (made g)
 
     now : skipped-in (do-call call (state-after before (made g)) .state)
-        ≡ Prim.Native.Nat.min (total-skipped (log-after (before ++ (call ∷ [])) (made g))) last-moment
+        ≡ Prim.Native.Nat.min (total-skipped (log-after (before ++ (call ∷ [])) (made g))) largest-64
     now =
         ap (λ (s : State). skipped-in s) (sym (state-after-both before (call ∷ []) (made g)))
         ∙ sums-after g (before ++ (call ∷ [])) .skipped

@@ -1,6 +1,6 @@
 -- What follows for a customer: every packet delivered stands at a place of its own in the schedule, after the end of the run
 -- delivered before it, so none is delivered twice and all are in the schedule's order; where nothing is skipped, the delivered
--- list is a prefix of the schedule; and a call that delivers nothing leaves the base where it is. Assumes nothing.
+-- list is a prefix of the schedule; and a call that delivers nothing leaves the base where it is.
 use mathlib.Core.Path.{_≡_, refl, sym, ap, _∙_, subst}
 use mathlib.Core.Logic.{⊎-elim}
 use mathlib.Core.List.{List, [], _∷_, _++_}
@@ -8,13 +8,13 @@ use mathlib.Core.Option.{Option, none, some}
 use Prim.Native.Nat.{ℕ, _+_, _-_, _≤_, min}
 use native.Mathlib.Omega.{arith}
 use Rattle.srt_protocol.specs.Sequence.{sequence-further}
+use Rattle.srt_group_model.specs.Legs.{largest-64}
 use Rattle.srt_group_model.specs.Tools.{if-some_give_otherwise_, or-else}
 use Rattle.srt_group_model.specs.State.{State, Receive, next-receive-sequence}
 use Rattle.srt_group_model.specs.Run.{Mark, put, base-set, collected, gap-skipped, delivered}
 use Rattle.srt_group_model.specs.Reason.{if-elim, none-some, some-inj}
 use Rattle.srt_history.specs.Statement.{first-base, total-skipped, place-after, Consecutive, pass-to, Told, told-by, give-next, clerk, Fair, when-of, RightSkip, Prefix}
 use Rattle.srt_history.specs.Cases.{by-option}
-use Rattle.srt_protocol.specs.Time.{last-moment}
 use Rattle.srt_group_model.specs.Lent.{delivered-by}
 use Rattle.srt_group_model.specs.declared.Packet.{Packet}
 use Rattle.srt_history.specs.CallWalk.{Fits, Holds, call-holds}
@@ -152,7 +152,7 @@ quiet-leaves-base x y m log base h k quiet e =
 quiet-leaves-count : (x y : Receive) (m log : List Mark) → Sums x log → Sums y (m ++ log)
     → total-skipped (m ++ log) ≡ total-skipped log
     → y .numbers .skipped ≡ x .numbers .skipped
-quiet-leaves-count x y m log h k e = k .skipped ∙ ap (λ (n : ℕ). min n last-moment) e ∙ sym (h .skipped)
+quiet-leaves-count x y m log h k e = k .skipped ∙ ap (λ (n : ℕ). min n largest-64) e ∙ sym (h .skipped)
 
 skips-under-delivery : (p : Packet) (m log : List Mark) → total-skipped (delivered p ∷ (m ++ log)) ≡ total-skipped (m ++ log)
 unfolding total-skipped
@@ -172,7 +172,7 @@ pub rise-is-right-skip : (g : Making) (calls : List Asked) (call : Asked)
     (delivered-by (do-call call (state-after calls (made g)) .answer)) (do-call call (state-after calls (made g)) .state) tested
     (time-of (call .call)) distance
     × (skipped-in (do-call call (state-after calls (made g)) .state)
-    ≡ min (skipped-in (state-after calls (made g)) + distance) last-moment)
+    ≡ min (skipped-in (state-after calls (made g)) + distance) largest-64)
 rise-is-right-skip g calls call risen = go (delivered-by (do-call call s .answer)) (call-shape call s)
   where
     s : State
@@ -195,7 +195,7 @@ rise-is-right-skip g calls call risen = go (delivered-by (do-call call s .answer
     go : (o : Option Packet) → Shape (when-of (call .call) s) o (do-call call s .state) (do-call call s .log)
         → (tested : State) × (distance : ℕ)
         × RightSkip (when-of (call .call) s) o (do-call call s .state) tested (time-of (call .call)) distance
-        × (skipped-in (do-call call s .state) ≡ min (skipped-in s + distance) last-moment)
+        × (skipped-in (do-call call s .state) ≡ min (skipped-in s + distance) largest-64)
     go none quiet = absurd (same-count (quiet-skips-nothing (do-call call s .log) log quiet))
     go (some p) given =
         ⊎-elim (λ (quiet : Quiet (given .before)). absurd (same-count (delivered-skips-nothing given quiet)))
@@ -212,7 +212,7 @@ rise-is-right-skip g calls call risen = go (delivered-by (do-call call s .answer
 
         risen-by : (given : Given (when-of (call .call) s) p (do-call call s .state) (do-call call s .log))
             → (skip : Skip (when-of (call .call) s) p (do-call call s .state) (given .before))
-            → skipped-in (do-call call s .state) ≡ min (skipped-in s + skip .distance) last-moment
+            → skipped-in (do-call call s .state) ≡ min (skipped-in s + skip .distance) largest-64
         risen-by given skip = omega (arith, before .kept .skipped, after .kept .skipped, total)
           where
             total : total-skipped (do-call call s .log ++ log) ≡ total-skipped log + skip .distance

@@ -1,5 +1,5 @@
 -- The premises are met, and the theorem is applied: a list of calls over a schedule of four runs, with two legs, one gap, a
--- reading, sends, an event, a broken mark, a removal and refused calls. Assumes nothing.
+-- reading, sends, an event, a broken mark, a removal and refused calls.
 use mathlib.Core.Path.{_≡_, refl, sym, ap, _∙_}
 use mathlib.Core.Bool.{Bool, true, false}
 use mathlib.Core.List.{List, [], _∷_}
@@ -8,33 +8,33 @@ use Prim.Native.Nat.{ℕ, suc}
 use native.Mathlib.Omega.{arith}
 use lib.Dec.{lit<, lit≤}
 use lib.ListN.{length, replicate}
-use Rattle.srt_protocol.specs.Cells.{overwritten}
-use Rattle.srt_group_model.specs.State.{State}
+use Rattle.srt_protocol.specs.Cells.{overwritten, output-size, cell-size}
+use Rattle.srt_group_model.specs.State.{State, broadcast-mode}
 use Rattle.srt_group_model.specs.Legs.{moment, no-sequence}
 use Rattle.srt_group_model.specs.Computed.{definitions}
-use Rattle.srt_group_model.specs.Lent.{Call, addition, broken-mark, removal, event-poll, sending, reading, queued-data, queued-event, poll-data}
+use Rattle.srt_group_model.specs.Lent.{Call, call-add-member, call-mark-member-broken, call-remove-member-connection, call-poll-event, call-send, call-read-leg, call-queue-data, call-queue-event, call-poll-data}
 use Rattle.srt_group_model.specs.declared.Data.{Data}
 use Rattle.srt_group_model.specs.declared.Leg.{Leg}
-use Rattle.srt_group_model.specs.declared.GroupMode.the-variants.{Broadcast}
 use Rattle.srt_history.specs.Statement.{first-base, total-skipped, total-delivered, last-put, Consecutive, pass-to, told-by, clerk, FromSchedule, OneStore, Fair}
 use Rattle.srt_history.specs.Calls.{Asked, Delivery, Making, made, do-call, takes-store, given-by, state-after, log-after, deliveries, store-left}
 use Rattle.srt_group_model.specs.Reason.{not-both}
+use Rattle.srt_group_model.specs.Sending.{list-size}
 use Rattle.srt_history.specs.HistoryTheorem.{history-theorem}
 
 -- ---- what is lent
 
 unfoldable pub group : Making
-group = record { id = 1073741825; mode = Broadcast; store-length = 4368 }
+group = record { id = 1073741825; mode = broadcast-mode; store-length = 4368 }
 
 -- three cells
 unfoldable pub store-0 : List ℕ
 store-0 = replicate 4368 0
 
 unfoldable pub output : List ℕ
-output = replicate 1468 0
+output = replicate output-size 0
 
 unfoldable pub sends : List ℕ
-sends = replicate 5500 0
+sends = replicate list-size 0
 
 -- a call that is lent nothing, and one that is lent a store
 abbrev pub plain : Call → Asked
@@ -74,7 +74,7 @@ unfoldable pub store-1 : List ℕ
 store-1 = overwritten 0 (64 ∷ []) store-0
 
 unfoldable pub store-2 : List ℕ
-store-2 = overwritten 1456 (65 ∷ 66 ∷ []) store-1
+store-2 = overwritten cell-size (65 ∷ 66 ∷ []) store-1
 
 unfoldable pub store-3 : List ℕ
 store-3 = overwritten 0 (68 ∷ []) store-2
@@ -83,17 +83,17 @@ store-3 = overwritten 0 (68 ∷ []) store-2
 
 unfoldable pub calls : List Asked
 calls =
-    plain (addition 7 0 (leg 1 100 500) []) ∷ plain (addition 8 0 (leg 0 no-sequence 500) [])
+    plain (call-add-member 7 0 (leg 1 100 500) []) ∷ plain (call-add-member 8 0 (leg 0 no-sequence 500) [])
     -- refused: 21, the id is there already; 3, no such leg; 5, a store below one cell
-    ∷ plain (addition 7 0 (leg 1 100 500) []) ∷ plain (reading 9 1 1) ∷ plain (poll-data 0)
-    ∷ plain (reading 8 1 1)
-    ∷ over store-0 (queued-data 7 (content 100 1 1000) (64 ∷ []))
-    ∷ over store-1 (queued-data 8 (content 101 2 1000) (65 ∷ 66 ∷ []))
-    ∷ over store-2 (poll-data 1000) ∷ over store-2 (event-poll 1000)
-    ∷ over store-2 (sending 1000 (1 ∷ []))
-    ∷ over store-2 (queued-data 7 (content 104 1 1000) (68 ∷ []))
-    ∷ plain (queued-event 8 1 0) ∷ plain (broken-mark 8)
-    ∷ over store-3 (poll-data 1499) ∷ plain (removal 8) ∷ over store-3 (poll-data 1500)
+    ∷ plain (call-add-member 7 0 (leg 1 100 500) []) ∷ plain (call-read-leg 9 1 1) ∷ plain (call-poll-data 0)
+    ∷ plain (call-read-leg 8 1 1)
+    ∷ over store-0 (call-queue-data 7 (content 100 1 1000) (64 ∷ []))
+    ∷ over store-1 (call-queue-data 8 (content 101 2 1000) (65 ∷ 66 ∷ []))
+    ∷ over store-2 (call-poll-data 1000) ∷ over store-2 (call-poll-event 1000)
+    ∷ over store-2 (call-send 1000 (1 ∷ []))
+    ∷ over store-2 (call-queue-data 7 (content 104 1 1000) (68 ∷ []))
+    ∷ plain (call-queue-event 8 1 0) ∷ plain (call-mark-member-broken 8)
+    ∷ over store-3 (call-poll-data 1499) ∷ plain (call-remove-member-connection 8) ∷ over store-3 (call-poll-data 1500)
     ∷ []
 
 -- What is delivered: the run of 103 is passed over, and is the one packet skipped.

@@ -1,6 +1,5 @@
 -- Packets of one schedule, each less than 2^30 from the base on either side when it is collected, are delivered as they stand at
--- the base's place. The premise (`FromSchedule` of Statement) and what follows (AtPlaces) are both about the marks. Assumes
--- nothing.
+-- the base's place. The premise (`FromSchedule` of Statement) and what follows (AtPlaces) are both about the marks.
 use mathlib.Core.Path.{_≡_, refl, sym, ap, _∙_, subst}
 use mathlib.Core.Bool.{true, false}
 use mathlib.Core.List.{List, [], _∷_, _++_}

@@ -1,5 +1,5 @@
 -- The cell that a call takes is used by no queued and no held packet: the lowest number that is not among the used cells.
--- Document 01, "Receiving". Assumes nothing.
+-- Document 01, "Receiving".
 use mathlib.Core.Path.{_≡_, refl, subst}
 use mathlib.Core.Bool.{true, false, not}
 use mathlib.Core.List.{List, [], _∷_, _++_}

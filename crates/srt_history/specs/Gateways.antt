@@ -1,13 +1,12 @@
 -- Two gateways over one schedule. Once both stand at one place of it, counted unreduced, they deliver the same packets, one list a
 -- prefix of the other, each up to its next skip: with no skip the clerk gives what stands before him, from the front.
--- Assumes nothing.
 use mathlib.Core.Path.{_≡_, refl, sym, ap, _∙_, subst}
 use mathlib.Core.Logic.{_⊎_, inl, inr, ⊎-elim}
 use mathlib.Core.List.{List, [], _∷_, _++_, append-assoc, append-nil}
 use mathlib.Core.Option.{Option, none, some}
 use Prim.Native.Nat.{ℕ, _-_, _<_}
 use native.Mathlib.Omega.{arith}
-use Rattle.srt_protocol.specs.Time.{last-moment}
+use Rattle.srt_group_model.specs.Legs.{largest-64}
 use Rattle.srt_group_model.specs.Tools.{if-some_give_otherwise_}
 use Rattle.srt_group_model.specs.State.{State}
 use Rattle.srt_group_model.specs.Run.{Mark}
@@ -179,7 +178,7 @@ module _ (schedule : List Delivery) (first : ℕ) where
         from-before : FromSchedule schedule first log
         from-before = from-schedule-before schedule first (log-after on reached) log from-on
 
-        below-on : total-skipped (log-after on reached ++ log) < last-moment
+        below-on : total-skipped (log-after on reached ++ log) < largest-64
         below-on =
             omega (
               arith,

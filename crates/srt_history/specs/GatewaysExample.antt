@@ -1,16 +1,16 @@
 -- Two gateways over the schedule of Example, and the fourth claim applied. Gateway a is the list of Example, after its first
 -- delivery; gateway b is a Backup group of one leg, with other calls, a send whose payload takes a cell, and no gap. Both stand
--- at place 1. Up to its next skip a delivers one run, b three: one list is a prefix of the other. Assumes nothing.
+-- at place 1. Up to its next skip a delivers one run, b three: one list is a prefix of the other.
 use mathlib.Core.Path.{_≡_, refl}
 use mathlib.Core.Logic.{_⊎_}
 use mathlib.Core.List.{List, [], _∷_, _++_}
 use Prim.Native.Nat.{ℕ}
 use lib.Dec.{lit<}
 use lib.ListN.{replicate, take, drop}
-use Rattle.srt_protocol.specs.Cells.{overwritten}
+use Rattle.srt_protocol.specs.Cells.{overwritten, cell-size}
+use Rattle.srt_group_model.specs.State.{backup-mode}
 use Rattle.srt_group_model.specs.Computed.{definitions}
-use Rattle.srt_group_model.specs.Lent.{addition, sending, queued-data, poll-data}
-use Rattle.srt_group_model.specs.declared.GroupMode.the-variants.{Backup}
+use Rattle.srt_group_model.specs.Lent.{call-add-member, call-send, call-queue-data, call-poll-data}
 use Rattle.srt_history.specs.Statement.{first-base, total-skipped, total-delivered, last-put, pass-to, FromSchedule, OneStore, Prefix, until-skip, Gateway, stands-at, delivers}
 use Rattle.srt_history.specs.Calls.{Asked, Making, made, do-call, takes-store, given-by, state-after, log-after, deliveries, counts-of, store-left}
 use Rattle.srt_history.specs.HistoryTheorem.{history-theorem}
@@ -26,7 +26,7 @@ gateway-a = record { making = group; before = take 9 calls; after = drop 9 calls
 -- ---- gateway b
 
 unfoldable pub backup-group : Making
-backup-group = record { id = 1073741826; mode = Backup; store-length = 0 }
+backup-group = record { id = 1073741826; mode = backup-mode; store-length = 0 }
 
 -- four cells, as the calls leave them
 unfoldable pub cells-0 : List ℕ
@@ -39,7 +39,7 @@ unfoldable pub cells-2 : List ℕ
 cells-2 = overwritten 0 (9 ∷ []) cells-1
 
 unfoldable pub cells-3 : List ℕ
-cells-3 = overwritten 1456 (65 ∷ 66 ∷ []) cells-2
+cells-3 = overwritten cell-size (65 ∷ 66 ∷ []) cells-2
 
 unfoldable pub cells-4 : List ℕ
 cells-4 = overwritten 2912 (67 ∷ []) cells-3
@@ -49,15 +49,15 @@ cells-5 = overwritten 4368 (68 ∷ []) cells-4
 
 unfoldable pub before-b : List Asked
 before-b =
-    plain (addition 3 0 (leg 1 100 500) []) ∷ over cells-0 (queued-data 3 (content 100 1 0) (64 ∷ [])) ∷ over cells-1
-    (poll-data 0) ∷ []
+    plain (call-add-member 3 0 (leg 1 100 500) []) ∷ over cells-0 (call-queue-data 3 (content 100 1 0) (64 ∷ [])) ∷ over cells-1
+    (call-poll-data 0) ∷ []
 
 -- the send's payload takes the cell that the first packet has freed, and keeps it
 unfoldable pub after-b : List Asked
 after-b =
-    over cells-1 (sending 0 (9 ∷ [])) ∷ over cells-2 (queued-data 3 (content 101 2 0) (65 ∷ 66 ∷ []))
-    ∷ over cells-3 (queued-data 3 (content 103 1 0) (67 ∷ [])) ∷ over cells-4 (queued-data 3 (content 104 1 0) (68 ∷ []))
-    ∷ over cells-5 (poll-data 0) ∷ over cells-5 (poll-data 0) ∷ over cells-5 (poll-data 0) ∷ []
+    over cells-1 (call-send 0 (9 ∷ [])) ∷ over cells-2 (call-queue-data 3 (content 101 2 0) (65 ∷ 66 ∷ []))
+    ∷ over cells-3 (call-queue-data 3 (content 103 1 0) (67 ∷ [])) ∷ over cells-4 (call-queue-data 3 (content 104 1 0) (68 ∷ []))
+    ∷ over cells-5 (call-poll-data 0) ∷ over cells-5 (call-poll-data 0) ∷ over cells-5 (call-poll-data 0) ∷ []
 
 pub from-b : FromSchedule schedule 100 (log-after (before-b ++ after-b) (made backup-group))
 unfolding definitions backup-group cells-0 cells-1 cells-2 cells-3 cells-4 cells-5 output sends before-b after-b schedule do-call log-after first-base total-skipped total-delivered last-put pass-to

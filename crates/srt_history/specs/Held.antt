@@ -1,5 +1,5 @@
 -- Facts of the held packets: what an insertion, a search, the nearest and a run leave of them. Why the nearest is the right
--- packet is the model's NearestLaw. Assumes nothing.
+-- packet is the model's NearestLaw.
 use mathlib.Core.Path.{_≡_, refl, sym, ap, _∙_}
 use mathlib.Core.Bool.{true, false, not}
 use mathlib.Core.List.{List, [], _∷_}
@@ -11,8 +11,8 @@ use Rattle.srt_protocol.specs.Sequence.{half, sequence-distance}
 use Rattle.srt_group_model.specs.Tools.{if_then_else_, such-that, first-such}
 use Rattle.srt_group_model.specs.Nearest.{sequence-of, has-sequence, held-at, insert, lowest, nearest, is-covered, not-covered}
 use Rattle.srt_group_model.specs.declared.Packet.{Packet}
-use Rattle.srt_group_model.specs.Reason.{if-elim, by-test, if-some-elim, All, all-map}
-use Rattle.srt_history.specs.Cases.{if-true, if-false, Each, each-at, each-or-else, all-such-that, all-pass, each-first-such, first-such-passes, le-of, gt-of, ge-of, eq-of, eqb-yes, not-false}
+use Rattle.srt_group_model.specs.Reason.{if-true, if-false, if-elim, by-test, if-some-elim, All, all-map}
+use Rattle.srt_history.specs.Cases.{Each, each-at, each-or-else, all-such-that, all-pass, each-first-such, first-such-passes, le-of, gt-of, ge-of, eq-of, eqb-yes, not-false}
 
 module _ (Q : Packet → Type 0) where
   pub insert-all : (p : Packet) (ps : List Packet) → Q p → All Q ps → All Q (insert p ps)

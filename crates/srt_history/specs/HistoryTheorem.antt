@@ -1,13 +1,13 @@
 -- Demand 3, whole: four claims about every list of calls from a new group, refused calls included, each call taking the state that
 -- the last one left and nobody else writing it. A planner compares each field with the customer's sentence above it. What the
 -- words mean: Calls (a call, what it is lent, what it delivers) and Statement (all else: the first value of the base, schedule,
--- place, clerk, the premises, a right skip, gateways). Assumes nothing.
+-- place, clerk, the premises, a right skip, gateways).
 use mathlib.Core.Path.{_≡_, sym, ap, _∙_}
 use mathlib.Core.Logic.{_⊎_}
 use mathlib.Core.List.{List, []}
 use mathlib.Core.Option.{Option, some}
 use Prim.Native.Nat.{ℕ, _<_}
-use Rattle.srt_protocol.specs.Time.{last-moment}
+use Rattle.srt_group_model.specs.Legs.{largest-64}
 use Rattle.srt_history.specs.Statement.{first-base, BaseClaim, Consecutive, told-by, clerk, Fair, SkipsRight, Prefix, Gateway, stands-at, delivers}
 use Rattle.srt_history.specs.Base.{base-claim}
 use Rattle.srt_history.specs.Skips.{skips-claim}
@@ -21,7 +21,7 @@ pub record HistoryTheorem : Type 0 where
   -- ... that count is below its ceiling." The first value is the one at the moment of setting; that it was set before a packet
   -- was collected is not needed here.
   pub base : (g : Making) (calls : List Asked) (first : ℕ) → first-base (log-after calls (made g)) ≡ some first
-      → skipped-in (state-after calls (made g)) < last-moment → BaseClaim g calls first
+      → skipped-in (state-after calls (made g)) < largest-64 → BaseClaim g calls first
   -- "If also the packets collected come from one schedule of consecutive runs starting there, each, counted along it, less than
   -- 2^30 from the base on either side when collected, and each accepted call that is lent a store is lent the same one, which
   -- nobody else writes, the delivered list equals that of 01's clerk, byte for byte." The clerk is fed with the calls alone. He

@@ -2,7 +2,6 @@
 -- packet is delivered, held packets are given to the group or retired, a payload is put into a free cell. A law says that an
 -- invariant of the receiving side and the marks survives each of them. PollWalk and CallWalk prove that it then survives
 -- every poll, every call and every list of calls: base arithmetic, the schedule and the bytes are three such invariants.
--- Assumes nothing.
 use mathlib.Core.Path.{_≡_}
 use mathlib.Core.Bool.{true, false, not}
 use mathlib.Core.List.{List, _∷_}

@@ -1,5 +1,5 @@
 -- Laws of what a list of marks, newest first, adds up to: the sums of two lists are added, and a payload put into another cell
--- changes nothing in this one. The sums themselves are in Statement. Assumes nothing.
+-- changes nothing in this one. The sums themselves are in Statement.
 use mathlib.Core.Path.{_≡_, refl}
 use mathlib.Core.List.{List, [], _∷_, _++_}
 use Prim.Native.Nat.{ℕ, _+_}

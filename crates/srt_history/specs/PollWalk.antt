@@ -1,5 +1,4 @@
--- What each move of receiving keeps, every poll keeps: an instance of the model's law of polls; and collecting by itself. Assumes
--- nothing.
+-- What each move of receiving keeps, every poll keeps: an instance of the model's law of polls; and collecting by itself.
 use mathlib.Core.Path.{_≡_, refl, sym, subst}
 use mathlib.Core.Bool.{Bool, true, false}
 use mathlib.Core.List.{List, [], _∷_}
@@ -12,8 +11,9 @@ use Rattle.srt_group_model.specs.State.{Member, State, Receive, next-receive-se
 use Rattle.srt_group_model.specs.Legs.{peer-initial-sequence}
 use Rattle.srt_group_model.specs.Members.{id-of, arrives, base-after}
 use Rattle.srt_group_model.specs.Nearest.{held-at}
+use Rattle.srt_group_model.specs.Arrivals.{base-after-none, base-after-one, base-after-next}
 use Rattle.srt_group_model.specs.Run.{Mark, base-set, collected, delivered, Run, set-base, refresh-states}
-use Rattle.srt_group_model.specs.Collecting.{is-discarded, retain-group-packet, collect-member-event, in-turn, front, Visited, take-front, collect-one-event, or-continue, collect-until-held, collect-until-empty}
+use Rattle.srt_group_model.specs.Collecting.{is-discarded, retain-group-packet, collect-member-event, in-turn, front, Visited, take-front, collect-one-event, or-continue, collect-until-held, Emptied, collect-until-empty}
 use Rattle.srt_group_model.specs.Delivery.{deliver-packet}
 use Rattle.srt_group_model.specs.Polls.{poll-event, poll-data-bounded}
 use Rattle.srt_group_model.specs.Queues.{pop, packet-of}
@@ -110,20 +110,22 @@ module _ (P : Data → Type 0) (F : ℕ → Type 0) (I : Receive → List Mark �
     unfolding collect-until-empty
     collect-until-empty-good zero sequence r g = or-continue-good _ r g
     collect-until-empty-good (suc visits) sequence r g =
-        if-elim (λ (v : Visited). Good (v .run)) _ _ _ (λ e. g)
+        if-elim (λ (v : Emptied). Good (v .run)) _ _ _ (λ e. g)
         (λ e.
-        if-elim (λ (v : Visited). Good (v .run)) (collect-one-event r .went) _ _
+        if-elim (λ (v : Emptied). Good (v .run)) (collect-one-event r .took) _ _
         (λ e. collect-until-empty-good visits sequence _ (collect-one-event-good r g)) (λ e. collect-one-event-good r g))
 
   -- ---- the refresh
 
   pub base-after-ok : (base : Option ℕ) (ms : List Member) → Each F base → All (λ (m : Member). SideOk P F (side m)) ms
       → Each F (base-after base ms)
-  unfolding base-after
-  base-after-ok base [] f h = f
+  base-after-ok base [] f h = subst (Each F) (sym (base-after-none base)) f
   base-after-ok base (m ∷ ms) f h =
-      base-after-ok _ ms
-      (if-elim (Each F) (arrives m) _ _ (λ e. each-or-else F base (peer-initial-sequence (m .leg)) f (h .0 .1)) (λ e. f)) (h .1)
+      subst (Each F) (sym (base-after-next base m ms))
+      (base-after-ok (base-after base (m ∷ [])) ms
+      (subst (Each F) (sym (base-after-one base m))
+      (if-elim (Each F) (arrives m) _ _ (λ e. each-or-else F base (peer-initial-sequence (m .leg)) f (h .0 .1)) (λ e. f)))
+      (h .1))
 
   module _ (law : Law P F I) where
     -- by a value that a peer can give

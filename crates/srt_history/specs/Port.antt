@@ -3,7 +3,7 @@
 -- because a lent table is too short, which is no call of the model and changes nothing. The four claims are here about what is
 -- shown: the base and its first value, the clerk's list, the skips, two ports. The list that the theorem is applied to is that
 -- of the calls without those refusals. So once the code is proved equal to the model, call by call, the claims are about the
--- code. Assumes nothing.
+-- code.
 use mathlib.Core.Path.{_≡_, refl, sym, ap, _∙_, subst, fun-ext}
 use mathlib.Core.Bool.{true, false}
 use mathlib.Core.Logic.{_⊎_}
@@ -15,15 +15,15 @@ use native.Mathlib.Omega.{arith}
 use lib.Dec.{eqb}
 use Rattle.srt_protocol.specs.Circle.{further, distance-up, distance-further}
 use Rattle.srt_protocol.specs.Sequence.{half, sequence-distance, sequence-further}
-use Rattle.srt_protocol.specs.Time.{last-moment}
+use Rattle.srt_group_model.specs.Legs.{largest-64}
 use Rattle.srt_group_model.specs.Tools.{if_then_else_, if-some_give_otherwise_, flagged}
 use Rattle.srt_group_model.specs.State.{State, next-receive-sequence}
 use Rattle.srt_group_model.specs.Guards.{Answer, no-answer}
 use Rattle.srt_group_model.specs.Calls.{new}
 use Rattle.srt_group_model.specs.Lent.{Lent, Result, delivered-by}
-use Rattle.srt_group_model.specs.Reason.{by-test, none-some, some-inj, All}
+use Rattle.srt_group_model.specs.Reason.{if-true, if-false, by-test, none-some, some-inj, All}
 use Rattle.srt_history.specs.Statement.{first-base, total-skipped, place-after, BaseClaim, Consecutive, pass-to, Told, told-by, give-next, clerk, OneStore, Fair, when-of, RightSkip, Prefix, until-skip, Gateway, stands-at, delivers}
-use Rattle.srt_history.specs.Cases.{if-true, if-false, by-option, eq-of, eqb-yes}
+use Rattle.srt_history.specs.Cases.{by-option, eq-of, eqb-yes}
 use Rattle.srt_history.specs.CallWalk.{Fits}
 use Rattle.srt_history.specs.Gateways.{state-after-both, log-after-both, deliveries-both}
 use Rattle.srt_history.specs.Base.{half-above-zero, further-twice, further-none, further-fits, Stands, sums-after, delivered-counts, counts-append}
@@ -299,8 +299,8 @@ module _ (g : Making) where
       ∙ first-base-stays (log-after more (state-after before (made g))) (log-after before (made g)) first e
 
   -- the skipped count never falls
-  skipped-of-more : (before more : List Asked) → skipped-in (state-after (before ++ more) (made g)) < last-moment
-      → total-skipped (log-after before (made g)) < last-moment
+  skipped-of-more : (before more : List Asked) → skipped-in (state-after (before ++ more) (made g)) < largest-64
+      → total-skipped (log-after before (made g)) < largest-64
   skipped-of-more before more below =
       omega (
         arith,
@@ -314,7 +314,7 @@ module _ (g : Making) where
   first-of-step : (before : List Asked) (call : Asked) (base : ℕ)
       → next-receive-sequence (state-after before (made g) .receive) ≡ none
       → next-receive-sequence (do-call call (state-after before (made g)) .state .receive) ≡ some base
-      → total-skipped (log-after (before ++ (call ∷ [])) (made g)) < last-moment
+      → total-skipped (log-after (before ++ (call ∷ [])) (made g)) < largest-64
       → first-base (log-after (before ++ (call ∷ [])) (made g))
       ≡ some
       (sequence-distance
@@ -358,7 +358,7 @@ module _ (g : Making) where
 
   first-shown-from : (before : List Asked) → next-receive-sequence (state-after before (made g) .receive) ≡ none
       → (steps : List Taken) → Performed (state-after before (made g)) steps
-      → skipped-in (state-after (before ++ calls-of steps) (made g)) < last-moment
+      → skipped-in (state-after (before ++ calls-of steps) (made g)) < largest-64
       → first-shown (all-shown steps) ≡ first-base (log-after (before ++ calls-of steps) (made g))
   unfolding first-shown all-shown calls-of if-some_give_otherwise_
   first-shown-from before unset [] h =
@@ -366,7 +366,7 @@ module _ (g : Making) where
   first-shown-from before unset (t ∷ steps) h =
       by-step
       (λ (t : Taken). Performed (shown-of t .state) steps
-      → skipped-in (state-after (before ++ calls-of (t ∷ steps)) (made g)) < last-moment
+      → skipped-in (state-after (before ++ calls-of (t ∷ steps)) (made g)) < largest-64
       → first-shown (shown-of t ∷ all-shown steps) ≡ first-base (log-after (before ++ calls-of (t ∷ steps)) (made g)))
       (state-after before (made g))
       (λ call k below.
@@ -376,7 +376,7 @@ module _ (g : Making) where
       ∙ first-shown-from (before ++ (call ∷ []))
       (ap (λ (x : State). next-receive-sequence (x .receive)) (sym (performed-on before call)) ∙ e) steps
       (subst (λ (x : State). Performed x steps) (performed-on before call) k)
-      (subst (λ (cs : List Asked). skipped-in (state-after cs (made g)) < last-moment) (sym (regroup call)) below)
+      (subst (λ (cs : List Asked). skipped-in (state-after cs (made g)) < largest-64) (sym (regroup call)) below)
       ∙ ap (λ (cs : List Asked). first-base (log-after cs (made g))) (regroup call))
       (λ base e.
       ap (first-or (shows (do-call call (state-after before (made g))))) e
@@ -385,7 +385,7 @@ module _ (g : Making) where
       ∙ first-of-more (before ++ (call ∷ [])) (calls-of steps) _
       (first-of-step before call base unset e
       (skipped-of-more (before ++ (call ∷ [])) (calls-of steps)
-      (subst (λ (cs : List Asked). skipped-in (state-after cs (made g)) < last-moment) (sym (regroup call)) below))))))
+      (subst (λ (cs : List Asked). skipped-in (state-after cs (made g)) < largest-64) (sym (regroup call)) below))))))
       (λ call k below.
       ap (first-or (shows-short call (state-after before (made g)))) unset ∙ first-shown-from before unset steps k below)
       t (h .0) (h .1)
@@ -401,16 +401,16 @@ module _ (g : Making) where
 
   -- The first value by what is shown is the one at the moment of setting.
   pub first-shown-is : (steps : List Taken) → Performed (made g) steps
-      → skipped-in (last-shown (made g) (all-shown steps)) < last-moment
+      → skipped-in (last-shown (made g) (all-shown steps)) < largest-64
       → first-shown (all-shown steps) ≡ first-base (log-after (calls-of steps) (made g))
   unfolding state-after new flagged
   first-shown-is steps h below =
       first-shown-from [] refl steps h
-      (subst (λ (s : State). skipped-in s < last-moment) (last-shown-is (made g) steps h) below)
+      (subst (λ (s : State). skipped-in s < largest-64) (last-shown-is (made g) steps h) below)
 
   -- The base that a port shows, less its first value, is what it shows as delivered and skipped, modulo 2^31.
   pub port-base : (steps : List Taken) → Performed (made g) steps
-      → skipped-in (last-shown (made g) (all-shown steps)) < last-moment
+      → skipped-in (last-shown (made g) (all-shown steps)) < largest-64
       → (first : ℕ) → first-shown (all-shown steps) ≡ some first
       → (base : ℕ)
       × (next-receive-sequence (last-shown (made g) (all-shown steps) .receive) ≡ some base)
@@ -430,7 +430,7 @@ module _ (g : Making) where
       claim : BaseClaim g (calls-of steps) first
       claim =
           history-theorem .base g (calls-of steps) first (sym (first-shown-is steps h below) ∙ e)
-          (subst (λ (s : State). skipped-in s < last-moment) (last-shown-is (made g) steps h) below)
+          (subst (λ (s : State). skipped-in s < largest-64) (last-shown-is (made g) steps h) below)
 
   -- While it shows no base, it shows nothing delivered and nothing skipped.
   pub port-unbased : (steps : List Taken) → Performed (made g) steps
@@ -460,7 +460,7 @@ module _ (g : Making) where
   -- one call, wherever a list of calls has come to
   call-moves-base : (before : List Asked) (call : Asked) (base : ℕ)
       → next-receive-sequence (state-after before (made g) .receive) ≡ some base
-      → skipped-in (do-call call (state-after before (made g)) .state) < last-moment
+      → skipped-in (do-call call (state-after before (made g)) .state) < largest-64
       → next-receive-sequence (do-call call (state-after before (made g)) .state .receive)
       ≡ some
       (sequence-further base
@@ -516,7 +516,7 @@ module _ (g : Making) where
   -- other way.
   pub port-moves-base : (steps : List Taken) (t : Taken) → Performed (made g) (steps ++ (t ∷ [])) → (base : ℕ)
       → next-receive-sequence (last-shown (made g) (all-shown steps) .receive) ≡ some base
-      → skipped-in (shown-of t .state) < last-moment
+      → skipped-in (shown-of t .state) < largest-64
       → next-receive-sequence (shown-of t .state .receive)
       ≡ some
       (sequence-further base
@@ -527,7 +527,7 @@ module _ (g : Making) where
       subst Moves (sym (last-shown-is (made g) steps (performed-begins (made g) steps (t ∷ []) h)))
       (λ e.
       by-step
-      (λ (t : Taken). skipped-in (shown-of t .state) < last-moment
+      (λ (t : Taken). skipped-in (shown-of t .state) < largest-64
       → next-receive-sequence (shown-of t .state .receive)
       ≡ some
       (sequence-further base
@@ -549,7 +549,7 @@ module _ (g : Making) where
     where
       Moves : State → Type 0
       Moves s =
-          next-receive-sequence (s .receive) ≡ some base → skipped-in (shown-of t .state) < last-moment
+          next-receive-sequence (s .receive) ≡ some base → skipped-in (shown-of t .state) < largest-64
           → next-receive-sequence (shown-of t .state .receive)
           ≡ some
           (sequence-further base
@@ -603,7 +603,7 @@ pub record ShownSkip (s : State) (call : Asked) (x : Shown) : Type 0 where
   pub tested : State
   pub distance : ℕ
   pub right : RightSkip (when-of (call .call) s) (delivered-by (x .answer)) (x .state) tested (time-of (call .call)) distance
-  pub rise : skipped-in (x .state) ≡ min (skipped-in s + distance) last-moment
+  pub rise : skipped-in (x .state) ≡ min (skipped-in s + distance) largest-64
 
 -- a step that raises the skipped count made a right skip; a refusal raises nothing
 abbrev pub SkipShown : State → Taken → Type 0
@@ -624,7 +624,7 @@ raising-call g before call risen =
     (delivered-by (do-call call (state-after before (made g)) .answer)) (do-call call (state-after before (made g)) .state) tested
     (time-of (call .call)) distance
     × (skipped-in (do-call call (state-after before (made g)) .state)
-    ≡ min (skipped-in (state-after before (made g)) + distance) last-moment) =
+    ≡ min (skipped-in (state-after before (made g)) + distance) largest-64) =
     rise-is-right-skip g before call risen
     in
     record {

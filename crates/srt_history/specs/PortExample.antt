@@ -1,10 +1,9 @@
 -- A port's steps, and the claims about what it shows: the calls of the example, after a poll that was refused for a short table.
--- Assumes nothing.
 use mathlib.Core.Path.{_≡_, refl, sym, subst}
 use mathlib.Core.List.{List, _∷_}
 use mathlib.Core.Option.{some}
 use Rattle.srt_group_model.specs.Computed.{definitions}
-use Rattle.srt_group_model.specs.Lent.{poll-data}
+use Rattle.srt_group_model.specs.Lent.{call-poll-data}
 use Rattle.srt_history.specs.Statement.{clerk, Fair}
 use Rattle.srt_history.specs.Calls.{do-call, made, counts-of, skipped-in}
 use Rattle.srt_history.specs.Port.{shows-short, Taken, refused-short, all-shown, calls-of, Performed, taking, taking-performs, calls-of-taking, shown-delivery, shown-deliveries, shown-told, last-shown, first-shown, port-has-clerks-list, port-skips, SkipsShown}
@@ -12,7 +11,7 @@ use Rattle.srt_history.specs.Example.{group, store-0, store-1, store-2, 
 
 -- a poll that is refused for a short table, and then the calls of the example
 unfoldable pub steps : List Taken
-steps = refused-short (plain (poll-data 0)) (shows-short (plain (poll-data 0)) (made group)) ∷ taking calls (made group)
+steps = refused-short (plain (call-poll-data 0)) (shows-short (plain (call-poll-data 0)) (made group)) ∷ taking calls (made group)
 
 pub performed : Performed (made group) steps
 unfolding steps

@@ -1,14 +1,13 @@
 -- Demand 3 over what a port shows: the four claims of HistoryTheorem, about every list of steps from a new group. A step is a call
 -- that shows what the model's call gives, or one refused for a short table (Port). The only words that are not about what is
 -- shown are the premises: which packets are collected and which store is lent (`Fair`), of the calls without those refusals.
--- Assumes nothing.
 use mathlib.Core.Path.{_≡_}
 use mathlib.Core.Logic.{_⊎_}
 use mathlib.Core.List.{List}
 use mathlib.Core.Option.{some}
 use Prim.Native.Nat.{ℕ, _+_, _%_, _<_}
 use Rattle.srt_protocol.specs.Sequence.{half, sequence-distance}
-use Rattle.srt_protocol.specs.Time.{last-moment}
+use Rattle.srt_group_model.specs.Legs.{largest-64}
 use Rattle.srt_group_model.specs.State.{next-receive-sequence}
 use Rattle.srt_history.specs.Statement.{Consecutive, clerk, Fair, Prefix}
 use Rattle.srt_history.specs.Port.{Taken, all-shown, calls-of, Performed, shown-deliveries, shown-told, last-shown, first-shown, SkipsShown, Port, port-place, port-delivers, port-base, port-has-clerks-list, port-skips, ports-agree}
@@ -17,7 +16,7 @@ use Rattle.srt_history.specs.Calls.{Making, made, counts-of, skipped-in,
 pub record PortTheorem : Type 0 where
   -- the base less its first value is the delivered packet counts plus the skipped count, modulo 2^31
   pub base : (g : Making) (steps : List Taken) → Performed (made g) steps
-      → skipped-in (last-shown (made g) (all-shown steps)) < last-moment
+      → skipped-in (last-shown (made g) (all-shown steps)) < largest-64
       → (first : ℕ) → first-shown (all-shown steps) ≡ some first
       → (base : ℕ)
       × (next-receive-sequence (last-shown (made g) (all-shown steps) .receive) ≡ some base)

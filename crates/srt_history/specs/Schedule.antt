@@ -1,5 +1,5 @@
 -- Laws of places along a schedule: a place is reached by the clerk's own step, so place and clerk share one function (`pass-to` of
--- Statement). Going on from a place, and the sequence of the packet at one. Assumes nothing.
+-- Statement). Going on from a place, and the sequence of the packet at one.
 use mathlib.Core.Path.{_≡_, refl, ap, _∙_, subst}
 use mathlib.Core.Bool.{true, false}
 use mathlib.Core.List.{List, [], _∷_}
@@ -8,9 +8,9 @@ use Prim.Native.Nat.{ℕ, zero, suc, _+_, _-_, _≤_}
 use native.Mathlib.Omega.{arith}
 use lib.Dec.{leb, eqb}
 use Rattle.srt_protocol.specs.Sequence.{sequence-further}
-use Rattle.srt_group_model.specs.Reason.{if-elim, by-test, not-both, none-some, some-inj}
+use Rattle.srt_group_model.specs.Reason.{if-true, if-false, if-elim, by-test, not-both, none-some, some-inj}
 use Rattle.srt_history.specs.Statement.{RunsFrom, pass-to}
-use Rattle.srt_history.specs.Cases.{if-true, if-false, le-of, eq-of, leb-yes, eqb-yes}
+use Rattle.srt_history.specs.Cases.{le-of, eq-of, leb-yes, eqb-yes}
 use Rattle.srt_history.specs.Calls.{Delivery}
 
 -- ---- laws of places

@@ -1,6 +1,6 @@
 -- The marks of one call. They are quiet (payloads put, the base set, packets collected); or the call gave a packet, and its mark
 -- stands over quiet ones; or it stands over a skip, which passed the give-up test for the packet nearest when it was tested,
--- went to the packet nearest after collecting, and whose call ends with empty leg queues and no event waiting. Assumes nothing.
+-- went to the packet nearest after collecting, and whose call ends with empty leg queues and no event waiting.
 use mathlib.Core.Path.{_≡_, refl, sym, ap, _∙_, subst}
 use mathlib.Core.Bool.{Bool, true, false, not, _||_}
 use mathlib.Core.Logic.{_⊎_, inl, inr}
@@ -11,20 +11,20 @@ use native.Mathlib.Omega.{arith}
 use lib.Dec.{eqb}
 use lib.ListN.{length, drop}
 use Rattle.srt_protocol.specs.Sequence.{sequence-distance, sequence-further}
-use Rattle.srt_group_model.specs.Tools.{if-some_give_otherwise_, flagged, is-empty, place-of, at-place}
+use Rattle.srt_group_model.specs.Tools.{is-set, bit, flagged, is-empty, place-of, at-place}
 use Rattle.srt_group_model.specs.State.{Member, State, Receive, next-receive-sequence, next-send-sequence, with-continuation}
 use Rattle.srt_group_model.specs.Legs.{no-sequence}
-use Rattle.srt_group_model.specs.Members.{find, base-after, align-member-sequence}
+use Rattle.srt_group_model.specs.Members.{find, base-after, align-member-sequence, has-id, found}
 use Rattle.srt_group_model.specs.Nearest.{sequence-of, held-at, is-held, nearest, covered}
 use Rattle.srt_group_model.specs.Run.{Mark, put, base-set, collected, gap-skipped, delivered, Run, start, set-base, admit-connected-peer-groups, refresh-pending-states, refresh-states}
-use Rattle.srt_group_model.specs.Collecting.{in-turn, front, Visited, take-front, collect-one-event, collect-until-held, collect-until-empty}
+use Rattle.srt_group_model.specs.Collecting.{in-turn, front, Visited, take-front, collect-one-event, collect-until-held, Emptied, collect-until-empty}
 use Rattle.srt_group_model.specs.Delivery.{gap-given-up, release-pending-reservation, release-all, advance-legs, deliver-packet, pass-run, Polled, nothing, event, packet, Poll, deliver, skip-to, give-waiting, skip-after, max-visits, skip-given-up-gap}
 use Rattle.srt_group_model.specs.Polls.{delivery-budget, deliver-next, poll-event, DataPoll, pass-events, poll-until-data, poll-data-bounded}
 use Rattle.srt_group_model.specs.Sending.{Flow}
-use Rattle.srt_group_model.specs.Refusals.{guard-passed}
-use Rattle.srt_group_model.specs.Guards.{no-answer, polled, membership, Step, refuse}
-use Rattle.srt_group_model.specs.Calls.{add-body, add-member, mark-member-broken, remove-body, remove-member-connection, member, refresh-member-states, disconnect, event-poll-body, poll-event-call, data-poll-body, poll-data-call, left-by-send, send-body, send, can-send-body, can-send-call, can-send-with-pacing-body, can-send-with-pacing-call, time-until-send, backup-stability-timeout-micros}
-use Rattle.srt_group_model.specs.Calls.{group-id, members-call, mode, peer-group-id, skipped-receive-packets, has-pending-data-call, has-receive-continuation, read-leg, queue-data-body, queue-data, queue-event}
+use Rattle.srt_group_model.specs.Refusals.{guard-passed, look-elim}
+use Rattle.srt_group_model.specs.Guards.{polled, Step, refuse}
+use Rattle.srt_group_model.specs.Calls.{add-body, add-member, mark-member-broken, remove-body, remove-member-connection, refresh-member-states, disconnect, event-poll-body, poll-event-call, data-poll-body, poll-data-call, left-by-send, send-body, send, can-send-body, can-send-call, can-send-with-pacing-body, can-send-with-pacing-call}
+use Rattle.srt_group_model.specs.Calls.{read-leg, queue-data-body, queue-data, queue-event}
 use Rattle.srt_group_model.specs.declared.Data.{Data}
 use Rattle.srt_group_model.specs.declared.Event.{Event}
 use Rattle.srt_group_model.specs.declared.Packet.{Packet}
@@ -37,7 +37,7 @@ use Rattle.srt_history.specs.Law.{EventOk, SideOk, CollectLaw}
 use Rattle.srt_history.specs.FreeCells.{AnyNumber, any-number}
 use Rattle.srt_history.specs.PollWalk.{collect-until-held-good, collect-until-empty-good}
 use Rattle.srt_history.specs.Held.{held-at-sequence, nearest-is-held}
-use Rattle.srt_group_model.specs.Lent.{Call, addition, broken-mark, removal, member-look, refreshing, disconnection, event-poll, data-poll, sending, readiness, paced-readiness, send-wait, stability, group-look, members-look, mode-look, peer-look, skipped-look, pending-look, continuation-look, reading, queued-data, queued-event}
+use Rattle.srt_group_model.specs.Lent.{Call, call-add-member, call-mark-member-broken, call-remove-member-connection, call-refresh-member-states, call-disconnect, call-poll-event, call-poll-data-bounded, call-send, call-can-send, call-can-send-with-pacing, Look, look-at, call-look, call-read-leg, call-queue-data, call-queue-event}
 use Rattle.srt_group_model.specs.Lent.{delivered-by, step-of, with-bytes, perform}
 use Rattle.srt_history.specs.Calls.{Asked, do-call, time-of, step}
 
@@ -77,7 +77,7 @@ pub record Skip (when : When) (p : Packet) (s : State) (log : List Mark) : Type 
   pub at-test : AtTest when base tested gathered
   pub based : next-receive-sequence (tested .receive) ≡ some base
   pub missing : is-held base (tested .receive .pending) ≡ false
-  pub complete : tested .visit .continuation ≡ false
+  pub complete : is-set (tested .visit .continuation) ≡ false
   pub given-up : gap-given-up (when .time) tested ≡ true
   pub still-missing : is-held base (gathered .receive .pending) ≡ false
   pub nearest-now : nearest (gathered .receive .pending) ≡ some p
@@ -197,7 +197,7 @@ in-turn-has-front round ms =
 
 -- of a visit that collected nothing and asks for no continuation
 abbrev Finds : Visited → Type 0
-Finds v = v .went ≡ false → not (v .run .state .visit .continuation) ≡ true → EmptyQueues (v .run .state)
+Finds v = v .took ≡ false → not (is-set (v .run .state .visit .continuation)) ≡ true → EmptyQueues (v .run .state)
 
 front-of-nonempty : (q : List Event) → not (is-empty q) ≡ true → front q ≡ none → ⊥
 unfolding is-empty at-place
@@ -205,7 +205,7 @@ front-of-nonempty [] e f = not-both {t = true} refl (sym e)
 front-of-nonempty (x ∷ q) e f = none-some (sym f)
 
 take-front-finds : (i : ℕ) (m : Member) (r : Run) → not (is-empty (m .queue)) ≡ true → Finds (take-front i m r)
-unfolding take-front
+unfolding take-front bit
 take-front-finds i m r t =
     if-some-elim Finds (front (m .queue)) _ _
     (λ e there. if-elim Finds _ _ _ (λ e f g. not-both {t = true} refl (sym g)) (λ e f g. not-both {t = true} refl f))
@@ -226,21 +226,21 @@ collect-one-event-finds r =
     (λ e. none-some (sym e ∙ h .1)))
     (λ e f g. in-turn-none-empty (r .state .visit .round) (r .state .members) e)
 
-pub collect-until-empty-empties : (visits sequence : ℕ) (r : Run) → collect-until-empty visits sequence r .went ≡ true
+pub collect-until-empty-empties : (visits sequence : ℕ) (r : Run) → collect-until-empty visits sequence r .emptied ≡ true
     → EmptyQueues (collect-until-empty visits sequence r .run .state)
 unfolding collect-until-empty
 collect-until-empty-empties zero sequence r = λ e. not-both {t = true} refl (sym e)
 collect-until-empty-empties (suc visits) sequence r =
-    if-elim (λ (v : Visited). v .went ≡ true → EmptyQueues (v .run .state)) _ _ _ (λ e f. not-both {t = true} refl (sym f))
+    if-elim (λ (v : Emptied). v .emptied ≡ true → EmptyQueues (v .run .state)) _ _ _ (λ e f. not-both {t = true} refl (sym f))
     (λ e.
-    if-elim (λ (v : Visited). v .went ≡ true → EmptyQueues (v .run .state)) (collect-one-event r .went) _ _
+    if-elim (λ (v : Emptied). v .emptied ≡ true → EmptyQueues (v .run .state)) (collect-one-event r .took) _ _
     (λ e. collect-until-empty-empties visits sequence (collect-one-event r .run)) (λ e f. collect-one-event-finds r e f))
 
 -- ---- where collecting ended empty, the base is still not held
 
 -- a visit that collected nothing leaves what is held
 abbrev Rests : List Packet → Visited → Type 0
-Rests held v = v .went ≡ false → v .run .state .receive .pending ≡ held
+Rests held v = v .took ≡ false → v .run .state .receive .pending ≡ held
 
 collect-one-event-rests : (r : Run) → Rests (r .state .receive .pending) (collect-one-event r)
 unfolding collect-one-event take-front
@@ -255,20 +255,20 @@ collect-one-event-rests r =
     (λ e f. refl))
     (λ e f. refl)
 
-collect-until-empty-missing : (visits sequence : ℕ) (r : Run) → collect-until-empty visits sequence r .went ≡ true
+collect-until-empty-missing : (visits sequence : ℕ) (r : Run) → collect-until-empty visits sequence r .emptied ≡ true
     → is-held sequence (collect-until-empty visits sequence r .run .state .receive .pending) ≡ false
 unfolding collect-until-empty
 collect-until-empty-missing zero sequence r = λ e. not-both {t = true} refl (sym e)
 collect-until-empty-missing (suc visits) sequence r =
-    if-elim (λ (v : Visited). v .went ≡ true → is-held sequence (v .run .state .receive .pending) ≡ false) _ _ _
+    if-elim (λ (v : Emptied). v .emptied ≡ true → is-held sequence (v .run .state .receive .pending) ≡ false) _ _ _
     (λ e f. not-both {t = true} refl (sym f))
     (λ e.
-    if-elim (λ (v : Visited). v .went ≡ true → is-held sequence (v .run .state .receive .pending) ≡ false)
-    (collect-one-event r .went) _ _
+    if-elim (λ (v : Emptied). v .emptied ≡ true → is-held sequence (v .run .state .receive .pending) ≡ false)
+    (collect-one-event r .took) _ _
     (λ t. collect-until-empty-missing visits sequence (collect-one-event r .run))
     (λ t f.
     ap (is-held sequence) (collect-one-event-rests r t)
-    ∙ or-right (r .state .visit .continuation) (is-held sequence (r .state .receive .pending)) e))
+    ∙ or-right (is-set (r .state .visit .continuation)) (is-held sequence (r .state .receive .pending)) e))
 
 -- ---- delivery leaves the waiting events
 
@@ -354,17 +354,17 @@ give-waiting-shape : (when : When) (r : Run) → Quiet (r .log) → PollShape wh
 unfolding give-waiting
 give-waiting-shape when r h = if-some-elim (PollShape when) (at-place 0 (r .state .waiting)) _ _ (λ w e. h) (λ e. h)
 
-skip-after-shape : (when : When) (tested : State) (base : ℕ) (c : Visited) → AtTest when base tested (c .run .state)
+skip-after-shape : (when : When) (tested : State) (base : ℕ) (c : Emptied) → AtTest when base tested (c .run .state)
     → next-receive-sequence (tested .receive) ≡ some base
-    → is-held base (tested .receive .pending) ≡ false → tested .visit .continuation ≡ false
+    → is-held base (tested .receive .pending) ≡ false → is-set (tested .visit .continuation) ≡ false
     → gap-given-up (when .time) tested ≡ true
-    → (c .went ≡ true → EmptyQueues (c .run .state)) → (c .went ≡ true → is-held base (c .run .state .receive .pending) ≡ false)
+    → (c .emptied ≡ true → EmptyQueues (c .run .state)) → (c .emptied ≡ true → is-held base (c .run .state .receive .pending) ≡ false)
     → Quiet (c .run .log) → PollShape when (skip-after (when .time) tested base c)
 unfolding skip-after skip-to
 skip-after-shape when tested base c at-test based missing complete given-up empty still-missing h =
     if-elim (PollShape when) _ _ _ (λ e. give-waiting-shape when (c .run) h)
     (λ none-waits.
-    if-elim (PollShape when) (c .went) _ _
+    if-elim (PollShape when) (c .emptied) _ _
     (λ e.
     if-some-elim (PollShape when) (nearest (c .run .state .receive .pending)) _ _ (λ p near.
     deliver-after-skip when (sequence-of p) p _ (nearest-is-held (c .run .state .receive .pending) p near)
@@ -412,8 +412,8 @@ skip-given-up-gap-shape when base r under based h =
     }
     based
     (or-left (is-held base (r .state .receive .pending)) _ e)
-    (or-left (r .state .visit .continuation) _ (or-right (is-held base (r .state .receive .pending)) _ e))
-    (test-was-true (is-held base (r .state .receive .pending)) (r .state .visit .continuation)
+    (or-left (is-set (r .state .visit .continuation)) _ (or-right (is-held base (r .state .receive .pending)) _ e))
+    (test-was-true (is-held base (r .state .receive .pending)) (is-set (r .state .visit .continuation))
     (gap-given-up (when .time) (r .state)) e)
     (collect-until-empty-empties max-visits base r) (collect-until-empty-missing max-visits base r)
     (collect-until-empty-quiet max-visits base r h))
@@ -512,9 +512,7 @@ add-body-shape when id weight leg s =
 remove-body-shape : (when : When) (id : ℕ) (s : State) → StepShape when (remove-body id s)
 unfolding remove-body delivered-by
 remove-body-shape when id s =
-    if-some-elim (StepShape when) (find id (s .members)) _ _
-    (λ i e. if-some-elim (StepShape when) (at-place i (s .members)) _ _ (λ m e. tt) (λ e. tt))
-    (λ e. tt)
+    if-some-elim (StepShape when) (found (has-id id) (s .members)) _ _ (λ f e. tt) (λ e. tt)
 
 left-by-send-shape : (when : When) (cell : ℕ) (payload : List ℕ) (r : Run) (flow : Flow) → Quiet (r .log)
     → StepShape when (left-by-send cell payload r flow)
@@ -522,12 +520,11 @@ unfolding left-by-send delivered-by
 left-by-send-shape when cell payload r flow h =
     if-elim (StepShape when) _ _ _ (λ e. if-elim Quiet _ _ _ (λ e. (tt, h)) (λ e. h)) (λ e. h)
 
--- a look at a member gives no packet
-membership-shape : (when : When) (o : Option Member) (s : State)
-    → Shape when (delivered-by (if-some o give (λ m. membership (m .membership)) otherwise no-answer)) s []
-unfolding delivered-by if-some_give_otherwise_
-membership-shape when none s = tt
-membership-shape when (some m) s = tt
+-- a look gives no packet and marks nothing
+look-shape : (when : When) (look : Look) (s : State) → StepShape when (look-at look s)
+look-shape when look s =
+    look-elim (StepShape when) look s (refusal-shape when s)
+    (λ answer none-given. subst (λ (o : Option Packet). Shape when o s []) (sym none-given) tt)
 
 abbrev at-time : ℕ → State → When
 at-time time s = record { time = time; from = s }
@@ -538,60 +535,41 @@ at-no-time = at-time 0
 -- every call, lent a store, an output and a list of these lengths
 pub step-of-shape : (store output list : ℕ) (call : Call) (s : State)
     → StepShape (when-of call s) (step-of store output list call s)
-unfolding step-of time-of delivered-by add-member mark-member-broken remove-member-connection member refresh-member-states disconnect event-poll-body poll-event-call data-poll-body poll-data-call send send-body can-send-body can-send-call can-send-with-pacing-body can-send-with-pacing-call time-until-send backup-stability-timeout-micros group-id members-call mode peer-group-id skipped-receive-packets has-pending-data-call has-receive-continuation read-leg queue-data-body queue-data queue-event
-step-of-shape store output list (addition id weight leg queue) s =
+unfolding step-of time-of delivered-by add-member mark-member-broken remove-member-connection refresh-member-states disconnect event-poll-body poll-event-call data-poll-body poll-data-call send send-body can-send-body can-send-call can-send-with-pacing-body can-send-with-pacing-call read-leg queue-data-body queue-data queue-event
+step-of-shape store output list (call-add-member id weight leg queue) s =
     guard-passed (StepShape (at-no-time s)) _ s _ (refusal-shape (at-no-time s) s)
     (λ c. add-body-shape (at-no-time s) id weight leg s)
-step-of-shape store output list (broken-mark id) s =
+step-of-shape store output list (call-mark-member-broken id) s =
     guard-passed (StepShape (at-no-time s)) _ s _ (refusal-shape (at-no-time s) s) (λ c. tt)
-step-of-shape store output list (removal id) s =
+step-of-shape store output list (call-remove-member-connection id) s =
     guard-passed (StepShape (at-no-time s)) _ s _ (refusal-shape (at-no-time s) s) (λ c. remove-body-shape (at-no-time s) id s)
-step-of-shape store output list (member-look id) s =
-    guard-passed (StepShape (at-no-time s)) _ s _ (refusal-shape (at-no-time s) s) (λ c. membership-shape (at-no-time s) _ s)
-step-of-shape store output list refreshing s =
+step-of-shape store output list call-refresh-member-states s =
     guard-passed (StepShape (at-no-time s)) _ s _ (refusal-shape (at-no-time s) s) (λ c. refresh-states-quiet (start s) tt)
-step-of-shape store output list (disconnection time) s =
+step-of-shape store output list (call-disconnect time) s =
     guard-passed (StepShape (at-no-time s)) _ s _ (refusal-shape (at-no-time s) s) (λ c. tt)
-step-of-shape store output list (event-poll time) s =
+step-of-shape store output list (call-poll-event time) s =
     guard-passed (StepShape (at-time time s)) _ s _ (refusal-shape (at-time time s) s)
     (λ c. polled-shape (at-time time s) (poll-event time (start s) .gave) _ _ (poll-event-shape (at-time time s)))
-step-of-shape store output list (data-poll time max-events) s =
+step-of-shape store output list (call-poll-data-bounded time max-events) s =
     guard-passed (StepShape (at-time time s)) _ s _ (refusal-shape (at-time time s) s)
     (λ c. poll-data-bounded-shape (at-time time s) max-events)
-step-of-shape store output list (sending time payload) s =
+step-of-shape store output list (call-send time payload) s =
     guard-passed (StepShape (at-no-time s)) _ s _ (refusal-shape (at-no-time s) s)
     (λ c. left-by-send-shape (at-no-time s) _ payload (refresh-states (start s)) _ (refresh-states-quiet (start s) tt))
-step-of-shape store output list readiness s =
+step-of-shape store output list call-can-send s =
     guard-passed (StepShape (at-no-time s)) _ s _ (refusal-shape (at-no-time s) s)
     (λ c. if-elim (StepShape (at-no-time s)) _ _ _ (λ e. refresh-states-quiet (start s) tt)
     (λ e. refresh-states-quiet (start s) tt))
-step-of-shape store output list (paced-readiness time) s =
+step-of-shape store output list (call-can-send-with-pacing time) s =
     guard-passed (StepShape (at-no-time s)) _ s _ (refusal-shape (at-no-time s) s)
     (λ c. if-elim (StepShape (at-no-time s)) _ _ _ (λ e. refresh-states-quiet (start s) tt)
     (λ e. refresh-states-quiet (start s) tt))
-step-of-shape store output list (send-wait time) s =
+step-of-shape store output list (call-look look) s = look-shape (at-no-time s) look s
+step-of-shape store output list (call-read-leg id field n) s =
     guard-passed (StepShape (at-no-time s)) _ s _ (refusal-shape (at-no-time s) s) (λ c. tt)
-step-of-shape store output list (stability id) s =
-    guard-passed (StepShape (at-no-time s)) _ s _ (refusal-shape (at-no-time s) s) (λ c. tt)
-step-of-shape store output list group-look s =
-    guard-passed (StepShape (at-no-time s)) _ s _ (refusal-shape (at-no-time s) s) (λ c. tt)
-step-of-shape store output list members-look s =
-    guard-passed (StepShape (at-no-time s)) _ s _ (refusal-shape (at-no-time s) s) (λ c. tt)
-step-of-shape store output list mode-look s =
-    guard-passed (StepShape (at-no-time s)) _ s _ (refusal-shape (at-no-time s) s) (λ c. tt)
-step-of-shape store output list peer-look s =
-    guard-passed (StepShape (at-no-time s)) _ s _ (refusal-shape (at-no-time s) s) (λ c. tt)
-step-of-shape store output list skipped-look s =
-    guard-passed (StepShape (at-no-time s)) _ s _ (refusal-shape (at-no-time s) s) (λ c. tt)
-step-of-shape store output list pending-look s =
-    guard-passed (StepShape (at-no-time s)) _ s _ (refusal-shape (at-no-time s) s) (λ c. tt)
-step-of-shape store output list continuation-look s =
-    guard-passed (StepShape (at-no-time s)) _ s _ (refusal-shape (at-no-time s) s) (λ c. tt)
-step-of-shape store output list (reading id field n) s =
-    guard-passed (StepShape (at-no-time s)) _ s _ (refusal-shape (at-no-time s) s) (λ c. tt)
-step-of-shape store output list (queued-data id content payload) s =
+step-of-shape store output list (call-queue-data id content payload) s =
     guard-passed (StepShape (at-no-time s)) _ s _ (refusal-shape (at-no-time s) s) (λ c. (tt, tt))
-step-of-shape store output list (queued-event id kind reason) s =
+step-of-shape store output list (call-queue-event id kind reason) s =
     guard-passed (StepShape (at-no-time s)) _ s _ (refusal-shape (at-no-time s) s) (λ c. tt)
 
 -- as it is asked for

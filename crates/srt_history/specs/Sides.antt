@@ -1,6 +1,5 @@
 -- What receiving sees of a member: its queue and the first sequence of its leg's peer. All that promotion, admission,
 -- alignment, the refresh, reservations and sends do to the members leaves that alone: the model's Frame carries them on.
--- Assumes nothing.
 use mathlib.Core.Path.{_≡_, refl, sym, ap, subst, _∙_}
 use mathlib.Core.List.{List, [], _∷_}
 use mathlib.Core.Option.{some}

@@ -1,7 +1,7 @@
 -- Every skip is right: it was made in a poll, at that poll's time, of the state that the poll had when it made the test; that
 -- state's base was set and not held, and no continuation was asked for; the give-up test was true for the packet nearest in it.
 -- The test is made once, before collecting. After collecting the base was still not held; the call delivers the packet then
--- nearest, and ends with empty leg queues and no event waiting. Assumes nothing.
+-- nearest, and ends with empty leg queues and no event waiting.
 use mathlib.Core.Path.{_≡_, refl, sym, subst}
 use mathlib.Core.Bool.{Bool, true}
 use mathlib.Core.Logic.{_⊎_, inl, inr}

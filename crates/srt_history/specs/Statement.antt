@@ -1,5 +1,5 @@
 -- What demand 3 says: every definition that the statement of the theorem needs, and no proof. Read Calls first (a call, what it is
--- lent, what it delivers, lists of calls), then this, then the record in HistoryTheorem. Assumes nothing.
+-- lent, what it delivers, lists of calls), then this, then the record in HistoryTheorem.
 use mathlib.Core.Path.{_≡_}
 use mathlib.Core.Bool.{Bool, true, false, _||_}
 use mathlib.Core.List.{List, [], _∷_, _++_}
@@ -7,10 +7,9 @@ use mathlib.Core.Option.{Option, none, some}
 use Prim.Native.Nat.{ℕ, zero, suc, _+_, _-_, _%_, _≤_, _<_}
 use lib.Dec.{leb, eqb}
 use Rattle.srt_protocol.specs.Sequence.{half, sequence-distance, sequence-further}
-use Rattle.srt_protocol.specs.Time.{last-moment}
-use Rattle.srt_group_model.specs.Tools.{if_then_else_, if-some_give_otherwise_, or-else, all}
+use Rattle.srt_group_model.specs.Tools.{if_then_else_, if-some_give_otherwise_, is-set, or-else, all}
 use Rattle.srt_group_model.specs.State.{Member, State, next-receive-sequence, with-continuation}
-use Rattle.srt_group_model.specs.Legs.{is-disconnected}
+use Rattle.srt_group_model.specs.Legs.{is-disconnected, largest-64}
 use Rattle.srt_group_model.specs.Nearest.{sequence-of, is-held, nearest}
 use Rattle.srt_group_model.specs.Run.{Mark, put, base-set, collected, gap-skipped, delivered, Run, start, refresh-pending-states, refresh-states}
 use Rattle.srt_group_model.specs.Collecting.{collect-until-held, collect-until-empty}
@@ -173,7 +172,7 @@ OneStore store (call ∷ more) s = LendsThis store call s × OneStore (store-lef
 pub record Fair (schedule : List Delivery) (first : ℕ) (g : Making) (calls : List Asked) : Type 0 where
   pub store : List ℕ
   pub from : FromSchedule schedule first (log-after calls (made g))
-  pub below : skipped-in (state-after calls (made g)) < last-moment
+  pub below : skipped-in (state-after calls (made g)) < largest-64
   pub one-store : OneStore store calls (made g)
 
 -- ---- when a poll makes its give-up test
@@ -229,7 +228,7 @@ pub record RightSkip (when : When) (gave : Option Packet) (s : State) (tested : 
   pub at-test : AtTest when base tested gathered
   pub based : next-receive-sequence (tested .receive) ≡ some base
   pub missing : is-held base (tested .receive .pending) ≡ false
-  pub complete : tested .visit .continuation ≡ false
+  pub complete : is-set (tested .visit .continuation) ≡ false
   pub given-up : GivenUp time tested
   pub still-missing : is-held base (gathered .receive .pending) ≡ false
   pub given : Packet

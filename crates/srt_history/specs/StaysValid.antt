@@ -1,6 +1,6 @@
 -- What a list of calls reaches is valid, so no call of it is refused by 6 for our own state. With a store's length given at the
 -- start this holds of every list; without one, of every list whose calls are lent stores of one length, but for those that are
--- refused with nothing changed. From the model's `valid-kept`, which keeps it over one call. Assumes nothing.
+-- refused with nothing changed. From the model's `valid-kept`, which keeps it over one call.
 use mathlib.Core.Path.{_≡_, refl, sym, ap, _∙_, subst}
 use mathlib.Core.Bool.{Bool, true, false, not, _&&_, _||_}
 use mathlib.Core.Logic.{_⊎_, inl, inr}
@@ -10,12 +10,10 @@ use Prim.Native.Nat.{ℕ, zero, suc, _≤_}
 use native.Mathlib.Omega.{arith}
 use lib.Dec.{ltb, eqb}
 use lib.ListN.{length, replicate, length-replicate}
-use Rattle.srt_protocol.specs.Handshake.{has-group-mask}
-use Rattle.srt_protocol.specs.Cells.{cell-size, cells-of}
+use Rattle.srt_protocol.specs.Cells.{cell-size, cells-of, max-cells}
 use Rattle.srt_group_model.specs.Tools.{any, such-that, at-place}
-use Rattle.srt_group_model.specs.Reason.{if-elim, if-some-elim, by-test, not-both, or-yes-left}
+use Rattle.srt_group_model.specs.Reason.{if-true, if-elim, if-some-elim, by-test, not-both, or-yes-left}
 use Rattle.srt_group_model.specs.State.{Member, State, next-receive-sequence}
-use Rattle.srt_group_model.specs.Legs.{largest-32}
 use Rattle.srt_group_model.specs.Members.{find, base-after, align-member-sequence}
 use Rattle.srt_group_model.specs.Nearest.{farthest, covered}
 use Rattle.srt_group_model.specs.Run.{Run, start, set-base, admit-connected-peer-groups, refresh-states}
@@ -23,11 +21,11 @@ use Rattle.srt_group_model.specs.Collecting.{retain-group-packet, report-event}
 use Rattle.srt_group_model.specs.Delivery.{release-pending-reservation, release-all, advance-legs, deliver-packet}
 use Rattle.srt_group_model.specs.Removal.{is-owned, retire, bound-group-owned-pending, take-out, remove-member-at}
 use Rattle.srt_group_model.specs.Sending.{Flow}
-use Rattle.srt_group_model.specs.Validity.{max-pending, is-invalid}
+use Rattle.srt_group_model.specs.Validity.{is-invalid}
 use Rattle.srt_group_model.specs.Guards.{Step, refuse, Check, guard}
-use Rattle.srt_group_model.specs.Calls.{store-unfit, cells-given, breaks-rule, change-member, new, add-body, add-member, mark-member-broken, remove-body, remove-member-connection, member, refresh-member-states, disconnect, event-poll-body, poll-event-call, data-poll-body, poll-data-call, left-by-send, send-flow, send-body, send, can-send-body, can-send-call, can-send-with-pacing-body, can-send-with-pacing-call}
-use Rattle.srt_group_model.specs.Calls.{time-until-send, backup-stability-timeout-micros, group-id, members-call, mode, peer-group-id, skipped-receive-packets, has-pending-data-call, has-receive-continuation, read-leg, queue-data-body, queue-data, queue-event}
-use Rattle.srt_group_model.specs.Lent.{Lent, Call, addition, broken-mark, removal, member-look, refreshing, disconnection, event-poll, data-poll, sending, readiness, paced-readiness, send-wait, stability, group-look, members-look, mode-look, peer-look, skipped-look, pending-look, continuation-look, reading, queued-data, queued-event}
+use Rattle.srt_group_model.specs.Calls.{store-unfit, cells-given, breaks-rule, change-member, new, new-code, add-body, add-member, mark-member-broken, remove-body, remove-member-connection, refresh-member-states, disconnect, event-poll-body, poll-event-call, data-poll-body, poll-data-call, left-by-send, send-flow, send-body, send, can-send-body, can-send-call, can-send-with-pacing-body, can-send-with-pacing-call}
+use Rattle.srt_group_model.specs.Calls.{read-leg, queue-data-body, queue-data, queue-event}
+use Rattle.srt_group_model.specs.Lent.{Lent, Call, call-add-member, call-mark-member-broken, call-remove-member-connection, call-refresh-member-states, call-disconnect, call-poll-event, call-poll-data-bounded, call-send, call-can-send, call-can-send-with-pacing, call-look, call-read-leg, call-queue-data, call-queue-event}
 use Rattle.srt_group_model.specs.Lent.{step-of, with-bytes, perform}
 use Rattle.srt_group_model.specs.Frame.{trim-framed, broadcast-framed, backup-framed}
 use Rattle.srt_group_model.specs.Steps.{State-law, refresh-has, poll-event-has, poll-data-has}
@@ -37,41 +35,32 @@ use Rattle.srt_group_model.specs.Valid.{valid-kept, valid-wider, new-valid}
 use Rattle.srt_group_model.specs.declared.Identity.{Identity}
 use Rattle.srt_group_model.specs.declared.Packet.{Packet}
 use Rattle.srt_group_model.specs.declared.Leg.{Leg}
-use Rattle.srt_history.specs.Cases.{if-true, eq-of, eqb-yes}
+use Rattle.srt_history.specs.Cases.{eq-of, eqb-yes}
 use Rattle.srt_history.specs.Calls.{Asked, do-call, takes-store, Making, made, state-after}
 
 pub store-length-stays : (call : Asked) (s : State) → do-call call s .state .identity .length ≡ s .identity .length
 unfolding do-call
-store-length-stays call s = ap (λ (x : Identity). x .length) (identity-kept (call .call) (call .lent) s)
+store-length-stays call s = ap (λ (x : Identity). x .length) (identity-kept (call .call) (call .lent) s .0)
 
 -- ---- a call that is lent no store leaves the same, whatever else is lent
 
 unlent-same : (store output list store′ output′ list′ : ℕ) (call : Call) (s : State) → takes-store call ≡ false
     → step-of store output list call s ≡ step-of store′ output′ list′ call s
 unfolding step-of takes-store
-unlent-same store output list store′ output′ list′ (addition id weight leg queue) s e = refl
-unlent-same store output list store′ output′ list′ (broken-mark id) s e = refl
-unlent-same store output list store′ output′ list′ (removal id) s e = refl
-unlent-same store output list store′ output′ list′ (member-look id) s e = refl
-unlent-same store output list store′ output′ list′ refreshing s e = refl
-unlent-same store output list store′ output′ list′ (disconnection time) s e = refl
-unlent-same store output list store′ output′ list′ (event-poll time) s e = not-both {t = true} refl e
-unlent-same store output list store′ output′ list′ (data-poll time max-events) s e = not-both {t = true} refl e
-unlent-same store output list store′ output′ list′ (sending time payload) s e = not-both {t = true} refl e
-unlent-same store output list store′ output′ list′ readiness s e = refl
-unlent-same store output list store′ output′ list′ (paced-readiness time) s e = refl
-unlent-same store output list store′ output′ list′ (send-wait time) s e = refl
-unlent-same store output list store′ output′ list′ (stability id) s e = refl
-unlent-same store output list store′ output′ list′ group-look s e = refl
-unlent-same store output list store′ output′ list′ members-look s e = refl
-unlent-same store output list store′ output′ list′ mode-look s e = refl
-unlent-same store output list store′ output′ list′ peer-look s e = refl
-unlent-same store output list store′ output′ list′ skipped-look s e = refl
-unlent-same store output list store′ output′ list′ pending-look s e = refl
-unlent-same store output list store′ output′ list′ continuation-look s e = refl
-unlent-same store output list store′ output′ list′ (reading id field m) s e = refl
-unlent-same store output list store′ output′ list′ (queued-data id content payload) s e = not-both {t = true} refl e
-unlent-same store output list store′ output′ list′ (queued-event id kind reason) s e = refl
+unlent-same store output list store′ output′ list′ (call-add-member id weight leg queue) s e = refl
+unlent-same store output list store′ output′ list′ (call-mark-member-broken id) s e = refl
+unlent-same store output list store′ output′ list′ (call-remove-member-connection id) s e = refl
+unlent-same store output list store′ output′ list′ call-refresh-member-states s e = refl
+unlent-same store output list store′ output′ list′ (call-disconnect time) s e = refl
+unlent-same store output list store′ output′ list′ (call-poll-event time) s e = not-both {t = true} refl e
+unlent-same store output list store′ output′ list′ (call-poll-data-bounded time max-events) s e = not-both {t = true} refl e
+unlent-same store output list store′ output′ list′ (call-send time payload) s e = not-both {t = true} refl e
+unlent-same store output list store′ output′ list′ call-can-send s e = refl
+unlent-same store output list store′ output′ list′ (call-can-send-with-pacing time) s e = refl
+unlent-same store output list store′ output′ list′ (call-look look) s e = refl
+unlent-same store output list store′ output′ list′ (call-read-leg id field m) s e = refl
+unlent-same store output list store′ output′ list′ (call-queue-data id content payload) s e = not-both {t = true} refl e
+unlent-same store output list store′ output′ list′ (call-queue-event id kind reason) s e = refl
 
 -- ---- validity along a list
 
@@ -83,10 +72,9 @@ abbrev pub OneLength : ℕ → List Asked → State → Type 0
 OneLength n [] s = Unit {0}
 OneLength n (call ∷ more) s = LentLength n call s × OneLength n more (do-call call s .state)
 
--- over a store of n bytes; the peer's id is a 32-bit number, as its type says
-pub record ValidAt (n : ℕ) (s : State) : Type 0 where
-  pub valid : is-invalid (cells-of n) s ≡ false
-  pub peer : s .identity .peer ≤ largest-32
+-- over a store of n bytes
+abbrev pub ValidAt : ℕ → State → Type 0
+ValidAt n s = is-invalid (cells-of n) s ≡ false
 
 pub call-stays-valid : (n : ℕ) (call : Asked) (s : State) → LentLength n call s → ValidAt n s → ValidAt n (do-call call s .state)
 unfolding do-call perform with-bytes
@@ -104,10 +92,8 @@ call-stays-valid n call s lent h =
   where
     at-length : (l : Lent) → length (l .store) ≡ n → ValidAt n (step-of (length (l .store)) (length (l .output)) (length (l .list)) (call .call) s .state)
     at-length l e =
-        let k : (is-invalid (cells-of (length (l .store))) (perform (call .call) l s .state) ≡ false) × (perform (call .call) l s .state .identity .peer ≤ largest-32) =
-        valid-kept (call .call) l s (h .peer) (subst (λ (m : ℕ). is-invalid (cells-of m) s ≡ false) (sym e) (h .valid))
-        in
-        record { valid = subst (λ (m : ℕ). is-invalid (cells-of m) (perform (call .call) l s .state) ≡ false) e (k .0); peer = k .1 }
+        subst (λ (m : ℕ). ValidAt m (perform (call .call) l s .state)) e
+        (valid-kept (call .call) l s (subst (λ (m : ℕ). ValidAt m s) (sym e) h))
 
 pub list-stays-valid : (n : ℕ) (calls : List Asked) (s : State) → OneLength n calls s → ValidAt n s → ValidAt n (state-after calls s)
 unfolding state-after
@@ -115,12 +101,11 @@ list-stays-valid n [] s lent h = h
 list-stays-valid n (call ∷ more) s lent h =
     list-stays-valid n more (do-call call s .state) (lent .1) (call-stays-valid n call s (lent .0) h)
 
--- From a new group, with calls that are lent stores of one length.
-pub reaches-valid : (g : Making) (n : ℕ) (calls : List Asked) → has-group-mask (g .id) ≡ true → OneLength n calls (made g)
+-- From a group that `new` makes, with calls that are lent stores of one length.
+pub reaches-valid : (g : Making) (n : ℕ) (calls : List Asked) → new-code (g .id) (g .mode) ≡ 0 → OneLength n calls (made g)
     → ValidAt n (state-after calls (made g))
-unfolding new
-reaches-valid g n calls mask lent =
-    list-stays-valid n calls (made g) lent record { valid = new-valid (g .id) (g .store-length) (cells-of n) (g .mode) mask; peer = omega arith }
+reaches-valid g n calls accepted lent =
+    list-stays-valid n calls (made g) lent (new-valid (g .id) (g .store-length) (cells-of n) (g .mode) accepted)
 
 -- ---- with a length given at the start every list is such a list: a store of another length is refused by 5
 
@@ -161,33 +146,24 @@ unfit-refused n fails checks s body store unfit given some-length e =
 given-lends : (n : ℕ) (store output list : ℕ) (call : Call) (s : State) → Given n s → (n ≡ 0 → ⊥) → takes-store call ≡ true
     → changes-nothing (step-of store output list call s .code) ≡ false → store ≡ n
 unfolding step-of takes-store poll-event-call poll-data-call send queue-data
-given-lends n store output list (addition id weight leg queue) s given some-length takes e = not-both takes refl
-given-lends n store output list (broken-mark id) s given some-length takes e = not-both takes refl
-given-lends n store output list (removal id) s given some-length takes e = not-both takes refl
-given-lends n store output list (member-look id) s given some-length takes e = not-both takes refl
-given-lends n store output list refreshing s given some-length takes e = not-both takes refl
-given-lends n store output list (disconnection time) s given some-length takes e = not-both takes refl
-given-lends n store output list (event-poll time) s given some-length takes e =
+given-lends n store output list (call-add-member id weight leg queue) s given some-length takes e = not-both takes refl
+given-lends n store output list (call-mark-member-broken id) s given some-length takes e = not-both takes refl
+given-lends n store output list (call-remove-member-connection id) s given some-length takes e = not-both takes refl
+given-lends n store output list call-refresh-member-states s given some-length takes e = not-both takes refl
+given-lends n store output list (call-disconnect time) s given some-length takes e = not-both takes refl
+given-lends n store output list (call-poll-event time) s given some-length takes e =
     unfit-refused n _ _ s _ store (λ t. or-yes-left (store-unfit store s) _ t) given some-length e
-given-lends n store output list (data-poll time max-events) s given some-length takes e =
+given-lends n store output list (call-poll-data-bounded time max-events) s given some-length takes e =
     unfit-refused n _ _ s _ store (λ t. or-yes-left (store-unfit store s) _ t) given some-length e
-given-lends n store output list (sending time payload) s given some-length takes e =
+given-lends n store output list (call-send time payload) s given some-length takes e =
     unfit-refused n _ _ s _ store (λ t. or-yes-left (store-unfit store s) _ t) given some-length e
-given-lends n store output list readiness s given some-length takes e = not-both takes refl
-given-lends n store output list (paced-readiness time) s given some-length takes e = not-both takes refl
-given-lends n store output list (send-wait time) s given some-length takes e = not-both takes refl
-given-lends n store output list (stability id) s given some-length takes e = not-both takes refl
-given-lends n store output list group-look s given some-length takes e = not-both takes refl
-given-lends n store output list members-look s given some-length takes e = not-both takes refl
-given-lends n store output list mode-look s given some-length takes e = not-both takes refl
-given-lends n store output list peer-look s given some-length takes e = not-both takes refl
-given-lends n store output list skipped-look s given some-length takes e = not-both takes refl
-given-lends n store output list pending-look s given some-length takes e = not-both takes refl
-given-lends n store output list continuation-look s given some-length takes e = not-both takes refl
-given-lends n store output list (reading id field m) s given some-length takes e = not-both takes refl
-given-lends n store output list (queued-data id content payload) s given some-length takes e =
+given-lends n store output list call-can-send s given some-length takes e = not-both takes refl
+given-lends n store output list (call-can-send-with-pacing time) s given some-length takes e = not-both takes refl
+given-lends n store output list (call-look look) s given some-length takes e = not-both takes refl
+given-lends n store output list (call-read-leg id field m) s given some-length takes e = not-both takes refl
+given-lends n store output list (call-queue-data id content payload) s given some-length takes e =
     unfit-refused n _ _ s _ store (λ t. t) given some-length e
-given-lends n store output list (queued-event id kind reason) s given some-length takes e = not-both takes refl
+given-lends n store output list (call-queue-event id kind reason) s given some-length takes e = not-both takes refl
 
 given-length-lends : (n : ℕ) (calls : List Asked) (s : State) → Given n s → (n ≡ 0 → ⊥) → OneLength n calls s
 unfolding do-call perform with-bytes
@@ -197,12 +173,12 @@ given-length-lends n (call ∷ more) s given some-length = (
   given-length-lends n more _ (store-length-stays call s ∙ given) some-length,
 )
 
--- From a new group with a store's length given at the start, whatever the calls and whatever they are lent.
-pub reaches-valid-given : (g : Making) (calls : List Asked) → has-group-mask (g .id) ≡ true → (g .store-length ≡ 0 → ⊥)
+-- From a group that `new` makes with a store's length given at the start, whatever the calls and whatever they are lent.
+pub reaches-valid-given : (g : Making) (calls : List Asked) → new-code (g .id) (g .mode) ≡ 0 → (g .store-length ≡ 0 → ⊥)
     → ValidAt (g .store-length) (state-after calls (made g))
 unfolding new
-reaches-valid-given g calls mask some-length =
-    reaches-valid g (g .store-length) calls mask (given-length-lends (g .store-length) calls (made g) refl some-length)
+reaches-valid-given g calls accepted some-length =
+    reaches-valid g (g .store-length) calls accepted (given-length-lends (g .store-length) calls (made g) refl some-length)
 
 -- ---- so the tests of 6 are false: of a call that is lent a store of n bytes, and of one that is lent none
 
@@ -211,9 +187,9 @@ pub valid-breaks-no-rule : (n : ℕ) (s : State) → (s .identity .length ≡ 0)
 unfolding cells-given
 valid-breaks-no-rule n s (inl none-given) h =
     if-elim (λ (cells : ℕ). is-invalid cells s ≡ false) (eqb (s .identity .length) 0) _ _
-    (λ e. valid-wider (cells-of n) max-pending s (omega arith) (h .valid))
+    (λ e. valid-wider (cells-of n) max-cells s (omega arith) h)
     (λ e. not-both (ap (λ (m : ℕ). eqb m 0) none-given ∙ eqb-yes 0) e)
 valid-breaks-no-rule n s (inr this-given) h =
     if-elim (λ (cells : ℕ). is-invalid cells s ≡ false) (eqb (s .identity .length) 0) _ _
-    (λ e. valid-wider (cells-of n) max-pending s (omega arith) (h .valid))
-    (λ e. subst (λ (m : ℕ). is-invalid (cells-of m) s ≡ false) (sym this-given) (h .valid))
+    (λ e. valid-wider (cells-of n) max-cells s (omega arith) h)
+    (λ e. subst (λ (m : ℕ). is-invalid (cells-of m) s ≡ false) (sym this-given) h)

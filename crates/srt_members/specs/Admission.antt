@@ -1,4 +1,4 @@
--- Admission to the peer group, member after member. Assumes nothing.
+-- Admission to the peer group, member after member.
 use mathlib.Core.Path.{_≡_, refl, ap, sym, _∙_}
 use mathlib.Core.Bool.{Bool, true, false, _&&_, _||_}
 use mathlib.Core.List.{List, [], _∷_}
@@ -8,10 +8,12 @@ use native.Mathlib.Omega.{arith}
 use borrow.Author.Tests.{eq-eqb, ne-eqb}
 use lib.Dec.{eqb}
 use lib.ListN.{drop}
-use Rattle.srt_group_model.specs.Tools.{if_then_else_, or-else, flagged, each}
+use Rattle.srt_group_model.specs.Tools.{if_then_else_, or-else, is-set, flagged, each}
 use Rattle.srt_group_model.specs.State.{Member, on-membership, with-admitted, with-collision, broken-state}
+use Rattle.srt_group_model.specs.FlagLaws.{other-set}
 use Rattle.srt_group_model.specs.Legs.{is-connected, peer-initial-sequence}
 use Rattle.srt_group_model.specs.Members.{arrives, base-after, peer-after, admit-peer-group}
+use Rattle.srt_group_model.specs.Arrivals.{base-after-none, base-after-one, base-after-next, peer-after-none, peer-after-one, peer-after-next, peer-stays}
 use Rattle.srt_group_model.specs.declared.Leg.{Leg}
 use Rattle.srt_group_model.specs.declared.Membership.{Membership}
 use Rattle.srt_connection.specs.Answers.{sequence-of}
@@ -25,7 +27,7 @@ use Rattle.srt_members.specs.declared.admission.Admission.{Admission}
 
 -- the base that an admission holds
 abbrev pub base-in : Admission → Option ℕ
-base-in a = flagged (a .based) (a .base)
+base-in a = flagged (is-set (a .based)) (a .base)
 
 -- an arriving member that answers from the group `actual`, where the group is bound to `peer`
 unfoldable pub membership-after : (peer actual : ℕ) → Membership → Membership
@@ -74,42 +76,42 @@ module _ (m : Member) {x : Membership} (membership : x ≡ m .membership) where
 
 module _ (before : Admission) (leg : Leg) where
   pub answered-based : (after : Admission) → after .peer ≡ (if eqb (before .peer) 0 then leg .link .peer else before .peer)
-      → before .based ≡ true → after .based ≡ true → after .base ≡ before .base → Answered before leg after
+      → (before .based ≡ 0 → ⊥) → after .based ≡ 1 → after .base ≡ before .base → Answered before leg after
   unfolding flagged or-else
   answered-based after peer was is base =
-      record { peer = peer; base = rw (is, base, was) }
+      record { peer = peer; base = rw (is, base, other-set (before .based) was) }
 
   pub answered-first : (after : Admission) → after .peer ≡ (if eqb (before .peer) 0 then leg .link .peer else before .peer)
-      → before .based ≡ false → after .based ≡ true → Some (after .base) ≡ sequence-of (peer-initial-sequence leg)
+      → before .based ≡ 0 → after .based ≡ 1 → Some (after .base) ≡ sequence-of (peer-initial-sequence leg)
       → Answered before leg after
   unfolding flagged or-else
   answered-first after peer was is first =
       record { peer = peer; base = rw (is, was) (sym (sequence-some (peer-initial-sequence leg) (after .base) first)) }
 
   pub answered-nothing : (after : Admission) → after .peer ≡ (if eqb (before .peer) 0 then leg .link .peer else before .peer)
-      → before .based ≡ false → after .based ≡ false → None ≡ sequence-of (peer-initial-sequence leg) → Answered before leg after
+      → before .based ≡ 0 → after .based ≡ 0 → None ≡ sequence-of (peer-initial-sequence leg) → Answered before leg after
   unfolding flagged or-else
   answered-nothing after peer was is first =
       record { peer = peer; base = rw (is, was) (sym (sequence-none (peer-initial-sequence leg) first)) }
 
 module _ (i : ℕ) (t : List ℕ) (before : Admission) {arriving : Bool} (is : arriving ≡ arrives (member-at t i)) where
   pub admitted-not-arriving : arriving ≡ false → AdmittedAt i t before before t
-  unfolding peer-after base-after admit-peer-group if_then_else_
+  unfolding admit-peer-group if_then_else_
   admitted-not-arriving stays =
       record {
-        peer = sym (rw (← is, stays));
-        base = sym (rw (← is, stays));
+        peer = sym (peer-after-one (before .peer) (member-at t i) ∙ rw (← is, stays));
+        base = sym (base-after-one (base-in before) (member-at t i) ∙ rw (← is, stays));
         changed = changed-by i t t (admit-peer-group (before .peer)) (unchanged i t) (sym (rw (← is, stays)));
       }
 
   pub admitted-arriving : {l : Leg} {x y : Membership} {u : List ℕ} (after : Admission) → arriving ≡ true → l ≡ member-at t i .leg
       → Answered before l after → y ≡ member-at t i .membership → x ≡ membership-after (after .peer) (l .link .peer) y
       → Changed i (with-membership x) t u → AdmittedAt i t before after u
-  unfolding peer-after base-after admit-peer-group membership-after if_then_else_
+  unfolding admit-peer-group membership-after if_then_else_
   admitted-arriving {l} {x} {y} {u} after comes leg answered membership answer c =
       record {
-        peer = answered .peer ∙ sym (rw (← is, comes, ← leg));
-        base = answered .base ∙ sym (rw (← is, comes, ← leg));
+        peer = answered .peer ∙ sym (peer-after-one (before .peer) (member-at t i) ∙ rw (← is, comes, ← leg));
+        base = answered .base ∙ sym (base-after-one (base-in before) (member-at t i) ∙ rw (← is, comes, ← leg));
         changed =
             changed-by i t u (admit-peer-group (after .peer)) c
             (rw (whole, ← is, comes) (go (eqb actual 0 || eqb actual (after .peer))));
@@ -137,21 +139,15 @@ module _ (i : ℕ) (t : List ℕ) (before : Admission) {arriving : Bool} (is : a
 
 -- ---- member after member
 
--- once the group is bound it stays so
-pub peer-stays : (peer : ℕ) (ms : List Member) → eqb peer 0 ≡ false → peer-after peer ms ≡ peer
-unfolding peer-after if_then_else_
-peer-stays peer [] bound = refl
-peer-stays peer (m ∷ ms) bound = rw (bound, same (arrives m)) (peer-stays peer ms bound)
-  where
-    same : (b : Bool) → (if b && false then m .leg .link .peer else peer) ≡ peer
-    same true = refl
-    same false = refl
-
 -- what later members bind the group to makes no difference to a member that came before them
 pub admitted-either-way : (peer : ℕ) (m : Member) (ms : List Member)
     → admit-peer-group (peer-after peer (m ∷ [])) m ≡ admit-peer-group (peer-after peer (m ∷ ms)) m
-unfolding peer-after admit-peer-group if_then_else_
-admitted-either-way peer m ms = go (arrives m) (eqb peer 0) refl
+unfolding admit-peer-group if_then_else_
+admitted-either-way peer m ms =
+    ap (λ (p : ℕ). admit-peer-group p m) (peer-after-one peer m)
+    ∙ go (arrives m) (eqb peer 0) refl
+    ∙ sym
+    (ap (λ (p : ℕ). admit-peer-group p m) (peer-after-next peer m ms ∙ ap (λ (p : ℕ). peer-after p ms) (peer-after-one peer m)))
   where
     q : ℕ
     q = m .leg .link .peer
@@ -189,7 +185,7 @@ pub record Admitting (n bound : ℕ) (t : List ℕ) (i : ℕ) (so-far : Admissio
   pub changing : Changing i (admit-peer-group (peer-after bound (members-of n t))) t u
 
 module _ (n peer : ℕ) (t : List ℕ) where
-  pub admitting-start : (so-far : Admission) → so-far .peer ≡ peer → so-far .based ≡ false → Admitting n peer t 0 so-far t
+  pub admitting-start : (so-far : Admission) → so-far .peer ≡ peer → so-far .based ≡ 0 → Admitting n peer t 0 so-far t
   unfolding flagged
   admitting-start so-far is none-yet =
       record {
@@ -201,17 +197,16 @@ module _ (n peer : ℕ) (t : List ℕ) where
 
   pub admitting-on : (i : ℕ) (before after : Admission) (u v : List ℕ) → i < n → Admitting n peer t i before u
       → AdmittedAt i u before after v → Admitting n peer t (i + 1) after v
-  unfolding peer-after base-after
   admitting-on i before after u v h so-far step =
       record {
         within = omega arith;
         peer =
             ap (λ (p : ℕ). peer-after p rest) (step .peer ∙ ap (λ (m : Member). peer-after (before .peer) (m ∷ [])) same)
-            ∙ all-peer;
+            ∙ sym (peer-after-next (before .peer) (member-at t i) rest) ∙ all-peer;
         base =
             ap (λ (b : Option ℕ). base-after b rest)
             (step .base ∙ ap (λ (m : Member). base-after (base-in before) (m ∷ [])) same)
-            ∙ all-base;
+            ∙ sym (base-after-next (base-in before) (member-at t i) rest) ∙ all-base;
         changing =
             changing-on i (admit-peer-group (peer-after peer (members-of n t))) t u v (so-far .changing)
             (changed-by i u v (admit-peer-group (peer-after peer (members-of n t))) (step .changed)
@@ -234,13 +229,18 @@ module _ (n peer : ℕ) (t : List ℕ) where
       all-base = rw (left-next n i t h) at (so-far .base)
 
   pub admitting-done : (i : ℕ) (answer : Admission) (u : List ℕ) → n ≤ i → Admitting n peer t i answer u → Admitted n peer t answer u
-  unfolding peer-after base-after
   admitting-done i answer u h done =
       record {
-        peer = rw (left-none n i t h) at (done .peer);
-        base = rw (left-none n i t h) at (done .base);
+        peer = sym (peer-after-none (answer .peer)) ∙ none-left-peer;
+        base = sym (base-after-none (base-in answer)) ∙ none-left-base;
         became = record { long = done .changing .long; is = every .members };
       }
     where
+      none-left-peer : peer-after (answer .peer) [] ≡ peer-after peer (members-of n t)
+      none-left-peer = rw (left-none n i t h) at (done .peer)
+
+      none-left-base : base-after (base-in answer) [] ≡ base-after none (members-of n t)
+      none-left-base = rw (left-none n i t h) at (done .base)
+
       every : ChangedAll n (admit-peer-group (peer-after peer (members-of n t))) t u
       every = changing-done i n (admit-peer-group (peer-after peer (members-of n t))) t u h (done .within) (done .changing)

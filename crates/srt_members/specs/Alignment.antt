@@ -1,19 +1,21 @@
--- Alignment of a member's send sequence with the group's. Assumes nothing.
+-- Alignment of a member's send sequence with the group's.
 use mathlib.Core.Path.{_≡_, refl, ap, sym, _∙_}
 use mathlib.Core.Bool.{Bool, true, false, not, _&&_}
 use mathlib.Core.List.{List, [], _∷_}
 use mathlib.Core.Option.{Option, none, some}
-use Prim.Native.Nat.{ℕ, zero, suc, _≤_, _<_}
+use Prim.Native.Nat.{ℕ, suc, _≤_, _<_}
 use borrow.Author.Tests.{eq-eqb, ne-eqb}
 use lib.Dec.{eqb}
-use Rattle.srt_group_model.specs.Tools.{if_then_else_, if-some_give_otherwise_, or-else, flagged, first-such, place-of, at-place, change}
+use Rattle.srt_group_model.specs.Tools.{if_then_else_, if-some_give_otherwise_, or-else, is-set, flagged, first-such, place-of, at-place, change}
+use Rattle.srt_group_model.specs.Places.{change-nothing}
 use Rattle.srt_group_model.specs.State.{Member, with-leg}
+use Rattle.srt_group_model.specs.FlagLaws.{other-set}
 use Rattle.srt_group_model.specs.Legs.{is-connected, has-sender}
 use Rattle.srt_group_model.specs.Members.{has-id, alignment-source, align-leg, align-member-sequence}
 use Rattle.srt_group_model.specs.declared.Leg.{Leg}
 use Rattle.srt_group_model.specs.declared.Membership.{Membership}
 use Rattle.srt_group_model.specs.declared.Sender.{Sender}
-use Rattle.srt_connection.specs.Answers.{sequence-of, result-of}
+use Rattle.srt_connection.specs.Answers.{sequence-of, result-of, result-ok, result-err}
 use Rattle.srt_connection.specs.Tab.{tab-past, tab-passes}
 use Rattle.srt_connection.specs.Members.{member-at, members-of, members-place, found-of, found-some, found-none, Changed, changed-by, unchanged}
 use Rattle.srt_connection.specs.declared.legs.LegResult.the-variants.{Ok, Err}
@@ -29,7 +31,7 @@ is-other-sender id m = not (has-id id m) && (is-connected (m .leg) && has-sender
 
 -- the leg at i is aligned with a sequence, or that fails and nothing is changed
 pub record AlignedAt (i sequence : ℕ) (t : List ℕ) (answer : Bool) (u : List ℕ) : Type 0 where
-  pub went : answer ≡ is-some (align-leg sequence (member-at t i .leg))
+  pub aligned : answer ≡ is-some (align-leg sequence (member-at t i .leg))
   pub changed : Changed i (λ m. if-some align-leg sequence (m .leg) give (λ l. with-leg l m) otherwise m) t u
 
 -- ---- the tests
@@ -80,13 +82,14 @@ no-such test (x ∷ xs) e = go (test x) (place-of test xs) (λ q. no-such test x
     go false none h e = h refl
     go false (some j) h e = cc e
 
-module _ (n id : ℕ) (t : List ℕ) (number : ℕ) {numbered : Bool} where
-  pub source-numbered : numbered ≡ true → Some number ≡ sequence-of (alignment-source (flagged numbered number) id (members-of n t))
+module _ (n id : ℕ) (t : List ℕ) (number : ℕ) {numbered : ℕ} where
+  pub source-numbered : (numbered ≡ 0 → ⊥)
+      → Some number ≡ sequence-of (alignment-source (flagged (is-set numbered) number) id (members-of n t))
   unfolding alignment-source flagged or-else
-  source-numbered is = sym (rw is)
+  source-numbered is = sym (rw (other-set numbered is))
 
-  pub source-none : numbered ≡ false → Nothing ≡ found-of (place-of (is-other-sender id) (members-of n t))
-      → None ≡ sequence-of (alignment-source (flagged numbered number) id (members-of n t))
+  pub source-none : numbered ≡ 0 → Nothing ≡ found-of (place-of (is-other-sender id) (members-of n t))
+      → None ≡ sequence-of (alignment-source (flagged (is-set numbered) number) id (members-of n t))
   unfolding alignment-source is-other-sender flagged or-else if-some_give_otherwise_
   source-none is e =
       sym
@@ -95,8 +98,9 @@ module _ (n id : ℕ) (t : List ℕ) (number : ℕ) {numbered : Bool} where
         no-such (is-other-sender id) (members-of n t) (found-none (place-of (is-other-sender id) (members-of n t)) e),
       ))
 
-  pub source-other : {s : Sender} (i : ℕ) → numbered ≡ false → At i ≡ found-of (place-of (is-other-sender id) (members-of n t))
-      → s ≡ member-at t i .leg .sender → Some (s .next) ≡ sequence-of (alignment-source (flagged numbered number) id (members-of n t))
+  pub source-other : {s : Sender} (i : ℕ) → numbered ≡ 0 → At i ≡ found-of (place-of (is-other-sender id) (members-of n t))
+      → s ≡ member-at t i .leg .sender
+      → Some (s .next) ≡ sequence-of (alignment-source (flagged (is-set numbered) number) id (members-of n t))
   unfolding alignment-source is-other-sender flagged or-else if-some_give_otherwise_ members-of
   source-other {s} i is e sender =
       sym
@@ -124,20 +128,12 @@ module _ (n id : ℕ) (t : List ℕ) (number : ℕ) {numbered : Bool} where
 
 -- ---- one leg
 
-result-ok : (o : Option Leg) (l : Leg) → Ok l ≡ result-of o → o ≡ some l
-result-ok none l e = cc e
-result-ok (some k) l e = cc e
-
-result-err : (o : Option Leg) → Err ≡ result-of o → o ≡ none
-result-err none e = refl
-result-err (some k) e = cc e
-
 module _ (i sequence : ℕ) (t : List ℕ) {leg : Leg} (is-leg : leg ≡ member-at t i .leg) where
   pub leg-not-aligned : Err ≡ result-of (align-leg sequence leg) → AlignedAt i sequence t false t
   unfolding is-some if-some_give_otherwise_
   leg-not-aligned failed =
       record {
-        went = sym (rw fails);
+        aligned = sym (rw fails);
         changed =
             changed-by i t t (λ m. if-some align-leg sequence (m .leg) give (λ l. with-leg l m) otherwise m) (unchanged i t)
             (sym (rw fails));
@@ -151,7 +147,7 @@ module _ (i sequence : ℕ) (t : List ℕ) {leg : Leg} (is-leg : leg ≡ member-
   unfolding is-some if-some_give_otherwise_
   leg-aligned {u} l aligned c =
       record {
-        went = sym (rw goes);
+        aligned = sym (rw goes);
         changed =
             changed-by i t u (λ m. if-some align-leg sequence (m .leg) give (λ l. with-leg l m) otherwise m) c (sym (rw goes));
       }
@@ -161,16 +157,10 @@ module _ (i sequence : ℕ) (t : List ℕ) {leg : Leg} (is-leg : leg ≡ member-
 
 -- ---- one member
 
-change-nothing : (i : ℕ) (l : List Member) → change i (λ m. m) l ≡ l
-unfolding change
-change-nothing i [] = refl
-change-nothing zero (x ∷ xs) = refl
-change-nothing (suc i) (x ∷ xs) = ap (λ (ys : List Member). x ∷ ys) (change-nothing i xs)
-
 module _ (n i : ℕ) (number : Option ℕ) (t : List ℕ) where
   pub align-past : n ≤ i → Tried n (align-member-sequence number i (members-of n t)) t false t
   unfolding align-member-sequence is-some if-some_give_otherwise_ members-of
-  align-past h = rw (tab-past n (member-at t) i h) record { long = refl; went = refl; is = refl }
+  align-past h = rw (tab-past n (member-at t) i h) record { long = refl; succeeded = refl; is = refl }
 
   module _ (there : i < n) {x : Membership} (membership : x ≡ member-at t i .membership) where
     pub align-no-source : None ≡ sequence-of (alignment-source number (x .id) (members-of n t))
@@ -181,7 +171,7 @@ module _ (n i : ℕ) (number : Option ℕ) (t : List ℕ) where
           members-place n t i there,
           ← membership,
           sequence-none (alignment-source number (x .id) (members-of n t)) e,
-        ) record { long = refl; went = refl; is = refl }
+        ) record { long = refl; succeeded = refl; is = refl }
 
     pub align-with : {answer : Bool} {u : List ℕ} (sequence : ℕ)
         → Some sequence ≡ sequence-of (alignment-source number (x .id) (members-of n t)) → AlignedAt i sequence t answer u
@@ -199,7 +189,7 @@ module _ (n i : ℕ) (number : Option ℕ) (t : List ℕ) where
         go none fails =
             record {
               long = a .changed .long;
-              went = a .went ∙ ap is-some fails;
+              succeeded = a .aligned ∙ ap is-some fails;
               is =
                   changed-by i t u (λ m. m) (a .changed) (rw fails) .members n
                   ∙ change-nothing i (members-of n t);
@@ -207,6 +197,6 @@ module _ (n i : ℕ) (number : Option ℕ) (t : List ℕ) where
         go (some l) goes =
             record {
               long = a .changed .long;
-              went = a .went ∙ ap is-some goes;
+              succeeded = a .aligned ∙ ap is-some goes;
               is = changed-by i t u (with-leg l) (a .changed) (rw goes) .members n;
             }

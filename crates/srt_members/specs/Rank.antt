@@ -1,4 +1,4 @@
--- The first in rank among the connected Standby members, found from the last row to the first. Assumes nothing.
+-- The first in rank among the connected Standby members, found from the last row to the first.
 use mathlib.Core.Path.{_≡_, refl, ap, sym}
 use mathlib.Core.Bool.{Bool, true, false, not, _&&_}
 use mathlib.Core.List.{List, [], _∷_}
@@ -10,9 +10,8 @@ use lib.Dec.{ltb}
 use lib.ListN.{length, drop}
 use Rattle.srt_group_model.specs.Tools.{if_then_else_, if-some_give_otherwise_}
 use Rattle.srt_group_model.specs.State.{Member, is-backup, turned, active-state}
-use Rattle.srt_group_model.specs.Members.{Ranked, is-standby, outranks, first-in-rank, promotion, promote-backup-member, promote-if-none, has-active-member}
+use Rattle.srt_group_model.specs.Members.{Placed, is-standby, outranks, first-in-rank, promotion, promote-backup-member, promote-if-none, has-active-member}
 use Rattle.srt_group_model.specs.declared.Membership.{Membership}
-use Rattle.srt_group_model.specs.declared.GroupMode.{GroupMode}
 use Rattle.srt_connection.specs.Rows.{row-size}
 use Rattle.srt_connection.specs.Members.{member-at, members-of, members-length, has-row, found-of, found-some, found-none, Changed}
 use Rattle.srt_connection.specs.declared.members.Found.{Found}
@@ -30,7 +29,7 @@ first-with t i Nothing = if is-standby (member-at t i) then At i else Nothing
 first-with t i (At b) = if is-standby (member-at t i) && not (outranks (member-at t b) (member-at t i)) then At i else At b
 
 -- what was found, with its place counted from k on
-unfoldable pub ranked-from : List ℕ → ℕ → Found → Option Ranked
+unfoldable pub ranked-from : List ℕ → ℕ → Found → Option Placed
 ranked-from t k Nothing = none
 ranked-from t k (At i) = some record { place = i - k; member = member-at t i }
 
@@ -151,13 +150,13 @@ row-of-found t best b there found = rw found at there
 
 -- ---- the member that is promoted
 
-rank-below : (candidate : Member → Bool) (ms : List Member) (r : Ranked) → first-in-rank candidate ms ≡ some r → r .place < length ms
+rank-below : (candidate : Member → Bool) (ms : List Member) (r : Placed) → first-in-rank candidate ms ≡ some r → r .place < length ms
 unfolding first-in-rank if_then_else_ if-some_give_otherwise_
 rank-below candidate [] r e = let different : _≡_ {A = ℕ} 0 1 = cc in absurd (omega arith)
 rank-below candidate (m ∷ ms) r e =
     go (first-in-rank candidate ms) (λ q is. rank-below candidate ms q is) (candidate m) r e
   where
-    go : (o : Option Ranked) → ((q : Ranked) → o ≡ some q → q .place < length ms) → (b : Bool) (r : Ranked)
+    go : (o : Option Placed) → ((q : Placed) → o ≡ some q → q .place < length ms) → (b : Bool) (r : Placed)
         → (if-some o
         give
         (λ q.
@@ -183,7 +182,7 @@ module _ (n : ℕ) (t : List ℕ) where
   promotion-below i e =
       go (first-in-rank is-standby (members-of n t)) (λ r is. rank-below is-standby (members-of n t) r is) e
     where
-      go : (o : Option Ranked) → ((r : Ranked) → o ≡ some r → r .place < length (members-of n t))
+      go : (o : Option Placed) → ((r : Placed) → o ≡ some r → r .place < length (members-of n t))
           → At i ≡ found-of (if-some o give (λ r. some (r .place)) otherwise none) → i < n
       go none h e = let different : _≡_ {A = ℕ} 0 1 = cc in absurd (omega arith)
       go (some r) h e = let place : i ≡ r .place = cc in omega (arith, h r refl, members-length n t)
@@ -198,7 +197,7 @@ module _ (n : ℕ) (t : List ℕ) where
   promoted-none e = rw (found-none (promotion (members-of n t)) e) (became-same n t (members-of n t) refl)
 
 -- in Backup, if no member is active
-module _ (n : ℕ) (t : List ℕ) (mode : GroupMode) {backup : Bool} (is-mode : backup ≡ is-backup mode) where
+module _ (n : ℕ) (t : List ℕ) (mode : ℕ) {backup : Bool} (is-mode : backup ≡ is-backup mode) where
   pub promoted-not-in-backup : backup ≡ false → Became n (promote-if-none mode (members-of n t)) t t
   unfolding promote-if-none if_then_else_
   promoted-not-in-backup other = rw (← is-mode, other) (became-same n t (members-of n t) refl)

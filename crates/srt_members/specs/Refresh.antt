@@ -1,5 +1,4 @@
--- The refresh of the members' states: a step at each place, of which one turns the member there if it can be aligned. Assumes
--- nothing.
+-- The refresh of the members' states: a step at each place, of which one turns the member there if it can be aligned.
 use mathlib.Core.Path.{_≡_, refl, ap, sym, _∙_}
 use mathlib.Core.Bool.{Bool, true, false, _&&_}
 use mathlib.Core.List.{List}
@@ -12,7 +11,6 @@ use Rattle.srt_group_model.specs.Tools.{if_then_else_, if-some_give_otherwise_,
 use Rattle.srt_group_model.specs.State.{Member, is-backup, turned, pending-state, active-state, standby-state, unstable-state, broken-state}
 use Rattle.srt_group_model.specs.Legs.{is-connected, is-disconnected, can-send}
 use Rattle.srt_group_model.specs.Members.{in-state, has-active-member, align-member-sequence, turn-aligned, steps-from, at-each-place, settle, requalify, break-disconnected, promote-if-none, settle-members, requalify-members}
-use Rattle.srt_group_model.specs.declared.GroupMode.{GroupMode}
 use Rattle.srt_group_model.specs.declared.Leg.{Leg}
 use Rattle.srt_group_model.specs.declared.Membership.{Membership}
 use Rattle.srt_connection.specs.Members.{member-at, members-of, members-length, members-place, Changed, ChangedAll, changed-by, unchanged}
@@ -23,13 +21,13 @@ use Rattle.srt_members.specs.Scan.{is-some, Became, became-same, became-
 unfoldable pub settles : Member → Bool
 settles m = in-state pending-state m && is-connected (m .leg)
 
-unfoldable pub settled-state : GroupMode → ℕ
+unfoldable pub settled-state : ℕ → ℕ
 settled-state mode = if is-backup mode then standby-state else active-state
 
 unfoldable pub requalifies : Member → Bool
 requalifies m = in-state unstable-state m && (is-connected (m .leg) && can-send (m .leg))
 
-unfoldable pub requalified-state : GroupMode → List Member → ℕ
+unfoldable pub requalified-state : ℕ → List Member → ℕ
 requalified-state mode ms = if is-backup mode && has-active-member ms then standby-state else active-state
 
 -- ---- the tests
@@ -68,7 +66,7 @@ module _ (test : Member → Bool) (state : List Member → ℕ) (number : Option
   unfolding turn-aligned is-some if_then_else_ if-some_give_otherwise_
   turn-refused {u} passes tried fails =
       rw (members-place n t i there, ← is, passes)
-      (go (align-member-sequence number i (members-of n t)) (sym fails ∙ tried .went) (tried .is))
+      (go (align-member-sequence number i (members-of n t)) (sym fails ∙ tried .succeeded) (tried .is))
     where
       go : (o : Option (List Member)) → false ≡ is-some o
           → members-of n u ≡ (if-some o give (λ ms. ms) otherwise members-of n t)
@@ -82,7 +80,7 @@ module _ (test : Member → Bool) (state : List Member → ℕ) (number : Option
   unfolding turn-aligned is-some if_then_else_ if-some_give_otherwise_
   turn-made {u} {v} {aligned} {turns} passes tried goes to c =
       rw (members-place n t i there, ← is, passes)
-      (go (align-member-sequence number i (members-of n t)) (sym goes ∙ tried .went) (tried .is))
+      (go (align-member-sequence number i (members-of n t)) (sym goes ∙ tried .succeeded) (tried .is))
     where
       go : (o : Option (List Member)) → true ≡ is-some o
           → members-of n u ≡ (if-some o give (λ ms. ms) otherwise members-of n t)
@@ -173,7 +171,7 @@ became-each n t u c = record { long = c .long; is = c .members }
 
 -- ---- the two calls
 
-module _ (n : ℕ) (mode : GroupMode) (number : Option ℕ) (t u v : List ℕ) where
+module _ (n : ℕ) (mode : ℕ) (number : Option ℕ) (t u v : List ℕ) where
   pub settled : Became n (at-each-place (settle mode number) (members-of n t)) t u
       → Became n (promote-if-none mode (members-of n u)) u v → Became n (settle-members mode number (members-of n t)) t v
   unfolding settle-members

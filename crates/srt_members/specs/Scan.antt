@@ -1,5 +1,5 @@
 -- Loops over the rows of the lent table: what is left of the members from a place on, the first that passes a test, and what a
--- call makes of the members. Assumes nothing.
+-- call makes of the members.
 use mathlib.Core.Path.{_≡_, refl, ap, sym, _∙_}
 use mathlib.Core.Bool.{Bool, true, false, _||_}
 use mathlib.Core.List.{List, [], _∷_}
@@ -51,7 +51,7 @@ pub record Became (n : ℕ) (ms : List Member) (t u : List ℕ) : Type 0 where
 -- a call that can fail; one that fails changes no member
 pub record Tried (n : ℕ) (result : Option (List Member)) (t : List ℕ) (answer : Bool) (u : List ℕ) : Type 0 where
   pub long : length u ≡ length t
-  pub went : answer ≡ is-some result
+  pub succeeded : answer ≡ is-some result
   pub is : members-of n u ≡ (if-some result give (λ ms. ms) otherwise members-of n t)
 
 -- one row was changed

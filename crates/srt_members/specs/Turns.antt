@@ -1,4 +1,4 @@
--- The first member from a place on that has an event, and the largest window of those from a place on. Assumes nothing.
+-- The first member from a place on that has an event, and the largest window of those from a place on.
 use mathlib.Core.Path.{_≡_, refl, ap, sym, _∙_}
 use mathlib.Core.Bool.{Bool, true, not}
 use mathlib.Core.List.{List}

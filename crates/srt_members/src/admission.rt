@@ -23,7 +23,7 @@ use srt_group_model::Membership;
 // The peer group that the group is bound to, 0 while it is not, and the base if the members that arrived gave one.
 pub struct Admission {
     pub peer: u64,
-    pub based: bool,
+    pub based: u64,
     pub base: u64,
 }
 
@@ -56,10 +56,10 @@ fn answered(before: Admission, leg: Leg) -> Admission
     ensures { λ r. ⌜ Answered before leg r ⌝ }
 {
     let peer = bound_peer(before.peer, leg.link.peer);
-    if before.based {
+    if before.based != 0 {
         return Admission {
             peer,
-            based: true,
+            based: 1,
             base: before.base,
         };
     }
@@ -67,12 +67,12 @@ fn answered(before: Admission, leg: Leg) -> Admission
     match first {
         OptionalSequence::Some(base) => Admission {
             peer,
-            based: true,
+            based: 1,
             base,
         },
         OptionalSequence::None => Admission {
             peer,
-            based: false,
+            based: 0,
             base: 0,
         },
     }
@@ -116,13 +116,13 @@ pub fn admit_peer_group(members: &mut [u64], index: usize, before: Admission) ->
 
 // In one pass: a member that arrives while the group is not bound either binds it or answers from no group, so what a later
 // member binds the group to does not change what becomes of it.
-pub fn admit_connected_peer_groups(members: &mut [u64], count: usize, peer: u32) -> Admission
+pub fn admit_connected_peer_groups(members: &mut [u64], count: usize, peer: u64) -> Admission
     requires { ⌜ count * row-size ≤ length (now members) ⌝ }
     ensures { λ r. ⌜ Admitted count peer (now (members .entry)) r (now (members .exit)) ⌝ }
 {
     let mut admission = Admission {
-        peer: peer as u64,
-        based: false,
+        peer,
+        based: 0,
         base: 0,
     };
     let mut i = 0;

@@ -4,7 +4,7 @@ ghost use mathlib.Core.Bool.{_&&_};
 ghost use Prim.Native.Nat.{_*_, _≤_};
 ghost use lib.ListN.{length};
 ghost use lib.Dec.{eqb};
-ghost use Rattle.srt_group_model.specs.Tools.{flagged, place-of};
+ghost use Rattle.srt_group_model.specs.Tools.{is-set, flagged, place-of};
 ghost use Rattle.srt_group_model.specs.Legs.{has-sender};
 ghost use Rattle.srt_group_model.specs.Members.{alignment-source, align-leg, align-member-sequence};
 ghost use Rattle.srt_connection.specs.Answers.{sequence-of, result-of};
@@ -57,14 +57,15 @@ fn first_other_sender(members: &[u64], count: usize, id: u64) -> Found
 pub fn alignment_source(
     members: &[u64],
     count: usize,
-    numbered: bool,
+    numbered: u64,
     number: u64,
     id: u64,
 ) -> OptionalSequence
     requires { ⌜ count * row-size ≤ length (now members) ⌝ }
-    ensures { λ r. ⌜ r ≡ sequence-of (alignment-source (flagged numbered number) id (members-of count (now (members .entry)))) ⌝ }
+    ensures { λ r. ⌜ r ≡ sequence-of
+        (alignment-source (flagged (is-set numbered) number) id (members-of count (now (members .entry)))) ⌝ }
 {
-    if numbered {
+    if numbered != 0 {
         return OptionalSequence::Some(number);
     }
     let found = first_other_sender(members, count, id);
@@ -107,12 +108,14 @@ fn align_leg_at(members: &mut [u64], index: usize, sequence: u64) -> bool
 pub fn align_member_sequence(
     members: &mut [u64],
     count: usize,
-    numbered: bool,
+    numbered: u64,
     number: u64,
     index: usize,
 ) -> bool
     requires { ⌜ count * row-size ≤ length (now members) ⌝ }
-    ensures { λ r. ⌜ Tried count (align-member-sequence (flagged numbered number) index (members-of count (now (members .entry)))) (now (members .entry)) r (now (members .exit)) ⌝ }
+    ensures { λ r. ⌜ Tried count
+        (align-member-sequence (flagged (is-set numbered) number) index (members-of count (now (members .entry))))
+        (now (members .entry)) r (now (members .exit)) ⌝ }
 {
     if count <= index {
         return false;

@@ -21,7 +21,8 @@ fn has_event_at(members: &[u64], index: usize) -> bool
 // The first of the members from `start` to before `end` that has an event.
 fn first_with_event(members: &[u64], start: usize, end: usize) -> Found
     requires { ⌜ end * row-size ≤ length (now members) ⌝ }
-    ensures { λ r. ⌜ r ≡ found-of (place-from start (place-of has-event (drop start (members-of end (now (members .entry)))))) ⌝ }
+    ensures { λ r. ⌜ r ≡ found-of
+        (place-from start (place-of has-event (drop start (members-of end (now (members .entry)))))) ⌝ }
 {
     let mut i = start;
     while i < end {

@@ -14,7 +14,6 @@ use crate::states::is_standby_at;
 use crate::states::turn_at;
 use srt_connection::members::Found;
 use srt_connection::members::membership_at;
-use srt_group_model::GroupMode;
 
 fn outranks_at(members: &[u64], a: usize, b: usize) -> bool
     requires { ⌜ has-row a (now members) ⌝ }
@@ -67,7 +66,8 @@ pub fn promotion(members: &[u64], count: usize) -> Found
 
 pub fn promote_backup_member(members: &mut [u64], count: usize)
     requires { ⌜ count * row-size ≤ length (now members) ⌝ }
-    ensures { λ _. ⌜ Became count (promote-backup-member (members-of count (now (members .entry)))) (now (members .entry)) (now (members .exit)) ⌝ }
+    ensures { λ _. ⌜ Became count (promote-backup-member (members-of count (now (members .entry))))
+        (now (members .entry)) (now (members .exit)) ⌝ }
 {
     let found = promotion(members, count);
     let Found::At(index) = found else {
@@ -77,9 +77,10 @@ pub fn promote_backup_member(members: &mut [u64], count: usize)
 }
 
 // In Backup, if no member is active.
-pub fn promote_if_none(members: &mut [u64], count: usize, mode: GroupMode)
+pub fn promote_if_none(members: &mut [u64], count: usize, mode: u64)
     requires { ⌜ count * row-size ≤ length (now members) ⌝ }
-    ensures { λ _. ⌜ Became count (promote-if-none mode (members-of count (now (members .entry)))) (now (members .entry)) (now (members .exit)) ⌝ }
+    ensures { λ _. ⌜ Became count (promote-if-none mode (members-of count (now (members .entry))))
+        (now (members .entry)) (now (members .exit)) ⌝ }
 {
     if !is_backup(mode) {
         return;

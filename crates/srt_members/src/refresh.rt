@@ -2,8 +2,9 @@
 ghost use mathlib.Core.Path.{_≡_};
 ghost use Prim.Native.Nat.{_*_, _≤_, _<_};
 ghost use lib.ListN.{length};
-ghost use Rattle.srt_group_model.specs.Tools.{flagged, each};
-ghost use Rattle.srt_group_model.specs.Members.{at-each-place, settle, requalify, break-disconnected, settle-members, requalify-members};
+ghost use Rattle.srt_group_model.specs.Tools.{is-set, flagged, each};
+ghost use Rattle.srt_group_model.specs.Members.{at-each-place, settle, requalify, break-disconnected};
+ghost use Rattle.srt_group_model.specs.Members.{settle-members, requalify-members};
 ghost use Rattle.srt_connection.specs.Rows.{row-size};
 ghost use Rattle.srt_connection.specs.Members.{member-at, members-of, has-row, Changed};
 ghost use Rattle.srt_members.specs.Scan.{Became};
@@ -23,7 +24,6 @@ use crate::states::turn_at;
 use srt_connection::legs::can_send;
 use srt_connection::members::leg_at;
 use srt_connection::members::membership_at;
-use srt_group_model::GroupMode;
 
 // ---- Pending members
 
@@ -34,7 +34,7 @@ fn settles_at(members: &[u64], index: usize) -> bool
     is_connected_in(members, index, PENDING)
 }
 
-fn settled_state(mode: GroupMode) -> u64
+fn settled_state(mode: u64) -> u64
     ensures { λ r. ⌜ r ≡ settled-state mode ⌝ }
 {
     if is_backup(mode) {
@@ -44,17 +44,12 @@ fn settled_state(mode: GroupMode) -> u64
 }
 
 // A Pending member that has connected turns Active, in Backup Standby, if it can be aligned.
-fn settle_at(
-    members: &mut [u64],
-    count: usize,
-    mode: GroupMode,
-    numbered: bool,
-    number: u64,
-    index: usize,
-)
+fn settle_at(members: &mut [u64], count: usize, mode: u64, numbered: u64, number: u64, index: usize)
     requires { ⌜ count * row-size ≤ length (now members) ⌝ }
     requires { ⌜ index < count ⌝ }
-    ensures { λ _. ⌜ Became count (settle mode (flagged numbered number) index (members-of count (now (members .entry)))) (now (members .entry)) (now (members .exit)) ⌝ }
+    ensures { λ _. ⌜ Became count
+        (settle mode (flagged (is-set numbered) number) index (members-of count (now (members .entry))))
+        (now (members .entry)) (now (members .exit)) ⌝ }
 {
     if !settles_at(members, index) {
         return;
@@ -65,15 +60,11 @@ fn settle_at(
     turn_at(members, index, settled_state(mode));
 }
 
-fn settle_pending_members(
-    members: &mut [u64],
-    count: usize,
-    mode: GroupMode,
-    numbered: bool,
-    number: u64,
-)
+fn settle_pending_members(members: &mut [u64], count: usize, mode: u64, numbered: u64, number: u64)
     requires { ⌜ count * row-size ≤ length (now members) ⌝ }
-    ensures { λ _. ⌜ Became count (at-each-place (settle mode (flagged numbered number)) (members-of count (now (members .entry)))) (now (members .entry)) (now (members .exit)) ⌝ }
+    ensures { λ _. ⌜ Became count
+        (at-each-place (settle mode (flagged (is-set numbered) number)) (members-of count (now (members .entry))))
+        (now (members .entry)) (now (members .exit)) ⌝ }
 {
     let mut i = 0;
     while i < count {
@@ -83,15 +74,11 @@ fn settle_pending_members(
 }
 
 // What is left of `refresh_pending_states` after admission.
-pub fn settle_members(
-    members: &mut [u64],
-    count: usize,
-    mode: GroupMode,
-    numbered: bool,
-    number: u64,
-)
+pub fn settle_members(members: &mut [u64], count: usize, mode: u64, numbered: u64, number: u64)
     requires { ⌜ count * row-size ≤ length (now members) ⌝ }
-    ensures { λ _. ⌜ Became count (settle-members mode (flagged numbered number) (members-of count (now (members .entry)))) (now (members .entry)) (now (members .exit)) ⌝ }
+    ensures { λ _. ⌜ Became count
+        (settle-members mode (flagged (is-set numbered) number) (members-of count (now (members .entry))))
+        (now (members .entry)) (now (members .exit)) ⌝ }
 {
     settle_pending_members(members, count, mode, numbered, number);
     promote_if_none(members, count, mode);
@@ -110,7 +97,7 @@ fn requalifies_at(members: &[u64], index: usize) -> bool
 }
 
 // Active, but in Backup only one is: Standby if another is active.
-fn requalified_state(members: &[u64], count: usize, mode: GroupMode) -> u64
+fn requalified_state(members: &[u64], count: usize, mode: u64) -> u64
     requires { ⌜ count * row-size ≤ length (now members) ⌝ }
     ensures { λ r. ⌜ r ≡ requalified-state mode (members-of count (now (members .entry))) ⌝ }
 {
@@ -127,14 +114,16 @@ fn requalified_state(members: &[u64], count: usize, mode: GroupMode) -> u64
 fn requalify_at(
     members: &mut [u64],
     count: usize,
-    mode: GroupMode,
-    numbered: bool,
+    mode: u64,
+    numbered: u64,
     number: u64,
     index: usize,
 )
     requires { ⌜ count * row-size ≤ length (now members) ⌝ }
     requires { ⌜ index < count ⌝ }
-    ensures { λ _. ⌜ Became count (requalify mode (flagged numbered number) index (members-of count (now (members .entry)))) (now (members .entry)) (now (members .exit)) ⌝ }
+    ensures { λ _. ⌜ Became count
+        (requalify mode (flagged (is-set numbered) number) index (members-of count (now (members .entry))))
+        (now (members .entry)) (now (members .exit)) ⌝ }
 {
     if !requalifies_at(members, index) {
         return;
@@ -149,12 +138,14 @@ fn requalify_at(
 fn requalify_unstable_members(
     members: &mut [u64],
     count: usize,
-    mode: GroupMode,
-    numbered: bool,
+    mode: u64,
+    numbered: u64,
     number: u64,
 )
     requires { ⌜ count * row-size ≤ length (now members) ⌝ }
-    ensures { λ _. ⌜ Became count (at-each-place (requalify mode (flagged numbered number)) (members-of count (now (members .entry)))) (now (members .entry)) (now (members .exit)) ⌝ }
+    ensures { λ _. ⌜ Became count
+        (at-each-place (requalify mode (flagged (is-set numbered) number)) (members-of count (now (members .entry))))
+        (now (members .entry)) (now (members .exit)) ⌝ }
 {
     let mut i = 0;
     while i < count {
@@ -182,7 +173,9 @@ fn break_disconnected_at(members: &mut [u64], index: usize)
 // Each member whose leg is disconnected turns Broken.
 pub fn break_disconnected(members: &mut [u64], count: usize)
     requires { ⌜ count * row-size ≤ length (now members) ⌝ }
-    ensures { λ _. ⌜ Became count (each break-disconnected (members-of count (now (members .entry)))) (now (members .entry)) (now (members .exit)) ⌝ }
+    ensures { λ _. ⌜ Became count
+        (each break-disconnected (members-of count (now (members .entry))))
+        (now (members .entry)) (now (members .exit)) ⌝ }
 {
     let mut i = 0;
     while i < count {
@@ -192,15 +185,11 @@ pub fn break_disconnected(members: &mut [u64], count: usize)
 }
 
 // What is left of `refresh_states` after `refresh_pending_states`.
-pub fn requalify_members(
-    members: &mut [u64],
-    count: usize,
-    mode: GroupMode,
-    numbered: bool,
-    number: u64,
-)
+pub fn requalify_members(members: &mut [u64], count: usize, mode: u64, numbered: u64, number: u64)
     requires { ⌜ count * row-size ≤ length (now members) ⌝ }
-    ensures { λ _. ⌜ Became count (requalify-members mode (flagged numbered number) (members-of count (now (members .entry)))) (now (members .entry)) (now (members .exit)) ⌝ }
+    ensures { λ _. ⌜ Became count
+        (requalify-members mode (flagged (is-set numbered) number) (members-of count (now (members .entry))))
+        (now (members .entry)) (now (members .exit)) ⌝ }
 {
     break_disconnected(members, count);
     requalify_unstable_members(members, count, mode, numbered, number);

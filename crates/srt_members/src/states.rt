@@ -17,7 +17,6 @@ use srt_connection::members::Found;
 use srt_connection::members::leg_at;
 use srt_connection::members::membership_at;
 use srt_connection::members::put_membership_at;
-use srt_group_model::GroupMode;
 use srt_group_model::Leg;
 
 // `GroupMemberState` as the numbers that a row holds.
@@ -31,13 +30,11 @@ pub const UNSTABLE: u64 = 3;
 
 pub const BROKEN: u64 = 4;
 
-pub fn is_backup(mode: GroupMode) -> bool
+// The mode is 0 in Broadcast and 1 in Backup.
+pub fn is_backup(mode: u64) -> bool
     ensures { λ r. ⌜ r ≡ is-backup mode ⌝ }
 {
-    match mode {
-        GroupMode::Broadcast => false,
-        GroupMode::Backup => true,
-    }
+    mode != 0
 }
 
 // ---- one row
@@ -59,7 +56,8 @@ pub fn is_disconnected_at(members: &[u64], index: usize) -> bool
 // In that state, and connected.
 pub fn is_connected_in(members: &[u64], index: usize, state: u64) -> bool
     requires { ⌜ has-row index (now members) ⌝ }
-    ensures { λ r. ⌜ r ≡ (in-state state (member-at (now (members .entry)) index) && is-connected (member-at (now (members .entry)) index .leg)) ⌝ }
+    ensures { λ r. ⌜ r ≡ (in-state state (member-at (now (members .entry)) index)
+        && is-connected (member-at (now (members .entry)) index .leg)) ⌝ }
 {
     let membership = membership_at(members, index);
     membership.state == state && is_connected_at(members, index)
@@ -132,7 +130,7 @@ pub fn all_disconnected(members: &[u64], count: usize) -> bool
 }
 
 // The state of a member at its addition. A leg that is not connected cannot be the one that sends.
-pub fn state_at_addition(members: &[u64], count: usize, mode: GroupMode, leg: Leg) -> u64
+pub fn state_at_addition(members: &[u64], count: usize, mode: u64, leg: Leg) -> u64
     requires { ⌜ count * row-size ≤ length (now members) ⌝ }
     ensures { λ r. ⌜ r ≡ state-at-addition mode leg (members-of count (now (members .entry))) ⌝ }
 {

@@ -2,27 +2,34 @@
 ghost use mathlib.Core.Path.{_≡_};
 ghost use mathlib.Core.List.{List};
 ghost use Prim.Native.Nat.{ℕ};
-ghost use Rattle.srt_group_model.specs.declared.Entry.{Entry};
+ghost use Rattle.srt_group_model.specs.Tools.{is-set};
 ghost use Rattle.srt_group_model.specs.State.{State};
-ghost use Rattle.srt_group_model.specs.Delivery.{skip-given-up-gap};
+ghost use Rattle.srt_group_model.specs.RangesKept.{Sending-fit};
+ghost use Rattle.srt_group_model.specs.Delivery.{skip-after, skip-given-up-gap};
 ghost use Rattle.srt_group_model.specs.Polls.{deliver-next, poll-event, poll-until-data, poll-data-bounded};
-ghost use Rattle.srt_state.specs.Shown.{shown};
+ghost use Rattle.cell_set.specs.Bits.{set-size};
+ghost use Rattle.srt_group_shown.specs.Shown.{Rest, shown};
+ghost use Rattle.srt_group_shown.specs.Tables.{receive-tables};
 ghost use lib.ListN.{length};
-ghost use Rattle.srt_receiving.specs.Leaves.{Usable};
+ghost use Rattle.srt_receiving.specs.Leaves.{every, sends, Usable};
+ghost use Rattle.srt_receiving.specs.DeliveryLaws.{Deliverable};
 ghost use Rattle.srt_receiving.specs.Follows.{Follows};
 ghost use Rattle.srt_receiving.specs.PollLaws.{Polls};
 ghost use Rattle.srt_polls.specs.EventPollLaws.{give-next};
 ghost use Rattle.srt_polls.specs.DataPollLaws.{PollsData, Passes};
-ghost use Rattle.srt_polls.specs.SkipLaws.{Skippable, skip-nearest, deliver-nearest, skip-from, base-stays, PollsFrom};
+ghost use Rattle.srt_polls.specs.SkipLaws.{skip-nearest, deliver-nearest, base-stays, PollsFrom};
 use crate::refresh::refresh_pending_states;
 use crate::refresh::refresh_states;
 use srt_group_model::Core;
 use srt_group_model::Packet;
+use srt_group_model::Sending;
 use srt_protocol::time::Timestamp;
+use srt_receiving::collecting::Emptied;
 use srt_receiving::collecting::Gathered;
-use srt_receiving::collecting::Visited;
+use srt_receiving::collecting::MAX_VISITS;
 use srt_receiving::collecting::collect_until_empty;
 use srt_receiving::collecting::collect_until_held;
+use srt_receiving::collecting::flag;
 use srt_receiving::collecting::has_pending_data;
 use srt_receiving::collecting::is_held;
 use srt_receiving::delivery::Poll;
@@ -43,21 +50,18 @@ pub enum OptionalPacket {
 // What a data poll gives: a packet or none, whether it should be called again at once, and the group's record after it.
 pub struct DataPoll {
     pub gave: OptionalPacket,
-    pub continuation: bool,
+    pub continuation: u64,
     pub core: Core,
 }
 
 // Whether an event poll gave an event, and the data poll that ends with it.
 struct Passed {
-    event: bool,
+    event: u64,
     answer: DataPoll,
 }
 
 // The packets that one event poll collects, at most.
 const DELIVERY_BUDGET: u64 = 32;
-
-// The event polls of one data poll, at most.
-const MAX_EVENTS: usize = 64;
 
 // ---- the skip
 
@@ -67,12 +71,15 @@ fn skip_to_nearest(
     members: &mut [u64],
     pending: &mut [u64],
     used: &mut [u64],
-    base: u32,
+    base: u64,
 ) -> Poll
-    requires { ⌜ Skippable core (now members) (now pending) ⌝ }
-    requires { ⌜ length (now used) ≡ 32 ⌝ }
-    ensures { λ r. ⌜ ((waiting : List ℕ) (tested : State) (time : ℕ) → Polls (skip-nearest tested time base) core (now (members .entry)) (now (pending .entry)) waiting r (now (members .exit)) (now (pending .exit)) waiting) ⌝ }
-    ensures { λ r. ⌜ Follows core (now (members .entry)) (now (pending .entry)) (now (used .entry)) (r .core) (now (members .exit)) (now (pending .exit)) (now (used .exit)) ⌝ }
+    requires { ⌜ Deliverable core (now members) (now pending) ⌝ }
+    requires { ⌜ length (now used) ≡ set-size ⌝ }
+    ensures { λ r. ⌜ ((waiting : List ℕ) (tested : State) (time : ℕ) → Polls (skip-nearest tested time base) core
+        (receive-tables (now (members .entry)) (now (pending .entry)) waiting) r
+        (receive-tables (now (members .exit)) (now (pending .exit)) waiting)) ⌝ }
+    ensures { λ r. ⌜ Follows core (now (members .entry)) (now (pending .entry)) (now (used .entry))
+        (r .core) (now (members .exit)) (now (pending .exit)) (now (used .exit)) ⌝ }
 {
     let held = core.counts.pending;
     let nearest = pending::nearest(pending, held);
@@ -83,44 +90,49 @@ fn skip_to_nearest(
         };
     };
     let packet = pending::packet(pending, at);
-    let next = packet.content.sequence as u32;
+    let next = packet.content.sequence;
     let skipped = skip_to(core, base, next);
     deliver(skipped, members, pending, used, next)
 }
 
 // What is given after the queues were collected: a waiting event first. The gap is skipped only if they ended empty.
 fn skip_after(
-    collected: Visited,
+    collected: Emptied,
     members: &mut [u64],
     pending: &mut [u64],
     waiting: &mut [u64],
     used: &mut [u64],
-    base: u32,
+    base: u64,
 ) -> Poll
-    requires { ⌜ Usable (collected .core) (now members) (now pending) (now waiting) ⌝ }
-    requires { ⌜ length (now used) ≡ 32 ⌝ }
-    ensures { λ r. ⌜ ((tested : State) (time : ℕ) → Polls (skip-from (collected .went) tested time base) (collected .core) (now (members .entry)) (now (pending .entry)) (now (waiting .entry)) r (now (members .exit)) (now (pending .exit)) (now (waiting .exit))) ⌝ }
-    ensures { λ r. ⌜ Follows (collected .core) (now (members .entry)) (now (pending .entry)) (now (used .entry)) (r .core) (now (members .exit)) (now (pending .exit)) (now (used .exit)) ⌝ }
+    requires { ⌜ Usable (collected .core) (receive-tables (now members) (now pending) (now waiting)) ⌝ }
+    requires { ⌜ length (now used) ≡ set-size ⌝ }
+    ensures { λ r. ⌜ ((tested : State) (time : ℕ) → Polls
+        (λ run. skip-after time tested base (record { emptied = is-set (collected .emptied); run = run })) (collected .core)
+        (receive-tables (now (members .entry)) (now (pending .entry)) (now (waiting .entry))) r
+        (receive-tables (now (members .exit)) (now (pending .exit)) (now (waiting .exit)))) ⌝ }
+    ensures { λ r. ⌜ Follows (collected .core) (now (members .entry)) (now (pending .entry)) (now (used .entry))
+        (r .core) (now (members .exit)) (now (pending .exit)) (now (used .exit)) ⌝ }
 {
     let core = collected.core;
     if 0 < core.counts.waiting {
         return give_waiting(core, waiting);
     }
-    if collected.went {
+    if collected.emptied != 0 {
         return skip_to_nearest(core, members, pending, used, base);
     }
     deliver(core, members, pending, used, base)
 }
 
 // The base stays where it is if it is held, if the continuation is asked for, or while the gap is not given up.
-fn base_stays(core: Core, members: &[u64], pending: &[u64], time: Timestamp, base: u32) -> bool
-    requires { ⌜ Skippable core (now members) (now pending) ⌝ }
-    ensures { λ r. ⌜ ((history : List Entry) (waiting : List ℕ) → r ≡ base-stays (time .0) base (shown core history (now (members .entry)) (now (pending .entry)) waiting)) ⌝ }
+fn base_stays(core: Core, members: &[u64], pending: &[u64], time: Timestamp, base: u64) -> bool
+    requires { ⌜ Deliverable core (now members) (now pending) ⌝ }
+    ensures { λ r. ⌜ ((others : Rest) (waiting : List ℕ)
+        → r ≡ base-stays (time .0) base (shown core others (now (members .entry)) (now (pending .entry)) waiting)) ⌝ }
 {
-    if is_held(pending, core.counts.pending, base as u64) {
+    if is_held(pending, core.counts.pending, base) {
         return true;
     }
-    if core.visit.continuation {
+    if core.visit.continuation != 0 {
         return true;
     }
     !gap_given_up(core, members, pending, time)
@@ -134,19 +146,22 @@ fn skip_given_up_gap(
     waiting: &mut [u64],
     used: &mut [u64],
     time: Timestamp,
-    base: u32,
+    base: u64,
     budget: u64,
 ) -> Poll
-    requires { ⌜ Usable core (now members) (now pending) (now waiting) ⌝ }
+    requires { ⌜ Usable core (receive-tables (now members) (now pending) (now waiting)) ⌝ }
     requires { ⌜ core .counts .waiting ≡ 0 ⌝ }
-    requires { ⌜ length (now used) ≡ 32 ⌝ }
-    ensures { λ r. ⌜ PollsFrom (skip-given-up-gap (time .0) base) core budget (now (members .entry)) (now (pending .entry)) (now (waiting .entry)) r (now (members .exit)) (now (pending .exit)) (now (waiting .exit)) ⌝ }
-    ensures { λ r. ⌜ Follows core (now (members .entry)) (now (pending .entry)) (now (used .entry)) (r .core) (now (members .exit)) (now (pending .exit)) (now (used .exit)) ⌝ }
+    requires { ⌜ length (now used) ≡ set-size ⌝ }
+    ensures { λ r. ⌜ PollsFrom every (skip-given-up-gap (time .0) base) core budget
+        (receive-tables (now (members .entry)) (now (pending .entry)) (now (waiting .entry))) r
+        (receive-tables (now (members .exit)) (now (pending .exit)) (now (waiting .exit))) ⌝ }
+    ensures { λ r. ⌜ Follows core (now (members .entry)) (now (pending .entry)) (now (used .entry))
+        (r .core) (now (members .exit)) (now (pending .exit)) (now (used .exit)) ⌝ }
 {
     if base_stays(core, members, pending, time, base) {
         return deliver(core, members, pending, used, base);
     }
-    let collected = collect_until_empty(core, members, pending, waiting, used, budget, base as u64);
+    let collected = collect_until_empty(core, members, pending, waiting, used, budget, base);
     skip_after(collected, members, pending, waiting, used, base)
 }
 
@@ -154,10 +169,13 @@ fn skip_given_up_gap(
 
 // The nearest held packet sets the base, and is delivered.
 fn deliver_nearest(core: Core, members: &mut [u64], pending: &mut [u64], used: &mut [u64]) -> Poll
-    requires { ⌜ Skippable core (now members) (now pending) ⌝ }
-    requires { ⌜ length (now used) ≡ 32 ⌝ }
-    ensures { λ r. ⌜ ((waiting : List ℕ) → Polls deliver-nearest core (now (members .entry)) (now (pending .entry)) waiting r (now (members .exit)) (now (pending .exit)) waiting) ⌝ }
-    ensures { λ r. ⌜ Follows core (now (members .entry)) (now (pending .entry)) (now (used .entry)) (r .core) (now (members .exit)) (now (pending .exit)) (now (used .exit)) ⌝ }
+    requires { ⌜ Deliverable core (now members) (now pending) ⌝ }
+    requires { ⌜ length (now used) ≡ set-size ⌝ }
+    ensures { λ r. ⌜ ((waiting : List ℕ) → Polls deliver-nearest core
+        (receive-tables (now (members .entry)) (now (pending .entry)) waiting) r
+        (receive-tables (now (members .exit)) (now (pending .exit)) waiting)) ⌝ }
+    ensures { λ r. ⌜ Follows core (now (members .entry)) (now (pending .entry)) (now (used .entry))
+        (r .core) (now (members .exit)) (now (pending .exit)) (now (used .exit)) ⌝ }
 {
     let held = core.counts.pending;
     let nearest = pending::nearest(pending, held);
@@ -169,9 +187,8 @@ fn deliver_nearest(core: Core, members: &mut [u64], pending: &mut [u64], used: &
     };
     let packet = pending::packet(pending, at);
     let first = packet.content.sequence;
-    let based = set_base(core, true, first);
-    let base = first as u32;
-    deliver(based, members, pending, used, base)
+    let based = set_base(core, 1, first);
+    deliver(based, members, pending, used, first)
 }
 
 // The packet at the base; while none is set, the nearest packet sets it.
@@ -184,13 +201,16 @@ fn deliver_next(
     time: Timestamp,
     budget: u64,
 ) -> Poll
-    requires { ⌜ Usable core (now members) (now pending) (now waiting) ⌝ }
+    requires { ⌜ Usable core (receive-tables (now members) (now pending) (now waiting)) ⌝ }
     requires { ⌜ core .counts .waiting ≡ 0 ⌝ }
-    requires { ⌜ length (now used) ≡ 32 ⌝ }
-    ensures { λ r. ⌜ PollsFrom (deliver-next (time .0)) core budget (now (members .entry)) (now (pending .entry)) (now (waiting .entry)) r (now (members .exit)) (now (pending .exit)) (now (waiting .exit)) ⌝ }
-    ensures { λ r. ⌜ Follows core (now (members .entry)) (now (pending .entry)) (now (used .entry)) (r .core) (now (members .exit)) (now (pending .exit)) (now (used .exit)) ⌝ }
+    requires { ⌜ length (now used) ≡ set-size ⌝ }
+    ensures { λ r. ⌜ PollsFrom every (deliver-next (time .0)) core budget
+        (receive-tables (now (members .entry)) (now (pending .entry)) (now (waiting .entry))) r
+        (receive-tables (now (members .exit)) (now (pending .exit)) (now (waiting .exit))) ⌝ }
+    ensures { λ r. ⌜ Follows core (now (members .entry)) (now (pending .entry)) (now (used .entry))
+        (r .core) (now (members .exit)) (now (pending .exit)) (now (used .exit)) ⌝ }
 {
-    if core.receiving.based {
+    if core.receiving.based != 0 {
         let base = core.receiving.base;
         return skip_given_up_gap(core, members, pending, waiting, used, time, base, budget);
     }
@@ -200,22 +220,27 @@ fn deliver_next(
 // A waiting event; if none waits, the next packet.
 fn give_next(
     gathered: Gathered,
+    sending: Sending,
     members: &mut [u64],
     pending: &mut [u64],
     waiting: &mut [u64],
     used: &mut [u64],
     time: Timestamp,
 ) -> Poll
-    requires { ⌜ Usable (gathered .core) (now members) (now pending) (now waiting) ⌝ }
-    requires { ⌜ length (now used) ≡ 32 ⌝ }
-    ensures { λ r. ⌜ PollsFrom (give-next (time .0)) (gathered .core) (gathered .budget) (now (members .entry)) (now (pending .entry)) (now (waiting .entry)) r (now (members .exit)) (now (pending .exit)) (now (waiting .exit)) ⌝ }
-    ensures { λ r. ⌜ Follows (gathered .core) (now (members .entry)) (now (pending .entry)) (now (used .entry)) (r .core) (now (members .exit)) (now (pending .exit)) (now (used .exit)) ⌝ }
+    requires { ⌜ Usable (gathered .core) (receive-tables (now members) (now pending) (now waiting)) ⌝ }
+    requires { ⌜ Sending-fit sending ⌝ }
+    requires { ⌜ length (now used) ≡ set-size ⌝ }
+    ensures { λ r. ⌜ PollsFrom (sends sending) (give-next (time .0)) (gathered .core) (gathered .budget)
+        (receive-tables (now (members .entry)) (now (pending .entry)) (now (waiting .entry))) r
+        (receive-tables (now (members .exit)) (now (pending .exit)) (now (waiting .exit))) ⌝ }
+    ensures { λ r. ⌜ Follows (gathered .core) (now (members .entry)) (now (pending .entry)) (now (used .entry))
+        (r .core) (now (members .exit)) (now (pending .exit)) (now (used .exit)) ⌝ }
 {
     let here = gathered.core;
     if 0 < here.counts.waiting {
         return give_waiting(here, waiting);
     }
-    let refreshed = refresh_states(here, members);
+    let refreshed = refresh_states(here, sending, members);
     deliver_next(
         refreshed,
         members,
@@ -230,21 +255,26 @@ fn give_next(
 // The states are refreshed, events collected, and a waiting event or the next packet given.
 pub fn poll_event(
     mut core: Core,
+    sending: Sending,
     members: &mut [u64],
     pending: &mut [u64],
     waiting: &mut [u64],
     used: &mut [u64],
     time: Timestamp,
 ) -> Poll
-    requires { ⌜ Usable core (now members) (now pending) (now waiting) ⌝ }
-    requires { ⌜ length (now used) ≡ 32 ⌝ }
-    ensures { λ r. ⌜ ((budget : ℕ) → PollsFrom (poll-event (time .0)) core budget (now (members .entry)) (now (pending .entry)) (now (waiting .entry)) r (now (members .exit)) (now (pending .exit)) (now (waiting .exit))) ⌝ }
-    ensures { λ r. ⌜ Follows core (now (members .entry)) (now (pending .entry)) (now (used .entry)) (r .core) (now (members .exit)) (now (pending .exit)) (now (used .exit)) ⌝ }
+    requires { ⌜ Usable core (receive-tables (now members) (now pending) (now waiting)) ⌝ }
+    requires { ⌜ Sending-fit sending ⌝ }
+    requires { ⌜ length (now used) ≡ set-size ⌝ }
+    ensures { λ r. ⌜ ((budget : ℕ) → PollsFrom (sends sending) (poll-event (time .0)) core budget
+        (receive-tables (now (members .entry)) (now (pending .entry)) (now (waiting .entry))) r
+        (receive-tables (now (members .exit)) (now (pending .exit)) (now (waiting .exit)))) ⌝ }
+    ensures { λ r. ⌜ Follows core (now (members .entry)) (now (pending .entry)) (now (used .entry))
+        (r .core) (now (members .exit)) (now (pending .exit)) (now (used .exit)) ⌝ }
 {
-    core.visit.continuation = false;
-    let begun = refresh_pending_states(core, members);
+    core.visit.continuation = 0;
+    let begun = refresh_pending_states(core, sending, members);
     let gathered = collect_until_held(begun, members, pending, waiting, used, DELIVERY_BUDGET);
-    give_next(gathered, members, pending, waiting, used, time)
+    give_next(gathered, sending, members, pending, waiting, used, time)
 }
 
 // ---- the data poll
@@ -257,7 +287,7 @@ fn pass_event(poll: Poll) -> Passed
     let gave = poll.gave;
     match gave {
         Polled::Nothing => Passed {
-            event: false,
+            event: 0,
             answer: DataPoll {
                 gave: OptionalPacket::None,
                 continuation: core.visit.continuation,
@@ -265,18 +295,18 @@ fn pass_event(poll: Poll) -> Passed
             },
         },
         Polled::Event(_) => Passed {
-            event: true,
+            event: 1,
             answer: DataPoll {
                 gave: OptionalPacket::None,
-                continuation: true,
+                continuation: 1,
                 core,
             },
         },
         Polled::Packet(packet) => Passed {
-            event: false,
+            event: 0,
             answer: DataPoll {
                 gave: OptionalPacket::Some(packet),
-                continuation: false,
+                continuation: 0,
                 core,
             },
         },
@@ -286,6 +316,7 @@ fn pass_event(poll: Poll) -> Passed
 // Event polls until one gives no event, at most so many.
 fn poll_until_data(
     core: Core,
+    sending: Sending,
     members: &mut [u64],
     pending: &mut [u64],
     waiting: &mut [u64],
@@ -293,23 +324,27 @@ fn poll_until_data(
     time: Timestamp,
     visits: usize,
 ) -> DataPoll
-    requires { ⌜ Usable core (now members) (now pending) (now waiting) ⌝ }
-    requires { ⌜ length (now used) ≡ 32 ⌝ }
-    ensures { λ r. ⌜ PollsData (poll-until-data (time .0) visits) core (now (members .entry)) (now (pending .entry)) (now (waiting .entry)) r (now (members .exit)) (now (pending .exit)) (now (waiting .exit)) ⌝ }
-    ensures { λ r. ⌜ Follows core (now (members .entry)) (now (pending .entry)) (now (used .entry)) (r .core) (now (members .exit)) (now (pending .exit)) (now (used .exit)) ⌝ }
+    requires { ⌜ Usable core (receive-tables (now members) (now pending) (now waiting)) ⌝ }
+    requires { ⌜ Sending-fit sending ⌝ }
+    requires { ⌜ length (now used) ≡ set-size ⌝ }
+    ensures { λ r. ⌜ PollsData (sends sending) (poll-until-data (time .0) visits) core
+        (receive-tables (now (members .entry)) (now (pending .entry)) (now (waiting .entry))) r
+        (receive-tables (now (members .exit)) (now (pending .exit)) (now (waiting .exit))) ⌝ }
+    ensures { λ r. ⌜ Follows core (now (members .entry)) (now (pending .entry)) (now (used .entry))
+        (r .core) (now (members .exit)) (now (pending .exit)) (now (used .exit)) ⌝ }
 {
     let mut answer = DataPoll {
         gave: OptionalPacket::None,
-        continuation: true,
+        continuation: 1,
         core,
     };
     let mut left = visits;
     while 0 < left {
         let here = answer.core;
-        let poll = poll_event(here, members, pending, waiting, used, time);
+        let poll = poll_event(here, sending, members, pending, waiting, used, time);
         let passed = pass_event(poll);
         answer = passed.answer;
-        if !passed.event {
+        if passed.event == 0 {
             return answer;
         }
         left -= 1;
@@ -320,6 +355,7 @@ fn poll_until_data(
 // A packet, passing over at most so many events; with none allowed there is no packet, and nothing changes.
 pub fn poll_data_bounded(
     core: Core,
+    sending: Sending,
     members: &mut [u64],
     pending: &mut [u64],
     waiting: &mut [u64],
@@ -327,21 +363,43 @@ pub fn poll_data_bounded(
     time: Timestamp,
     max_events: usize,
 ) -> DataPoll
-    requires { ⌜ Usable core (now members) (now pending) (now waiting) ⌝ }
-    requires { ⌜ length (now used) ≡ 32 ⌝ }
-    ensures { λ r. ⌜ PollsData (poll-data-bounded (time .0) «max_events») core (now (members .entry)) (now (pending .entry)) (now (waiting .entry)) r (now (members .exit)) (now (pending .exit)) (now (waiting .exit)) ⌝ }
-    ensures { λ r. ⌜ Follows core (now (members .entry)) (now (pending .entry)) (now (used .entry)) (r .core) (now (members .exit)) (now (pending .exit)) (now (used .exit)) ⌝ }
+    requires { ⌜ Usable core (receive-tables (now members) (now pending) (now waiting)) ⌝ }
+    requires { ⌜ Sending-fit sending ⌝ }
+    requires { ⌜ length (now used) ≡ set-size ⌝ }
+    ensures { λ r. ⌜ PollsData (sends sending) (poll-data-bounded (time .0) «max_events») core
+        (receive-tables (now (members .entry)) (now (pending .entry)) (now (waiting .entry))) r
+        (receive-tables (now (members .exit)) (now (pending .exit)) (now (waiting .exit))) ⌝ }
+    ensures { λ r. ⌜ Follows core (now (members .entry)) (now (pending .entry)) (now (used .entry))
+        (r .core) (now (members .exit)) (now (pending .exit)) (now (used .exit)) ⌝ }
 {
     if max_events == 0 {
-        let continuation = has_pending_data(core);
+        let continuation = flag(has_pending_data(core));
         return DataPoll {
             gave: OptionalPacket::None,
             continuation,
             core,
         };
     }
-    if MAX_EVENTS < max_events {
-        return poll_until_data(core, members, pending, waiting, used, time, MAX_EVENTS);
+    if MAX_VISITS < max_events {
+        return poll_until_data(
+            core,
+            sending,
+            members,
+            pending,
+            waiting,
+            used,
+            time,
+            MAX_VISITS,
+        );
     }
-    poll_until_data(core, members, pending, waiting, used, time, max_events)
+    poll_until_data(
+        core,
+        sending,
+        members,
+        pending,
+        waiting,
+        used,
+        time,
+        max_events,
+    )
 }

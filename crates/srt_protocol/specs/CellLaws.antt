@@ -1,4 +1,4 @@
--- Laws of Cells.antt: what was put is what is copied, and a put into one cell changes nothing in another. Assumes nothing.
+-- Laws of Cells.antt: what was put is what is copied, and a put into one cell changes nothing in another.
 use mathlib.Core.Path.{_≡_, refl, sym, ap, _∙_}
 use mathlib.Core.List.{List, _++_, append-assoc}
 use mathlib.Core.Logic.{_⊎_, inl, inr}
@@ -13,7 +13,7 @@ use Rattle.srt_protocol.specs.declared.error.Error.the-variants.{Payload
 use Rattle.srt_protocol.specs.declared.error.Outcome.{Outcome}
 use Rattle.srt_protocol.specs.declared.error.Outcome.the-variants.{Accepted, Refused}
 use Rattle.srt_protocol.specs.Errors.{if-accepted}
-use Rattle.srt_protocol.specs.Cells.{cell-size, head-size, cells-of, overwritten, cell-bytes, cell-outcome, copy-outcome, Put, Copied}
+use Rattle.srt_protocol.specs.Cells.{output-size, cell-size, head-size, cells-of, overwritten, cell-bytes, cell-outcome, copy-outcome, Put, Copied}
 
 -- ---- laws of `overwritten`, for elements of any type
 
@@ -120,12 +120,12 @@ module _ (store-length cell size : ℕ) where
       go (no short) (no beyond) (no long) = (omega arith, omega arith)
 
   module _ (output-length : ℕ) where
-    pub output-short : output-length < head-size + cell-size → copy-outcome store-length cell size output-length ≡ Refused InsufficientBuffer
-    output-short short = simp (lt-ltb output-length (head-size + cell-size) short)
+    pub output-short : output-length < output-size → copy-outcome store-length cell size output-length ≡ Refused InsufficientBuffer
+    output-short short = simp (lt-ltb output-length output-size short)
 
-    pub output-enough : head-size + cell-size ≤ output-length
+    pub output-enough : output-size ≤ output-length
         → copy-outcome store-length cell size output-length ≡ cell-outcome store-length cell size
-    output-enough enough = simp (le-ltb output-length (head-size + cell-size) enough)
+    output-enough enough = simp (le-ltb output-length output-size enough)
 
 -- ---- two cells
 

@@ -1,6 +1,5 @@
 -- Payloads in the cells of a lent store (document 01, "Receiving"): a cell is 1,456 bytes, a store has length / 1,456 of
 -- them, at most 2,048. A payload is put into a cell and copied from it to byte 12 of an output; every other byte stays.
--- Assumes nothing.
 use mathlib.Core.Path.{_≡_}
 use mathlib.Core.List.{List, _++_}
 use Prim.Native.Nat.{ℕ, _+_, _*_, _/_, min}
@@ -20,9 +19,17 @@ cell-size = 1456
 abbrev pub head-size : ℕ
 head-size = 12
 
+-- the bytes of the output that a packet is given in: the head and the longest payload
+abbrev pub output-size : ℕ
+output-size = head-size + cell-size
+
+-- no store has more cells
+abbrev pub max-cells : ℕ
+max-cells = 2048
+
 -- how many cells a store of this length has
 abbrev pub cells-of : ℕ → ℕ
-cells-of store-length = min (store-length / cell-size) 2048
+cells-of store-length = min (store-length / cell-size) max-cells
 
 -- a list with `part` over what stood there from place `at` on
 unfoldable pub overwritten : {A : Type 0} → ℕ → List A → List A → List A
@@ -52,7 +59,7 @@ pub record Put (store : List ℕ) (cell : ℕ) (payload : List ℕ) (answer : Ou
 -- 5 also if the output is below its head and one cell
 abbrev pub copy-outcome : ℕ → ℕ → ℕ → ℕ → Outcome
 copy-outcome store-length cell size output-length =
-    refuse-if (ltb output-length (head-size + cell-size)) InsufficientBuffer (cell-outcome store-length cell size)
+    refuse-if (ltb output-length output-size) InsufficientBuffer (cell-outcome store-length cell size)
 
 pub record Copied (store : List ℕ) (cell size : ℕ) (output : List ℕ) (answer : Outcome) (after : List ℕ) : Type 0 where
   pub outcome : answer ≡ copy-outcome (length store) cell size (length output)

@@ -1,6 +1,6 @@
 -- The circular order of numbers that wrap (draft, 31-bit sequence numbers), for a circle of any width: h is half of the
 -- circle, so the circle has h + h numbers. Document 01: "a before b exactly if (b - a) modulo 2^31 is 1..2^30-1"; there the
--- circle is 2^31, and Sequence.antt has h = 2^30. Assumes nothing.
+-- circle is 2^31, and Sequence.antt has h = 2^30.
 use mathlib.Core.Path.{_≡_, refl, sym, ap, _∙_}
 use mathlib.Core.Logic.{_⊎_, inl, inr}
 use mathlib.Core.Bool.{Bool, true, false, _&&_}

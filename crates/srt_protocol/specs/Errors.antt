@@ -1,4 +1,4 @@
--- The numbers of the refusals (document 01, "Codes from the input" and "Codes from the state"). Assumes nothing.
+-- The numbers of the refusals (document 01, "Codes from the input" and "Codes from the state").
 use mathlib.Core.Path.{_≡_, refl, ap}
 use mathlib.Core.Bool.{Bool, true, false}
 use mathlib.Core.List.{List, [], _∷_}

@@ -1,4 +1,4 @@
--- The mark of a group id (document 01: "group id without bit 30"). Assumes nothing.
+-- The mark of a group id (document 01: "group id without bit 30").
 use mathlib.Core.Path.{_≡_}
 use mathlib.Core.Bool.{Bool}
 use Prim.Native.Nat.{ℕ, _*_, _/_, _%_, _^_}

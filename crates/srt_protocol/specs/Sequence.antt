@@ -1,5 +1,5 @@
 -- The circle of 31-bit sequence numbers (draft-sharabayko-srt; document 01, "Order"). Its laws are those of Circle.antt at
--- this half. Assumes nothing.
+-- this half.
 use mathlib.Core.Bool.{Bool}
 use Prim.Native.Nat.{ℕ, _+_, _^_}
 use Rattle.srt_protocol.specs.Circle.{distance, before, further}

@@ -1,5 +1,4 @@
 -- Times are microseconds in 64 bits, and saturate at both ends (document 01: "saturating add and subtract only").
--- Assumes nothing.
 use Prim.Native.Nat.{ℕ, _+_, _-_, _^_, min}
 
 -- the last moment that 64 bits hold

@@ -16,6 +16,9 @@ pub const MAX_CELLS: usize = 2048;
 // The output's bytes before the payload: the host's RTP head.
 pub const HEAD: usize = 12;
 
+// The bytes of the output that a packet is given in: the head and the longest payload.
+pub const OUTPUT: usize = HEAD + CELL;
+
 // How many cells a store of this length has.
 pub fn cells_of(length: usize) -> usize
     ensures { λ r. ⌜ r ≡ cells-of length ⌝ }
@@ -69,7 +72,7 @@ pub fn put_payload(store: &mut [u8], cell: usize, payload: &[u8]) -> Outcome
 pub fn copy_payload(store: &[u8], cell: usize, size: usize, output: &mut [u8]) -> Outcome
     ensures { λ r. ⌜ Copied (now (store .entry)) cell size (now (output .entry)) r (now (output .exit)) ⌝ }
 {
-    if output.len() < HEAD + CELL {
+    if output.len() < OUTPUT {
         return Outcome::Refused(Error::InsufficientBuffer);
     }
     let checked = check_cell(store.len(), cell, size);

@@ -1,4 +1,1 @@
-pub mod Tables
-pub mod Ready
 pub mod Queueing
-pub mod Freeing

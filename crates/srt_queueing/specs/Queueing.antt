@@ -1,49 +1,48 @@
--- What queueing data does to the tables, and that it is document 01's. Assumes nothing.
+-- What queueing data does to the tables, and that it is document 01's.
 use mathlib.Core.Path.{_≡_, refl, sym, ap, subst, _∙_}
-use mathlib.Core.Bool.{Bool, true, false, not, _&&_, _||_}
+use mathlib.Core.Bool.{Bool, true, false, not, _||_}
 use mathlib.Core.List.{List, [], _∷_}
 use mathlib.Core.Option.{Option, none, some}
-use Prim.Native.Nat.{ℕ, zero, suc, _+_, _*_, _^_, _≤_, _<_}
+use Prim.Native.Nat.{ℕ, _+_, _*_, _^_, _≤_, _<_}
 use native.Mathlib.Omega.{arith}
 use borrow.Author.Tests.{lt-ltb, le-ltb, ltb-false}
-use lib.Dec.{ltb, leb, eqb}
+use lib.Dec.{eqb}
 use lib.ListN.{length}
 use Rattle.srt_protocol.specs.declared.error.Error.{Error}
 use Rattle.srt_protocol.specs.declared.error.Error.the-variants.{OutOfRange, UnknownMember, PayloadTooLong, NoFreeCell, QueueFull}
 use Rattle.srt_protocol.specs.declared.error.Outcome.{Outcome}
 use Rattle.srt_protocol.specs.declared.error.Outcome.the-variants.{Accepted, Refused}
 use Rattle.srt_protocol.specs.Errors.{error-number, outcome-number, refuse-if, if-accepted}
-use Rattle.srt_protocol.specs.Cells.{cell-size, cells-of, overwritten, cell-outcome, Put}
+use Rattle.srt_protocol.specs.Cells.{cell-size, cells-of, overwritten, Put}
 use Rattle.srt_protocol.specs.CellLaws.{overwritten-length, cell-accepted}
-use Rattle.srt_group_model.specs.Tools.{if_then_else_, if-some_give_otherwise_, any, first-such, place-of, at-place, change}
+use Rattle.srt_group_model.specs.Tools.{if-some_give_otherwise_, any, place-of, at-place, change}
 use Rattle.srt_group_model.specs.Reason.{if-elim, if-some-elim, by-test, none-some, or-left, or-right, or-yes-right}
 use Rattle.srt_group_model.specs.State.{Member, State, with-members, on-leg}
 use Rattle.srt_group_model.specs.Legs.{add-reservation, largest-sequence, largest-16, largest-32}
 use Rattle.srt_group_model.specs.Members.{has-id, find}
 use Rattle.srt_group_model.specs.Cells.{free-cell}
 use Rattle.srt_group_model.specs.Validity.{above, is-invalid}
-use Rattle.srt_group_model.specs.Guards.{Step, refuse, Check, _when_, guard}
-use Rattle.srt_group_model.specs.Places.{first-such-is-found}
+use Rattle.srt_group_model.specs.Guards.{no-answer, Step, Check, _when_, guard}
+use Rattle.srt_group_model.specs.Refusals.{guard-stops, guard-goes-on}
+use Rattle.srt_group_model.specs.Places.{change-nothing, first-such-is-found}
 use Rattle.srt_group_model.specs.Valid.{valid-of, counted-of}
 use Rattle.srt_group_model.specs.Sound.{sound-of-valid, reservation-most}
 use Rattle.srt_group_model.specs.CellsMoved.{Moves, enqueue-takes}
 use Rattle.srt_group_model.specs.Calls.{store-unfit, data-unfit, is-unknown, no-free-cell, taken-cell, of-member, queue-full, change-member, enqueue, data-event, queue-data-body, queue-data}
-use Rattle.srt_group_model.specs.Lent.{Call, queued-data, stored, delivered-by, shown, list-rows, with-bytes, step-of}
+use Rattle.srt_group_model.specs.Lent.{Call, call-queue-data, stored, delivered-by, written-out, list-rows, with-bytes, step-of}
 use Rattle.srt_group_model.specs.declared.Data.{Data}
 use Rattle.srt_group_model.specs.declared.Event.{Event}
 use Rattle.srt_connection.specs.Rows.{row-size}
 use Rattle.srt_connection.specs.Queue.{push-outcome, enqueued}
-use Rattle.srt_connection.specs.Members.{member-at, members-of, members-length, members-place, has-row, found-of, found-some, found-none, found-below, Changed, PushedAt, changed-by, changed-twice}
-use Rattle.srt_connection.specs.declared.members.Found.{Found}
+use Rattle.srt_connection.specs.Members.{member-at, members-length, members-place, has-row, found-of, found-some, found-none, found-below, Changed, PushedAt, changed-by, changed-twice}
 use Rattle.srt_connection.specs.declared.members.Found.the-variants.{At, Nothing}
-use Rattle.cell_set.specs.Bits.{bit-at}
+use Rattle.cell_set.specs.Bits.{set-size}
 use Rattle.cell_set.specs.Sets.{Taken, can-take, LowestFree, free-cell-of}
-use Rattle.cell_set.specs.Shows.{Shows, shows-taken, lowest-is}
+use Rattle.cell_set.specs.Shows.{shows-taken, lowest-is}
 use Rattle.cell_set.specs.declared.FreeCell.{FreeCell}
 use Rattle.cell_set.specs.declared.FreeCell.the-variants.{Cell, Full}
-use Rattle.srt_queueing.specs.declared.group.Group.{Group}
-use Rattle.srt_queueing.specs.Tables.{Tables, state-of, Long}
-use Rattle.srt_queueing.specs.Ready.{Ready, Performs, storing, guard-stops, guard-goes-on, performs-refused, performs-refused-over, performs-accepted}
+use Rattle.srt_group_shown.specs.Tables.{Parts, Tables, state-of, Long}
+use Rattle.srt_group_shown.specs.Ready.{Ready, storing, Performs, one-cell, performs-refused, performs-refused-over, performs-accepted}
 
 -- ---- the member at an index, once a cell is found
 
@@ -53,7 +52,7 @@ pub record Enqueueable (index cell : ℕ) (d : Data) (size : ℕ) (members : Lis
   pub one-cell : cell-size ≤ store
   pub cell-there : cell < cells-of store
   pub payload : size ≤ cell-size
-  pub words : used ≡ 32
+  pub words : used ≡ set-size
 
 -- the packet is queued and its count reserved
 abbrev pub with-data : (cell size : ℕ) → Data → Member → Member
@@ -146,23 +145,22 @@ free-none : (o : Option ℕ) → Full ≡ free-cell-of o → o ≡ none
 free-none none e = refl
 free-none (some k) e = cc e
 
-change-nothing : (i : ℕ) (ms : List Member) → change i (λ m. m) ms ≡ ms
-unfolding change
-change-nothing zero [] = refl
-change-nothing (suc i) [] = refl
-change-nothing zero (m ∷ ms) = refl
-change-nothing (suc i) (m ∷ ms) = ap (λ (l : List Member). m ∷ l) (change-nothing i ms)
-
 -- the table as it is after a call
 abbrev pub with-table : List ℕ → Tables → Tables
-with-table members t = record { history = t .history; members = members; pending = t .pending; waiting = t .waiting }
+with-table members t =
+    record { members = members; pending = t .pending; waiting = t .waiting; history = t .history; sources = t .sources }
 
-module _ (id : ℕ) (d : Data) (payload : List ℕ) (g : Group) (t : Tables) (store used : List ℕ) (ready : Ready g t (length store) used) where
+module _ (id : ℕ) (d : Data) (payload : List ℕ) (p : Parts) (t : Tables) (store used : List ℕ) (ready : Ready p t (length store) used) where
   abbrev s : State
-  s = state-of g t
+  s = state-of p t
 
   abbrev call : Call
-  call = queued-data id d payload
+  call = call-queue-data id d payload
+
+  -- what is left to show: the call with an outcome, over the members, the store and the words after it
+  abbrev pub Queues : Outcome → (members′ store′ used′ : List ℕ) → Type 0
+  Queues o members′ store′ used′ =
+      Performs call p t (storing store) (outcome-number o) no-answer p (with-table members′ t) (storing store′) used′
 
   abbrev room : ℕ
   room = cells-of (length store)
@@ -194,16 +192,16 @@ module _ (id : ℕ) (d : Data) (payload : List ℕ) (g : Group) (t : Tables) (st
       guard-goes-on (5 when store-unfit (length store) s) ((6 when is-invalid room s) ∷ 2-on) s body (ready .fits)
       ∙ guard-goes-on (6 when is-invalid room s) 2-on s body (ready .valid)
 
-  pub data-refused : data-unfit id d ≡ true → Performs call g t store (Refused OutOfRange) g t store used
-  data-refused unfit = performs-refused call g t store used ready OutOfRange (starts ∙ guard-stops (2 when data-unfit id d) 3-on s body unfit)
+  pub data-refused : data-unfit id d ≡ true → Queues (Refused OutOfRange) (t .members) store used
+  data-refused unfit = performs-refused call p t (storing store) used ready (error-number OutOfRange) (starts ∙ guard-stops (2 when data-unfit id d) 3-on s body unfit)
 
   -- what `find` is given
-  pub rows-there : g .core .counts .members * row-size ≤ length (t .members)
+  pub rows-there : p .core .counts .members * row-size ≤ length (t .members)
   rows-there =
       omega (
         arith,
         counted-of s (valid-of room s (ready .valid) .counts) .members,
-        members-length (g .core .counts .members) (t .members),
+        members-length (p .core .counts .members) (t .members),
         ready .long .members,
       )
 
@@ -211,9 +209,9 @@ module _ (id : ℕ) (d : Data) (payload : List ℕ) (g : Group) (t : Tables) (st
     after-2 : step ≡ guard 3-on s body
     after-2 = starts ∙ guard-goes-on (2 when data-unfit id d) 3-on s body fit
 
-    pub unknown-refused : Nothing ≡ found-of (find id (s .members)) → Performs call g t store (Refused UnknownMember) g t store used
+    pub unknown-refused : Nothing ≡ found-of (find id (s .members)) → Queues (Refused UnknownMember) (t .members) store used
     unknown-refused nowhere =
-        performs-refused call g t store used ready UnknownMember
+        performs-refused call p t (storing store) used ready (error-number UnknownMember)
         (after-2
         ∙ guard-stops (3 when is-unknown id s) 4-on s body
         (ap not (nowhere-any (has-id id) (s .members) (found-none (find id (s .members)) nowhere))))
@@ -222,29 +220,29 @@ module _ (id : ℕ) (d : Data) (payload : List ℕ) (g : Group) (t : Tables) (st
       found-there : find id (s .members) ≡ some i
       found-there = found-some (find id (s .members)) i at
 
-      below : i < g .core .counts .members
-      below = found-below (g .core .counts .members) id i (t .members) at
+      below : i < p .core .counts .members
+      below = found-below (p .core .counts .members) id i (t .members) at
 
       place : at-place i (s .members) ≡ some (member-at (t .members) i)
-      place = members-place (g .core .counts .members) (t .members) i below
+      place = members-place (p .core .counts .members) (t .members) i below
 
       after-3 : step ≡ guard 4-on s body
       after-3 =
           after-2 ∙ guard-goes-on (3 when is-unknown id s) 4-on s body (ap not (found-any (has-id id) (s .members) i found-there))
 
-      pub long-refused : cell-size < length payload → Performs call g t store (Refused PayloadTooLong) g t store used
+      pub long-refused : cell-size < length payload → Queues (Refused PayloadTooLong) (t .members) store used
       long-refused long =
-          performs-refused call g t store used ready PayloadTooLong
+          performs-refused call p t (storing store) used ready (error-number PayloadTooLong)
           (after-3 ∙ guard-stops (4 when above cell-size (length payload)) 30-on s body (lt-ltb cell-size (length payload) long))
 
       module _ (short : length payload ≤ cell-size) where
         after-4 : step ≡ guard 30-on s body
         after-4 = after-3 ∙ guard-goes-on (4 when above cell-size (length payload)) 30-on s body (le-ltb cell-size (length payload) short)
 
-        pub full-refused : {r : FreeCell} → LowestFree used room r → r ≡ Full → Performs call g t store (Refused NoFreeCell) g t store used
+        pub full-refused : {r : FreeCell} → LowestFree used room r → r ≡ Full → Queues (Refused NoFreeCell) (t .members) store used
         unfolding if-some_give_otherwise_
         full-refused lowest is =
-            performs-refused call g t store used ready NoFreeCell
+            performs-refused call p t (storing store) used ready (error-number NoFreeCell)
             (after-4
             ∙ guard-stops (30 when no-free-cell room s) 31-on s body
             (ap (λ (o : Option ℕ). if-some o give (λ c. false) otherwise true)
@@ -272,17 +270,17 @@ module _ (id : ℕ) (d : Data) (payload : List ℕ) (g : Group) (t : Tables) (st
               (first-such-is-found (has-id id) (s .members) ∙ ap (λ (o : Option ℕ). if-some o give (λ k. at-place k (s .members)) otherwise none) found-there ∙ place)
 
           pub enqueueable : Enqueueable i cell d (length payload) (t .members) (length store) (length used)
-          unfolding store-unfit data-unfit
+          unfolding data-unfit
           enqueueable =
               record {
                 there = omega (arith, rows-there, below);
                 room =
                     omega (
                       arith,
-                      reservation-most s i (member-at (t .members) i) (sound-of-valid room s (omega arith) (ready .peer) (ready .valid)) place,
+                      reservation-most s i (member-at (t .members) i) (sound-of-valid room s (omega arith) (ready .valid)) place,
                       count-fits,
                     );
-                one-cell = ltb-false (length store) cell-size (or-right (not (eqb (s .identity .length) 0) && not (eqb (length store) (s .identity .length))) _ (ready .fits));
+                one-cell = one-cell ready;
                 cell-there = can .0;
                 payload = short;
                 words = ready .shows .cells .long;
@@ -301,45 +299,43 @@ module _ (id : ℕ) (d : Data) (payload : List ℕ) (g : Group) (t : Tables) (st
             long-after : Long t′
             long-after =
                 record {
-                  sequences = ready .long .sequences;
-                  cells = ready .long .cells;
-                  lengths = ready .long .lengths;
-                  sources = ready .long .sources;
                   members = omega (arith, ready .long .members, done .queued .long);
                   pending = ready .long .pending;
                   waiting = ready .long .waiting;
+                  history = ready .long .history;
+                  sources = ready .long .sources;
                 }
 
             -- the same members, or the packet in the queue of the one at the index
             queued-by : (f : Member → Member) → if-accepted o (with-data cell (length payload) d (member-at (t .members) i)) (member-at (t .members) i) ≡ f (member-at (t .members) i)
-                → state-of g t′ ≡ with-members (change i f (s .members)) s
+                → state-of p t′ ≡ with-members (change i f (s .members)) s
             queued-by f same =
-                ap (λ (ms : List Member). with-members ms s) (changed-by i (t .members) members′ f (done .queued) same .members (g .core .counts .members))
+                ap (λ (ms : List Member). with-members ms s) (changed-by i (t .members) members′ f (done .queued) same .members (p .core .counts .members))
 
-            refused-31 : queue-full (member-at (t .members) i) ≡ true → Performs call g t store o g t′ store′ used′
+            refused-31 : queue-full (member-at (t .members) i) ≡ true → Queues o members′ store′ used′
             refused-31 full =
                 let is : o ≡ Refused QueueFull = done .outcome ∙ ap (λ (b : Bool). refuse-if b QueueFull Accepted) full in
-                let same : state-of g t′ ≡ s =
+                let same : state-of p t′ ≡ s =
                 queued-by (λ m. m) (ap (λ (x : Outcome). if-accepted x (with-data cell (length payload) d (member-at (t .members) i)) (member-at (t .members) i)) is)
                 ∙ ap (λ (ms : List Member). with-members ms s) (change-nothing i (s .members))
                 in
-                let refused = performs-refused-over call g t store used ready QueueFull
+                let refused = performs-refused-over call p t (storing store) used ready (error-number QueueFull)
                 (after-30 ∙ guard-stops (31 when of-member id queue-full s) [] s (queue-data-body id cell d payload s) (full-is ∙ full)) t′ same long-after
                 in
-                subst (λ (x : Outcome). Performs call g t store x g t′ store′ used′) (sym is)
-                (subst (λ (x : List ℕ). Performs call g t store (Refused QueueFull) g t′ x used′)
+                subst (λ (x : Outcome). Queues x members′ store′ used′) (sym is)
+                (subst (λ (x : List ℕ). Queues (Refused QueueFull) members′ x used′)
                 (sym (done .stored-there ∙ ap (λ (x : Outcome). if-accepted x (overwritten (cell * cell-size) payload store) store) is))
-                (subst (λ (x : List ℕ). Performs call g t store (Refused QueueFull) g t′ store x) (sym (done .kept QueueFull is)) refused))
+                (subst (λ (x : List ℕ). Queues (Refused QueueFull) members′ store x) (sym (done .kept QueueFull is)) refused))
 
             body-state : queue-data-body id cell d payload s .state ≡ with-members (change i (with-data cell (length payload) d) (s .members)) s
             unfolding queue-data-body change-member if-some_give_otherwise_
             body-state = ap (λ (x : Option ℕ). if-some x give (λ k. with-members (change k (with-data cell (length payload) d) (s .members)) s) otherwise s) found-there
 
-            accepted : queue-full (member-at (t .members) i) ≡ false → Performs call g t store o g t′ store′ used′
-            unfolding queue-data-body guard with-bytes stored delivered-by shown list-rows overwritten
+            accepted : queue-full (member-at (t .members) i) ≡ false → Queues o members′ store′ used′
+            unfolding queue-data-body guard with-bytes stored delivered-by written-out list-rows overwritten
             accepted room-left =
                 let is : o ≡ Accepted = done .outcome ∙ ap (λ (b : Bool). refuse-if b QueueFull Accepted) room-left in
-                let same : state-of g t′ ≡ queue-data-body id cell d payload s .state =
+                let same : state-of p t′ ≡ queue-data-body id cell d payload s .state =
                 queued-by (with-data cell (length payload) d) (ap (λ (x : Outcome). if-accepted x (with-data cell (length payload) d (member-at (t .members) i)) (member-at (t .members) i)) is)
                 ∙ sym body-state
                 in
@@ -349,12 +345,12 @@ module _ (id : ℕ) (d : Data) (payload : List ℕ) (g : Group) (t : Tables) (st
                 let moves : Moves (cell ∷ []) [] s (queue-data-body id cell d payload s .state) =
                 subst (Moves (cell ∷ []) [] s) (sym body-state) (enqueue-takes i cell (length payload) d (member-at (t .members) i) s place)
                 in
-                subst (λ (x : Outcome). Performs call g t store x g t′ store′ used′) (sym is)
-                (performs-accepted call g t store used ready (queue-data-body id cell d payload s) g t′ store′ used′
+                subst (λ (x : Outcome). Queues x members′ store′ used′) (sym is)
+                (performs-accepted call p t (storing store) used ready (queue-data-body id cell d payload s) p t′ (storing store′) used′
                 (after-30 ∙ guard-goes-on (31 when of-member id queue-full s) [] s (queue-data-body id cell d payload s) (full-is ∙ room-left))
-                refl same (ap storing bytes) (ap length bytes ∙ overwritten-length (cell * cell-size) payload store (omega (arith, enqueueable .cell-there, short)))
-                (sym (ap (λ (z : State). z .identity .length) same)) long-after
-                (shows-taken (ready .shows) (can .1) (done .taken is) moves))
+                refl refl same (ap storing bytes)
+                (ap length bytes ∙ overwritten-length (cell * cell-size) payload store (omega (arith, enqueueable .cell-there, short)))
+                long-after (shows-taken (ready .shows) (can .1) (done .taken is) moves))
 
-            pub performed : Performs call g t store o g t′ store′ used′
+            pub performed : Queues o members′ store′ used′
             performed = by-test (queue-full (member-at (t .members) i)) refused-31 accepted

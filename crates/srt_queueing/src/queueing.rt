@@ -1,43 +1,50 @@
 // `queue_data` of the stand-in leg: a packet into a leg's queue, its payload into the lowest free cell of the store.
 ghost use mathlib.Core.Path.{_≡_};
-ghost use Prim.Native.Nat.{_+_, _^_, _≤_, _<_};
+ghost use Prim.Native.Nat.{_+_, _^_, _<_};
 ghost use lib.ListN.{length};
-ghost use Rattle.srt_protocol.specs.Cells.{cells-of};
+ghost use Rattle.srt_protocol.specs.Errors.{outcome-number};
 ghost use Rattle.srt_group_model.specs.State.{on-leg};
 ghost use Rattle.srt_group_model.specs.Legs.{add-reservation};
+ghost use Rattle.srt_group_model.specs.Guards.{no-answer};
 ghost use Rattle.srt_group_model.specs.Calls.{data-event, data-unfit};
-ghost use Rattle.srt_group_model.specs.Lent.{queued-data};
+ghost use Rattle.srt_group_model.specs.Lent.{call-queue-data};
 ghost use Rattle.srt_connection.specs.Members.{member-at, has-row, Changed};
-ghost use Rattle.srt_queueing.specs.Tables.{tables};
-ghost use Rattle.srt_queueing.specs.Ready.{Ready, Performs};
+ghost use Rattle.srt_group_shown.specs.Tables.{parts, tables};
+ghost use Rattle.srt_group_shown.specs.Ready.{Ready, storing, Performs};
 ghost use Rattle.srt_queueing.specs.Queueing.{Enqueueable, Enqueues};
-use crate::group::Group;
 use cell_set::FreeCell;
 use cell_set::lowest_free;
 use cell_set::take;
+use srt_connection::legs::LARGEST_16;
+use srt_connection::legs::LARGEST_32;
+use srt_connection::legs::LARGEST_SEQUENCE;
 use srt_connection::members::Found;
 use srt_connection::members::find;
 use srt_connection::members::push_at;
 use srt_connection::members::put_receiver_at;
 use srt_connection::members::receiver_at;
+use srt_group_model::Core;
 use srt_group_model::Data;
 use srt_group_model::Event;
+use srt_group_model::Identity;
+use srt_group_model::Sending;
 use srt_protocol::error::Error;
 use srt_protocol::error::Outcome;
 use srt_protocol::received_payload::CELL;
 use srt_protocol::received_payload::cells_of;
 use srt_protocol::received_payload::put_payload;
+use srt_tables::history::HistoryRing;
 
 // 2: an id or a field of the packet out of range.
 fn data_unfit(id: u64, content: Data) -> bool
     ensures { λ r. ⌜ r ≡ data-unfit id content ⌝ }
 {
-    (0xffff_ffff < id)
-        | (0x7fff_ffff < content.sequence)
+    (LARGEST_32 < id)
+        | (LARGEST_SEQUENCE < content.sequence)
         | (content.count == 0)
-        | (0xffff < content.count)
-        | (0xffff_ffff < content.message)
-        | (0xffff_ffff < content.timestamp)
+        | (LARGEST_16 < content.count)
+        | (LARGEST_32 < content.message)
+        | (LARGEST_32 < content.timestamp)
 }
 
 // The packet in its cell.
@@ -83,7 +90,9 @@ fn enqueue(
     payload: &[u8],
 ) -> Outcome
     requires { ⌜ Enqueueable index cell content (length (now payload)) (now members) (length (now store)) (length (now used)) ⌝ }
-    ensures { λ r. ⌜ Enqueues index cell content (now (payload .entry)) (now (members .entry)) (now (store .entry)) (now (used .entry)) r (now (members .exit)) (now (store .exit)) (now (used .exit)) ⌝ }
+    ensures { λ r. ⌜ Enqueues index cell content (now (payload .entry))
+        (now (members .entry)) (now (store .entry)) (now (used .entry)) r
+        (now (members .exit)) (now (store .exit)) (now (used .exit)) ⌝ }
 {
     let event = data_event(content, cell, payload.len());
     let pushed = push_at(members, index, event);
@@ -98,27 +107,33 @@ fn enqueue(
 
 // `queue_data` for a valid state, of which `used` shows the cells in use.
 pub fn queue_data(
-    group: Group,
-    sequences: &[u32],
-    cells: &[u16],
-    lengths: &[u16],
-    sources: &[u64],
+    identity: Identity,
+    core: Core,
+    sending: Sending,
+    ring: HistoryRing,
     members: &mut [u64],
     pending: &[u64],
     waiting: &[u64],
+    history: &[u64],
+    sources: &[u64],
     store: &mut [u8],
     used: &mut [u64],
     id: u64,
     content: Data,
     payload: &[u8],
 ) -> Outcome
-    requires { ⌜ Ready group (tables (now sequences) (now cells) (now lengths) (now sources) (now members) (now pending) (now waiting)) (length (now store)) (now used) ⌝ }
-    ensures { λ r. ⌜ Performs (queued-data id content (now (payload .entry))) group (tables (now (sequences .entry)) (now (cells .entry)) (now (lengths .entry)) (now (sources .entry)) (now (members .entry)) (now (pending .entry)) (now (waiting .entry))) (now (store .entry)) r group (tables (now (sequences .entry)) (now (cells .entry)) (now (lengths .entry)) (now (sources .entry)) (now (members .exit)) (now (pending .entry)) (now (waiting .entry))) (now (store .exit)) (now (used .exit)) ⌝ }
+    requires { ⌜ Ready (parts identity core sending ring)
+        (tables (now members) (now pending) (now waiting) (now history) (now sources)) (length (now store)) (now used) ⌝ }
+    ensures { λ r. ⌜ Performs (call-queue-data id content (now (payload .entry))) (parts identity core sending ring)
+        (tables (now (members .entry)) (now (pending .entry)) (now (waiting .entry)) (now (history .entry)) (now (sources .entry)))
+        (storing (now (store .entry))) (outcome-number r) no-answer (parts identity core sending ring)
+        (tables (now (members .exit)) (now (pending .entry)) (now (waiting .entry)) (now (history .entry)) (now (sources .entry)))
+        (storing (now (store .exit))) (now (used .exit)) ⌝ }
 {
     if data_unfit(id, content) {
         return Outcome::Refused(Error::OutOfRange);
     }
-    let found = find(members, group.core.counts.members, id);
+    let found = find(members, core.counts.members, id);
     let Found::At(index) = found else {
         return Outcome::Refused(Error::UnknownMember);
     };

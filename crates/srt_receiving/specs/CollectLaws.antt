@@ -1,4 +1,4 @@
--- What is left by holding or discarding a packet, and by reporting an event. Assumes nothing.
+-- What is left by holding or discarding a packet, and by reporting an event.
 use mathlib.Core.Path.{_≡_, refl, ap, ap₂, sym, _∙_}
 use mathlib.Core.Bool.{Bool, true, false, _||_}
 use mathlib.Core.List.{List, [], _∷_, _++_}
@@ -8,52 +8,54 @@ use borrow.Author.Tests.{le-leb, lt-leb}
 use lib.ListN.{length}
 use lib.Dec.{leb}
 use Rattle.srt_protocol.specs.Sequence.{sequence-before}
+use Rattle.srt_protocol.specs.Cells.{max-cells}
 use Rattle.srt_group_model.specs.declared.Core.{Core}
 use Rattle.srt_group_model.specs.declared.Packet.{Packet}
 use Rattle.srt_group_model.specs.declared.Waiting.{Waiting}
-use Rattle.srt_group_model.specs.declared.GroupMode.{GroupMode}
-use Rattle.srt_group_model.specs.Tools.{if_then_else_, if-some_give_otherwise_, flagged, any, place-of, change}
+use Rattle.srt_group_model.specs.Tools.{if_then_else_, if-some_give_otherwise_, is-set, flagged, any, place-of, change}
+use Rattle.srt_group_model.specs.FlagLaws.{other-set}
 use Rattle.srt_group_model.specs.Reason.{not-both, or-right, or-yes-left}
 use Rattle.srt_group_model.specs.State.{Member, Receive, State, on-leg, on-membership, with-reserved, with-members, with-receive, with-pending, with-waiting, is-backup, turned, broken-state}
-use Rattle.srt_group_model.specs.Legs.{release-data-reservation}
+use Rattle.srt_group_model.specs.Legs.{largest-sequence, release-data-reservation}
 use Rattle.srt_group_model.specs.Members.{promote-backup-member}
 use Rattle.srt_group_model.specs.Nearest.{sequence-of, has-sequence, is-held, insert}
-use Rattle.srt_group_model.specs.Validity.{ascends}
+use Rattle.srt_group_model.specs.Validity.{max-pending, ascends}
 use Rattle.srt_group_model.specs.Cells.{is-among}
 use Rattle.srt_group_model.specs.CellsKept.{pending-cells}
 use Rattle.srt_group_model.specs.Collecting.{is-late, is-discarded, retain-group-packet, report-event}
 use Rattle.srt_connection.specs.Members.{members-of, Changed}
 use Rattle.srt_members.specs.Scan.{Became, became-changed, became-same, became-then}
-use Rattle.srt_tables.specs.Packets.{packets, Holds, found, place-found}
+use Rattle.srt_tables.specs.Packets.{pending-size, packets, Holds, found, place-found}
 use Rattle.srt_tables.specs.Waitings.{waitings, HoldsWaiting}
 use Rattle.srt_tables.specs.declared.pending.Found.the-variants.{At, Nothing}
-use Rattle.srt_state.specs.Shown.{shown}
+use Rattle.srt_group_shown.specs.Shown.{shown}
+use Rattle.srt_group_shown.specs.Tables.{receive-tables}
 use Rattle.srt_receiving.specs.Leaves.{Leaves}
 
 -- ---- a packet is held or discarded
 
 -- the packet of member m can be held in a table that holds so many
 pub record Holdable (held : ℕ) (pending : List ℕ) (p : Packet) (m : Member) : Type 0 where
-  pub long : 18432 ≤ length pending
-  pub few : held < 2048
+  pub long : pending-size ≤ length pending
+  pub few : held < max-pending
   pub ascending : ascends (packets held pending) ≡ true
-  pub sequence : p .content .sequence ≤ 2147483647
-  pub cell : p .content .cell < 2048
+  pub sequence : p .content .sequence ≤ largest-sequence
+  pub cell : p .content .cell < max-cells
   pub apart : is-among (p .content .cell) (pending-cells (packets held pending)) ≡ false
   pub reserved : m .membership .reserved + p .content .count < 18446744073709551616
 
 -- over any waiting events, which stay
 pub record Retained (i : ℕ) (p : Packet) (core : Core) (ms ps : List ℕ) (after : Core) (ms′ ps′ : List ℕ) : Type 0 where
   pub waiting-same : after .counts .waiting ≡ core .counts .waiting
-  pub leaves : (ws : List ℕ) → Leaves (retain-group-packet i p) core ms ps ws after ms′ ps′ ws
+  pub leaves : (ws : List ℕ) → Leaves (retain-group-packet i p) core (receive-tables ms ps ws) after (receive-tables ms′ ps′ ws)
 
 abbrev pub with-held : ℕ → Core → Core
 with-held n c =
     record {
       counts = record { members = c .counts .members; pending = n; waiting = c .counts .waiting };
-      identity = c .identity;
+      mode = c .mode;
+      peer = c .peer;
       receiving = c .receiving;
-      sending = c .sending;
       visit = c .visit;
       owned = c .owned;
     }
@@ -88,9 +90,9 @@ module _ (core : Core) (ms ps : List ℕ) (i : ℕ) (p : Packet) where
               waiting-long = refl;
               members-same = refl;
               state =
-                  λ history.
-                  discards i p (shown core history ms ps ws) is
-                  ∙ ap (λ (x : List Member). with-members x (shown core history ms ps ws)) (sym (changed .members (core .counts .members)));
+                  λ others.
+                  discards i p (shown core others ms ps ws) is
+                  ∙ ap (λ (x : List Member). with-members x (shown core others ms ps ws)) (sym (changed .members (core .counts .members)));
             };
       }
 
@@ -109,11 +111,11 @@ module _ (core : Core) (ms ps : List ℕ) (i : ℕ) (p : Packet) where
               waiting-long = refl;
               members-same = refl;
               state =
-                  λ history.
-                  holds i p (shown core history ms ps ws) is
+                  λ others.
+                  holds i p (shown core others ms ps ws) is
                   ∙ ap₂
                   (λ (l : List Packet) (x : List Member).
-                  with-receive (with-pending l (receive-of core ps)) (with-members x (shown core history ms ps ws)))
+                  with-receive (with-pending l (receive-of core ps)) (with-members x (shown core others ms ps ws)))
                   (sym (inserted .is)) (sym (changed .members (core .counts .members)));
             };
       }
@@ -157,20 +159,19 @@ module _ (sequence : ℕ) (ps : List Packet) where
   held-nowhere e = sym (sym (place-any (has-sequence sequence) ps) ∙ found-nowhere (place-of (has-sequence sequence) ps) e)
 
 -- a sequence is late only if there is a base
-module _ {answer : Bool} (based : Bool) (base sequence : ℕ) where
-  pub late-based : based ≡ true → answer ≡ sequence-before sequence base
-      → answer ≡ (if-some flagged based base give (λ base. sequence-before sequence base) otherwise false)
+module _ (based base sequence : ℕ) where
+  pub late-based : {answer : Bool} → (based ≡ 0 → ⊥) → answer ≡ sequence-before sequence base
+      → answer ≡ (if-some flagged (is-set based) base give (λ base. sequence-before sequence base) otherwise false)
   unfolding flagged if-some_give_otherwise_
-  late-based with-base is = rw with-base is
+  late-based with-base is = rw (other-set based with-base) is
 
-  pub late-unbased : based ≡ false → answer ≡ false
-      → answer ≡ (if-some flagged based base give (λ base. sequence-before sequence base) otherwise false)
+  pub late-unbased : based ≡ 0 → false ≡ (if-some flagged (is-set based) base give (λ base. sequence-before sequence base) otherwise false)
   unfolding flagged if-some_give_otherwise_
-  late-unbased no-base is = rw no-base is
+  late-unbased no-base = rw no-base
 
 module _ (p : Packet) (core : Core) (ps : List ℕ) where
   abbrev late : Bool
-  late = if-some flagged (core .receiving .based) (core .receiving .base) give (λ base. sequence-before (sequence-of p) base) otherwise false
+  late = if-some flagged (is-set (core .receiving .based)) (core .receiving .base) give (λ base. sequence-before (sequence-of p) base) otherwise false
 
   abbrev held-already : Bool
   held-already = is-held (sequence-of p) (packets (core .counts .pending) ps)
@@ -191,7 +192,7 @@ module _ (p : Packet) (core : Core) (ps : List ℕ) where
 -- ---- an event is reported
 
 -- what an event of this kind makes of the members: an error or a disconnect breaks the one at a place and, in Backup, promotes
-abbrev pub broken-by : GroupMode → (kind place : ℕ) → List Member → List Member
+abbrev pub broken-by : (mode kind place : ℕ) → List Member → List Member
 broken-by mode kind i ms =
     if leb 2 kind
     then
@@ -199,7 +200,7 @@ broken-by mode kind i ms =
     if is-backup mode then promote-backup-member broken else broken)
     else ms
 
-module _ (n : ℕ) (mode : GroupMode) (kind i : ℕ) (t : List ℕ) where
+module _ (n mode kind i : ℕ) (t : List ℕ) where
   pub not-broken : kind < 2 → Became n (broken-by mode kind i (members-of n t)) t t
   unfolding if_then_else_
   not-broken low = rw (lt-leb 2 kind low) (became-same n t (members-of n t) refl)
@@ -220,21 +221,21 @@ module _ (n : ℕ) (mode : GroupMode) (kind i : ℕ) (t : List ℕ) where
 -- over any held packets, which stay
 pub record Reported (i : ℕ) (w : Waiting) (core : Core) (ms ws : List ℕ) (after : Core) (ms′ ws′ : List ℕ) : Type 0 where
   pub waiting-more : after .counts .waiting ≡ core .counts .waiting + 1
-  pub leaves : (ps : List ℕ) → Leaves (report-event i w) core ms ps ws after ms′ ps ws′
+  pub leaves : (ps : List ℕ) → Leaves (report-event i w) core (receive-tables ms ps ws) after (receive-tables ms′ ps ws′)
 
 abbrev pub with-waiting-count : ℕ → Core → Core
 with-waiting-count n c =
     record {
       counts = record { members = c .counts .members; pending = c .counts .pending; waiting = n };
-      identity = c .identity;
+      mode = c .mode;
+      peer = c .peer;
       receiving = c .receiving;
-      sending = c .sending;
       visit = c .visit;
       owned = c .owned;
     }
 
 pub reported : (i : ℕ) (w : Waiting) (core : Core) (ms ws ms′ ws′ : List ℕ)
-    → Became (core .counts .members) (broken-by (core .identity .mode) (w .kind) i (members-of (core .counts .members) ms)) ms ms′
+    → Became (core .counts .members) (broken-by (core .mode) (w .kind) i (members-of (core .counts .members) ms)) ms ms′
     → HoldsWaiting (length ws) ws′ (core .counts .waiting + 1) (waitings (core .counts .waiting) ws ++ (w ∷ []))
     → Reported i w core ms ws (with-waiting-count (core .counts .waiting + 1) core) ms′ ws′
 unfolding report-event
@@ -249,9 +250,9 @@ reported i w core ms ws ms′ ws′ became pushed =
             waiting-long = pushed .length-kept;
             members-same = refl;
             state =
-                λ history.
+                λ others.
                 ap₂
-                (λ (l : List Waiting) (x : List Member). with-waiting l (with-members x (shown core history ms ps ws)))
+                (λ (l : List Waiting) (x : List Member). with-waiting l (with-members x (shown core others ms ps ws)))
                 (sym (pushed .is)) (sym (became .is));
           };
     }

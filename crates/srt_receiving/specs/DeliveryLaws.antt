@@ -1,89 +1,63 @@
--- The give-up test, the release of what a run covers, and delivery, over the record's numbers and the lent tables. Assumes
--- nothing.
+-- The give-up test, the release of what a run covers, and delivery, over the record's numbers and the lent tables.
 use mathlib.Core.Path.{_≡_, refl, ap, ap₂, sym, subst, _∙_}
 use mathlib.Core.Bool.{Bool, true, false}
 use mathlib.Core.List.{List, [], _∷_}
 use mathlib.Core.Option.{Option, none, some}
 use native.Mathlib.Numerals.{add-one}
-use Prim.Native.Nat.{ℕ, zero, suc, _+_, _-_, _≤_, _<_}
-use native.Mathlib.Omega.{arith}
-use borrow.Author.Tests.{ltb-false, lt-ltb, le-ltb, eq-eqb, ne-eqb}
-use lib.Dec.{leb, eqb}
+use Prim.Native.Nat.{ℕ, suc, _+_, _-_, _≤_, _<_}
+use borrow.Author.Tests.{lt-ltb, le-ltb, eq-eqb, ne-eqb}
+use lib.Dec.{leb}
 use lib.ListN.{length, drop}
 use Rattle.srt_protocol.specs.Sequence.{sequence-distance, sequence-further}
 use Rattle.srt_protocol.specs.declared.time.Timestamp.{Timestamp}
-use Rattle.word_rows.specs.Tab.{tab, tab-length}
+use Rattle.word_rows.specs.Tab.{tab}
+use Rattle.srt_protocol.specs.Cells.{max-cells}
 use Rattle.srt_group_model.specs.declared.Core.{Core}
-use Rattle.srt_group_model.specs.declared.Data.{Data}
-use Rattle.srt_group_model.specs.declared.Entry.{Entry}
 use Rattle.srt_group_model.specs.declared.Leg.{Leg}
 use Rattle.srt_group_model.specs.declared.Membership.{Membership}
 use Rattle.srt_group_model.specs.declared.Packet.{Packet}
-use Rattle.srt_group_model.specs.Tools.{if_then_else_, if-some_give_otherwise_, or-else, all, first-such, such-that, place-of, at-place, change}
-use Rattle.srt_group_model.specs.Reason.{All, or-left, or-right}
+use Rattle.srt_group_model.specs.Tools.{if_then_else_, if-some_give_otherwise_, or-else, all, first-such, such-that, place-of, at-place}
 use Rattle.srt_group_model.specs.State.{Member, State, with-members, with-receive, with-base, with-pending, on-leg, on-membership, with-reserved}
-use Rattle.srt_group_model.specs.Legs.{is-disconnected, gives-up-at, release-data-reservation, advance-receive-sequence, largest-16}
+use Rattle.srt_group_model.specs.Legs.{is-disconnected, gives-up-at, release-data-reservation, advance-receive-sequence}
 use Rattle.srt_group_model.specs.Members.{has-id, find}
 use Rattle.srt_group_model.specs.Nearest.{sequence-of, nearest, covered, not-covered}
-use Rattle.srt_group_model.specs.Validity.{ascends, above, data-out-of-range}
-use Rattle.srt_group_model.specs.RangesKept.{Packet-fit}
-use Rattle.srt_group_model.specs.CellsKept.{uses-used}
-use Rattle.srt_group_model.specs.Counts.{pending-few}
-use Rattle.srt_group_model.specs.Sound.{most-cells}
+use Rattle.srt_group_model.specs.Validity.{max-pending, max-members, ascends}
+use Rattle.srt_group_model.specs.Sound.{count-fits}
 use Rattle.srt_group_model.specs.Delivery.{leg-gives-up, gap-given-up, release-pending-reservation, release-all, advance-legs, pass-run, deliver-packet}
-use Rattle.srt_connection.specs.Members.{member-at, members-of, members-place, found-of, found-some, found-none, found-below, Changed, ChangedAll, changed-twice, membership-changed}
+use Rattle.srt_connection.specs.Members.{members-size, member-at, members-of, members-place, found-of, found-some, found-none, found-below, Changed, ChangedAll, changed-twice, membership-changed}
+use Rattle.srt_connection.specs.Tab.{all-tab}
 use Rattle.srt_connection.specs.Rows.{with-membership}
 use Rattle.srt_connection.specs.Answers.{deadline-of}
 use Rattle.srt_connection.specs.declared.legs.Deadline.the-variants.{At as AtMoment, Never}
 use Rattle.srt_members.specs.Scan.{tab-next, tab-ended}
 use Rattle.srt_connection.specs.declared.members.Found.the-variants.{At, Nothing}
-use Rattle.srt_tables.specs.Packets.{packet-at, packets, Holds, FoundPacket, CountsFit}
+use Rattle.srt_tables.specs.Packets.{pending-size, packet-at, packets, Holds, FoundPacket}
+use Rattle.srt_tables.specs.PacketLaws.{drop-zero}
 use Rattle.srt_tables.specs.declared.pending.Found.{Found}
 use Rattle.srt_tables.specs.declared.pending.Found.the-variants.{At as PendingAt, Nothing as NothingPending}
-use Rattle.srt_state.specs.Shown.{shown}
-use Rattle.srt_receiving.specs.Leaves.{Usable, Leaves}
+use Rattle.srt_group_shown.specs.Shown.{Rest, shown}
+use Rattle.srt_group_shown.specs.Tables.{receive-tables}
+use Rattle.srt_receiving.specs.Leaves.{blank, Usable, Leaves}
+use Rattle.srt_group_shown.specs.Shown.{held-few}
 
 -- ---- what delivery may rely on
 
--- `Usable` without the waiting events, and what follows of the held packets: they are few, and their counts have 16 bits
+-- `Usable` without the waiting events, and what follows of the held packets: they are few
 pub record Deliverable (core : Core) (members pending : List ℕ) : Type 0 where
-  pub members-long : 11520 ≤ length members
-  pub pending-long : 18432 ≤ length pending
-  pub members-few : core .counts .members ≤ 64
-  pub held-few : core .counts .pending ≤ 2048
+  pub members-long : members-size ≤ length members
+  pub pending-long : pending-size ≤ length pending
+  pub members-few : core .counts .members ≤ max-members
+  pub held-few : core .counts .pending ≤ max-pending
   pub ascending : ascends (packets (core .counts .pending) pending) ≡ true
-  pub counts : CountsFit (core .counts .pending) pending
 
-count-fits : (d : Data) → data-out-of-range d ≡ false → d .count ≤ largest-16
-unfolding data-out-of-range
-count-fits d h = ltb-false largest-16 (d .count) (or-left (above largest-16 (d .count)) _ (or-right (eqb (d .count) 0) _ h))
-
-pub all-tab : {A : Type 0} (P : A → Type 0) (n : ℕ) (f : ℕ → A) → All P (tab n f) → (k : ℕ) → k < n → P (f k)
-unfolding tab
-all-tab P zero f h k below = absurd (omega arith)
-all-tab P (suc n) f h zero below = h .0
-all-tab P (suc n) f h (suc k) below = all-tab P n (λ i. f (suc i)) (h .1) k (omega arith)
-
-pub deliverable : (core : Core) (ms ps ws : List ℕ) → Usable core ms ps ws → Deliverable core ms ps
+pub deliverable : (core : Core) (ms ps ws : List ℕ) → Usable core (receive-tables ms ps ws) → Deliverable core ms ps
 deliverable core ms ps ws h =
     record {
       members-long = h .members-long;
       pending-long = h .pending-long;
       members-few = h .members-few;
-      held-few =
-          omega (
-            arith,
-            pending-few most-cells (shown core [] ms ps ws) (λ n. omega (arith, h .sound .cells n, uses-used n (shown core [] ms ps ws))),
-            tab-length (core .counts .pending) (packet-at ps),
-          );
+      held-few = held-few core blank ms ps ws (h .sound);
       ascending = h .sound .ascending;
-      counts =
-          record {
-            fit =
-                λ k below.
-                count-fits (packet-at ps k .content)
-                (all-tab Packet-fit (core .counts .pending) (packet-at ps) (h .sound .fit .pending) k below .fields);
-          };
     }
 
 -- ---- the give-up test
@@ -153,19 +127,19 @@ module _ (time n : ℕ) (t : List ℕ) (p : Packet) where
 
 -- a packet is asked for only if one is held; then all legs are asked, and then the nearest packet's
 module _ (time : ℕ) (core : Core) (ms ps : List ℕ) (r : Found)
-    (near : FoundPacket ps (core .counts .pending) r (nearest (packets (core .counts .pending) ps))) (history : List Entry) (ws : List ℕ) where
-  pub nothing-held : r ≡ NothingPending → false ≡ gap-given-up time (shown core history ms ps ws)
+    (near : FoundPacket ps (core .counts .pending) r (nearest (packets (core .counts .pending) ps))) (others : Rest) (ws : List ℕ) where
+  pub nothing-held : r ≡ NothingPending → false ≡ gap-given-up time (shown core others ms ps ws)
   unfolding gap-given-up if-some_give_otherwise_
   nothing-held e = rw (sym (near .is), e)
 
   module _ (i : ℕ) (e : r ≡ PendingAt i) where
     pub all-gone : {b : Bool} → b ≡ all (λ m. is-disconnected (m .leg)) (members-of (core .counts .members) ms) → b ≡ true
-        → true ≡ gap-given-up time (shown core history ms ps ws)
+        → true ≡ gap-given-up time (shown core others ms ps ws)
     unfolding gap-given-up if-some_give_otherwise_
     all-gone is gone = rw (sym (near .is), e, sym is, gone)
 
     pub left-to-the-leg : {a b : Bool} {p : Packet} → a ≡ all (λ m. is-disconnected (m .leg)) (members-of (core .counts .members) ms) → a ≡ false
-        → p ≡ packet-at ps i → b ≡ leg-gives-up time p (members-of (core .counts .members) ms) → b ≡ gap-given-up time (shown core history ms ps ws)
+        → p ≡ packet-at ps i → b ≡ leg-gives-up time p (members-of (core .counts .members) ms) → b ≡ gap-given-up time (shown core others ms ps ws)
     unfolding gap-given-up if-some_give_otherwise_
     left-to-the-leg is not-all here asked = rw (sym (near .is), e, sym is, not-all, sym here) asked
 
@@ -180,9 +154,9 @@ abbrev pub with-owned-sum : ℕ → Core → Core
 with-owned-sum n c =
     record {
       counts = c .counts;
-      identity = c .identity;
+      mode = c .mode;
+      peer = c .peer;
       receiving = c .receiving;
-      sending = c .sending;
       visit = c .visit;
       owned = n;
     }
@@ -192,17 +166,17 @@ with-owned-sum n c =
 pub record Released (l : List Packet) (core : Core) (ms : List ℕ) (after : Core) (ms′ : List ℕ) : Type 0 where
   pub rest : after ≡ with-owned-sum (after .owned) core
   pub long : length ms′ ≡ length ms
-  pub state : (history : List Entry) (ps ws : List ℕ) → release-all l (shown core history ms ps ws) ≡ shown after history ms′ ps ws
+  pub state : (others : Rest) (ps ws : List ℕ) → release-all l (shown core others ms ps ws) ≡ shown after others ms′ ps ws
 
 pub released-none : (core : Core) (ms : List ℕ) → Released [] core ms core ms
 unfolding release-all
-released-none core ms = record { rest = refl; long = refl; state = λ history ps ws. refl }
+released-none core ms = record { rest = refl; long = refl; state = λ others ps ws. refl }
 
 module _ (core : Core) (ms : List ℕ) (p : Packet) where
   pub released-own : {sum : ℕ} → p .owned ≡ 1 → sum ≡ core .owned - p .content .count
       → Released (p ∷ []) core ms (with-owned-sum sum core) ms
   unfolding release-all release-pending-reservation if_then_else_
-  released-own own is = record { rest = refl; long = refl; state = λ history ps ws. rw (eq-eqb (p .owned) 1 own, is) }
+  released-own own is = record { rest = refl; long = refl; state = λ others ps ws. rw (eq-eqb (p .owned) 1 own, is) }
 
   pub released-nowhere : (p .owned ≡ 1 → ⊥) → Nothing ≡ found-of (find (p .member) (members-of (core .counts .members) ms))
       → Released (p ∷ []) core ms core ms
@@ -211,7 +185,7 @@ module _ (core : Core) (ms : List ℕ) (p : Packet) where
       record {
         rest = refl;
         long = refl;
-        state = λ history ps ws. rw (ne-eqb (p .owned) 1 own, found-none (find (p .member) (members-of (core .counts .members) ms)) gone);
+        state = λ others ps ws. rw (ne-eqb (p .owned) 1 own, found-none (find (p .member) (members-of (core .counts .members) ms)) gone);
       }
 
   pub released-member : (i : ℕ) (ms′ : List ℕ) → (p .owned ≡ 1 → ⊥)
@@ -223,9 +197,9 @@ module _ (core : Core) (ms : List ℕ) (p : Packet) where
         rest = refl;
         long = changed .long;
         state =
-            λ history ps ws.
+            λ others ps ws.
             rw (ne-eqb (p .owned) 1 own, found-some (find (p .member) (members-of (core .counts .members) ms)) i there)
-            (ap (λ (x : List Member). with-members x (shown core history ms ps ws)) (sym (changed .members (core .counts .members))));
+            (ap (λ (x : List Member). with-members x (shown core others ms ps ws)) (sym (changed .members (core .counts .members))));
       }
 
 -- the member at a row: its sum was put, then its leg released
@@ -250,13 +224,9 @@ one-more-released false p l s = refl
 pub record Releasing (test : Packet → Bool) (count at : ℕ) (pending : List ℕ) (core : Core) (ms : List ℕ) (after : Core) (ms′ : List ℕ) : Type 0 where
   pub rest : after ≡ with-owned-sum (after .owned) core
   pub long : length ms′ ≡ length ms
-  pub state : (history : List Entry) (ps ws : List ℕ)
-      → release-all (such-that test (drop at (packets count pending))) (shown after history ms′ ps ws)
-      ≡ release-all (such-that test (packets count pending)) (shown core history ms ps ws)
-
-drop-none : {A : Type 0} (l : List A) → drop 0 l ≡ l
-drop-none [] = refl
-drop-none (x ∷ l) = refl
+  pub state : (others : Rest) (ps ws : List ℕ)
+      → release-all (such-that test (drop at (packets count pending))) (shown after others ms′ ps ws)
+      ≡ release-all (such-that test (packets count pending)) (shown core others ms ps ws)
 
 module _ (test : Packet → Bool) (count : ℕ) (pending : List ℕ) (core : Core) (ms : List ℕ) where
   pub releasing-start : Releasing test count 0 pending core ms core ms
@@ -265,8 +235,8 @@ module _ (test : Packet → Bool) (count : ℕ) (pending : List ℕ) (core : Cor
         rest = refl;
         long = refl;
         state =
-            λ history ps ws.
-            ap (λ (l : List Packet). release-all (such-that test l) (shown core history ms ps ws)) (drop-none (packets count pending));
+            λ others ps ws.
+            ap (λ (l : List Packet). release-all (such-that test l) (shown core others ms ps ws)) (drop-zero (packets count pending));
       }
 
   pub releasing-on : (at : ℕ) (here next : Core) (ms₁ ms₂ : List ℕ) → at < count → Releasing test count at pending core ms here ms₁
@@ -277,13 +247,13 @@ module _ (test : Packet → Bool) (count : ℕ) (pending : List ℕ) (core : Cor
         rest = one .rest ∙ ap (with-owned-sum (next .owned)) (so-far .rest);
         long = one .long ∙ so-far .long;
         state =
-            λ history ps ws.
-            sym (ap (release-all (such-that test (drop (at + 1) (packets count pending)))) (one .state history ps ws))
+            λ others ps ws.
+            sym (ap (release-all (such-that test (drop (at + 1) (packets count pending)))) (one .state others ps ws))
             ∙ sym
             (one-more-released (test (packet-at pending at)) (packet-at pending at) (such-that test (drop (at + 1) (packets count pending)))
-            (shown here history ms₁ ps ws))
-            ∙ sym (ap (λ (l : List Packet). release-all (such-that test l) (shown here history ms₁ ps ws)) (left-next at below))
-            ∙ so-far .state history ps ws;
+            (shown here others ms₁ ps ws))
+            ∙ sym (ap (λ (l : List Packet). release-all (such-that test l) (shown here others ms₁ ps ws)) (left-next at below))
+            ∙ so-far .state others ps ws;
       }
     where
       left-next : (k : ℕ) → k < count → drop k (packets count pending) ≡ packet-at pending k ∷ drop (k + 1) (packets count pending)
@@ -299,9 +269,9 @@ module _ (test : Packet → Bool) (count : ℕ) (pending : List ℕ) (core : Cor
         rest = all-done .rest;
         long = all-done .long;
         state =
-            λ history ps ws.
-            sym (all-done .state history ps ws)
-            ∙ ap (λ (l : List Packet). release-all (such-that test l) (shown after history ms′ ps ws))
+            λ others ps ws.
+            sym (all-done .state others ps ws)
+            ∙ ap (λ (l : List Packet). release-all (such-that test l) (shown after others ms′ ps ws))
             (tab-ended at count (packet-at pending) past);
       }
 
@@ -327,16 +297,16 @@ module _ (core : Core) (ms : List ℕ) (p : Packet) (base run : ℕ) where
 -- over any waiting events, which stay
 pub record Delivered (base : ℕ) (p : Packet) (core : Core) (ms ps : List ℕ) (after : Core) (ms′ ps′ : List ℕ) : Type 0 where
   pub waiting-same : after .counts .waiting ≡ core .counts .waiting
-  pub leaves : (ws : List ℕ) → Leaves (deliver-packet base p) core ms ps ws after ms′ ps′ ws
+  pub leaves : (ws : List ℕ) → Leaves (deliver-packet base p) core (receive-tables ms ps ws) after (receive-tables ms′ ps′ ws)
 
 -- so many are held, and the base is set
 abbrev pub passed : (held base : ℕ) → Core → Core
 passed held base c =
     record {
       counts = record { members = c .counts .members; pending = held; waiting = c .counts .waiting };
-      identity = c .identity;
-      receiving = record { based = true; base = base; skipped = c .receiving .skipped };
-      sending = c .sending;
+      mode = c .mode;
+      peer = c .peer;
+      receiving = record { based = 1; base = base; skipped = c .receiving .skipped };
       visit = c .visit;
       owned = c .owned;
     }
@@ -366,15 +336,15 @@ module _ (base : ℕ) (p : Packet) (core : Core) (ms ps : List ℕ) where
               waiting-long = refl;
               members-same = refl;
               state =
-                  λ history.
+                  λ others.
                   ap
                   (λ (s : State).
-                  with-receive (pass-run base p (shown core history ms ps ws .receive)) (advance-legs (sequence-further base run) s))
-                  (parts .released .state history ps ws)
+                  with-receive (pass-run base p (shown core others ms ps ws .receive)) (advance-legs (sequence-further base run) s))
+                  (parts .released .state others ps ws)
                   ∙ ap₂
                   (λ (l : List Packet) (x : List Member).
-                  with-receive (with-base (sequence-further base run) (with-pending l (shown core history ms ps ws .receive)))
-                  (with-members x (shown (with-owned-sum owned core) history ms₁ ps ws)))
+                  with-receive (with-base (sequence-further base run) (with-pending l (shown core others ms ps ws .receive)))
+                  (with-members x (shown (with-owned-sum owned core) others ms₁ ps ws)))
                   (sym (parts .removed .is)) (sym (parts .advanced .members));
             };
       }

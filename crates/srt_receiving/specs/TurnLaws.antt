@@ -1,4 +1,4 @@
--- The member in turn is one of the members. Assumes nothing.
+-- The member in turn is one of the members.
 use mathlib.Core.Path.{_≡_, refl, _∙_}
 use mathlib.Core.Bool.{Bool, not}
 use mathlib.Core.List.{List}

@@ -1,42 +1,44 @@
--- The set of used cells, step by step of receiving: what a visit and a delivery free, by the model's own laws. Assumes nothing.
-use mathlib.Core.Path.{_≡_, refl, sym, ap, ap₂, subst, _∙_}
+-- The set of used cells, step by step of receiving: what a visit and a delivery free, by the model's own laws.
+use mathlib.Core.Path.{_≡_, refl, sym, ap, subst, _∙_}
 use mathlib.Core.Bool.{Bool, true, false}
 use mathlib.Core.List.{List, [], _∷_, _++_}
 use mathlib.Core.Option.{some}
 use native.Mathlib.Numerals.{add-one}
 use Prim.Native.Nat.{ℕ, _+_, _%_, _≤_, _<_}
-use native.Mathlib.Omega.{arith}
 use borrow.Author.Tests.{eq-eqb, ne-eqb, lt-ltb, le-ltb}
 use lib.Dec.{eqb}
 use lib.ListN.{length, drop}
 use Rattle.srt_protocol.specs.Sequence.{sequence-distance}
 use Rattle.srt_group_model.specs.declared.Core.{Core}
-use Rattle.srt_group_model.specs.declared.Entry.{Entry}
 use Rattle.srt_group_model.specs.declared.Event.{Event}
 use Rattle.srt_group_model.specs.declared.Packet.{Packet}
-use Rattle.srt_group_model.specs.Tools.{if_then_else_, if-some_give_otherwise_, each, such-that, at-place, change}
-use Rattle.srt_group_model.specs.Reason.{by-test, not-both}
+use Rattle.srt_group_model.specs.Tools.{if_then_else_, each, such-that, at-place}
+use Rattle.srt_group_model.specs.Reason.{by-test}
 use Rattle.srt_group_model.specs.State.{Member, Receive, State, with-members, with-queue}
 use Rattle.srt_group_model.specs.Members.{id-of}
-use Rattle.srt_group_model.specs.Nearest.{sequence-of, is-covered, covered}
-use Rattle.srt_group_model.specs.Queues.{pop, packet-of}
+use Rattle.srt_group_model.specs.Nearest.{sequence-of, covered}
+use Rattle.srt_group_model.specs.Queues.{pop}
 use Rattle.srt_group_model.specs.Steps.{popped}
-use Rattle.srt_group_model.specs.Collecting.{front, is-discarded, retain-group-packet, report-event}
+use Rattle.srt_group_model.specs.Collecting.{front, is-discarded}
 use Rattle.srt_group_model.specs.Delivery.{deliver-packet}
 use Rattle.srt_group_model.specs.CellsKept.{pending-cells}
 use Rattle.srt_group_model.specs.Cells.{used-cells}
-use Rattle.srt_group_model.specs.CellsMoved.{Moves, Keeps, reported-keeps, delivery-frees}
-use Rattle.srt_connection.specs.Members.{member-at, members-of, members-place, Changed, changed-by}
-use Rattle.srt_connection.specs.Queue.{leg-poll, queue-after}
+use Rattle.srt_group_model.specs.CellsMoved.{Moves, reported-keeps, delivery-frees}
+use Rattle.srt_connection.specs.Members.{member-at, members-place, Changed, changed-by}
+use Rattle.srt_connection.specs.Queue.{leg-poll, queue-after, nothing-goes}
 use Rattle.srt_connection.specs.declared.queue.LegPoll.the-variants.{Nothing, Continuation, Event as PolledEvent}
 use Rattle.srt_tables.specs.Packets.{packet-at, packets}
 use Rattle.srt_members.specs.Scan.{tab-next, tab-ended}
-use Rattle.srt_state.specs.Shown.{shown}
+use Rattle.srt_group_shown.specs.Shown.{Rest, shown}
+use Rattle.srt_group_shown.specs.Tables.{receive-tables}
 use Rattle.cell_set.specs.Sets.{Freed}
 use Rattle.cell_set.specs.Shows.{freed-by, collected-frees, none-freed, freed-then}
-use Rattle.srt_receiving.specs.Follows.{Follows, follows-as, follows-freed, follows-kept}
+use Rattle.cell_set.specs.Bits.{set-size}
+use Rattle.srt_receiving.specs.Leaves.{nothing-sent}
+use Rattle.srt_receiving.specs.Follows.{Follows, follows-as, follows-freed}
+use Rattle.srt_tables.specs.PacketLaws.{drop-zero}
 use Rattle.srt_receiving.specs.CollectLaws.{receive-of}
-use Rattle.srt_receiving.specs.VisitLaws.{with-next, continued, packet-from, waiting-from, collect-event, freed-by-event, Collected, gave-nothing, gave-continuation, gave-event, queue-goes, queue-stays, none-goes, members-stay}
+use Rattle.srt_receiving.specs.VisitLaws.{with-next, continued, packet-from, waiting-from, collect-event, freed-by-event, Collected, gave-nothing, gave-continuation, gave-event, queue-goes, queue-stays, members-stay}
 use Rattle.srt_receiving.specs.DeliveryLaws.{Delivered}
 
 -- ---- a packet is held or discarded
@@ -46,7 +48,7 @@ module _ (p : Packet) (x : Receive) (used : List ℕ) where
   unfolding freed-by if_then_else_
   discarded-freed used′ is freed = rw is freed
 
-  pub held-kept : length used ≡ 32 → is-discarded p x ≡ false → Freed (freed-by p x) used used
+  pub held-kept : length used ≡ set-size → is-discarded p x ≡ false → Freed (freed-by p x) used used
   unfolding freed-by if_then_else_
   held-kept long is = rw is (none-freed used long)
 
@@ -55,7 +57,7 @@ module _ (id : ℕ) (e : Event) (x : Receive) (used : List ℕ) where
   unfolding freed-by-event if_then_else_
   data-freed used′ is freed = rw (eq-eqb (e .kind) 0 is) freed
 
-  pub event-kept : length used ≡ 32 → (e .kind ≡ 0 → ⊥) → Freed (freed-by-event id e x) used used
+  pub event-kept : length used ≡ set-size → (e .kind ≡ 0 → ⊥) → Freed (freed-by-event id e x) used used
   unfolding freed-by-event if_then_else_
   event-kept long is = rw (ne-eqb (e .kind) 0 is) (none-freed used long)
 
@@ -69,60 +71,60 @@ event-moves s i m e at f =
     (λ d. rw d (reported-keeps s i m e at f (waiting-from (id-of m) e) d))
 
 -- whose turn it is names no cell
-from-round : (core : Core) (k : ℕ) (history : List Entry) (ms ps ws : List ℕ) {cells : List ℕ} {t : State}
-    → Moves [] cells (shown (with-next k core) history ms ps ws) t → Moves [] cells (shown core history ms ps ws) t
+from-round : (core : Core) (k : ℕ) (others : Rest) (ms ps ws : List ℕ) {cells : List ℕ} {t : State}
+    → Moves [] cells (shown (with-next k core) others ms ps ws) t → Moves [] cells (shown core others ms ps ws) t
 unfolding used-cells
-from-round core k history ms ps ws moves = record { cells = λ n. moves .cells n }
+from-round core k others ms ps ws moves = record { cells = λ n. moves .cells n }
 
 module _ (core : Core) (budget : ℕ) (ms ps ws used : List ℕ) (i : ℕ) (ms₁ : List ℕ)
     (changed : Changed i (λ m. with-queue (queue-after budget (m .queue)) m) ms ms₁) where
-  pub follows-nothing : length used ≡ 32 → Nothing ≡ leg-poll budget (member-at ms i .queue) → Follows core ms ps used core ms₁ ps used
+  pub follows-nothing : length used ≡ set-size → Nothing ≡ leg-poll budget (member-at ms i .queue) → Follows core ms ps used core ms₁ ps used
   follows-nothing long is =
       let empty = gave-nothing budget (member-at ms i .queue) is in
       follows-as core core ms ms₁ ps used long
-      (members-stay core budget ms ps ws i ms₁ changed (ap (queue-after budget) empty ∙ none-goes budget ∙ sym empty)) refl
+      (members-stay core budget ms ps ws i ms₁ changed (ap (queue-after budget) empty ∙ nothing-goes budget ∙ sym empty)) refl
 
-  pub follows-spent : (turned next : Core) → length used ≡ 32 → turned ≡ with-next ((i + 1) % core .counts .members) core → next ≡ continued true turned
+  pub follows-spent : (turned next : Core) → length used ≡ set-size → turned ≡ with-next ((i + 1) % core .counts .members) core → next ≡ continued 1 turned
       → Continuation ≡ leg-poll budget (member-at ms i .queue) → Follows core ms ps used next ms₁ ps used
   follows-spent turned next long t c is =
       let stay =
       members-stay core budget ms ps ws i ms₁ changed
       (queue-stays budget (member-at ms i .queue) (gave-continuation budget (member-at ms i .queue) is .spent)) in
-      subst (λ (x : Core). Follows core ms ps used x ms₁ ps used) (sym (c ∙ ap (continued true) t))
-      (follows-as core (continued true (with-next ((i + 1) % core .counts .members) core)) ms ms₁ ps used long stay refl)
+      subst (λ (x : Core). Follows core ms ps used x ms₁ ps used) (sym (c ∙ ap (continued 1) t))
+      (follows-as core (continued 1 (with-next ((i + 1) % core .counts .members) core)) ms ms₁ ps used long stay refl)
 
   follows-event-at : (k : ℕ) (e : Event) (left id : ℕ) (after : Core) (ms′ ps′ ws′ used′ : List ℕ) → i < core .counts .members
       → PolledEvent e left ≡ leg-poll budget (member-at ms i .queue) → id ≡ member-at ms i .membership .id
-      → Collected i id e (with-next k core) ms₁ ps ws after ms′ ps′ ws′
+      → Collected i id e (with-next k core) (receive-tables ms₁ ps ws) after (receive-tables ms′ ps′ ws′)
       → Freed (freed-by-event id e (receive-of core ps)) used used′ → Follows core ms ps used after ms′ ps′ used′
   follows-event-at k e left id after ms′ ps′ ws′ used′ inside is named h freed =
       let g = gave-event budget (member-at ms i .queue) e left is in
       let gone = changed-by i ms ms₁ pop changed (ap (λ (q : List Event). with-queue q (member-at ms i)) (queue-goes budget (member-at ms i .queue) (g .unspent))) in
-      follows-freed core after ms ps ws ms′ ps′ ws′ used used′
-      (λ history. collect-event i id e (shown (with-next k core) history ms₁ ps ws)) (h .leaves .state) freed
-      (λ history.
-      subst (λ (l : List Member). Moves [] (freed-by-event id e (receive-of core ps)) (shown core history ms ps ws) (collect-event i id e (with-members l (shown (with-next k core) history ms ps ws))))
+      follows-freed core after ms ps ws ms′ ps′ ws′ used used′ nothing-sent
+      (λ others. collect-event i id e (shown (with-next k core) others ms₁ ps ws)) (λ others same. h .leaves .state others) freed
+      (λ others.
+      subst (λ (l : List Member). Moves [] (freed-by-event id e (receive-of core ps)) (shown core others ms ps ws) (collect-event i id e (with-members l (shown (with-next k core) others ms ps ws))))
       (sym (gone .members (core .counts .members)))
-      (from-round core k history ms ps ws
+      (from-round core k others ms ps ws
       (subst
       (λ (x : ℕ).
-      Moves [] (freed-by-event x e (receive-of core ps)) (shown (with-next k core) history ms ps ws)
-      (collect-event i x e (popped i (shown (with-next k core) history ms ps ws))))
+      Moves [] (freed-by-event x e (receive-of core ps)) (shown (with-next k core) others ms ps ws)
+      (collect-event i x e (popped i (shown (with-next k core) others ms ps ws))))
       (sym named)
-      (event-moves (shown (with-next k core) history ms ps ws) i (member-at ms i) e (members-place (core .counts .members) ms i inside) (g .front)))))
+      (event-moves (shown (with-next k core) others ms ps ws) i (member-at ms i) e (members-place (core .counts .members) ms i inside) (g .front)))))
 
   pub follows-event : (turned : Core) (e : Event) (left id : ℕ) (after : Core) (ms′ ps′ ws′ used′ : List ℕ) → i < core .counts .members
       → turned ≡ with-next ((i + 1) % core .counts .members) core → PolledEvent e left ≡ leg-poll budget (member-at ms i .queue)
-      → id ≡ member-at ms i .membership .id → Collected i id e turned ms₁ ps ws after ms′ ps′ ws′
+      → id ≡ member-at ms i .membership .id → Collected i id e turned (receive-tables ms₁ ps ws) after (receive-tables ms′ ps′ ws′)
       → Freed (freed-by-event id e (receive-of turned ps)) used used′ → Follows core ms ps used after ms′ ps′ used′
   follows-event turned e left id after ms′ ps′ ws′ used′ inside t is named h freed =
       follows-event-at ((i + 1) % core .counts .members) e left id after ms′ ps′ ws′ used′ inside is named
-      (subst (λ (x : Core). Collected i id e x ms₁ ps ws after ms′ ps′ ws′) t h)
+      (subst (λ (x : Core). Collected i id e x (receive-tables ms₁ ps ws) after (receive-tables ms′ ps′ ws′)) t h)
       (subst (λ (x : Core). Freed (freed-by-event id e (receive-of x ps)) used used′) t freed)
 
-pub follows-continued : (b : Bool) (core here after : Core) (ms ps used ms′ ps′ used′ : List ℕ) → Follows core ms ps used here ms′ ps′ used′
-    → after ≡ continued b here → Follows core ms ps used after ms′ ps′ used′
-follows-continued b core here after ms ps used ms′ ps′ used′ follows is =
+pub follows-continued : (n : ℕ) (core here after : Core) (ms ps used ms′ ps′ used′ : List ℕ) → Follows core ms ps used here ms′ ps′ used′
+    → after ≡ continued n here → Follows core ms ps used after ms′ ps′ used′
+follows-continued n core here after ms ps used ms′ ps′ used′ follows is =
     subst (λ (x : Core). Follows core ms ps used x ms′ ps′ used′) (sym is) record { long = follows .long; shows = follows .shows }
 
 -- ---- a delivery
@@ -137,7 +139,7 @@ module _ (p : Packet) (base run : ℕ) (used : List ℕ) where
       rw (lt-ltb (sequence-distance base (sequence-of p)) run (subst (λ (d : ℕ). d < run) (far ∙ ap (sequence-distance base) is) inside))
       (subst (λ (x : Packet). Freed (x .content .cell ∷ []) used used′) same freed)
 
-  pub uncovered-kept : {distance sequence : ℕ} → length used ≡ 32 → sequence ≡ sequence-of p → distance ≡ sequence-distance base sequence
+  pub uncovered-kept : {distance sequence : ℕ} → length used ≡ set-size → sequence ≡ sequence-of p → distance ≡ sequence-distance base sequence
       → run ≤ distance → Freed (pending-cells (covered base run (p ∷ []))) used used
   unfolding such-that each if_then_else_
   uncovered-kept long is far outside =
@@ -146,7 +148,7 @@ module _ (p : Packet) (base run : ℕ) (used : List ℕ) where
 
 -- the bits of the packets before `at` are freed: freeing those that are left frees all
 pub record Freeing (test : Packet → Bool) (count at : ℕ) (pending used used′ : List ℕ) : Type 0 where
-  pub long : length used′ ≡ 32
+  pub long : length used′ ≡ set-size
   pub rest : (last : List ℕ) → Freed (pending-cells (such-that test (drop at (packets count pending)))) used′ last
       → Freed (pending-cells (such-that test (packets count pending))) used last
 
@@ -155,16 +157,12 @@ cells-next : (test : Packet → Bool) (p : Packet) (l : List Packet)
 unfolding such-that each if_then_else_
 cells-next test p l = by-test (test p) (λ e. rw e) (λ e. rw e)
 
-drop-none : {A : Type 0} (l : List A) → drop 0 l ≡ l
-drop-none [] = refl
-drop-none (x ∷ l) = refl
-
 module _ (test : Packet → Bool) (count : ℕ) (pending used : List ℕ) where
-  pub freeing-start : length used ≡ 32 → Freeing test count 0 pending used used
+  pub freeing-start : length used ≡ set-size → Freeing test count 0 pending used used
   freeing-start long =
       record {
         long = long;
-        rest = λ last. subst (λ (l : List Packet). Freed (pending-cells (such-that test l)) used last) (drop-none (packets count pending));
+        rest = λ last. subst (λ (l : List Packet). Freed (pending-cells (such-that test l)) used last) (drop-zero (packets count pending));
       }
 
   pub freeing-on : (at : ℕ) (here next : List ℕ) → at < count → Freeing test count at pending used here
@@ -195,5 +193,5 @@ pub follows-delivered : (base : ℕ) (p : Packet) (core : Core) (ms ps used : Li
     → Freed (pending-cells (covered base (p .content .count) (packets (core .counts .pending) ps))) used used′
     → Follows core ms ps used after ms′ ps′ used′
 follows-delivered base p core ms ps used after ms′ ps′ used′ delivered freed =
-    follows-freed core after ms ps [] ms′ ps′ [] used used′ (λ history. deliver-packet base p (shown core history ms ps []))
-    (delivered .leaves [] .state) freed (λ history. delivery-frees base p (shown core history ms ps []))
+    follows-freed core after ms ps [] ms′ ps′ [] used used′ nothing-sent (λ others. deliver-packet base p (shown core others ms ps []))
+    (λ others same. delivered .leaves [] .state others) freed (λ others. delivery-frees base p (shown core others ms ps []))

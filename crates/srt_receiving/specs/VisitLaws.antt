@@ -1,21 +1,20 @@
--- What a visit of the legs leaves: one event, of the first member in turn, is held, discarded or reported. Assumes nothing.
+-- What a visit of the legs leaves: one event, of the first member in turn, is held, discarded or reported.
 use mathlib.Core.Path.{_≡_, refl, ap, ap₂, sym, subst, _∙_}
 use mathlib.Core.Bool.{Bool, true, false}
 use mathlib.Core.List.{List, [], _∷_}
 use mathlib.Core.Option.{Option, none, some}
-use Prim.Native.Nat.{ℕ, suc, _+_, _-_, _*_, _%_, _≤_, _<_}
+use Prim.Native.Nat.{ℕ, suc, _+_, _*_, _%_, _≤_, _<_}
 use native.Mathlib.Omega.{arith}
 use borrow.Author.Tests.{eq-eqb, ne-eqb}
 use lib.Dec.{eqb}
 use lib.ListN.{length, drop}
 use Rattle.word_rows.specs.Tab.{tab-length}
 use Rattle.srt_group_model.specs.declared.Core.{Core}
-use Rattle.srt_group_model.specs.declared.Entry.{Entry}
 use Rattle.srt_group_model.specs.declared.Event.{Event}
 use Rattle.srt_group_model.specs.declared.Packet.{Packet}
 use Rattle.srt_group_model.specs.declared.Visit.{Visit}
 use Rattle.srt_group_model.specs.declared.Waiting.{Waiting}
-use Rattle.srt_group_model.specs.Tools.{if_then_else_, if-some_give_otherwise_, at-place, change}
+use Rattle.srt_group_model.specs.Tools.{if_then_else_, if-some_give_otherwise_, is-set, bit, at-place, change}
 use Rattle.srt_group_model.specs.State.{Member, Receive, State, with-members, with-round, with-continuation, with-queue}
 use Rattle.srt_group_model.specs.Members.{id-of}
 use Rattle.srt_group_model.specs.Run.{Mark, Run}
@@ -23,16 +22,19 @@ use Rattle.srt_group_model.specs.Queues.{pop}
 use Rattle.srt_group_model.specs.Collecting.{retain-group-packet, report-event, collect-member-event, in-turn, Visited as VisitedRun, take-front, collect-one-event}
 use Rattle.srt_group_model.specs.Sound.{Sound, sound-law, Front-data, front-data}
 use Rattle.srt_group_model.specs.Steps.{collect-one-has}
+use Rattle.srt_group_model.specs.Validity.{max-waiting}
 use Rattle.srt_connection.specs.Rows.{row-size}
 use Rattle.srt_connection.specs.Members.{member-at, members-of, members-length, members-place, has-row, Changed, changed-by, unchanged, found-of, found-some, found-none}
-use Rattle.srt_connection.specs.Queue.{leg-poll, queue-after, budget-after}
+use Rattle.srt_connection.specs.Queue.{leg-poll, queue-after, budget-after, nothing-goes}
 use Rattle.srt_connection.specs.declared.members.Found.the-variants.{At, Nothing as Nowhere}
 use Rattle.srt_connection.specs.declared.queue.LegPoll.the-variants.{Nothing, Continuation, Event as PolledEvent}
 use Rattle.srt_tables.specs.Packets.{packet-at}
-use Rattle.srt_state.specs.Shown.{shown}
+use Rattle.srt_tables.specs.Waitings.{waiting-size}
+use Rattle.srt_group_shown.specs.Shown.{Rest, shown}
+use Rattle.srt_group_shown.specs.Tables.{ReceiveTables, receive-tables, shown-by}
 use Rattle.cell_set.specs.Shows.{freed-by}
 use Rattle.srt_receiving.specs.declared.collecting.Visited.{Visited}
-use Rattle.srt_receiving.specs.Leaves.{Usable, Leaves}
+use Rattle.srt_receiving.specs.Leaves.{blank, Usable, Leaves, under-way}
 use Rattle.srt_receiving.specs.CollectLaws.{Holdable, Retained, Reported}
 
 -- ---- definitions
@@ -41,9 +43,9 @@ abbrev pub with-visit : Visit → Core → Core
 with-visit v c =
     record {
       counts = c .counts;
-      identity = c .identity;
+      mode = c .mode;
+      peer = c .peer;
       receiving = c .receiving;
-      sending = c .sending;
       visit = v;
       owned = c .owned;
     }
@@ -52,8 +54,9 @@ with-visit v c =
 abbrev pub with-next : ℕ → Core → Core
 with-next n c = with-visit record { continuation = c .visit .continuation; round = n } c
 
-abbrev pub continued : Bool → Core → Core
-continued b c = with-visit record { continuation = b; round = c .visit .round } c
+-- the continuation's word is another
+abbrev pub continued : ℕ → Core → Core
+continued n c = with-visit record { continuation = n; round = c .visit .round } c
 
 abbrev pub packet-from : ℕ → Event → Packet
 packet-from id e = record { member = id; owned = 0; content = e .content }
@@ -70,39 +73,35 @@ collect-event i id e s =
 unfoldable pub freed-by-event : (id : ℕ) → Event → Receive → List ℕ
 freed-by-event id e x = if eqb (e .kind) 0 then freed-by (packet-from id e) x else []
 
--- a call under way, at this record and these tables
-abbrev pub run-at : Core → List Entry → (members pending waiting : List ℕ) → List Mark → ℕ → Run
-run-at core history ms ps ws log budget = record { state = shown core history ms ps ws; log = log; budget = budget }
-
 -- ---- what a call may rely on, and what it leaves
 
-pub record Collectable (i id : ℕ) (e : Event) (core : Core) (ms ps ws : List ℕ) : Type 0 where
-  pub there : has-row i ms
-  pub members-long : core .counts .members * row-size ≤ length ms
-  pub waiting-long : 192 ≤ length ws
-  pub waiting-few : core .counts .waiting < 64
-  pub holdable : e .kind ≡ 0 → Holdable (core .counts .pending) ps (packet-from id e) (member-at ms i)
+pub record Collectable (i id : ℕ) (e : Event) (core : Core) (t : ReceiveTables) : Type 0 where
+  pub there : has-row i (t .members)
+  pub members-long : core .counts .members * row-size ≤ length (t .members)
+  pub waiting-long : waiting-size ≤ length (t .waiting)
+  pub waiting-few : core .counts .waiting < max-waiting
+  pub holdable : e .kind ≡ 0 → Holdable (core .counts .pending) (t .pending) (packet-from id e) (member-at (t .members) i)
 
-pub record Collected (i id : ℕ) (e : Event) (core : Core) (ms ps ws : List ℕ) (after : Core) (ms′ ps′ ws′ : List ℕ) : Type 0 where
+pub record Collected (i id : ℕ) (e : Event) (core : Core) (t : ReceiveTables) (after : Core) (t′ : ReceiveTables) : Type 0 where
   pub waiting-more : after .counts .waiting ≤ core .counts .waiting + 1
-  pub leaves : Leaves (collect-event i id e) core ms ps ws after ms′ ps′ ws′
+  pub leaves : Leaves (collect-event i id e) core t after t′
 
--- a step that visits legs: over every history and every log the answer, the state and the budget are the definition's, and at most
+-- a step that visits legs: over every rest of the state and every log the answer, the state and the budget are the definition's, and at most
 -- so many events wait
-pub record Visits (most : ℕ) (f : Run → VisitedRun) (core : Core) (budget : ℕ) (ms ps ws : List ℕ) (r : Visited) (ms′ ps′ ws′ : List ℕ) : Type 0 where
-  pub members-long : length ms′ ≡ length ms
-  pub pending-long : length ps′ ≡ length ps
-  pub waiting-long : length ws′ ≡ length ws
+pub record Visits (most : ℕ) (f : Run → VisitedRun) (core : Core) (budget : ℕ) (t : ReceiveTables) (r : Visited) (t′ : ReceiveTables) : Type 0 where
+  pub members-long : length (t′ .members) ≡ length (t .members)
+  pub pending-long : length (t′ .pending) ≡ length (t .pending)
+  pub waiting-long : length (t′ .waiting) ≡ length (t .waiting)
   pub members-same : r .core .counts .members ≡ core .counts .members
   pub waiting-most : r .core .counts .waiting ≤ most
-  pub went : (history : List Entry) (log : List Mark) → f (run-at core history ms ps ws log budget) .went ≡ r .went
-  pub state : (history : List Entry) (log : List Mark) → f (run-at core history ms ps ws log budget) .run .state ≡ shown (r .core) history ms′ ps′ ws′
-  pub left : (history : List Entry) (log : List Mark) → f (run-at core history ms ps ws log budget) .run .budget ≡ r .budget
+  pub took : (others : Rest) (log : List Mark) → f (under-way core others t log budget) .took ≡ is-set (r .took)
+  pub state : (others : Rest) (log : List Mark) → f (under-way core others t log budget) .run .state ≡ shown-by (r .core) others t′
+  pub left : (others : Rest) (log : List Mark) → f (under-way core others t log budget) .run .budget ≡ r .budget
 
 -- and the next step may rely on what it leaves
-pub record Collects (most : ℕ) (f : Run → VisitedRun) (core : Core) (budget : ℕ) (ms ps ws : List ℕ) (r : Visited) (ms′ ps′ ws′ : List ℕ) : Type 0 where
-  pub visits : Visits most f core budget ms ps ws r ms′ ps′ ws′
-  pub usable : Usable (r .core) ms′ ps′ ws′
+pub record Collects (most : ℕ) (f : Run → VisitedRun) (core : Core) (budget : ℕ) (t : ReceiveTables) (r : Visited) (t′ : ReceiveTables) : Type 0 where
+  pub visits : Visits most f core budget t r t′
+  pub usable : Usable (r .core) t′
 
 -- ---- an event of a member
 
@@ -118,7 +117,7 @@ other-collected i id e s is = rw is
 
 module _ (i id : ℕ) (e : Event) (core : Core) (ms ps ws : List ℕ) {after : Core} {ms′ : List ℕ} where
   pub collected-data : {ps′ : List ℕ} → e .kind ≡ 0 → Retained i (packet-from id e) core ms ps after ms′ ps′
-      → Collected i id e core ms ps ws after ms′ ps′ ws
+      → Collected i id e core (receive-tables ms ps ws) after (receive-tables ms′ ps′ ws)
   collected-data is h =
       let left = h .leaves ws in
       record {
@@ -130,13 +129,13 @@ module _ (i id : ℕ) (e : Event) (core : Core) (ms ps ws : List ℕ) {after : C
               waiting-long = left .waiting-long;
               members-same = left .members-same;
               state =
-                  λ history.
-                  data-collected i id e (shown core history ms ps ws) (eq-eqb (e .kind) 0 is) ∙ left .state history;
+                  λ others.
+                  data-collected i id e (shown core others ms ps ws) (eq-eqb (e .kind) 0 is) ∙ left .state others;
             };
       }
 
   pub collected-other : {ws′ : List ℕ} → (e .kind ≡ 0 → ⊥) → Reported i (waiting-from id e) core ms ws after ms′ ws′
-      → Collected i id e core ms ps ws after ms′ ps ws′
+      → Collected i id e core (receive-tables ms ps ws) after (receive-tables ms′ ps ws′)
   collected-other is h =
       let left = h .leaves ps in
       record {
@@ -148,8 +147,8 @@ module _ (i id : ℕ) (e : Event) (core : Core) (ms ps ws : List ℕ) {after : C
               waiting-long = left .waiting-long;
               members-same = left .members-same;
               state =
-                  λ history.
-                  other-collected i id e (shown core history ms ps ws) (ne-eqb (e .kind) 0 is) ∙ left .state history;
+                  λ others.
+                  other-collected i id e (shown core others ms ps ws) (ne-eqb (e .kind) 0 is) ∙ left .state others;
             };
       }
 
@@ -200,7 +199,7 @@ gave-event budget (x ∷ q) e left is = go (eqb budget 0) refl is
 -- ---- the front event is taken
 
 module _ (i : ℕ) (m : Member) (r : Run) where
-  none-taken : m .queue ≡ [] → take-front i m r ≡ record { went = false; run = r }
+  none-taken : m .queue ≡ [] → take-front i m r ≡ record { took = false; run = r }
   unfolding take-front at-place if-some_give_otherwise_
   none-taken empty = rw empty
 
@@ -208,14 +207,14 @@ module _ (i : ℕ) (m : Member) (r : Run) where
   next-state = with-round (suc i % length (r .state .members)) (r .state)
 
   spent-taken : (e : Event) → at-place 0 (m .queue) ≡ some e → eqb (r .budget) 0 ≡ true
-      → take-front i m r ≡ record { went = false; run = record { state = with-continuation true next-state; log = r .log; budget = 0 } }
+      → take-front i m r ≡ record { took = false; run = record { state = with-continuation true next-state; log = r .log; budget = 0 } }
   unfolding take-front if-some_give_otherwise_ if_then_else_
   spent-taken e in-front spent = rw (in-front, spent)
 
   event-taken : (e : Event) → at-place 0 (m .queue) ≡ some e → eqb (r .budget) 0 ≡ false
       → take-front i m r
       ≡ record {
-        went = true;
+        took = true;
         run =
             collect-member-event i (id-of m) e
             record { state = with-members (change i pop (r .state .members)) next-state; log = r .log; budget = r .budget };
@@ -244,14 +243,6 @@ pub queue-stays : (budget : ℕ) (q : List Event) → eqb budget 0 ≡ true → 
 unfolding queue-after if_then_else_
 queue-stays budget q spent = rw spent
 
-pub none-goes : (budget : ℕ) → queue-after budget [] ≡ []
-unfolding queue-after if_then_else_
-none-goes budget = go (eqb budget 0)
-  where
-    go : (b : Bool) → _≡_ {A = List Event} (if b then [] else drop 1 []) []
-    go true = refl
-    go false = refl
-
 next-round : (i n : ℕ) (ms : List ℕ) → suc i % length (members-of n ms) ≡ (i + 1) % n
 next-round i n ms = ap₂ (λ (a b : ℕ). a % b) (omega arith) (members-length n ms)
 
@@ -268,29 +259,30 @@ module _ (core : Core) (budget : ℕ) (ms ps ws : List ℕ) (i : ℕ) (ms₁ : L
       .members (core .counts .members))
 
   pub visits-nothing : Nothing ≡ leg-poll budget (member-at ms i .queue)
-      → Visits (core .counts .waiting + 1) (take-front i (member-at ms i)) core budget ms ps ws
-      record { went = false; core = core; budget = budget } ms₁ ps ws
+      → Visits (core .counts .waiting + 1) (take-front i (member-at ms i)) core budget (receive-tables ms ps ws)
+      record { took = 0; core = core; budget = budget } (receive-tables ms₁ ps ws)
   visits-nothing is =
       let empty = gave-nothing budget (member-at ms i .queue) is in
-      let taken : (r : Run) → take-front i (member-at ms i) r ≡ record { went = false; run = r } = λ r. none-taken i (member-at ms i) r empty in
-      let stay = members-stay (ap (queue-after budget) empty ∙ none-goes budget ∙ sym empty) in
+      let taken : (r : Run) → take-front i (member-at ms i) r ≡ record { took = false; run = r } = λ r. none-taken i (member-at ms i) r empty in
+      let stay = members-stay (ap (queue-after budget) empty ∙ nothing-goes budget ∙ sym empty) in
       record {
         members-long = changed .long;
         pending-long = refl;
         waiting-long = refl;
         members-same = refl;
         waiting-most = omega arith;
-        went = λ history log. ap (λ (v : VisitedRun). v .went) (taken (run-at core history ms ps ws log budget));
+        took = λ others log. ap (λ (v : VisitedRun). v .took) (taken (under-way core others (receive-tables ms ps ws) log budget));
         state =
-            λ history log.
-            ap (λ (v : VisitedRun). v .run .state) (taken (run-at core history ms ps ws log budget))
-            ∙ ap (λ (l : List Member). with-members l (shown core history ms ps ws)) stay;
-        left = λ history log. ap (λ (v : VisitedRun). v .run .budget) (taken (run-at core history ms ps ws log budget));
+            λ others log.
+            ap (λ (v : VisitedRun). v .run .state) (taken (under-way core others (receive-tables ms ps ws) log budget))
+            ∙ ap (λ (l : List Member). with-members l (shown core others ms ps ws)) stay;
+        left = λ others log. ap (λ (v : VisitedRun). v .run .budget) (taken (under-way core others (receive-tables ms ps ws) log budget));
       }
 
   visits-spent-at : Continuation ≡ leg-poll budget (member-at ms i .queue)
-      → Visits (core .counts .waiting + 1) (take-front i (member-at ms i)) core budget ms ps ws
-      record { went = false; core = continued true (with-next ((i + 1) % core .counts .members) core); budget = 0 } ms₁ ps ws
+      → Visits (core .counts .waiting + 1) (take-front i (member-at ms i)) core budget (receive-tables ms ps ws)
+      record { took = 0; core = continued 1 (with-next ((i + 1) % core .counts .members) core); budget = 0 } (receive-tables ms₁ ps ws)
+  unfolding bit
   visits-spent-at is =
       let s = gave-continuation budget (member-at ms i .queue) is in
       let stay = members-stay (queue-stays budget (member-at ms i .queue) (s .spent)) in
@@ -300,39 +292,39 @@ module _ (core : Core) (budget : ℕ) (ms ps ws : List ℕ) (i : ℕ) (ms₁ : L
         waiting-long = refl;
         members-same = refl;
         waiting-most = omega arith;
-        went =
-            λ history log.
-            ap (λ (v : VisitedRun). v .went)
-            (spent-taken i (member-at ms i) (run-at core history ms ps ws log budget) (s .event) (s .front) (s .spent));
+        took =
+            λ others log.
+            ap (λ (v : VisitedRun). v .took)
+            (spent-taken i (member-at ms i) (under-way core others (receive-tables ms ps ws) log budget) (s .event) (s .front) (s .spent));
         state =
-            λ history log.
+            λ others log.
             ap (λ (v : VisitedRun). v .run .state)
-            (spent-taken i (member-at ms i) (run-at core history ms ps ws log budget) (s .event) (s .front) (s .spent))
+            (spent-taken i (member-at ms i) (under-way core others (receive-tables ms ps ws) log budget) (s .event) (s .front) (s .spent))
             ∙ ap₂
-            (λ (k : ℕ) (l : List Member). with-members l (with-continuation true (with-round k (shown core history ms ps ws))))
+            (λ (k : ℕ) (l : List Member). with-members l (with-continuation true (with-round k (shown core others ms ps ws))))
             (next-round i (core .counts .members) ms) stay;
         left =
-            λ history log.
+            λ others log.
             ap (λ (v : VisitedRun). v .run .budget)
-            (spent-taken i (member-at ms i) (run-at core history ms ps ws log budget) (s .event) (s .front) (s .spent));
+            (spent-taken i (member-at ms i) (under-way core others (receive-tables ms ps ws) log budget) (s .event) (s .front) (s .spent));
       }
 
-  pub visits-spent : (turned next : Core) → turned ≡ with-next ((i + 1) % core .counts .members) core → next ≡ continued true turned
+  pub visits-spent : (turned next : Core) → turned ≡ with-next ((i + 1) % core .counts .members) core → next ≡ continued 1 turned
       → Continuation ≡ leg-poll budget (member-at ms i .queue)
-      → Visits (core .counts .waiting + 1) (take-front i (member-at ms i)) core budget ms ps ws
-      record { went = false; core = next; budget = 0 } ms₁ ps ws
+      → Visits (core .counts .waiting + 1) (take-front i (member-at ms i)) core budget (receive-tables ms ps ws)
+      record { took = 0; core = next; budget = 0 } (receive-tables ms₁ ps ws)
   visits-spent turned next t c is =
       subst
       (λ (x : Core).
-      Visits (core .counts .waiting + 1) (take-front i (member-at ms i)) core budget ms ps ws
-      record { went = false; core = x; budget = 0 } ms₁ ps ws)
-      (sym (c ∙ ap (continued true) t)) (visits-spent-at is)
+      Visits (core .counts .waiting + 1) (take-front i (member-at ms i)) core budget (receive-tables ms ps ws)
+      record { took = 0; core = x; budget = 0 } (receive-tables ms₁ ps ws))
+      (sym (c ∙ ap (continued 1) t)) (visits-spent-at is)
 
   visits-event-at : (e : Event) (left id : ℕ) (after : Core) (ms′ ps′ ws′ : List ℕ) → PolledEvent e left ≡ leg-poll budget (member-at ms i .queue)
       → id ≡ member-at ms i .membership .id
-      → Collected i id e (with-next ((i + 1) % core .counts .members) core) ms₁ ps ws after ms′ ps′ ws′
-      → Visits (core .counts .waiting + 1) (take-front i (member-at ms i)) core budget ms ps ws
-      record { went = true; core = after; budget = left } ms′ ps′ ws′
+      → Collected i id e (with-next ((i + 1) % core .counts .members) core) (receive-tables ms₁ ps ws) after (receive-tables ms′ ps′ ws′)
+      → Visits (core .counts .waiting + 1) (take-front i (member-at ms i)) core budget (receive-tables ms ps ws)
+      record { took = 1; core = after; budget = left } (receive-tables ms′ ps′ ws′)
   visits-event-at e left id after ms′ ps′ ws′ is named h =
       let g = gave-event budget (member-at ms i .queue) e left is in
       let popped = changed-by i ms ms₁ pop changed (ap (λ (q : List Event). with-queue q (member-at ms i)) (queue-goes budget (member-at ms i .queue) (g .unspent))) in
@@ -342,46 +334,46 @@ module _ (core : Core) (budget : ℕ) (ms ps ws : List ℕ) (i : ℕ) (ms₁ : L
         waiting-long = h .leaves .waiting-long;
         members-same = h .leaves .members-same;
         waiting-most = h .waiting-more;
-        went = λ history log. ap (λ (v : VisitedRun). v .went) (event-taken i (member-at ms i) (run-at core history ms ps ws log budget) e (g .front) (g .unspent));
+        took = λ others log. ap (λ (v : VisitedRun). v .took) (event-taken i (member-at ms i) (under-way core others (receive-tables ms ps ws) log budget) e (g .front) (g .unspent));
         state =
-            λ history log.
-            ap (λ (v : VisitedRun). v .run .state) (event-taken i (member-at ms i) (run-at core history ms ps ws log budget) e (g .front) (g .unspent))
+            λ others log.
+            ap (λ (v : VisitedRun). v .run .state) (event-taken i (member-at ms i) (under-way core others (receive-tables ms ps ws) log budget) e (g .front) (g .unspent))
             ∙ member-state i (member-at ms i .membership .id) e _
             ∙ ap₂ (λ (x : ℕ) (s : State). collect-event i x e s) (sym named)
             (ap₂
-            (λ (k : ℕ) (l : List Member). with-members l (with-round k (shown core history ms ps ws)))
+            (λ (k : ℕ) (l : List Member). with-members l (with-round k (shown core others ms ps ws)))
             (next-round i (core .counts .members) ms) (sym (popped .members (core .counts .members))))
-            ∙ h .leaves .state history;
+            ∙ h .leaves .state others;
         left =
-            λ history log.
-            ap (λ (v : VisitedRun). v .run .budget) (event-taken i (member-at ms i) (run-at core history ms ps ws log budget) e (g .front) (g .unspent))
+            λ others log.
+            ap (λ (v : VisitedRun). v .run .budget) (event-taken i (member-at ms i) (under-way core others (receive-tables ms ps ws) log budget) e (g .front) (g .unspent))
             ∙ member-budget i (member-at ms i .membership .id) e _ ∙ sym (g .lowered);
       }
 
   pub visits-event : (turned : Core) (e : Event) (left id : ℕ) (after : Core) (ms′ ps′ ws′ : List ℕ)
       → turned ≡ with-next ((i + 1) % core .counts .members) core → PolledEvent e left ≡ leg-poll budget (member-at ms i .queue)
-      → id ≡ member-at ms i .membership .id → Collected i id e turned ms₁ ps ws after ms′ ps′ ws′
-      → Visits (core .counts .waiting + 1) (take-front i (member-at ms i)) core budget ms ps ws
-      record { went = true; core = after; budget = left } ms′ ps′ ws′
+      → id ≡ member-at ms i .membership .id → Collected i id e turned (receive-tables ms₁ ps ws) after (receive-tables ms′ ps′ ws′)
+      → Visits (core .counts .waiting + 1) (take-front i (member-at ms i)) core budget (receive-tables ms ps ws)
+      record { took = 1; core = after; budget = left } (receive-tables ms′ ps′ ws′)
   visits-event turned e left id after ms′ ps′ ws′ t is named h =
       visits-event-at e left id after ms′ ps′ ws′ is named
-      (subst (λ (x : Core). Collected i id e x ms₁ ps ws after ms′ ps′ ws′) t h)
+      (subst (λ (x : Core). Collected i id e x (receive-tables ms₁ ps ws) after (receive-tables ms′ ps′ ws′)) t h)
 
 -- ---- the event in front can be collected
 
-module _ (core : Core) (ms ps ws : List ℕ) (usable : Usable core ms ps ws) (i : ℕ) (inside : i < core .counts .members) where
+module _ (core : Core) (ms ps ws : List ℕ) (usable : Usable core (receive-tables ms ps ws)) (i : ℕ) (inside : i < core .counts .members) where
   pub row-there : has-row i ms
   row-there = omega (arith, usable .members-long, usable .members-few, inside)
 
-  data-front : (e : Event) → at-place 0 (member-at ms i .queue) ≡ some e → e .kind ≡ 0 → Front-data (shown core [] ms ps ws) (member-at ms i) e
+  data-front : (e : Event) → at-place 0 (member-at ms i .queue) ≡ some e → e .kind ≡ 0 → Front-data (shown core blank ms ps ws) (member-at ms i) e
   data-front e in-front is =
-      front-data (shown core [] ms ps ws) i (member-at ms i) e (usable .sound) (members-place (core .counts .members) ms i inside) in-front
+      front-data (shown core blank ms ps ws) i (member-at ms i) e (usable .sound) (members-place (core .counts .members) ms i inside) in-front
       (eq-eqb (e .kind) 0 is)
 
   collectable-past : (budget left k id : ℕ) (ms₁ : List ℕ) (e : Event)
       → Changed i (λ m. with-queue (queue-after budget (m .queue)) m) ms ms₁
-      → PolledEvent e left ≡ leg-poll budget (member-at ms i .queue) → core .counts .waiting < 64
-      → Collectable i id e (with-next k core) ms₁ ps ws
+      → PolledEvent e left ≡ leg-poll budget (member-at ms i .queue) → core .counts .waiting < max-waiting
+      → Collectable i id e (with-next k core) (receive-tables ms₁ ps ws)
   collectable-past budget left k id ms₁ e changed gave few =
       let g = gave-event budget (member-at ms i .queue) e left gave in
       record {
@@ -406,14 +398,14 @@ module _ (core : Core) (ms ps ws : List ℕ) (usable : Usable core ms ps ws) (i 
 
   pub collectable : (budget left k id : ℕ) (ms₁ : List ℕ) (e : Event) (next : Core) → next ≡ with-next k core
       → Changed i (λ m. with-queue (queue-after budget (m .queue)) m) ms ms₁
-      → PolledEvent e left ≡ leg-poll budget (member-at ms i .queue) → core .counts .waiting < 64 → Collectable i id e next ms₁ ps ws
+      → PolledEvent e left ≡ leg-poll budget (member-at ms i .queue) → core .counts .waiting < max-waiting → Collectable i id e next (receive-tables ms₁ ps ws)
   collectable budget left k id ms₁ e next turned changed gave few =
-      subst (λ (x : Core). Collectable i id e x ms₁ ps ws) (sym turned) (collectable-past budget left k id ms₁ e changed gave few)
+      subst (λ (x : Core). Collectable i id e x (receive-tables ms₁ ps ws)) (sym turned) (collectable-past budget left k id ms₁ e changed gave few)
 
 -- ---- one event, in turn
 
 module _ (r : Run) where
-  none-in-turn : in-turn (r .state .visit .round) (r .state .members) ≡ none → collect-one-event r ≡ record { went = false; run = r }
+  none-in-turn : in-turn (r .state .visit .round) (r .state .members) ≡ none → collect-one-event r ≡ record { took = false; run = r }
   unfolding collect-one-event if-some_give_otherwise_
   none-in-turn is = rw is
 
@@ -423,8 +415,8 @@ module _ (r : Run) where
   one-in-turn i m is there = rw (is, there)
 
 -- what is left of a sound state is sound, and may be relied on
-usable-after : (core : Core) (budget : ℕ) (ms ps ws : List ℕ) (r : Visited) (ms′ ps′ ws′ : List ℕ) → Usable core ms ps ws → core .counts .waiting < 64
-    → Visits (core .counts .waiting + 1) collect-one-event core budget ms ps ws r ms′ ps′ ws′ → Usable (r .core) ms′ ps′ ws′
+usable-after : (core : Core) (budget : ℕ) (ms ps ws : List ℕ) (r : Visited) (ms′ ps′ ws′ : List ℕ) → Usable core (receive-tables ms ps ws) → core .counts .waiting < max-waiting
+    → Visits (core .counts .waiting + 1) collect-one-event core budget (receive-tables ms ps ws) r (receive-tables ms′ ps′ ws′) → Usable (r .core) (receive-tables ms′ ps′ ws′)
 usable-after core budget ms ps ws r ms′ ps′ ws′ u few v =
     record {
       members-long = omega (arith, u .members-long, v .members-long);
@@ -432,12 +424,12 @@ usable-after core budget ms ps ws r ms′ ps′ ws′ u few v =
       waiting-long = omega (arith, u .waiting-long, v .waiting-long);
       members-few = omega (arith, u .members-few, v .members-same);
       waiting-few = omega (arith, v .waiting-most, few);
-      sound = subst Sound (v .state [] []) (collect-one-has Sound sound-law (run-at core [] ms ps ws [] budget) (u .sound));
+      sound = subst Sound (v .state blank []) (collect-one-has Sound sound-law (under-way core blank (receive-tables ms ps ws) [] budget) (u .sound));
     }
 
-module _ (core : Core) (budget : ℕ) (ms ps ws : List ℕ) (usable : Usable core ms ps ws) (few : core .counts .waiting < 64) where
+module _ (core : Core) (budget : ℕ) (ms ps ws : List ℕ) (usable : Usable core (receive-tables ms ps ws)) (few : core .counts .waiting < max-waiting) where
   pub collects-none : Nowhere ≡ found-of (in-turn (core .visit .round) (members-of (core .counts .members) ms))
-      → Collects (core .counts .waiting + 1) collect-one-event core budget ms ps ws record { went = false; core = core; budget = budget } ms ps ws
+      → Collects (core .counts .waiting + 1) collect-one-event core budget (receive-tables ms ps ws) record { took = 0; core = core; budget = budget } (receive-tables ms ps ws)
   collects-none is =
       let none-there = found-none (in-turn (core .visit .round) (members-of (core .counts .members) ms)) is in
       record {
@@ -448,39 +440,39 @@ module _ (core : Core) (budget : ℕ) (ms ps ws : List ℕ) (usable : Usable cor
               waiting-long = refl;
               members-same = refl;
               waiting-most = omega arith;
-              went = λ history log. ap (λ (v : VisitedRun). v .went) (none-in-turn (run-at core history ms ps ws log budget) none-there);
-              state = λ history log. ap (λ (v : VisitedRun). v .run .state) (none-in-turn (run-at core history ms ps ws log budget) none-there);
-              left = λ history log. ap (λ (v : VisitedRun). v .run .budget) (none-in-turn (run-at core history ms ps ws log budget) none-there);
+              took = λ others log. ap (λ (v : VisitedRun). v .took) (none-in-turn (under-way core others (receive-tables ms ps ws) log budget) none-there);
+              state = λ others log. ap (λ (v : VisitedRun). v .run .state) (none-in-turn (under-way core others (receive-tables ms ps ws) log budget) none-there);
+              left = λ others log. ap (λ (v : VisitedRun). v .run .budget) (none-in-turn (under-way core others (receive-tables ms ps ws) log budget) none-there);
             };
         usable = usable;
       }
 
   pub collects-one : (i : ℕ) (r : Visited) (ms′ ps′ ws′ : List ℕ) → i < core .counts .members
       → At i ≡ found-of (in-turn (core .visit .round) (members-of (core .counts .members) ms))
-      → Visits (core .counts .waiting + 1) (take-front i (member-at ms i)) core budget ms ps ws r ms′ ps′ ws′
-      → Collects (core .counts .waiting + 1) collect-one-event core budget ms ps ws r ms′ ps′ ws′
+      → Visits (core .counts .waiting + 1) (take-front i (member-at ms i)) core budget (receive-tables ms ps ws) r (receive-tables ms′ ps′ ws′)
+      → Collects (core .counts .waiting + 1) collect-one-event core budget (receive-tables ms ps ws) r (receive-tables ms′ ps′ ws′)
   collects-one i r ms′ ps′ ws′ inside is v =
       let there = found-some (in-turn (core .visit .round) (members-of (core .counts .members) ms)) i is in
       let at = members-place (core .counts .members) ms i inside in
-      let visits : Visits (core .counts .waiting + 1) collect-one-event core budget ms ps ws r ms′ ps′ ws′ =
+      let visits : Visits (core .counts .waiting + 1) collect-one-event core budget (receive-tables ms ps ws) r (receive-tables ms′ ps′ ws′) =
       record {
         members-long = v .members-long;
         pending-long = v .pending-long;
         waiting-long = v .waiting-long;
         members-same = v .members-same;
         waiting-most = v .waiting-most;
-        went =
-            λ history log.
-            ap (λ (x : VisitedRun). x .went) (one-in-turn (run-at core history ms ps ws log budget) i (member-at ms i) there at)
-            ∙ v .went history log;
+        took =
+            λ others log.
+            ap (λ (x : VisitedRun). x .took) (one-in-turn (under-way core others (receive-tables ms ps ws) log budget) i (member-at ms i) there at)
+            ∙ v .took others log;
         state =
-            λ history log.
-            ap (λ (x : VisitedRun). x .run .state) (one-in-turn (run-at core history ms ps ws log budget) i (member-at ms i) there at)
-            ∙ v .state history log;
+            λ others log.
+            ap (λ (x : VisitedRun). x .run .state) (one-in-turn (under-way core others (receive-tables ms ps ws) log budget) i (member-at ms i) there at)
+            ∙ v .state others log;
         left =
-            λ history log.
-            ap (λ (x : VisitedRun). x .run .budget) (one-in-turn (run-at core history ms ps ws log budget) i (member-at ms i) there at)
-            ∙ v .left history log;
+            λ others log.
+            ap (λ (x : VisitedRun). x .run .budget) (one-in-turn (under-way core others (receive-tables ms ps ws) log budget) i (member-at ms i) there at)
+            ∙ v .left others log;
       }
       in
       record { visits = visits; usable = usable-after core budget ms ps ws r ms′ ps′ ws′ usable few visits }

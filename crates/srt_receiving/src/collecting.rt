@@ -6,22 +6,24 @@ ghost use Prim.Native.Nat.{_+_, _*_, _%_, _≤_, _<_};
 ghost use lib.Dec.{eqb};
 ghost use lib.ListN.{length};
 ghost use Rattle.srt_protocol.specs.Sequence.{sequence-before};
-ghost use Rattle.srt_group_model.specs.Tools.{flagged, if-some_give_otherwise_};
+ghost use Rattle.srt_group_model.specs.Tools.{is-set, bit, flagged, if-some_give_otherwise_};
 ghost use Rattle.srt_group_model.specs.State.{on-membership, with-reserved};
-ghost use Rattle.srt_group_model.specs.Collecting.{is-discarded, take-front, collect-one-event, has-pending-data, collect-until-empty};
-ghost use Rattle.srt_group_model.specs.Delivery.{max-visits};
+ghost use Rattle.srt_group_model.specs.Collecting.{is-discarded, take-front, collect-one-event, has-pending-data};
 ghost use Rattle.srt_group_model.specs.Nearest.{is-held};
-ghost use Rattle.srt_group_model.specs.Validity.{ascends};
+ghost use Rattle.srt_group_model.specs.Validity.{max-waiting, max-pending, max-members, ascends};
 ghost use Rattle.srt_connection.specs.Members.{member-at, members-of, has-row, Changed};
 ghost use Rattle.srt_connection.specs.Rows.{row-size};
 ghost use Rattle.srt_members.specs.Scan.{Became};
-ghost use Rattle.srt_tables.specs.Packets.{packets};
+ghost use Rattle.srt_tables.specs.Packets.{pending-size, packets};
+ghost use Rattle.srt_tables.specs.Waitings.{waiting-size};
+ghost use Rattle.srt_group_shown.specs.Tables.{receive-tables};
 ghost use Rattle.cell_set.specs.Sets.{Freed};
 ghost use Rattle.cell_set.specs.Shows.{freed-by};
+ghost use Rattle.cell_set.specs.Bits.{set-size};
 ghost use Rattle.srt_receiving.specs.Leaves.{Usable};
 ghost use Rattle.srt_receiving.specs.Follows.{Follows};
 ghost use Rattle.srt_receiving.specs.CollectLaws.{receive-of, Holdable, Retained, broken-by, Reported};
-ghost use Rattle.srt_receiving.specs.GatherLaws.{Shows, HeldVisit, Gathers};
+ghost use Rattle.srt_receiving.specs.GatherLaws.{Shows, HeldVisit, Gathers, Empties};
 ghost use Rattle.srt_receiving.specs.VisitLaws.{freed-by-event, with-next, continued, Collectable, Collected, Visits, Collects};
 use cell_set::free;
 use srt_connection::members::Found as FoundMember;
@@ -32,7 +34,6 @@ use srt_connection::members::release_data_reservation_at;
 use srt_connection::queue::LegPoll;
 use srt_group_model::Core;
 use srt_group_model::Event;
-use srt_group_model::GroupMode;
 use srt_group_model::Packet;
 use srt_group_model::Receiving;
 use srt_group_model::Waiting;
@@ -41,14 +42,28 @@ use srt_members::promotion::promote_backup_member;
 use srt_members::states::BROKEN;
 use srt_members::states::is_backup;
 use srt_members::states::turn_at;
-use srt_protocol::srt_packet::sequence_less_than;
+use srt_protocol::srt_packet::word_before;
 use srt_tables::pending;
 use srt_tables::pending::Found;
 use srt_tables::waiting;
 
-// What a step that visits legs leaves: whether an event was collected, the group's numbers, and what is left of the budget.
+// What a visit leaves: whether an event was taken off a queue, the group's numbers, and what is left of the budget.
 pub struct Visited {
-    pub went: bool,
+    pub took: u64,
+    pub core: Core,
+    pub budget: u64,
+}
+
+// Visits until something is held, under way: whether more of them follow.
+struct Visiting {
+    more: u64,
+    core: Core,
+    budget: u64,
+}
+
+// What visits until the queues are empty leave: whether they ended so.
+pub struct Emptied {
+    pub emptied: u64,
     pub core: Core,
     pub budget: u64,
 }
@@ -59,27 +74,38 @@ pub struct Gathered {
     pub budget: u64,
 }
 
-// The visits of one loop.
-const MAX_VISITS: usize = 64;
+// The visits of one loop, and the event polls of one data poll, at most.
+pub const MAX_VISITS: usize = 64;
+
+// A flag's word.
+pub fn flag(set: bool) -> u64
+    ensures { λ r. ⌜ r ≡ bit set ⌝ }
+{
+    if set {
+        return 1;
+    }
+    0
+}
 
 // ---- a packet is held or discarded
 
 // Whether a sequence is before the base.
 fn is_late(receiving: Receiving, sequence: u64) -> bool
-    requires { ⌜ sequence ≤ 2147483647 ⌝ }
-    ensures { λ r. ⌜ r ≡ (if-some flagged (receiving .based) (receiving .base) give (λ base. sequence-before sequence base) otherwise false) ⌝ }
+    ensures { λ r. ⌜ r ≡ (if-some flagged (is-set (receiving .based)) (receiving .base)
+        give (λ base. sequence-before sequence base) otherwise false) ⌝ }
 {
-    if receiving.based {
-        return sequence_less_than(sequence as u32, receiving.base);
+    if receiving.based == 0 {
+        return false;
     }
-    false
+    word_before(sequence, receiving.base)
 }
 
 // The count of a packet that is held for a member is added to its sum.
 fn reserve_at(members: &mut [u64], index: usize, count: u64)
     requires { ⌜ has-row index (now members) ⌝ }
     requires { ⌜ member-at (now members) index .membership .reserved + count < 18446744073709551616 ⌝ }
-    ensures { λ _. ⌜ Changed index (on-membership (λ x. with-reserved (x .reserved + count) x)) (now (members .entry)) (now (members .exit)) ⌝ }
+    ensures { λ _. ⌜ Changed index (on-membership (λ x. with-reserved (x .reserved + count) x))
+        (now (members .entry)) (now (members .exit)) ⌝ }
 {
     let mut membership = membership_at(members, index);
     membership.reserved += count;
@@ -88,7 +114,7 @@ fn reserve_at(members: &mut [u64], index: usize, count: u64)
 
 // Whether the packet of a sequence is held already.
 pub fn is_held(pending: &[u64], held: usize, sequence: u64) -> bool
-    requires { ⌜ (18432 ≤ length (now pending)) × (held ≤ 2048) ⌝ }
+    requires { ⌜ (pending-size ≤ length (now pending)) × (held ≤ max-pending) ⌝ }
     requires { ⌜ ascends (packets held (now pending)) ≡ true ⌝ }
     ensures { λ r. ⌜ r ≡ is-held sequence (packets held (now (pending .entry))) ⌝ }
 {
@@ -101,9 +127,8 @@ pub fn is_held(pending: &[u64], held: usize, sequence: u64) -> bool
 
 // A packet is discarded if it is late or its sequence is held.
 fn is_discarded(core: Core, pending: &[u64], packet: Packet) -> bool
-    requires { ⌜ (18432 ≤ length (now pending)) × (core .counts .pending ≤ 2048) ⌝ }
+    requires { ⌜ (pending-size ≤ length (now pending)) × (core .counts .pending ≤ max-pending) ⌝ }
     requires { ⌜ ascends (packets (core .counts .pending) (now pending)) ≡ true ⌝ }
-    requires { ⌜ packet .content .sequence ≤ 2147483647 ⌝ }
     ensures { λ r. ⌜ r ≡ is-discarded packet (receive-of core (now (pending .entry))) ⌝ }
 {
     let content = packet.content;
@@ -124,9 +149,11 @@ fn retain_group_packet(
 ) -> Core
     requires { ⌜ has-row index (now members) ⌝ }
     requires { ⌜ Holdable (core .counts .pending) (now pending) packet (member-at (now members) index) ⌝ }
-    requires { ⌜ length (now used) ≡ 32 ⌝ }
-    ensures { λ r. ⌜ Retained index packet core (now (members .entry)) (now (pending .entry)) r (now (members .exit)) (now (pending .exit)) ⌝ }
-    ensures { λ _. ⌜ Freed (freed-by packet (receive-of core (now (pending .entry)))) (now (used .entry)) (now (used .exit)) ⌝ }
+    requires { ⌜ length (now used) ≡ set-size ⌝ }
+    ensures { λ r. ⌜ Retained index packet core (now (members .entry)) (now (pending .entry))
+        r (now (members .exit)) (now (pending .exit)) ⌝ }
+    ensures { λ _. ⌜ Freed (freed-by packet (receive-of core (now (pending .entry))))
+        (now (used .entry)) (now (used .exit)) ⌝ }
 {
     let content = packet.content;
     if is_discarded(core, pending, packet) {
@@ -145,9 +172,10 @@ fn retain_group_packet(
 // ---- an event is reported
 
 // An error or a disconnect breaks its member and, in Backup, promotes another, even if one is Active.
-fn break_member(members: &mut [u64], count: usize, mode: GroupMode, kind: u64, index: usize)
+fn break_member(members: &mut [u64], count: usize, mode: u64, kind: u64, index: usize)
     requires { ⌜ (has-row index (now members)) × (count * row-size ≤ length (now members)) ⌝ }
-    ensures { λ _. ⌜ Became count (broken-by mode kind index (members-of count (now (members .entry)))) (now (members .entry)) (now (members .exit)) ⌝ }
+    ensures { λ _. ⌜ Became count (broken-by mode kind index (members-of count (now (members .entry))))
+        (now (members .entry)) (now (members .exit)) ⌝ }
 {
     if kind < 2 {
         return;
@@ -168,12 +196,11 @@ fn report_event(
     event: Waiting,
 ) -> Core
     requires { ⌜ (has-row index (now members)) × (core .counts .members * row-size ≤ length (now members)) ⌝ }
-    requires { ⌜ (192 ≤ length (now waiting)) × (core .counts .waiting < 64) ⌝ }
-    ensures { λ r. ⌜ Reported index event core (now (members .entry)) (now (waiting .entry)) r (now (members .exit)) (now (waiting .exit)) ⌝ }
+    requires { ⌜ (waiting-size ≤ length (now waiting)) × (core .counts .waiting < max-waiting) ⌝ }
+    ensures { λ r. ⌜ Reported index event core (now (members .entry)) (now (waiting .entry))
+        r (now (members .exit)) (now (waiting .exit)) ⌝ }
 {
-    let identity = core.identity;
-    let mode = identity.mode;
-    break_member(members, core.counts.members, mode, event.kind, index);
+    break_member(members, core.counts.members, core.mode, event.kind, index);
     let waits = core.counts.waiting;
     waiting::push_back(waiting, waits, event);
     let more = waits + 1;
@@ -185,7 +212,7 @@ fn report_event(
 
 // The round goes on behind the member at an index.
 fn turn_past(mut core: Core, index: usize) -> Core
-    requires { ⌜ (index < core .counts .members) × (core .counts .members ≤ 64) ⌝ }
+    requires { ⌜ (index < core .counts .members) × (core .counts .members ≤ max-members) ⌝ }
     ensures { λ r. ⌜ r ≡ with-next ((index + 1) % core .counts .members) core ⌝ }
 {
     let next = (index + 1) % core.counts.members;
@@ -194,9 +221,9 @@ fn turn_past(mut core: Core, index: usize) -> Core
 }
 
 fn ask_to_continue(mut core: Core) -> Core
-    ensures { λ r. ⌜ r ≡ continued true core ⌝ }
+    ensures { λ r. ⌜ r ≡ continued 1 core ⌝ }
 {
-    core.visit.continuation = true;
+    core.visit.continuation = 1;
     core
 }
 
@@ -211,10 +238,13 @@ fn collect_member_event(
     id: u64,
     event: Event,
 ) -> Core
-    requires { ⌜ Collectable index id event core (now members) (now pending) (now waiting) ⌝ }
-    requires { ⌜ length (now used) ≡ 32 ⌝ }
-    ensures { λ r. ⌜ Collected index id event core (now (members .entry)) (now (pending .entry)) (now (waiting .entry)) r (now (members .exit)) (now (pending .exit)) (now (waiting .exit)) ⌝ }
-    ensures { λ _. ⌜ Freed (freed-by-event id event (receive-of core (now (pending .entry)))) (now (used .entry)) (now (used .exit)) ⌝ }
+    requires { ⌜ Collectable index id event core (receive-tables (now members) (now pending) (now waiting)) ⌝ }
+    requires { ⌜ length (now used) ≡ set-size ⌝ }
+    ensures { λ r. ⌜ Collected index id event core
+        (receive-tables (now (members .entry)) (now (pending .entry)) (now (waiting .entry))) r
+        (receive-tables (now (members .exit)) (now (pending .exit)) (now (waiting .exit))) ⌝ }
+    ensures { λ _. ⌜ Freed (freed-by-event id event (receive-of core (now (pending .entry))))
+        (now (used .entry)) (now (used .exit)) ⌝ }
 {
     if event.kind == 0 {
         let content = event.content;
@@ -243,24 +273,27 @@ fn take_front(
     index: usize,
     budget: u64,
 ) -> Visited
-    requires { ⌜ Usable core (now members) (now pending) (now waiting) ⌝ }
-    requires { ⌜ (index < core .counts .members) × (core .counts .waiting < 64) ⌝ }
-    requires { ⌜ length (now used) ≡ 32 ⌝ }
-    ensures { λ r. ⌜ Visits (core .counts .waiting + 1) (take-front index (member-at (now (members .entry)) index)) core budget (now (members .entry)) (now (pending .entry)) (now (waiting .entry)) r (now (members .exit)) (now (pending .exit)) (now (waiting .exit)) ⌝ }
-    ensures { λ r. ⌜ Follows core (now (members .entry)) (now (pending .entry)) (now (used .entry)) (r .core) (now (members .exit)) (now (pending .exit)) (now (used .exit)) ⌝ }
+    requires { ⌜ Usable core (receive-tables (now members) (now pending) (now waiting)) ⌝ }
+    requires { ⌜ (index < core .counts .members) × (core .counts .waiting < max-waiting) ⌝ }
+    requires { ⌜ length (now used) ≡ set-size ⌝ }
+    ensures { λ r. ⌜ Visits (core .counts .waiting + 1) (take-front index (member-at (now (members .entry)) index)) core budget
+        (receive-tables (now (members .entry)) (now (pending .entry)) (now (waiting .entry))) r
+        (receive-tables (now (members .exit)) (now (pending .exit)) (now (waiting .exit))) ⌝ }
+    ensures { λ r. ⌜ Follows core (now (members .entry)) (now (pending .entry)) (now (used .entry))
+        (r .core) (now (members .exit)) (now (pending .exit)) (now (used .exit)) ⌝ }
 {
     let membership = membership_at(members, index);
     let polled = poll_event_for_group_at(members, index, budget);
     match polled {
         LegPoll::Nothing => Visited {
-            went: false,
+            took: 0,
             core,
             budget,
         },
         LegPoll::Continuation => {
             let next = ask_to_continue(turn_past(core, index));
             Visited {
-                went: false,
+                took: 0,
                 core: next,
                 budget: 0,
             }
@@ -281,7 +314,7 @@ fn take_front(
                 event,
             );
             Visited {
-                went: true,
+                took: 1,
                 core: after,
                 budget: left,
             }
@@ -298,16 +331,19 @@ pub fn collect_one_event(
     used: &mut [u64],
     budget: u64,
 ) -> Visited
-    requires { ⌜ Usable core (now members) (now pending) (now waiting) ⌝ }
-    requires { ⌜ core .counts .waiting < 64 ⌝ }
-    requires { ⌜ length (now used) ≡ 32 ⌝ }
-    ensures { λ r. ⌜ Collects (core .counts .waiting + 1) collect-one-event core budget (now (members .entry)) (now (pending .entry)) (now (waiting .entry)) r (now (members .exit)) (now (pending .exit)) (now (waiting .exit)) ⌝ }
-    ensures { λ r. ⌜ Follows core (now (members .entry)) (now (pending .entry)) (now (used .entry)) (r .core) (now (members .exit)) (now (pending .exit)) (now (used .exit)) ⌝ }
+    requires { ⌜ Usable core (receive-tables (now members) (now pending) (now waiting)) ⌝ }
+    requires { ⌜ core .counts .waiting < max-waiting ⌝ }
+    requires { ⌜ length (now used) ≡ set-size ⌝ }
+    ensures { λ r. ⌜ Collects (core .counts .waiting + 1) collect-one-event core budget
+        (receive-tables (now (members .entry)) (now (pending .entry)) (now (waiting .entry))) r
+        (receive-tables (now (members .exit)) (now (pending .exit)) (now (waiting .exit))) ⌝ }
+    ensures { λ r. ⌜ Follows core (now (members .entry)) (now (pending .entry)) (now (used .entry))
+        (r .core) (now (members .exit)) (now (pending .exit)) (now (used .exit)) ⌝ }
 {
     let found = in_turn(members, core.counts.members, core.visit.round);
     let FoundMember::At(index) = found else {
         return Visited {
-            went: false,
+            took: 0,
             core,
             budget,
         };
@@ -327,12 +363,13 @@ pub fn has_pending_data(core: Core) -> bool
     if 0 < core.counts.waiting {
         return true;
     }
-    core.visit.continuation
+    core.visit.continuation != 0
 }
 
 // The continuation is asked for as well.
 fn or_continue(core: Core, asked: bool) -> Core
-    ensures { λ r. ⌜ r ≡ continued (core .visit .continuation || asked) core ⌝ }
+    requires { ⌜ core .visit .continuation ≤ 1 ⌝ }
+    ensures { λ r. ⌜ r ≡ continued (bit (is-set (core .visit .continuation) || asked)) core ⌝ }
 {
     if asked {
         return ask_to_continue(core);
@@ -347,38 +384,45 @@ fn ends_with_none_held(visits: usize, held: usize) -> bool
     visits == 0 && held == 0
 }
 
-// One visit, unless an event waits, with so many left behind it. It went if the visits go on.
+// One visit, unless an event waits, with so many left behind it.
 fn visit_until_held(
-    before: Visited,
+    before: Visiting,
     members: &mut [u64],
     pending: &mut [u64],
     waiting: &mut [u64],
     used: &mut [u64],
     visits: usize,
-) -> Visited
-    requires { ⌜ Usable (before .core) (now members) (now pending) (now waiting) ⌝ }
-    requires { ⌜ length (now used) ≡ 32 ⌝ }
-    ensures { λ r. ⌜ HeldVisit visits before (now (members .entry)) (now (pending .entry)) (now (waiting .entry)) r (now (members .exit)) (now (pending .exit)) (now (waiting .exit)) ⌝ }
-    ensures { λ r. ⌜ Follows (before .core) (now (members .entry)) (now (pending .entry)) (now (used .entry)) (r .core) (now (members .exit)) (now (pending .exit)) (now (used .exit)) ⌝ }
+) -> Visiting
+    requires { ⌜ Usable (before .core) (receive-tables (now members) (now pending) (now waiting)) ⌝ }
+    requires { ⌜ length (now used) ≡ set-size ⌝ }
+    ensures { λ r. ⌜ HeldVisit visits before
+        (receive-tables (now (members .entry)) (now (pending .entry)) (now (waiting .entry))) r
+        (receive-tables (now (members .exit)) (now (pending .exit)) (now (waiting .exit))) ⌝ }
+    ensures { λ r. ⌜ Follows (before .core) (now (members .entry)) (now (pending .entry)) (now (used .entry))
+        (r .core) (now (members .exit)) (now (pending .exit)) (now (used .exit)) ⌝ }
 {
     let here = before.core;
     if 0 < here.counts.waiting {
-        return Visited {
-            went: false,
+        return Visiting {
+            more: 0,
             core: here,
             budget: before.budget,
         };
     }
     let visited = collect_one_event(here, members, pending, waiting, used, before.budget);
-    if !visited.went {
-        return visited;
-    }
     let collected = visited.core;
+    if visited.took == 0 {
+        return Visiting {
+            more: 0,
+            core: collected,
+            budget: visited.budget,
+        };
+    }
     let asked = ends_with_none_held(visits, collected.counts.pending);
     let after = or_continue(collected, asked);
-    let pends = has_pending_data(after);
-    Visited {
-        went: !pends,
+    let more = flag(!has_pending_data(after));
+    Visiting {
+        more,
         core: after,
         budget: visited.budget,
     }
@@ -394,13 +438,16 @@ pub fn collect_until_held(
     used: &mut [u64],
     budget: u64,
 ) -> Gathered
-    requires { ⌜ Usable core (now members) (now pending) (now waiting) ⌝ }
-    requires { ⌜ length (now used) ≡ 32 ⌝ }
-    ensures { λ r. ⌜ Gathers core budget (now (members .entry)) (now (pending .entry)) (now (waiting .entry)) r (now (members .exit)) (now (pending .exit)) (now (waiting .exit)) ⌝ }
-    ensures { λ r. ⌜ Follows core (now (members .entry)) (now (pending .entry)) (now (used .entry)) (r .core) (now (members .exit)) (now (pending .exit)) (now (used .exit)) ⌝ }
+    requires { ⌜ Usable core (receive-tables (now members) (now pending) (now waiting)) ⌝ }
+    requires { ⌜ length (now used) ≡ set-size ⌝ }
+    ensures { λ r. ⌜ Gathers core budget
+        (receive-tables (now (members .entry)) (now (pending .entry)) (now (waiting .entry))) r
+        (receive-tables (now (members .exit)) (now (pending .exit)) (now (waiting .exit))) ⌝ }
+    ensures { λ r. ⌜ Follows core (now (members .entry)) (now (pending .entry)) (now (used .entry))
+        (r .core) (now (members .exit)) (now (pending .exit)) (now (used .exit)) ⌝ }
 {
-    let mut visited = Visited {
-        went: true,
+    let mut visited = Visiting {
+        more: 1,
         core,
         budget,
     };
@@ -408,7 +455,7 @@ pub fn collect_until_held(
     while 0 < left {
         let visits = left - 1;
         visited = visit_until_held(visited, members, pending, waiting, used, visits);
-        if !visited.went {
+        if visited.more == 0 {
             let after = visited.core;
             return Gathered {
                 core: after,
@@ -428,18 +475,19 @@ pub fn collect_until_held(
 
 // The continuation is asked for, or the sequence is held.
 fn is_settled(core: Core, pending: &[u64], sequence: u64) -> bool
-    requires { ⌜ (18432 ≤ length (now pending)) × (core .counts .pending ≤ 2048) ⌝ }
+    requires { ⌜ (pending-size ≤ length (now pending)) × (core .counts .pending ≤ max-pending) ⌝ }
     requires { ⌜ ascends (packets (core .counts .pending) (now pending)) ≡ true ⌝ }
-    ensures { λ r. ⌜ r ≡ (core .visit .continuation || is-held sequence (packets (core .counts .pending) (now (pending .entry)))) ⌝ }
+    ensures { λ r. ⌜ r ≡ (is-set (core .visit .continuation)
+        || is-held sequence (packets (core .counts .pending) (now (pending .entry)))) ⌝ }
 {
-    if core.visit.continuation {
+    if core.visit.continuation != 0 {
         return true;
     }
     is_held(pending, core.counts.pending, sequence)
 }
 
-// Visits until the sequence is held, the continuation is asked for or every queue is empty. It went if they ended empty: only
-// then is a gap skipped.
+// Visits until the sequence is held, the continuation is asked for or every queue is empty. Only where the queues ended
+// empty is a gap skipped.
 pub fn collect_until_empty(
     core: Core,
     members: &mut [u64],
@@ -448,15 +496,18 @@ pub fn collect_until_empty(
     used: &mut [u64],
     budget: u64,
     sequence: u64,
-) -> Visited
-    requires { ⌜ Usable core (now members) (now pending) (now waiting) ⌝ }
+) -> Emptied
+    requires { ⌜ Usable core (receive-tables (now members) (now pending) (now waiting)) ⌝ }
     requires { ⌜ core .counts .waiting ≡ 0 ⌝ }
-    requires { ⌜ length (now used) ≡ 32 ⌝ }
-    ensures { λ r. ⌜ Collects 64 (collect-until-empty max-visits sequence) core budget (now (members .entry)) (now (pending .entry)) (now (waiting .entry)) r (now (members .exit)) (now (pending .exit)) (now (waiting .exit)) ⌝ }
-    ensures { λ r. ⌜ Follows core (now (members .entry)) (now (pending .entry)) (now (used .entry)) (r .core) (now (members .exit)) (now (pending .exit)) (now (used .exit)) ⌝ }
+    requires { ⌜ length (now used) ≡ set-size ⌝ }
+    ensures { λ r. ⌜ Empties sequence core budget
+        (receive-tables (now (members .entry)) (now (pending .entry)) (now (waiting .entry))) r
+        (receive-tables (now (members .exit)) (now (pending .exit)) (now (waiting .exit))) ⌝ }
+    ensures { λ r. ⌜ Follows core (now (members .entry)) (now (pending .entry)) (now (used .entry))
+        (r .core) (now (members .exit)) (now (pending .exit)) (now (used .exit)) ⌝ }
 {
     let mut visited = Visited {
-        went: true,
+        took: 0,
         core,
         budget,
     };
@@ -464,17 +515,18 @@ pub fn collect_until_empty(
     while 0 < left {
         let here = visited.core;
         if is_settled(here, pending, sequence) {
-            return Visited {
-                went: false,
+            return Emptied {
+                emptied: 0,
                 core: here,
                 budget: visited.budget,
             };
         }
         visited = collect_one_event(here, members, pending, waiting, used, visited.budget);
-        if !visited.went {
+        if visited.took == 0 {
             let after = visited.core;
-            return Visited {
-                went: !after.visit.continuation,
+            let emptied = flag(after.visit.continuation == 0);
+            return Emptied {
+                emptied,
                 core: after,
                 budget: visited.budget,
             };
@@ -484,8 +536,8 @@ pub fn collect_until_empty(
     let here = visited.core;
     let held = is_held(pending, here.counts.pending, sequence);
     let after = or_continue(here, !held);
-    Visited {
-        went: false,
+    Emptied {
+        emptied: 0,
         core: after,
         budget: visited.budget,
     }

@@ -5,31 +5,35 @@ ghost use mathlib.Core.List.{List, [], _∷_};
 ghost use Prim.Native.Nat.{ℕ, _+_, _-_, _*_, _≤_, _<_, min};
 ghost use lib.ListN.{length};
 ghost use Rattle.srt_protocol.specs.Sequence.{sequence-distance};
-ghost use Rattle.srt_protocol.specs.Time.{last-moment};
-ghost use Rattle.srt_group_model.specs.declared.Entry.{Entry};
+ghost use Rattle.srt_group_model.specs.Legs.{largest-64};
 ghost use Rattle.srt_group_model.specs.Delivery.{leg-gives-up, gap-given-up, deliver, give-waiting};
 ghost use Rattle.srt_group_model.specs.Nearest.{covered};
-ghost use Rattle.srt_group_model.specs.Tools.{flagged};
+ghost use Rattle.srt_group_model.specs.Tools.{is-set, flagged};
 ghost use Rattle.srt_connection.specs.Members.{members-of, has-row, Changed};
 ghost use Rattle.srt_connection.specs.Rows.{row-size};
-ghost use Rattle.srt_tables.specs.Packets.{packet-at, packets};
-ghost use Rattle.srt_state.specs.Shown.{shown};
+ghost use Rattle.srt_tables.specs.Packets.{pending-size, packet-at, packets};
+ghost use Rattle.srt_tables.specs.Waitings.{waiting-size};
+ghost use Rattle.srt_group_shown.specs.Shown.{Rest, shown};
+ghost use Rattle.srt_group_shown.specs.Tables.{receive-tables};
 ghost use Rattle.cell_set.specs.Sets.{Freed};
+ghost use Rattle.cell_set.specs.Bits.{set-size};
 ghost use Rattle.srt_group_model.specs.CellsKept.{pending-cells};
+ghost use Rattle.srt_group_model.specs.Validity.{max-waiting, max-pending};
 ghost use Rattle.srt_receiving.specs.Follows.{Follows};
 ghost use Rattle.srt_receiving.specs.DeliveryLaws.{Deliverable, leg-given-up, release-member, Released, Delivered};
 ghost use Rattle.srt_receiving.specs.PollLaws.{Polls, Skips, Bases};
 use cell_set::free;
 use srt_connection::legs;
 use srt_connection::legs::Deadline;
+use srt_connection::legs::less;
 use srt_connection::members;
 use srt_group_model::Core;
 use srt_group_model::Leg;
 use srt_group_model::Packet;
 use srt_group_model::Waiting;
 use srt_members::states::all_disconnected;
-use srt_protocol::srt_packet::sequence_distance;
-use srt_protocol::srt_packet::sequence_further;
+use srt_protocol::srt_packet::word_distance;
+use srt_protocol::srt_packet::word_further;
 use srt_protocol::time::Timestamp;
 use srt_tables::pending;
 use srt_tables::waiting;
@@ -79,7 +83,8 @@ fn leg_gives_up(members: &[u64], count: usize, packet: Packet, time: Timestamp) 
 // A gap is given up if all legs are disconnected, or if the nearest held packet's leg gives up on it.
 pub fn gap_given_up(core: Core, members: &[u64], pending: &[u64], time: Timestamp) -> bool
     requires { ⌜ Deliverable core (now members) (now pending) ⌝ }
-    ensures { λ r. ⌜ ((history : List Entry) (waiting : List ℕ) → r ≡ gap-given-up (time .0) (shown core history (now (members .entry)) (now (pending .entry)) waiting)) ⌝ }
+    ensures { λ r. ⌜ ((others : Rest) (waiting : List ℕ)
+        → r ≡ gap-given-up (time .0) (shown core others (now (members .entry)) (now (pending .entry)) waiting)) ⌝ }
 {
     let held = core.counts.pending;
     let nearest = pending::nearest(pending, held);
@@ -95,16 +100,6 @@ pub fn gap_given_up(core: Core, members: &[u64], pending: &[u64], time: Timestam
 }
 
 // ---- reservations
-
-// A sum less a count, least 0.
-fn less(sum: u64, count: u64) -> u64
-    ensures { λ r. ⌜ r ≡ sum - count ⌝ }
-{
-    if sum < count {
-        return 0;
-    }
-    sum - count
-}
 
 // The member's sum and its leg's reservation fall by a count.
 fn release_at(members: &mut [u64], index: usize, count: u64)
@@ -146,17 +141,19 @@ fn release_if_covered(
     pending: &[u64],
     used: &mut [u64],
     at: usize,
-    base: u32,
+    base: u64,
     run: u64,
 ) -> Core
     requires { ⌜ core .counts .members * row-size ≤ length (now members) ⌝ }
-    requires { ⌜ (18432 ≤ length (now pending)) × (at < 2048) ⌝ }
-    requires { ⌜ length (now used) ≡ 32 ⌝ }
-    ensures { λ r. ⌜ Released (covered base run (packet-at (now (pending .entry)) at ∷ [])) core (now (members .entry)) r (now (members .exit)) ⌝ }
-    ensures { λ _. ⌜ Freed (pending-cells (covered base run (packet-at (now (pending .entry)) at ∷ []))) (now (used .entry)) (now (used .exit)) ⌝ }
+    requires { ⌜ (pending-size ≤ length (now pending)) × (at < max-pending) ⌝ }
+    requires { ⌜ length (now used) ≡ set-size ⌝ }
+    ensures { λ r. ⌜ Released (covered base run (packet-at (now (pending .entry)) at ∷ []))
+        core (now (members .entry)) r (now (members .exit)) ⌝ }
+    ensures { λ _. ⌜ Freed (pending-cells (covered base run (packet-at (now (pending .entry)) at ∷ [])))
+        (now (used .entry)) (now (used .exit)) ⌝ }
 {
     let sequence = pending::sequence_at(pending, at);
-    let distance = legs::word_distance(base as u64, sequence);
+    let distance = word_distance(base, sequence);
     if run <= distance {
         return core;
     }
@@ -172,13 +169,15 @@ fn release_covered(
     members: &mut [u64],
     pending: &[u64],
     used: &mut [u64],
-    base: u32,
+    base: u64,
     run: u64,
 ) -> Core
     requires { ⌜ Deliverable core (now members) (now pending) ⌝ }
-    requires { ⌜ length (now used) ≡ 32 ⌝ }
-    ensures { λ r. ⌜ Released (covered base run (packets (core .counts .pending) (now (pending .entry)))) core (now (members .entry)) r (now (members .exit)) ⌝ }
-    ensures { λ _. ⌜ Freed (pending-cells (covered base run (packets (core .counts .pending) (now (pending .entry))))) (now (used .entry)) (now (used .exit)) ⌝ }
+    requires { ⌜ length (now used) ≡ set-size ⌝ }
+    ensures { λ r. ⌜ Released (covered base run (packets (core .counts .pending) (now (pending .entry))))
+        core (now (members .entry)) r (now (members .exit)) ⌝ }
+    ensures { λ _. ⌜ Freed (pending-cells (covered base run (packets (core .counts .pending) (now (pending .entry)))))
+        (now (used .entry)) (now (used .exit)) ⌝ }
 {
     let held = core.counts.pending;
     let mut at: usize = 0;
@@ -197,25 +196,25 @@ fn deliver_packet(
     members: &mut [u64],
     pending: &mut [u64],
     used: &mut [u64],
-    base: u32,
+    base: u64,
     packet: Packet,
 ) -> Core
     requires { ⌜ Deliverable core (now members) (now pending) ⌝ }
-    requires { ⌜ packet .content .count ≤ 65535 ⌝ }
-    requires { ⌜ length (now used) ≡ 32 ⌝ }
-    ensures { λ r. ⌜ Delivered base packet core (now (members .entry)) (now (pending .entry)) r (now (members .exit)) (now (pending .exit)) ⌝ }
-    ensures { λ r. ⌜ Follows core (now (members .entry)) (now (pending .entry)) (now (used .entry)) r (now (members .exit)) (now (pending .exit)) (now (used .exit)) ⌝ }
+    requires { ⌜ length (now used) ≡ set-size ⌝ }
+    ensures { λ r. ⌜ Delivered base packet core (now (members .entry)) (now (pending .entry))
+        r (now (members .exit)) (now (pending .exit)) ⌝ }
+    ensures { λ r. ⌜ Follows core (now (members .entry)) (now (pending .entry)) (now (used .entry))
+        r (now (members .exit)) (now (pending .exit)) (now (used .exit)) ⌝ }
 {
     let run = packet.content.count;
     let mut after = release_covered(core, members, pending, used, base, run);
-    let steps = run as u32;
-    let next = sequence_further(base, steps);
+    let next = word_further(base, run);
     let count = after.counts.members;
-    members::advance_receive_sequence_of_all(members, count, next as u64);
+    members::advance_receive_sequence_of_all(members, count, next);
     let held = after.counts.pending;
     let left = pending::remove_covered(pending, held, base, run);
     after.counts.pending = left;
-    after.receiving.based = true;
+    after.receiving.based = 1;
     after.receiving.base = next;
     after
 }
@@ -226,15 +225,18 @@ pub fn deliver(
     members: &mut [u64],
     pending: &mut [u64],
     used: &mut [u64],
-    base: u32,
+    base: u64,
 ) -> Poll
     requires { ⌜ Deliverable core (now members) (now pending) ⌝ }
-    requires { ⌜ length (now used) ≡ 32 ⌝ }
-    ensures { λ r. ⌜ ((waiting : List ℕ) → Polls (deliver base) core (now (members .entry)) (now (pending .entry)) waiting r (now (members .exit)) (now (pending .exit)) waiting) ⌝ }
-    ensures { λ r. ⌜ Follows core (now (members .entry)) (now (pending .entry)) (now (used .entry)) (r .core) (now (members .exit)) (now (pending .exit)) (now (used .exit)) ⌝ }
+    requires { ⌜ length (now used) ≡ set-size ⌝ }
+    ensures { λ r. ⌜ ((waiting : List ℕ) → Polls (deliver base) core
+        (receive-tables (now (members .entry)) (now (pending .entry)) waiting) r
+        (receive-tables (now (members .exit)) (now (pending .exit)) waiting)) ⌝ }
+    ensures { λ r. ⌜ Follows core (now (members .entry)) (now (pending .entry)) (now (used .entry))
+        (r .core) (now (members .exit)) (now (pending .exit)) (now (used .exit)) ⌝ }
 {
     let held = core.counts.pending;
-    let found = pending::find(pending, held, base as u64);
+    let found = pending::find(pending, held, base);
     let pending::Found::At(at) = found else {
         return Poll {
             gave: Polled::Nothing,
@@ -253,8 +255,10 @@ pub fn deliver(
 
 // The first waiting event, if there is one, is given.
 pub fn give_waiting(mut core: Core, waiting: &mut [u64]) -> Poll
-    requires { ⌜ (192 ≤ length (now waiting)) × (core .counts .waiting ≤ 64) ⌝ }
-    ensures { λ r. ⌜ ((members pending : List ℕ) → Polls give-waiting core members pending (now (waiting .entry)) r members pending (now (waiting .exit))) ⌝ }
+    requires { ⌜ (waiting-size ≤ length (now waiting)) × (core .counts .waiting ≤ max-waiting) ⌝ }
+    ensures { λ r. ⌜ ((members pending : List ℕ) → Polls give-waiting core
+        (receive-tables members pending (now (waiting .entry))) r
+        (receive-tables members pending (now (waiting .exit)))) ⌝ }
 {
     let waits = core.counts.waiting;
     if waits == 0 {
@@ -275,7 +279,7 @@ pub fn give_waiting(mut core: Core, waiting: &mut [u64]) -> Poll
 
 // A total and what is added to it, up to the largest that 64 bits hold.
 fn saturating_add(total: u64, more: u64) -> u64
-    ensures { λ r. ⌜ r ≡ min (total + more) last-moment ⌝ }
+    ensures { λ r. ⌜ r ≡ min (total + more) largest-64 ⌝ }
 {
     if more <= u64::MAX - total {
         return total + more;
@@ -284,37 +288,34 @@ fn saturating_add(total: u64, more: u64) -> u64
 }
 
 // The skipped total, once the base has gone from `base` ahead to `next`.
-fn skipped_after(skipped: u64, base: u32, next: u32) -> u64
-    ensures { λ r. ⌜ r ≡ min (skipped + sequence-distance base next) last-moment ⌝ }
+fn skipped_after(skipped: u64, base: u64, next: u64) -> u64
+    ensures { λ r. ⌜ r ≡ min (skipped + sequence-distance base next) largest-64 ⌝ }
 {
-    let distance = sequence_distance(base, next) as u64;
-    saturating_add(skipped, distance)
+    saturating_add(skipped, word_distance(base, next))
 }
 
 // The base goes from `base` ahead to `next`, and the skipped total rises by the distance.
-pub fn skip_to(mut core: Core, base: u32, next: u32) -> Core
+pub fn skip_to(mut core: Core, base: u64, next: u64) -> Core
     ensures { λ r. ⌜ Skips base next core r ⌝ }
 {
     let skipped = skipped_after(core.receiving.skipped, base, next);
-    core.receiving.based = true;
+    core.receiving.based = 1;
     core.receiving.base = next;
     core.receiving.skipped = skipped;
     core
 }
 
 // The base is set, if one is given and none was set.
-pub fn set_base(mut core: Core, based: bool, base: u64) -> Core
-    requires { ⌜ base ≤ 4294967295 ⌝ }
-    ensures { λ r. ⌜ Bases (flagged based base) core r ⌝ }
+pub fn set_base(mut core: Core, based: u64, base: u64) -> Core
+    ensures { λ r. ⌜ Bases (flagged (is-set based) base) core r ⌝ }
 {
-    if core.receiving.based {
+    if core.receiving.based != 0 {
         return core;
     }
-    if !based {
+    if based == 0 {
         return core;
     }
-    let first = base as u32;
-    core.receiving.based = true;
-    core.receiving.base = first;
+    core.receiving.based = 1;
+    core.receiving.base = base;
     core
 }

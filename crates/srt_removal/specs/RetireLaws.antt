@@ -1,7 +1,7 @@
 -- The retirement of the group's own packets, over the record's numbers and the lent table: the state that they show afterwards is
--- the definition's, over every history, members and waiting events, since retirement reads none. Assumes nothing.
+-- the definition's, over every rest of the group, members and waiting events, since retirement reads none of them.
 use mathlib.Core.Path.{_≡_, refl, ap, ap₂, sym, subst, _∙_}
-use mathlib.Core.Bool.{true, false, not}
+use mathlib.Core.Bool.{true, not}
 use mathlib.Core.List.{List, [], _∷_}
 use mathlib.Core.Option.{Option, none, some}
 use Prim.Native.Nat.{ℕ, zero, suc, _-_, _≤_, _<_}
@@ -9,54 +9,56 @@ use native.Mathlib.Omega.{arith}
 use borrow.Author.Tests.{eq-eqb, ne-eqb, le-leb, lt-leb}
 use lib.Dec.{leb}
 use lib.ListN.{length}
-use Rattle.word_rows.specs.Tab.{tab, removed}
+use Rattle.word_rows.specs.Tab.{removed}
 use Rattle.srt_group_model.specs.declared.Core.{Core}
-use Rattle.srt_group_model.specs.declared.Entry.{Entry}
 use Rattle.srt_group_model.specs.declared.Packet.{Packet}
 use Rattle.srt_group_model.specs.Tools.{if_then_else_, if-some_give_otherwise_, flagged, such-that, at-place}
+use Rattle.srt_group_model.specs.FlagLaws.{other-set}
 use Rattle.srt_group_model.specs.Reason.{All, none-some, some-inj}
 use Rattle.srt_group_model.specs.State.{State, with-owned, with-receive, with-pending}
 use Rattle.srt_group_model.specs.Nearest.{sequence-of, has-sequence, nearest, farthest}
 use Rattle.srt_group_model.specs.Removal.{is-owned, retire, bound-group-owned-pending, retirement-base}
-use Rattle.srt_group_model.specs.Validity.{ascends}
+use Rattle.srt_group_model.specs.Validity.{max-pending, ascends}
 use Rattle.srt_group_model.specs.Ascending.{Above, ascends-rest, ascends-above, such-that-ascends}
-use Rattle.srt_group_model.specs.Sums.{all-such-that}
-use Rattle.srt_connection.specs.Tab.{tab-place}
-use Rattle.srt_tables.specs.Packets.{packet-at, packets, packet-found, Holds, FoundPacket}
-use Rattle.srt_tables.specs.PacketLaws.{at-in-use}
+use Rattle.srt_connection.specs.Tab.{tab-place, all-tab}
+use Rattle.srt_tables.specs.Packets.{pending-size, packet-at, packets, packet-found, Holds, FoundPacket}
 use Rattle.srt_tables.specs.declared.pending.Found.{Found}
 use Rattle.srt_tables.specs.declared.pending.Found.the-variants.{At, Nothing}
-use Rattle.srt_state.specs.Shown.{shown}
+use Rattle.srt_group_shown.specs.Shown.{Rest, shown}
 
 -- ---- what retirement may rely on, and what it leaves
 
-abbrev pub In-space : Packet → Type 0
-In-space p = sequence-of p ≤ 2147483647
-
--- the held packets are few, and ascend by sequences of 31 bits
+-- the held packets are few, and ascend
 pub record Held (core : Core) (pending : List ℕ) : Type 0 where
-  pub pending-long : 18432 ≤ length pending
-  pub held-few : core .counts .pending ≤ 2048
+  pub pending-long : pending-size ≤ length pending
+  pub held-few : core .counts .pending ≤ max-pending
   pub ascending : ascends (packets (core .counts .pending) pending) ≡ true
-  pub sequences : All In-space (packets (core .counts .pending) pending)
 
 -- so many packets are held, and the group's own sum is this
 abbrev pub holding : (held owned : ℕ) → Core → Core
 holding held owned c =
     record {
+      mode = c .mode;
+      peer = c .peer;
       counts = record { members = c .counts .members; pending = held; waiting = c .counts .waiting };
-      identity = c .identity;
       receiving = c .receiving;
-      sending = c .sending;
       visit = c .visit;
       owned = owned;
     }
 
--- only the held packets and the group's own sum change, over any history, members and waiting events
+-- any rest of the group will do where a law reads only the held packets
+abbrev pub no-rest : Rest
+no-rest =
+    record {
+      identity = record { id = 0; length = 0 };
+      send = record { numbers = record { numbered = 0; next = 0; carried = 0; carrier = 0; gap = 0 }; history = [] };
+    }
+
+-- only the held packets and the group's own sum change, over any rest of the group, members and waiting events
 pub record Retires (f : State → State) (core : Core) (ps : List ℕ) (after : Core) (ps′ : List ℕ) : Type 0 where
   pub pending-long : length ps′ ≡ length ps
   pub rest : after ≡ holding (after .counts .pending) (after .owned) core
-  pub state : (history : List Entry) (ms ws : List ℕ) → f (shown core history ms ps ws) ≡ shown after history ms ps′ ws
+  pub state : (others : Rest) (ms ws : List ℕ) → f (shown core others ms ps ws) ≡ shown after others ms ps′ ws
 
 -- one packet is retired
 pub record Retired (p : Packet) (core : Core) (ps : List ℕ) (after : Core) (ps′ : List ℕ) : Type 0 where
@@ -112,10 +114,10 @@ module _ (core : Core) (ps : List ℕ) (at : ℕ) (held : Held core ps) (inside 
               pending-long = taken .length-kept;
               rest = refl;
               state =
-                  λ history ms ws.
+                  λ others ms ws.
                   ap₂
                   (λ (l : List Packet) (n : ℕ).
-                  with-owned n (with-receive (with-pending l (shown core history ms ps ws .receive)) (shown core history ms ps ws)))
+                  with-owned n (with-receive (with-pending l (shown core others ms ps ws .receive)) (shown core others ms ps ws)))
                   (sym left-over ∙ sym (taken .is) ∙ ap (λ (n : ℕ). packets n ps′) (sym fewer))
                   (ap (λ (q : Packet). core .owned - q .content .count) (sym is) ∙ sym sum);
             };
@@ -126,13 +128,12 @@ pub still-held : (p : Packet) (core after : Core) (ps ps′ : List ℕ) → Held
 unfolding retire
 still-held p core after ps ps′ held one =
     let same : such-that (λ q. not (has-sequence (sequence-of p) q)) (packets (core .counts .pending) ps) ≡ packets (after .counts .pending) ps′ =
-    ap (λ (s : State). s .receive .pending) (one .retires .state [] [] [])
+    ap (λ (s : State). s .receive .pending) (one .retires .state no-rest [] [])
     in
     record {
       pending-long = omega (arith, held .pending-long, one .retires .pending-long);
       held-few = omega (arith, held .held-few, one .one-less);
       ascending = subst (λ (l : List Packet). ascends l ≡ true) same (such-that-ascends _ (packets (core .counts .pending) ps) (held .ascending));
-      sequences = subst (All In-space) same (all-such-that In-space _ (packets (core .counts .pending) ps) (held .sequences));
     }
 
 -- ---- while the sum exceeds the limit
@@ -142,13 +143,13 @@ pub record Bounding (limit base : ℕ) (core : Core) (ps : List ℕ) (here : Cor
   pub held : Held here ps₁
   pub pending-long : length ps₁ ≡ length ps
   pub rest : here ≡ holding (here .counts .pending) (here .owned) core
-  pub state : (history : List Entry) (ms ws : List ℕ)
-      → bound-group-owned-pending (core .counts .pending) limit base (shown core history ms ps ws)
-      ≡ bound-group-owned-pending (here .counts .pending) limit base (shown here history ms ps₁ ws)
+  pub state : (others : Rest) (ms ws : List ℕ)
+      → bound-group-owned-pending (core .counts .pending) limit base (shown core others ms ps ws)
+      ≡ bound-group-owned-pending (here .counts .pending) limit base (shown here others ms ps₁ ws)
 
 pub bounding-start : (limit base : ℕ) (core : Core) (ps : List ℕ) → Held core ps → Bounding limit base core ps core ps
 bounding-start limit base core ps held =
-    record { held = held; pending-long = refl; rest = refl; state = λ history ms ws. refl }
+    record { held = held; pending-long = refl; rest = refl; state = λ others ms ws. refl }
 
 -- the definition, by what it finds
 within-limit : (left limit base : ℕ) (s : State) → s .owned ≤ limit → bound-group-owned-pending left limit base s ≡ s
@@ -184,65 +185,48 @@ module _ (limit base : ℕ) (core : Core) (ps : List ℕ) (here : Core) (ps₁ :
         pending-long = one .retires .pending-long ∙ so-far .pending-long;
         rest = one .retires .rest ∙ ap (holding (next .counts .pending) (next .owned)) (so-far .rest);
         state =
-            λ history ms ws.
-            so-far .state history ms ws
-            ∙ ap (λ (n : ℕ). bound-group-owned-pending n limit base (shown here history ms ps₁ ws)) (sym (one .one-less))
-            ∙ one-retired (next .counts .pending) limit base (shown here history ms ps₁ ws) (packet-at ps₁ at) over
+            λ others ms ws.
+            so-far .state others ms ws
+            ∙ ap (λ (n : ℕ). bound-group-owned-pending n limit base (shown here others ms ps₁ ws)) (sym (one .one-less))
+            ∙ one-retired (next .counts .pending) limit base (shown here others ms ps₁ ws) (packet-at ps₁ at) over
             (sym (far .is) ∙ ap (packet-found ps₁) e)
-            ∙ ap (bound-group-owned-pending (next .counts .pending) limit base) (one .retires .state history ms ws);
+            ∙ ap (bound-group-owned-pending (next .counts .pending) limit base) (one .retires .state others ms ws);
       }
 
-  bounded : ((history : List Entry) (ms ws : List ℕ)
-      → bound-group-owned-pending (here .counts .pending) limit base (shown here history ms ps₁ ws) ≡ shown here history ms ps₁ ws)
+  bounded : ((others : Rest) (ms ws : List ℕ)
+      → bound-group-owned-pending (here .counts .pending) limit base (shown here others ms ps₁ ws) ≡ shown here others ms ps₁ ws)
       → Retires (bound-group-owned-pending (core .counts .pending) limit base) core ps here ps₁
   bounded ends =
       record {
         pending-long = so-far .pending-long;
         rest = so-far .rest;
-        state = λ history ms ws. so-far .state history ms ws ∙ ends history ms ws;
+        state = λ others ms ws. so-far .state others ms ws ∙ ends others ms ws;
       }
 
   pub bounded-within : here .owned ≤ limit → Retires (bound-group-owned-pending (core .counts .pending) limit base) core ps here ps₁
-  bounded-within h = bounded (λ history ms ws. within-limit (here .counts .pending) limit base (shown here history ms ps₁ ws) h)
+  bounded-within h = bounded (λ others ms ws. within-limit (here .counts .pending) limit base (shown here others ms ps₁ ws) h)
 
   pub bounded-none : {r : Found}
       → FoundPacket ps₁ (here .counts .pending) r (farthest base (such-that is-owned (packets (here .counts .pending) ps₁)))
       → r ≡ Nothing → Retires (bound-group-owned-pending (core .counts .pending) limit base) core ps here ps₁
   bounded-none far e =
       bounded
-      (λ history ms ws.
-      none-owned (here .counts .pending) limit base (shown here history ms ps₁ ws) (sym (far .is) ∙ ap (packet-found ps₁) e))
+      (λ others ms ws.
+      none-owned (here .counts .pending) limit base (shown here others ms ps₁ ws) (sym (far .is) ∙ ap (packet-found ps₁) e))
 
 -- ---- where distances are taken from
 
-module _ (core : Core) (ps : List ℕ) (history : List Entry) (ms ws : List ℕ) where
-  pub based-there : core .receiving .based ≡ true → core .receiving .base ≡ retirement-base (shown core history ms ps ws)
+module _ (core : Core) (ps : List ℕ) (others : Rest) (ms ws : List ℕ) where
+  pub based-there : (core .receiving .based ≡ 0 → ⊥) → core .receiving .base ≡ retirement-base (shown core others ms ps ws)
   unfolding retirement-base flagged if-some_give_otherwise_
-  based-there e = rw e
+  based-there e = rw (other-set (core .receiving .based) e)
 
-  module _ {r : Found} (unset : core .receiving .based ≡ false)
+  module _ {r : Found} (unset : core .receiving .based ≡ 0)
       (near : FoundPacket ps (core .counts .pending) r (nearest (packets (core .counts .pending) ps))) where
-    pub based-nowhere : r ≡ Nothing → 0 ≡ retirement-base (shown core history ms ps ws)
+    pub based-nowhere : r ≡ Nothing → 0 ≡ retirement-base (shown core others ms ps ws)
     unfolding retirement-base flagged if-some_give_otherwise_
     based-nowhere e = rw (unset, sym (near .is), e)
 
-    pub based-nearest : {n : ℕ} (at : ℕ) → r ≡ At at → n ≡ sequence-of (packet-at ps at) → n ≡ retirement-base (shown core history ms ps ws)
+    pub based-nearest : {n : ℕ} (at : ℕ) → r ≡ At at → n ≡ sequence-of (packet-at ps at) → n ≡ retirement-base (shown core others ms ps ws)
     unfolding retirement-base flagged if-some_give_otherwise_
     based-nearest at e is = rw (unset, sym (near .is), e) is
-
-pub all-tab : {A : Type 0} (P : A → Type 0) (n : ℕ) (f : ℕ → A) → All P (tab n f) → (k : ℕ) → k < n → P (f k)
-unfolding tab
-all-tab P zero f h k below = absurd (omega arith)
-all-tab P (suc n) f h zero below = h .0
-all-tab P (suc n) f h (suc k) below = all-tab P n (λ i. f (suc i)) (h .1) k (omega arith)
-
--- the nearest packet's sequence fits a base
-pub nearest-fits : {n : ℕ} {r : Found} (core : Core) (ps : List ℕ) (at : ℕ) → Held core ps
-    → FoundPacket ps (core .counts .pending) r (nearest (packets (core .counts .pending) ps)) → r ≡ At at
-    → n ≡ sequence-of (packet-at ps at) → n ≤ 4294967295
-nearest-fits core ps at held near e is =
-    omega (
-      arith,
-      is,
-      all-tab In-space (core .counts .pending) (packet-at ps) (held .sequences) at (at-in-use (core .counts .pending) _ at (near .within) e),
-    )

@@ -30,7 +30,8 @@ fn lowered(round: usize, left: usize) -> usize
 // The member at the index goes, with its queue; its held packets become the group's own.
 fn take_out(mut core: Core, members: &mut [u64], pending: &mut [u64], index: usize) -> Core
     requires { ⌜ Removable index core (now members) (now pending) ⌝ }
-    ensures { λ r. ⌜ TakesOut index core (now (members .entry)) (now (pending .entry)) r (now (members .exit)) (now (pending .exit)) ⌝ }
+    ensures { λ r. ⌜ TakesOut index core (now (members .entry)) (now (pending .entry))
+        r (now (members .exit)) (now (pending .exit)) ⌝ }
 {
     let membership = members::membership_at(members, index);
     let held = core.counts.pending;
@@ -55,7 +56,8 @@ pub fn remove_member_at(
     index: usize,
 ) -> Removed
     requires { ⌜ Removable index core (now members) (now pending) ⌝ }
-    ensures { λ r. ⌜ Removes index core (now (members .entry)) (now (pending .entry)) r (now (members .exit)) (now (pending .exit)) ⌝ }
+    ensures { λ r. ⌜ Removes index core (now (members .entry)) (now (pending .entry))
+        r (now (members .exit)) (now (pending .exit)) ⌝ }
 {
     let mut leg = members::leg_at(members, index);
     let window = leg.receiver.window;

@@ -2,29 +2,20 @@
 ghost use mathlib.Core.Path.{_≡_};
 ghost use mathlib.Core.List.{List};
 ghost use Prim.Native.Nat.{ℕ, _-_, _<_};
-ghost use Rattle.srt_group_model.specs.declared.Entry.{Entry};
 ghost use Rattle.srt_group_model.specs.Removal.{bound-group-owned-pending, retirement-base};
 ghost use Rattle.srt_tables.specs.Packets.{packet-at};
-ghost use Rattle.srt_state.specs.Shown.{shown};
+ghost use Rattle.srt_group_shown.specs.Shown.{Rest, shown};
 ghost use Rattle.srt_removal.specs.RetireLaws.{Held, Retires, Retired};
+use srt_connection::legs::less;
 use srt_group_model::Core;
 use srt_tables::pending;
-
-// A sum less a count, least 0.
-fn less(sum: u64, count: u64) -> u64
-    ensures { λ r. ⌜ r ≡ sum - count ⌝ }
-{
-    if sum < count {
-        return 0;
-    }
-    sum - count
-}
 
 // The packet at a place is taken out, and the group's own sum falls by its count.
 fn retire_at(mut core: Core, pending: &mut [u64], at: usize) -> Core
     requires { ⌜ Held core (now pending) ⌝ }
     requires { ⌜ at < core .counts .pending ⌝ }
-    ensures { λ r. ⌜ Retired (packet-at (now (pending .entry)) at) core (now (pending .entry)) r (now (pending .exit)) ⌝ }
+    ensures { λ r. ⌜ Retired (packet-at (now (pending .entry)) at) core (now (pending .entry))
+        r (now (pending .exit)) ⌝ }
 {
     let packet = pending::packet(pending, at);
     let held = core.counts.pending;
@@ -37,9 +28,10 @@ fn retire_at(mut core: Core, pending: &mut [u64], at: usize) -> Core
 }
 
 // While the sum of the group's own exceeds the limit, the one farthest ahead of the base is retired.
-pub fn bound_group_owned_pending(mut core: Core, pending: &mut [u64], limit: u64, base: u32) -> Core
+pub fn bound_group_owned_pending(mut core: Core, pending: &mut [u64], limit: u64, base: u64) -> Core
     requires { ⌜ Held core (now pending) ⌝ }
-    ensures { λ r. ⌜ Retires (bound-group-owned-pending (core .counts .pending) limit base) core (now (pending .entry)) r (now (pending .exit)) ⌝ }
+    ensures { λ r. ⌜ Retires (bound-group-owned-pending (core .counts .pending) limit base) core (now (pending .entry))
+        r (now (pending .exit)) ⌝ }
 {
     while limit < core.owned {
         let held = core.counts.pending;
@@ -53,11 +45,12 @@ pub fn bound_group_owned_pending(mut core: Core, pending: &mut [u64], limit: u64
 }
 
 // Where distances are taken from: the base; while none is set, the nearest held packet.
-pub fn retirement_base(core: Core, pending: &[u64]) -> u32
+pub fn retirement_base(core: Core, pending: &[u64]) -> u64
     requires { ⌜ Held core (now pending) ⌝ }
-    ensures { λ r. ⌜ ((history : List Entry) (members waiting : List ℕ) → r ≡ retirement-base (shown core history members (now (pending .entry)) waiting)) ⌝ }
+    ensures { λ r. ⌜ ((others : Rest) (members waiting : List ℕ)
+        → r ≡ retirement-base (shown core others members (now (pending .entry)) waiting)) ⌝ }
 {
-    if core.receiving.based {
+    if core.receiving.based != 0 {
         return core.receiving.base;
     }
     let held = core.counts.pending;
@@ -65,6 +58,5 @@ pub fn retirement_base(core: Core, pending: &[u64]) -> u32
     let pending::Found::At(at) = nearest else {
         return 0;
     };
-    let first = pending::sequence_at(pending, at);
-    first as u32
+    pending::sequence_at(pending, at)
 }

@@ -1,5 +1,4 @@
--- A send in Broadcast over the lent tables: what each attempt and the whole send do to the members and to the list. Assumes
--- nothing.
+-- A send in Broadcast over the lent tables: what each attempt and the whole send do to the members and to the list.
 use mathlib.Core.Path.{_≡_, refl, ap, sym, subst, _∙_}
 use mathlib.Core.Bool.{Bool, true, false, not, _&&_, _||_}
 use mathlib.Core.List.{List, [], _∷_, _++_}
@@ -15,36 +14,38 @@ use Rattle.srt_protocol.specs.Errors.{outcome-number}
 use Rattle.srt_protocol.specs.Sequence.{sequence-further}
 use Rattle.srt_protocol.specs.declared.error.Outcome.the-variants.{Accepted, Refused}
 use Rattle.srt_protocol.specs.declared.error.Error.the-variants.{NoActiveMember, SequenceMismatch, AllBroadcastFailed}
-use Rattle.srt_group_model.specs.Tools.{if_then_else_, if-some_give_otherwise_, flagged, is-empty, any, such-that, place-of, at-place, each}
+use Rattle.srt_group_model.specs.Tools.{if_then_else_, if-some_give_otherwise_, is-set, flagged, is-empty, any, such-that, place-of, at-place, each}
 use Rattle.srt_group_model.specs.State.{Member, Send, State, with-send, with-members, with-leg, turned, unstable-state, broken-state}
+use Rattle.srt_group_model.specs.FlagLaws.{zero-unset, other-set}
 use Rattle.srt_group_model.specs.Legs.{is-connected, can-send, send-shared-with-sequence}
 use Rattle.srt_group_model.specs.Members.{is-active, first-active}
-use Rattle.srt_group_model.specs.Sending.{Sent, own-payload, own-send, Flow, mark-send-failure, sequence-for-send, sequence-mismatch, above-limit, takes-send, attempt-send, send-broadcast}
+use Rattle.srt_group_model.specs.Sending.{sent-row-size, list-size, Sent, own-payload, own-send, Flow, mark-send-failure, sequence-for-send, sequence-mismatch, above-limit, takes-send, attempt-send, send-broadcast}
 use Rattle.srt_group_model.specs.Lent.{list-rows}
+use Rattle.srt_group_model.specs.Validity.{max-members}
 use Rattle.srt_group_model.specs.declared.Leg.{Leg}
 use Rattle.srt_group_model.specs.declared.Membership.{Membership}
 use Rattle.srt_group_model.specs.declared.Sender.{Sender}
 use Rattle.srt_group_model.specs.declared.Sending.{Sending}
-use Rattle.srt_connection.specs.Answers.{result-of}
+use Rattle.srt_connection.specs.Answers.{result-of, result-ok, result-err}
 use Rattle.srt_connection.specs.Members.{member-at, members-of, members-place, found-of, found-some, found-none, Changed, changed-by, unchanged, Changing, changing-start, changing-on, changing-done}
 use Rattle.srt_connection.specs.declared.legs.LegResult.the-variants.{Ok, Err}
 use Rattle.srt_connection.specs.declared.members.Found.the-variants.{At, Nothing}
 use Rattle.srt_members.specs.Scan.{found-row, any-at, any-nowhere}
 use Rattle.srt_sending.specs.declared.broadcast.BroadcastSend.{BroadcastSend}
-use Rattle.srt_sending.specs.SentList.{sent-row, sent-rows, Wrote, wrote-nothing, wrote-length, wrote-then, wrote-rows}
+use Rattle.srt_sending.specs.SentList.{sent-row, sent-rows, SendTables, send-tables, Wrote, wrote-nothing, wrote-length, wrote-then, wrote-rows}
 
 -- ---- definitions
 
 -- the group's send number, else the next number of a leg
 unfoldable pub number-for-send : Sending → Member → ℕ
-number-for-send x m = if x .numbered then x .next else m .leg .sender .next
+number-for-send x m = if is-set (x .numbered) then x .next else m .leg .sender .next
 
 -- active, and not at the sequence
 unfoldable pub is-mismatched : ℕ → Member → Bool
 is-mismatched sequence m = is-active m && not (eqb (m .leg .sender .next) sequence)
 
 abbrev pub with-number : ℕ → Sending → Sending
-with-number n x = record { numbered = true; next = n; carried = x .carried; carrier = x .carrier; gap = x .gap }
+with-number n x = record { numbered = 1; next = n; carried = x .carried; carrier = x .carrier; gap = x .gap }
 
 -- what the members that take a send have sent
 unfoldable pub sends-of : (time size sequence : ℕ) → List Member → List Sent
@@ -54,29 +55,30 @@ sends-of time size sequence ms = each (own-send time sequence) (such-that (takes
 abbrev pub left-by-send : Sending → List Member → State → State
 left-by-send x ms s = with-send record { numbers = x; history = s .send .history } (with-members ms s)
 
--- ---- what a call does to the members, t before and u after, and to the list, a before and b after
+-- ---- what a call does to the members and to the list
+-- in the laws t is the table of members before and u after, a the list before and b after
 
-pub record AttemptedAt (i time size sequence sent : ℕ) (t a : List ℕ) (answer : ℕ) (u b : List ℕ) : Type 0 where
-  pub changed : Changed i (attempt-send time size sequence) t u
-  pub wrote : Wrote sent (sends-of time size sequence (member-at t i ∷ [])) a answer b
+pub record AttemptedAt (i time size sequence sent : ℕ) (before : SendTables) (answer : ℕ) (after : SendTables) : Type 0 where
+  pub changed : Changed i (attempt-send time size sequence) (before .members) (after .members)
+  pub wrote : Wrote sent (sends-of time size sequence (member-at (before .members) i ∷ [])) (before .list) answer (after .list)
 
-pub record Attempted (n time size sequence : ℕ) (t a : List ℕ) (answer : ℕ) (u b : List ℕ) : Type 0 where
-  pub long : length u ≡ length t
-  pub members : members-of n u ≡ each (attempt-send time size sequence) (members-of n t)
-  pub wrote : Wrote 0 (sends-of time size sequence (members-of n t)) a answer b
+pub record Attempted (n time size sequence : ℕ) (before : SendTables) (answer : ℕ) (after : SendTables) : Type 0 where
+  pub long : length (after .members) ≡ length (before .members)
+  pub members : members-of n (after .members) ≡ each (attempt-send time size sequence) (members-of n (before .members))
+  pub wrote : Wrote 0 (sends-of time size sequence (members-of n (before .members))) (before .list) answer (after .list)
   pub few : answer ≤ n
 
 -- The send of the model, for every state that has these members and these numbers. The list's first rows are the sends, and no
 -- other word of it is written.
-pub record SentBroadcast (n time size : ℕ) (x : Sending) (t a : List ℕ) (answer : BroadcastSend) (u b : List ℕ) : Type 0 where
-  pub long : length u ≡ length t
-  pub wrote : Wrote 0 (sent-rows (answer .sent) b) a (answer .sent) b
+pub record SentBroadcast (n time size : ℕ) (x : Sending) (before : SendTables) (answer : BroadcastSend) (after : SendTables) : Type 0 where
+  pub long : length (after .members) ≡ length (before .members)
+  pub wrote : Wrote 0 (sent-rows (answer .sent) (after .list)) (before .list) (answer .sent) (after .list)
   pub few : answer .sent ≤ n
-  pub is : (s : State) → s .members ≡ members-of n t → s .send .numbers ≡ x
+  pub is : (s : State) → s .members ≡ members-of n (before .members) → s .send .numbers ≡ x
       → send-broadcast time size s
       ≡ record {
-        state = left-by-send (answer .sending) (members-of n u) s;
-        sends = sent-rows (answer .sent) b;
+        state = left-by-send (answer .sending) (members-of n (after .members)) s;
+        sends = sent-rows (answer .sent) (after .list);
         code = outcome-number (answer .outcome);
       }
 
@@ -190,18 +192,18 @@ module _ (n : ℕ) (t : List ℕ) where
       ap (λ (l : Leg). ltb (l .link .limit) size) is-leg ∙ sym (rw (first-is i e))
 
 module _ (x : Sending) (m : Member) where
-  pub numbered-number : x .numbered ≡ true → x .next ≡ number-for-send x m
+  pub numbered-number : (x .numbered ≡ 0 → ⊥) → x .next ≡ number-for-send x m
   unfolding number-for-send if_then_else_
-  numbered-number e = sym (rw e)
+  numbered-number h = sym (rw (other-set (x .numbered) h))
 
-  pub leg-number : {sender : Sender} → x .numbered ≡ false → sender ≡ m .leg .sender → sender .next ≡ number-for-send x m
+  pub leg-number : {sender : Sender} → x .numbered ≡ 0 → sender ≡ m .leg .sender → sender .next ≡ number-for-send x m
   unfolding number-for-send if_then_else_
-  leg-number e is = ap (λ (y : Sender). y .next) is ∙ sym (rw e)
+  leg-number h is = ap (λ (y : Sender). y .next) is ∙ sym (rw (zero-unset (x .numbered) h))
 
 pub number-of-first : (x : Send) (ms : List Member) (m : Member) → at-place 0 ms ≡ some m
     → sequence-for-send x ms ≡ number-for-send (x .numbers) m
 unfolding sequence-for-send number-for-send if_then_else_ if-some_give_otherwise_ flagged
-number-of-first x ms m e = go (x .numbers .numbered)
+number-of-first x ms m e = go (is-set (x .numbers .numbered))
   where
     go : (b : Bool)
         → (if-some flagged b (x .numbers .next)
@@ -244,14 +246,6 @@ module _ (sequence n : ℕ) (t : List ℕ) where
   mismatch-nowhere e = any-nowhere (is-mismatched sequence) (members-of n t) e ∙ sym (mismatch-of-any sequence (members-of n t))
 
 -- ---- one attempt
-
-result-ok : (o : Option Leg) (l : Leg) → Ok l ≡ result-of o → o ≡ some l
-result-ok none l e = cc e
-result-ok (some k) l e = cc e
-
-result-err : (o : Option Leg) → Err ≡ result-of o → o ≡ none
-result-err none e = refl
-result-err (some k) e = cc e
 
 module _ (time size sequence : ℕ) where
   sends-append : (l k : List Member) → sends-of time size sequence (l ++ k) ≡ sends-of time size sequence l ++ sends-of time size sequence k
@@ -313,7 +307,7 @@ module _ (i time size sequence sent : ℕ) (t a : List ℕ) {active : Bool} (is 
   wrote-none e =
       subst (λ (xs : List Sent). Wrote sent xs a sent a) (sym (sends-none time size sequence (member-at t i) e)) (wrote-nothing sent a)
 
-  pub not-attempted : active ≡ false → AttemptedAt i time size sequence sent t a sent t a
+  pub not-attempted : active ≡ false → AttemptedAt i time size sequence sent (send-tables t a) sent (send-tables t a)
   not-attempted e =
       record {
         changed =
@@ -324,7 +318,7 @@ module _ (i time size sequence sent : ℕ) (t a : List ℕ) {active : Bool} (is 
 
   module _ {leg : Leg} (e : active ≡ true) (is-leg : leg ≡ member-at t i .leg) where
     pub attempt-marked : {u : List ℕ} → Err ≡ result-of (send-shared-with-sequence time size sequence leg)
-        → Changed i mark-send-failure t u → AttemptedAt i time size sequence sent t a sent u a
+        → Changed i mark-send-failure t u → AttemptedAt i time size sequence sent (send-tables t a) sent (send-tables u a)
     attempt-marked {u} failed c =
         record {
           changed =
@@ -341,8 +335,8 @@ module _ (i time size sequence sent : ℕ) (t a : List ℕ) {active : Bool} (is 
     pub attempt-noted : {u b : List ℕ} {x : Membership} (l : Leg) → Ok l ≡ result-of (send-shared-with-sequence time size sequence leg)
         → x ≡ member-at t i .membership → Changed i (with-leg l) t u
         → Wrote sent (sent-row (x .id) sequence own-payload time time ∷ []) a (sent + 1) b
-        → AttemptedAt i time size sequence sent t a (sent + 1) u b
-    attempt-noted {u} {b} {x} l went is-membership c w =
+        → AttemptedAt i time size sequence sent (send-tables t a) (sent + 1) (send-tables u b)
+    attempt-noted {u} {b} {x} l succeeded is-membership c w =
         record {
           changed =
               changed-by i t u (attempt-send time size sequence) c
@@ -353,7 +347,7 @@ module _ (i time size sequence sent : ℕ) (t a : List ℕ) {active : Bool} (is 
         goes : send-shared-with-sequence time size sequence (member-at t i .leg) ≡ some l
         goes =
             ap (send-shared-with-sequence time size sequence) (sym is-leg)
-            ∙ result-ok (send-shared-with-sequence time size sequence leg) l went
+            ∙ result-ok (send-shared-with-sequence time size sequence leg) l succeeded
 
         rows : sent-row (x .id) sequence own-payload time time ∷ [] ≡ sends-of time size sequence (member-at t i ∷ [])
         rows =
@@ -389,8 +383,8 @@ module _ (n time size sequence : ℕ) (t a : List ℕ) where
         wrote = wrote-nothing 0 a;
       }
 
-  pub attempting-on : {v c : List ℕ} {answer : ℕ} (i sent : ℕ) (u b : List ℕ) → i < n → n ≤ 64 → 5500 ≤ length a
-      → Attempting n i time size sequence t a sent u b → AttemptedAt i time size sequence sent u b answer v c
+  pub attempting-on : {v c : List ℕ} {answer : ℕ} (i sent : ℕ) (u b : List ℕ) → i < n → n ≤ max-members → list-size ≤ length a
+      → Attempting n i time size sequence t a sent u b → AttemptedAt i time size sequence sent (send-tables u b) answer (send-tables v c)
       → Attempting n (i + 1) time size sequence t a answer v c
   attempting-on {v} {c} {answer} i sent u b h most enough so-far at =
       record {
@@ -416,7 +410,7 @@ module _ (n time size sequence : ℕ) (t a : List ℕ) where
           ∙ ap (sends-of time size sequence) (one-more i t)
 
   pub attempting-done : {u b : List ℕ} (i sent : ℕ) → n ≤ i → Attempting n i time size sequence t a sent u b
-      → Attempted n time size sequence t a sent u b
+      → Attempted n time size sequence (send-tables t a) sent (send-tables u b)
   attempting-done {u} {b} i sent h so-far =
       let all = changing-done i n (attempt-send time size sequence) t u h (so-far .within) (so-far .changing) in
       let end : i ≡ n = omega (arith, so-far .within) in
@@ -430,7 +424,7 @@ module _ (n time size sequence : ℕ) (t a : List ℕ) where
 -- ---- the whole send
 
 -- the rows that are shown are the sends
-shown : (xs : List Sent) (a b : List ℕ) (sent : ℕ) → sent * 5 ≤ length a → Wrote 0 xs a sent b → sent-rows sent b ≡ xs
+shown : (xs : List Sent) (a b : List ℕ) (sent : ℕ) → sent * sent-row-size ≤ length a → Wrote 0 xs a sent b → sent-rows sent b ≡ xs
 unfolding tab
 shown xs a b sent fits w = wrote-rows 0 sent xs a b w fits
 
@@ -488,7 +482,7 @@ answered s xs code = record { state = s; sends = xs; code = code }
 
 module _ (n time size : ℕ) (x : Sending) (t a : List ℕ) where
   pub none-active-left : Nothing ≡ found-of (first-active (members-of n t))
-      → SentBroadcast n time size x t a record { outcome = Refused NoActiveMember; sending = x; sent = 0 } t a
+      → SentBroadcast n time size x (send-tables t a) record { outcome = Refused NoActiveMember; sending = x; sent = 0 } (send-tables t a)
   unfolding send-broadcast is-empty if_then_else_ tab
   none-active-left e =
       record {
@@ -505,7 +499,7 @@ module _ (n time size : ℕ) (x : Sending) (t a : List ℕ) where
       (is-sequence : sequence ≡ number-for-send x (member-at t i))
       (is-mismatch : mismatch ≡ sequence-mismatch sequence (such-that is-active (members-of n t))) where
     pub mismatch-left : mismatch ≡ true
-        → SentBroadcast n time size x t a record { outcome = Refused SequenceMismatch; sending = x; sent = 0 } t a
+        → SentBroadcast n time size x (send-tables t a) record { outcome = Refused SequenceMismatch; sending = x; sent = 0 } (send-tables t a)
     unfolding send-broadcast if_then_else_ tab
     mismatch-left e =
         record {
@@ -523,8 +517,8 @@ module _ (n time size : ℕ) (x : Sending) (t a : List ℕ) where
               (ap (λ (y : State). answered y [] 25) (unmoved n x t s members numbers));
         }
 
-    module _ (e : mismatch ≡ false) {sent : ℕ} {u b : List ℕ} (tried : Attempted n time size sequence t a sent u b)
-        (fits : sent * 5 ≤ length a) where
+    module _ (e : mismatch ≡ false) {sent : ℕ} {u b : List ℕ} (tried : Attempted n time size sequence (send-tables t a) sent (send-tables u b))
+        (fits : sent * sent-row-size ≤ length a) where
       rows-are : sent-rows sent b ≡ sends-of time size sequence (members-of n t)
       rows-are = shown (sends-of time size sequence (members-of n t)) a b sent fits (tried .wrote)
 
@@ -536,7 +530,7 @@ module _ (n time size : ℕ) (x : Sending) (t a : List ℕ) where
       members-are s members = ap (each (attempt-send time size sequence)) members ∙ sym (tried .members)
 
       pub all-failed : sent ≡ 0
-          → SentBroadcast n time size x t a record { outcome = Refused AllBroadcastFailed; sending = x; sent = sent } u b
+          → SentBroadcast n time size x (send-tables t a) record { outcome = Refused AllBroadcastFailed; sending = x; sent = sent } (send-tables u b)
       unfolding send-broadcast if_then_else_
       all-failed zero-sent =
           record {
@@ -564,7 +558,7 @@ module _ (n time size : ℕ) (x : Sending) (t a : List ℕ) where
           no-rows = sym (nothing-shown b) ∙ ap (λ (k : ℕ). sent-rows k b) (sym zero-sent)
 
       pub sent-by-some : {y : Sending} → (sent ≡ 0 → ⊥) → y ≡ with-number (sequence-further sequence 1) x
-          → SentBroadcast n time size x t a record { outcome = Accepted; sending = y; sent = sent } u b
+          → SentBroadcast n time size x (send-tables t a) record { outcome = Accepted; sending = y; sent = sent } (send-tables u b)
       unfolding send-broadcast if_then_else_
       sent-by-some {y} some-sent is-number =
           record {
@@ -590,15 +584,16 @@ module _ (n time size : ℕ) (x : Sending) (t a : List ℕ) where
           }
 
 -- what the model says of the list that is lent: its first rows are the sends, and it stays as it was behind them
-module _ {n time size : ℕ} {x : Sending} {t a u b : List ℕ} {answer : BroadcastSend} (w : SentBroadcast n time size x t a answer u b)
-    (s : State) (members : s .members ≡ members-of n t) (numbers : s .send .numbers ≡ x) where
-  sends-are : sent-rows (answer .sent) b ≡ send-broadcast time size s .sends
+module _ {n time size : ℕ} {x : Sending} {before after : SendTables} {answer : BroadcastSend}
+    (w : SentBroadcast n time size x before answer after) (s : State) (members : s .members ≡ members-of n (before .members))
+    (numbers : s .send .numbers ≡ x) where
+  sends-are : sent-rows (answer .sent) (after .list) ≡ send-broadcast time size s .sends
   sends-are = ap (λ (f : Flow). f .sends) (sym (w .is s members numbers))
 
-  pub list-after-send : b ≡ overwritten 0 (list-rows (send-broadcast time size s .sends)) a
-  list-after-send = w .wrote .is ∙ ap (λ (xs : List Sent). overwritten 0 (list-rows xs) a) sends-are
+  pub list-after-send : after .list ≡ overwritten 0 (list-rows (send-broadcast time size s .sends)) (before .list)
+  list-after-send = w .wrote .is ∙ ap (λ (xs : List Sent). overwritten 0 (list-rows xs) (before .list)) sends-are
 
   pub rows-of-send : answer .sent ≡ length (send-broadcast time size s .sends)
   rows-of-send =
-      let rows : length (sent-rows (answer .sent) b) ≡ length (send-broadcast time size s .sends) = ap length sends-are in
+      let rows : length (sent-rows (answer .sent) (after .list)) ≡ length (send-broadcast time size s .sends) = ap length sends-are in
       omega (arith, w .wrote .count, rows)

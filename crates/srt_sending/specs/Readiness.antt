@@ -1,4 +1,4 @@
--- Readiness to send, over the lent table of members. Assumes nothing.
+-- Readiness to send, over the lent table of members.
 use mathlib.Core.Path.{_≡_, refl, ap, sym, _∙_}
 use mathlib.Core.Bool.{Bool, true, false, _&&_, _||_}
 use mathlib.Core.List.{List, _∷_}

@@ -1,4 +1,4 @@
--- The lent list of sends, as rows of five words: what rows are shown, and what noting sends does to it. Assumes nothing.
+-- The lent list of sends, as rows of five words: what rows are shown, and what noting sends does to it.
 use mathlib.Core.Path.{_≡_, refl, ap, sym, _∙_}
 use mathlib.Core.List.{List, [], _∷_, _++_, append-assoc, append-nil}
 use mathlib.Core.Logic.{_⊎_}
@@ -10,7 +10,7 @@ use Rattle.word_rows.specs.Tab.{tab}
 use Rattle.word_rows.specs.Rows.{row-at, table-push}
 use Rattle.srt_protocol.specs.Cells.{overwritten}
 use Rattle.srt_protocol.specs.CellLaws.{overwritten-length, overwritten-elsewhere}
-use Rattle.srt_group_model.specs.Sending.{Sent}
+use Rattle.srt_group_model.specs.Sending.{sent-row-size, Sent}
 use Rattle.srt_group_model.specs.Lent.{list-rows}
 
 -- ---- definitions
@@ -25,16 +25,24 @@ unfoldable pub sent-of : List ℕ → Sent
 sent-of row = sent-row (getD row 0 0) (getD row 1 0) (getD row 2 0) (getD row 3 0) (getD row 4 0)
 
 unfoldable pub sent-at : List ℕ → ℕ → Sent
-sent-at words i = sent-of (row-at 5 words i)
+sent-at words i = sent-of (row-at sent-row-size words i)
 
 -- the sends of the first k rows
 abbrev pub sent-rows : ℕ → List ℕ → List Sent
 sent-rows k words = tab k (sent-at words)
 
+-- the tables that a send moves: the members, and the list of sends
+pub record SendTables : Type 0 where
+  pub members : List ℕ
+  pub list : List ℕ
+
+abbrev pub send-tables : (members list : List ℕ) → SendTables
+send-tables members list = record { members = members; list = list }
+
 -- The sends xs were noted in a list whose first k rows are in use, so that the first `next` are. Nothing else is written.
 pub record Wrote (k : ℕ) (xs : List Sent) (before : List ℕ) (next : ℕ) (after : List ℕ) : Type 0 where
   pub count : next ≡ k + length xs
-  pub is : after ≡ overwritten (k * 5) (list-rows xs) before
+  pub is : after ≡ overwritten (k * sent-row-size) (list-rows xs) before
 
 -- ---- words that are written one part after the other
 
@@ -72,7 +80,7 @@ module _ {A : Type 0} where
 
 -- ---- rows
 
-pub list-rows-length : (xs : List Sent) → length (list-rows xs) ≡ length xs * 5
+pub list-rows-length : (xs : List Sent) → length (list-rows xs) ≡ length xs * sent-row-size
 unfolding list-rows
 list-rows-length [] = refl
 list-rows-length (x ∷ xs) = omega (arith, list-rows-length xs)
@@ -87,7 +95,7 @@ pub one-row : (x : Sent) → list-rows (x ∷ []) ≡ sent-words x
 unfolding list-rows sent-words
 one-row x = refl
 
-pub five-words : (x : Sent) → length (sent-words x) ≡ 5
+pub five-words : (x : Sent) → length (sent-words x) ≡ sent-row-size
 unfolding sent-words
 five-words x = refl
 
@@ -99,72 +107,73 @@ sent-back x = refl
 
 pub wrote-nothing : (k : ℕ) (before : List ℕ) → Wrote k [] before k before
 unfolding list-rows
-wrote-nothing k before = record { count = omega arith; is = sym (overwritten-by-nothing (k * 5) before) }
+wrote-nothing k before = record { count = omega arith; is = sym (overwritten-by-nothing (k * sent-row-size) before) }
 
-pub wrote-one : (k : ℕ) (x : Sent) (before after : List ℕ) → after ≡ overwritten (k * 5) (sent-words x) before
+pub wrote-one : (k : ℕ) (x : Sent) (before after : List ℕ) → after ≡ overwritten (k * sent-row-size) (sent-words x) before
     → Wrote k (x ∷ []) before (k + 1) after
 wrote-one k x before after e =
-    record { count = omega arith; is = e ∙ ap (λ (l : List ℕ). overwritten (k * 5) l before) (sym (one-row x)) }
+    record { count = omega arith; is = e ∙ ap (λ (l : List ℕ). overwritten (k * sent-row-size) l before) (sym (one-row x)) }
 
-module _ {k n : ℕ} {xs : List Sent} {a b : List ℕ} (w : Wrote k xs a n b) (fits : n * 5 ≤ length a) where
-  room : k * 5 + length (list-rows xs) ≤ length a
+module _ {k n : ℕ} {xs : List Sent} {a b : List ℕ} (w : Wrote k xs a n b) (fits : n * sent-row-size ≤ length a) where
+  room : k * sent-row-size + length (list-rows xs) ≤ length a
   room = omega (arith, list-rows-length xs, w .count)
 
   pub wrote-length : length b ≡ length a
-  wrote-length = ap length (w .is) ∙ overwritten-length (k * 5) (list-rows xs) a room
+  wrote-length = ap length (w .is) ∙ overwritten-length (k * sent-row-size) (list-rows xs) a room
 
   -- all other words stay
-  pub wrote-elsewhere : (i : ℕ) → (i < k * 5) ⊎ (n * 5 ≤ i) → getD b i 0 ≡ getD a i 0
+  pub wrote-elsewhere : (i : ℕ) → (i < k * sent-row-size) ⊎ (n * sent-row-size ≤ i) → getD b i 0 ≡ getD a i 0
   wrote-elsewhere i outside =
-      let end : k * 5 + length (list-rows xs) ≡ n * 5 = omega (arith, list-rows-length xs, w .count) in
+      let end : k * sent-row-size + length (list-rows xs) ≡ n * sent-row-size = omega (arith, list-rows-length xs, w .count) in
       ap (λ (l : List ℕ). getD l i 0) (w .is)
-      ∙ overwritten-elsewhere (k * 5) (list-rows xs) a room i 0 (rw end outside)
+      ∙ overwritten-elsewhere (k * sent-row-size) (list-rows xs) a room i 0 (rw end outside)
 
   pub wrote-then : {m : ℕ} {ys : List Sent} {c : List ℕ} → Wrote n ys b m c → Wrote k (xs ++ ys) a m c
   wrote-then {m} {ys} {c} v =
-      let start : n * 5 ≡ k * 5 + length (list-rows xs) = omega (arith, list-rows-length xs, w .count) in
+      let start : n * sent-row-size ≡ k * sent-row-size + length (list-rows xs) = omega (arith, list-rows-length xs, w .count) in
       record {
         count = omega (arith, w .count, v .count, length-append xs ys);
         is =
-            v .is ∙ ap (λ (l : List ℕ). overwritten (n * 5) (list-rows ys) l) (w .is)
-            ∙ ap (λ (at : ℕ). overwritten at (list-rows ys) (overwritten (k * 5) (list-rows xs) a))
+            v .is ∙ ap (λ (l : List ℕ). overwritten (n * sent-row-size) (list-rows ys) l) (w .is)
+            ∙ ap (λ (at : ℕ). overwritten at (list-rows ys) (overwritten (k * sent-row-size) (list-rows xs) a))
             start
-            ∙ overwritten-behind (k * 5) (list-rows xs) (list-rows ys) a room
-            ∙ ap (λ (l : List ℕ). overwritten (k * 5) l a) (sym (list-rows-append xs ys));
+            ∙ overwritten-behind (k * sent-row-size) (list-rows xs) (list-rows ys) a room
+            ∙ ap (λ (l : List ℕ). overwritten (k * sent-row-size) l a) (sym (list-rows-append xs ys));
       }
 
 -- the rows shown are those from before, and the sends behind them
-row-pushed : (k : ℕ) (x : Sent) (a : List ℕ) → k * 5 + 5 ≤ length a
-    → sent-rows (k + 1) (overwritten (k * 5) (sent-words x) a) ≡ sent-rows k a ++ (x ∷ [])
+row-pushed : (k : ℕ) (x : Sent) (a : List ℕ) → k * sent-row-size + sent-row-size ≤ length a
+    → sent-rows (k + 1) (overwritten (k * sent-row-size) (sent-words x) a) ≡ sent-rows k a ++ (x ∷ [])
 unfolding sent-at
 row-pushed k x a fits =
-    table-push 5 sent-of a (sent-words x) k fits (five-words x)
+    table-push sent-row-size sent-of a (sent-words x) k fits (five-words x)
     ∙ ap (λ (y : Sent). sent-rows k a ++ (y ∷ [])) (sent-back x)
 
 first-of-rows : (x : Sent) (xs : List Sent) → list-rows (x ∷ xs) ≡ sent-words x ++ list-rows xs
 unfolding list-rows sent-words
 first-of-rows x xs = refl
 
-first-written : (k n : ℕ) (x : Sent) (xs : List Sent) (a b : List ℕ) → Wrote k (x ∷ xs) a n b → n * 5 ≤ length a
-    → Wrote (k + 1) xs (overwritten (k * 5) (sent-words x) a) n b
+first-written : (k n : ℕ) (x : Sent) (xs : List Sent) (a b : List ℕ) → Wrote k (x ∷ xs) a n b → n * sent-row-size ≤ length a
+    → Wrote (k + 1) xs (overwritten (k * sent-row-size) (sent-words x) a) n b
 first-written k n x xs a b w fits =
-    let start : k * 5 + length (sent-words x) ≡ (k + 1) * 5 = omega (arith, five-words x) in
+    let start : k * sent-row-size + length (sent-words x) ≡ (k + 1) * sent-row-size = omega (arith, five-words x) in
     record {
       count = omega (arith, w .count);
       is =
-          w .is ∙ ap (λ (l : List ℕ). overwritten (k * 5) l a) (first-of-rows x xs)
-          ∙ sym (overwritten-behind (k * 5) (sent-words x) (list-rows xs) a (omega (arith, five-words x, w .count)))
-          ∙ ap (λ (at : ℕ). overwritten at (list-rows xs) (overwritten (k * 5) (sent-words x) a)) start;
+          w .is ∙ ap (λ (l : List ℕ). overwritten (k * sent-row-size) l a) (first-of-rows x xs)
+          ∙ sym (overwritten-behind (k * sent-row-size) (sent-words x) (list-rows xs) a (omega (arith, five-words x, w .count)))
+          ∙ ap (λ (at : ℕ). overwritten at (list-rows xs) (overwritten (k * sent-row-size) (sent-words x) a)) start;
     }
 
-pub wrote-rows : (k n : ℕ) (xs : List Sent) (a b : List ℕ) → Wrote k xs a n b → n * 5 ≤ length a → sent-rows n b ≡ sent-rows k a ++ xs
+pub wrote-rows : (k n : ℕ) (xs : List Sent) (a b : List ℕ) → Wrote k xs a n b → n * sent-row-size ≤ length a
+    → sent-rows n b ≡ sent-rows k a ++ xs
 wrote-rows k n [] a b w fits =
     let same : n ≡ k = omega (arith, w .count) in
     ap (λ (j : ℕ). sent-rows j b) same
     ∙ ap (sent-rows k) (w .is ∙ sym (wrote-nothing k a .is))
     ∙ sym (append-nil (sent-rows k a))
 wrote-rows k n (x ∷ xs) a b w fits =
-    wrote-rows (k + 1) n xs (overwritten (k * 5) (sent-words x) a) b (first-written k n x xs a b w fits)
-    (omega (arith, overwritten-length (k * 5) (sent-words x) a (omega (arith, five-words x, w .count))))
+    wrote-rows (k + 1) n xs (overwritten (k * sent-row-size) (sent-words x) a) b (first-written k n x xs a b w fits)
+    (omega (arith, overwritten-length (k * sent-row-size) (sent-words x) a (omega (arith, five-words x, w .count))))
     ∙ ap (λ (l : List Sent). l ++ xs) (row-pushed k x a (omega (arith, w .count)))
     ∙ append-assoc (sent-rows k a) (x ∷ []) xs

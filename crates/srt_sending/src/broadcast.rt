@@ -8,10 +8,13 @@ ghost use Rattle.srt_protocol.specs.Sequence.{sequence-further};
 ghost use Rattle.srt_group_model.specs.Tools.{such-that};
 ghost use Rattle.srt_group_model.specs.Legs.{is-connected, can-send};
 ghost use Rattle.srt_group_model.specs.Members.{is-active};
-ghost use Rattle.srt_group_model.specs.Sending.{mark-send-failure, above-limit, sequence-mismatch};
+ghost use Rattle.srt_group_model.specs.Sending.{max-sent, list-size, mark-send-failure, above-limit, sequence-mismatch};
+ghost use Rattle.srt_group_model.specs.Validity.{max-members};
 ghost use Rattle.srt_connection.specs.Rows.{row-size};
 ghost use Rattle.srt_connection.specs.Members.{member-at, members-of, has-row, Changed};
+ghost use Rattle.srt_sending.specs.SentList.{send-tables};
 ghost use Rattle.srt_sending.specs.Broadcast.{number-for-send, is-mismatched, AttemptedAt, Attempted, SentBroadcast, with-number};
+use crate::list::OWN_PAYLOAD;
 use crate::list::write_sent;
 use srt_connection::legs::LegResult;
 use srt_connection::legs::can_send;
@@ -31,14 +34,8 @@ use srt_members::states::is_active_at;
 use srt_members::states::turn_at;
 use srt_protocol::error::Error;
 use srt_protocol::error::Outcome;
-use srt_protocol::srt_packet::sequence_further;
+use srt_protocol::srt_packet::word_further;
 use srt_protocol::time::Timestamp;
-
-// How many sequence numbers there are.
-const SEQUENCE_SPACE: u64 = 0x8000_0000;
-
-// In a row of the list: the payload is the call's own, not one of the history.
-pub const OWN_PAYLOAD: u64 = 0xffff_ffff;
 
 // What a send answers: the group's numbers after it, and how many rows of the list it has written.
 pub struct BroadcastSend {
@@ -88,8 +85,8 @@ pub fn sequence_for_send(members: &[u64], sending: Sending, index: usize) -> u64
     requires { ⌜ has-row index (now members) ⌝ }
     ensures { λ r. ⌜ r ≡ number-for-send sending (member-at (now (members .entry)) index) ⌝ }
 {
-    if sending.numbered {
-        return sending.next as u64;
+    if sending.numbered != 0 {
+        return sending.next;
     }
     let sender = sender_at(members, index);
     sender.next
@@ -136,8 +133,10 @@ fn attempt_send_at(
     sequence: u64,
 ) -> usize
     requires { ⌜ has-row index (now members) ⌝ }
-    requires { ⌜ (5500 ≤ length (now list)) × (sent < 1100) ⌝ }
-    ensures { λ r. ⌜ AttemptedAt index (time .0) size sequence sent (now (members .entry)) (now (list .entry)) r (now (members .exit)) (now (list .exit)) ⌝ }
+    requires { ⌜ (list-size ≤ length (now list)) × (sent < max-sent) ⌝ }
+    ensures { λ r. ⌜ AttemptedAt index (time .0) size sequence sent
+        (send-tables (now (members .entry)) (now (list .entry))) r
+        (send-tables (now (members .exit)) (now (list .exit))) ⌝ }
 {
     if !is_active_at(members, index) {
         return sent;
@@ -149,15 +148,7 @@ fn attempt_send_at(
     };
     let membership = membership_at(members, index);
     put_leg_at(members, index, leg);
-    write_sent(
-        list,
-        sent,
-        membership.id,
-        sequence,
-        OWN_PAYLOAD,
-        time.0,
-        time.0,
-    );
+    write_sent(list, sent, membership.id, sequence, OWN_PAYLOAD, time, time);
     sent + 1
 }
 
@@ -170,9 +161,11 @@ fn attempt_sends(
     size: u64,
     sequence: u64,
 ) -> usize
-    requires { ⌜ (count * row-size ≤ length (now members)) × (count ≤ 64) ⌝ }
-    requires { ⌜ 5500 ≤ length (now list) ⌝ }
-    ensures { λ r. ⌜ Attempted count (time .0) size sequence (now (members .entry)) (now (list .entry)) r (now (members .exit)) (now (list .exit)) ⌝ }
+    requires { ⌜ (count * row-size ≤ length (now members)) × (count ≤ max-members) ⌝ }
+    requires { ⌜ list-size ≤ length (now list) ⌝ }
+    ensures { λ r. ⌜ Attempted count (time .0) size sequence
+        (send-tables (now (members .entry)) (now (list .entry))) r
+        (send-tables (now (members .exit)) (now (list .exit))) ⌝ }
 {
     let mut sent = 0;
     let mut i = 0;
@@ -184,13 +177,11 @@ fn attempt_sends(
 }
 
 // The group's number after a send at the sequence.
-fn with_number_after(mut sending: Sending, sequence: u64) -> Sending
+pub fn with_number_after(mut sending: Sending, sequence: u64) -> Sending
     ensures { λ r. ⌜ r ≡ with-number (sequence-further sequence 1) sending ⌝ }
 {
-    let from = (sequence % SEQUENCE_SPACE) as u32;
-    let next = sequence_further(from, 1);
-    sending.numbered = true;
-    sending.next = next;
+    sending.numbered = 1;
+    sending.next = word_further(sequence, 1);
     sending
 }
 
@@ -203,9 +194,11 @@ pub fn send_broadcast(
     time: Timestamp,
     size: u64,
 ) -> BroadcastSend
-    requires { ⌜ (count * row-size ≤ length (now members)) × (count ≤ 64) ⌝ }
-    requires { ⌜ 5500 ≤ length (now list) ⌝ }
-    ensures { λ r. ⌜ SentBroadcast count (time .0) size sending (now (members .entry)) (now (list .entry)) r (now (members .exit)) (now (list .exit)) ⌝ }
+    requires { ⌜ (count * row-size ≤ length (now members)) × (count ≤ max-members) ⌝ }
+    requires { ⌜ list-size ≤ length (now list) ⌝ }
+    ensures { λ r. ⌜ SentBroadcast count (time .0) size sending
+        (send-tables (now (members .entry)) (now (list .entry))) r
+        (send-tables (now (members .exit)) (now (list .exit))) ⌝ }
 {
     let found = first_active(members, count);
     let Found::At(first) = found else {

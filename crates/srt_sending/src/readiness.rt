@@ -3,12 +3,13 @@ ghost use mathlib.Core.Path.{_≡_};
 ghost use Prim.Native.Nat.{_*_, _≤_};
 ghost use lib.ListN.{length};
 ghost use Rattle.srt_group_model.specs.Tools.{any};
-ghost use Rattle.srt_group_model.specs.Backup.{ready-to-send, group-time-until-send};
+ghost use Rattle.srt_group_model.specs.Backup.{max-history, ready-to-send, group-time-until-send};
 ghost use Rattle.srt_connection.specs.Rows.{row-size};
 ghost use Rattle.srt_connection.specs.Members.{member-at, members-of, has-row};
 ghost use Rattle.srt_connection.specs.Answers.{sequence-of};
 ghost use Rattle.srt_sending.specs.Readiness.{pacing-in, sends-now, wait-of, wait-in, may-carry, least-with};
-ghost use Rattle.srt_sending.specs.BackupReadiness.{is-other-carrier, send-number, front-sequence, replay-length, replay-sequence, gap-allows, sequence-in, stands-at, could-take-over, MemberReady, BackupReady};
+ghost use Rattle.srt_sending.specs.BackupReadiness.{is-other-carrier, send-number, front-sequence, replay-length, replay-sequence, gap-allows};
+ghost use Rattle.srt_sending.specs.BackupReadiness.{sequence-in, stands-at, could-take-over, MemberReady, BackupReady};
 use srt_connection::legs::OptionalSequence;
 use srt_connection::legs::can_send;
 use srt_connection::legs::can_send_with_pacing;
@@ -26,6 +27,7 @@ use srt_members::states::first_active;
 use srt_members::states::is_active_at;
 use srt_protocol::time::Timestamp;
 use srt_tables::history::HistoryRing;
+use srt_tables::history::sequence_at;
 
 // The wait of a group with no member that could send, in microseconds.
 const NO_MEMBER_WAIT: u64 = 100000;
@@ -131,35 +133,33 @@ pub fn group_time_until_send(members: &[u64], count: usize, time: Timestamp) -> 
 // ---- Backup: whether the next send could go, with the take-over that it would make
 
 // Another member carried the last send.
-fn takes_over(sending: Sending, id: u64) -> bool
+pub fn takes_over(sending: Sending, id: u64) -> bool
     ensures { λ r. ⌜ r ≡ is-other-carrier id sending ⌝ }
 {
-    if !sending.carried {
+    if sending.carried == 0 {
         return false;
     }
-    sending.carrier as u64 != id
+    sending.carrier != id
 }
 
 fn send_number(sending: Sending) -> OptionalSequence
     ensures { λ r. ⌜ r ≡ sequence-of (send-number sending) ⌝ }
 {
-    if sending.numbered {
-        return OptionalSequence::Some(sending.next as u64);
+    if sending.numbered != 0 {
+        return OptionalSequence::Some(sending.next);
     }
     OptionalSequence::None
 }
 
 // The sequence of the oldest entry of the history.
-fn front_sequence(ring: HistoryRing, sequences: &[u32]) -> OptionalSequence
-    requires { ⌜ length (now sequences) ≡ 512 ⌝ }
-    ensures { λ r. ⌜ r ≡ sequence-of (front-sequence ring (now (sequences .entry))) ⌝ }
+fn front_sequence(ring: HistoryRing, history: &[u64]) -> OptionalSequence
+    requires { ⌜ length (now history) ≡ max-history ⌝ }
+    ensures { λ r. ⌜ r ≡ sequence-of (front-sequence ring (now (history .entry))) ⌝ }
 {
     if ring.length == 0 {
         return OptionalSequence::None;
     }
-    let at = ring.start % 512;
-    let sequence = sequences[at];
-    OptionalSequence::Some(sequence as u64)
+    OptionalSequence::Some(sequence_at(ring, history, 0))
 }
 
 // The sequence at which a leg has to stand: that of the first entry that it would replay, else the group's send number.
@@ -167,15 +167,15 @@ fn replay_sequence(
     takes: bool,
     sending: Sending,
     ring: HistoryRing,
-    sequences: &[u32],
+    history: &[u64],
 ) -> OptionalSequence
-    requires { ⌜ length (now sequences) ≡ 512 ⌝ }
-    ensures { λ r. ⌜ r ≡ sequence-of (replay-sequence takes sending ring (now (sequences .entry))) ⌝ }
+    requires { ⌜ length (now history) ≡ max-history ⌝ }
+    ensures { λ r. ⌜ r ≡ sequence-of (replay-sequence takes sending ring (now (history .entry))) ⌝ }
 {
     if !takes {
         return send_number(sending);
     }
-    let front = front_sequence(ring, sequences);
+    let front = front_sequence(ring, history);
     let OptionalSequence::Some(sequence) = front else {
         return send_number(sending);
     };
@@ -183,7 +183,7 @@ fn replay_sequence(
 }
 
 // A history that lost entries cannot be replayed.
-fn gap_allows(takes: bool, replay: usize, gap: bool) -> bool
+fn gap_allows(takes: bool, replay: usize, gap: u64) -> bool
     ensures { λ r. ⌜ r ≡ gap-allows takes replay gap ⌝ }
 {
     if !takes {
@@ -192,7 +192,7 @@ fn gap_allows(takes: bool, replay: usize, gap: bool) -> bool
     if replay == 0 {
         return true;
     }
-    !gap
+    gap == 0
 }
 
 // Whether the leg stands at the sequence, or can be brought there because nothing of it is in flight.
@@ -219,15 +219,9 @@ fn replay_length(takes: bool, ring: HistoryRing) -> usize
 }
 
 // Whether a leg that can send could make the take-over, with room for the send behind it.
-fn could_take_over(
-    leg: Leg,
-    id: u64,
-    sending: Sending,
-    ring: HistoryRing,
-    sequences: &[u32],
-) -> bool
-    requires { ⌜ length (now sequences) ≡ 512 ⌝ }
-    ensures { λ r. ⌜ r ≡ could-take-over id sending ring (now (sequences .entry)) leg ⌝ }
+fn could_take_over(leg: Leg, id: u64, sending: Sending, ring: HistoryRing, history: &[u64]) -> bool
+    requires { ⌜ length (now history) ≡ max-history ⌝ }
+    ensures { λ r. ⌜ r ≡ could-take-over id sending ring (now (history .entry)) leg ⌝ }
 {
     let takes = takes_over(sending, id);
     let replay = replay_length(takes, ring);
@@ -237,7 +231,7 @@ fn could_take_over(
     if remaining_window_packets(leg) <= replay as u64 {
         return false;
     }
-    let sequence = replay_sequence(takes, sending, ring, sequences);
+    let sequence = replay_sequence(takes, sending, ring, history);
     stands_at(leg, sequence)
 }
 
@@ -247,12 +241,13 @@ pub fn backup_member_ready(
     index: usize,
     sending: Sending,
     ring: HistoryRing,
-    sequences: &[u32],
+    history: &[u64],
     pacing: Pacing,
 ) -> bool
     requires { ⌜ has-row index (now members) ⌝ }
-    requires { ⌜ length (now sequences) ≡ 512 ⌝ }
-    ensures { λ r. ⌜ MemberReady (pacing-in pacing) sending ring (now (sequences .entry)) (member-at (now (members .entry)) index) r ⌝ }
+    requires { ⌜ length (now history) ≡ max-history ⌝ }
+    ensures { λ r. ⌜ MemberReady (pacing-in pacing) sending ring (now (history .entry))
+        (member-at (now (members .entry)) index) r ⌝ }
 {
     let leg = leg_at(members, index);
     if !ready_to_send(leg, pacing) {
@@ -262,7 +257,7 @@ pub fn backup_member_ready(
         return false;
     }
     let membership = membership_at(members, index);
-    could_take_over(leg, membership.id, sending, ring, sequences)
+    could_take_over(leg, membership.id, sending, ring, history)
 }
 
 // Whether the first active member could carry the next send or, if its window is full, the one that would be promoted.
@@ -271,23 +266,23 @@ pub fn backup_send_ready(
     count: usize,
     sending: Sending,
     ring: HistoryRing,
-    sequences: &[u32],
+    history: &[u64],
     pacing: Pacing,
 ) -> bool
     requires { ⌜ count * row-size ≤ length (now members) ⌝ }
-    requires { ⌜ length (now sequences) ≡ 512 ⌝ }
-    ensures { λ r. ⌜ BackupReady count (pacing-in pacing) sending ring (now (sequences .entry)) (now (members .entry)) r ⌝ }
+    requires { ⌜ length (now history) ≡ max-history ⌝ }
+    ensures { λ r. ⌜ BackupReady count (pacing-in pacing) sending ring (now (history .entry)) (now (members .entry)) r ⌝ }
 {
     let found = first_active(members, count);
     let Found::At(index) = found else {
         return false;
     };
     if can_send(leg_at(members, index)) {
-        return backup_member_ready(members, index, sending, ring, sequences, pacing);
+        return backup_member_ready(members, index, sending, ring, history, pacing);
     }
     let standby = promotion(members, count);
     let Found::At(promoted) = standby else {
         return false;
     };
-    backup_member_ready(members, promoted, sending, ring, sequences, pacing)
+    backup_member_ready(members, promoted, sending, ring, history, pacing)
 }

@@ -1,6 +1,6 @@
 -- One pass over the cells that are named, by queued data events, by held packets and by history entries, and the search for the
 -- lowest free cell (document 01: rule 6, "a cell named twice or beyond the store", and "the lowest number free"). A store has
--- 2,048 cells at most, and a table of flags one for each. Assumes nothing.
+-- 2,048 cells at most, and a table of flags one for each.
 use mathlib.Core.Path.{_≡_}
 use mathlib.Core.Bool.{Bool, true, false, not, _||_}
 use mathlib.Core.List.{List, [], _∷_, _++_}
@@ -12,26 +12,29 @@ use Rattle.srt_group_model.specs.Tools.{if_then_else_, any}
 use Rattle.srt_group_model.specs.Cells.{is-data, queued-cells, is-among, lowest-free}
 use Rattle.srt_group_model.specs.Validity.{one-twice}
 use Rattle.srt_group_model.specs.CellsKept.{occurs, room, pending-cells}
+use Rattle.srt_group_model.specs.Backup.{max-history}
+use Rattle.srt_protocol.specs.Cells.{max-cells}
 use Rattle.srt_group_model.specs.declared.Counts.{Counts}
 use Rattle.srt_group_model.specs.declared.Event.{Event}
 use Rattle.word_rows.specs.Tab.{tab}
 use Rattle.srt_connection.specs.Members.{members-of}
 use Rattle.srt_tables.specs.Packets.{packets}
 use Rattle.srt_tables.specs.declared.history.HistoryRing.{HistoryRing}
+use Rattle.srt_tables.specs.Ring.{word-cell}
 use Rattle.srt_state.specs.declared.cells.FreeCell.{FreeCell}
 use Rattle.srt_state.specs.declared.cells.FreeCell.the-variants.{Cell, Full}
 
 -- the flags show which cells are used
 pub record Represents (flags used : List ℕ) : Type 0 where
-  pub long : length flags ≡ 2048
-  pub flag : (c : ℕ) → c < 2048 → getD flags c 0 ≡ (if is-among c used then 1 else 0)
+  pub long : length flags ≡ max-cells
+  pub flag : (c : ℕ) → c < max-cells → getD flags c 0 ≡ (if is-among c used then 1 else 0)
 
 -- ---- a part of the pass
 
 -- the flags of a store of so many cells: `room` is 1 for each of its cells, and 0 beyond
 pub record Flags (cells : ℕ) (flags : List ℕ) : Type 0 where
-  pub store : cells ≤ 2048
-  pub long : length flags ≡ 2048
+  pub store : cells ≤ max-cells
+  pub long : length flags ≡ max-cells
   pub within : (c : ℕ) → getD flags c 0 ≤ room cells c
 
 -- these cells are named, over the flags before. The answer is whether each of them, with those marked before, lies in the store
@@ -52,9 +55,9 @@ abbrev pub table-cells : Counts → (members pending : List ℕ) → List ℕ
 table-cells counts members pending =
     queued-cells (members-of (counts .members) members) ++ pending-cells (packets (counts .pending) pending)
 
--- the cells of the history's entries, by the array of cells
+-- the cells of the history's entries, by its words
 unfoldable pub sent-cells : HistoryRing → List ℕ → List ℕ
-sent-cells r sent = tab (r .length) (λ i. getD sent ((r .start + i) % 512) 0)
+sent-cells r history = tab (r .length) (λ i. word-cell (getD history ((r .start + i) % max-history) 0))
 
 abbrev pub named-cells : Counts → (members pending sent : List ℕ) → List ℕ
 named-cells counts members pending sent =

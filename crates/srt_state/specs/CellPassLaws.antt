@@ -1,5 +1,4 @@
 -- What each part of the pass over the named cells does to the flags, and what the whole of it says of the state that is shown.
--- Assumes nothing.
 use mathlib.Core.Path.{_≡_, refl, sym, ap, ap₂, subst, _∙_}
 use mathlib.Core.Bool.{Bool, true, false, not, _||_}
 use mathlib.Core.List.{List, [], _∷_, _++_, append-assoc, append-nil}
@@ -15,8 +14,10 @@ use Rattle.srt_group_model.specs.Tools.{if_then_else_, if-some_give_otherwise_,
 use Rattle.srt_group_model.specs.Reason.{by-test, if-elim, not-both, or-left, or-right}
 use Rattle.srt_group_model.specs.State.{Member, State}
 use Rattle.srt_group_model.specs.Cells.{is-data, queue-cells, queued-cells, used-cells, is-among, lowest-free, free-cell}
-use Rattle.srt_group_model.specs.Validity.{one-twice, cell-twice, cell-beyond-store}
+use Rattle.srt_group_model.specs.Validity.{max-queued, one-twice, cell-twice, cell-beyond-store}
 use Rattle.srt_group_model.specs.CellsKept.{occurs, occurs-append, one, one-same, one-other, room, room-most, absent, present, Apart, apart-of-rules, once-of-apart, inside-of-apart, pending-cells, history-cells}
+use Rattle.srt_group_model.specs.Backup.{max-history}
+use Rattle.srt_protocol.specs.Cells.{max-cells}
 use Rattle.srt_group_model.specs.declared.Core.{Core}
 use Rattle.srt_group_model.specs.declared.Counts.{Counts}
 use Rattle.srt_group_model.specs.declared.Entry.{Entry}
@@ -25,12 +26,13 @@ use Rattle.srt_group_model.specs.declared.Packet.{Packet}
 use Rattle.word_rows.specs.Tab.{tab, tab-length}
 use Rattle.srt_connection.specs.declared.rows.Ring.{Ring}
 use Rattle.srt_connection.specs.Tab.{tab-place}
-use Rattle.srt_connection.specs.Rows.{part, ring-of, event-of, event-in, queue-of, member-parts, member-of}
+use Rattle.srt_connection.specs.Rows.{receiver-part, first-event-part, part, ring-of, event-of, event-in, queue-of, member-parts, member-of}
 use Rattle.srt_connection.specs.Members.{member-at, members-of}
 use Rattle.srt_tables.specs.Packets.{packet-at, packets}
-use Rattle.srt_tables.specs.Ring.{Arrays, entry-at, entries-of}
+use Rattle.srt_tables.specs.Ring.{Arrays, word-cell, entry-at, entries-of}
 use Rattle.srt_tables.specs.declared.history.HistoryRing.{HistoryRing}
-use Rattle.srt_state.specs.Shown.{shown}
+use Rattle.srt_group_shown.specs.Shown.{Rest, shown}
+use Rattle.srt_tables.specs.PacketLaws.{each-tab}
 use Rattle.srt_state.specs.CellPass.{Represents, Flags, Marks, event-cells, table-cells, sent-cells, named-cells, are-apart, Marked, free-cell-of, LowestFree}
 use Rattle.srt_state.specs.declared.cells.FreeCell.{FreeCell}
 use Rattle.srt_state.specs.declared.cells.FreeCell.the-variants.{Cell, Full}
@@ -196,9 +198,9 @@ unfolding joined tab
 singles-joined zero f = refl
 singles-joined (suc n) f = ap (λ (l : List ℕ). f 0 ∷ l) (singles-joined n (λ i. f (suc i)))
 
-pub sent-are : (r : HistoryRing) (sent : List ℕ) → joined (r .length) (λ i. getD sent ((r .start + i) % 512) 0 ∷ []) ≡ sent-cells r sent
+pub sent-are : (r : HistoryRing) (sent : List ℕ) → joined (r .length) (λ i. word-cell (getD sent ((r .start + i) % max-history) 0) ∷ []) ≡ sent-cells r sent
 unfolding sent-cells
-sent-are r sent = singles-joined (r .length) (λ i. getD sent ((r .start + i) % 512) 0)
+sent-are r sent = singles-joined (r .length) (λ i. word-cell (getD sent ((r .start + i) % max-history) 0))
 
 -- ---- what is read at a place names what stands there
 
@@ -206,8 +208,10 @@ pub event-names : (q : List Event) (index : ℕ) (e : Event) → at-place index 
 unfolding if-some_give_otherwise_
 event-names q index e there = ap (λ (o : Option Event). if-some o give event-cells otherwise []) (sym there)
 
-pub place-names : (sent : List ℕ) (at place : ℕ) → at ≡ place → _≡_ {A = List ℕ} (getD sent at 0 ∷ []) (getD sent place 0 ∷ [])
-place-names sent at place same = ap (λ (n : ℕ). getD sent n 0 ∷ []) same
+-- the cell of the word at a place of the history
+pub word-names : (history : List ℕ) (at place cell : ℕ) → at ≡ place → cell ≡ word-cell (getD history at 0)
+    → _≡_ {A = List ℕ} (cell ∷ []) (word-cell (getD history place 0) ∷ [])
+word-names history at place cell same is = ap (λ (c : ℕ). c ∷ []) (is ∙ ap (λ (n : ℕ). word-cell (getD history n 0)) same)
 
 pub cell-names : (cell other : ℕ) → cell ≡ other → _≡_ {A = List ℕ} (cell ∷ []) (other ∷ [])
 cell-names cell other same = ap (λ (c : ℕ). c ∷ []) same
@@ -232,14 +236,14 @@ module _ (cells : ℕ) (before : List ℕ) (e : Event) where
   data-marked r after is-it marks = marks-as (its-cell (eq-eqb (e .kind) 0 is-it)) marks
 
 -- the event that is read stands at that place of the queue
-pub event-read : (row : List ℕ) (ring : Ring) (index : ℕ) (e : Event) → ring ≡ ring-of (part row 3) → index < length (member-of row .queue)
-    → e ≡ event-in row ((ring .start + index % 16) % 16) → at-place index (member-of row .queue) ≡ some e
+pub event-read : (row : List ℕ) (ring : Ring) (index : ℕ) (e : Event) → ring ≡ ring-of (part row receiver-part) → index < length (member-of row .queue)
+    → e ≡ event-in row ((ring .start + index % max-queued) % max-queued) → at-place index (member-of row .queue) ≡ some e
 unfolding member-of member-parts queue-of event-in
 event-read row ring index e is below read =
-    let event : ℕ → Event = λ j. event-of (part row (4 + (ring-of (part row 3) .start + j) % 16)) in
-    let count = ring-of (part row 3) .length in
+    let event : ℕ → Event = λ j. event-of (part row (first-event-part + (ring-of (part row receiver-part) .start + j) % max-queued)) in
+    let count = ring-of (part row receiver-part) .length in
     tab-place count event index (omega (arith, tab-length count event))
-    ∙ ap (λ (x : Ring). some (event-of (part row (4 + (x .start + index) % 16)))) (sym is)
+    ∙ ap (λ (x : Ring). some (event-of (part row (first-event-part + (x .start + index) % max-queued)))) (sym is)
     ∙ ap (λ (n : ℕ). some (event-of (part row n))) (omega arith) ∙ ap (λ (x : Event). some x) (sym read)
 
 -- ---- a loop over places: those passed are marked
@@ -296,14 +300,14 @@ module _ (cells : ℕ) (names : ℕ → List ℕ) (count : ℕ) (before : List �
 
 no-flag : (flags : List ℕ) → Represents flags [] → (c : ℕ) → getD flags c 0 ≡ 0
 unfolding any if_then_else_
-no-flag flags fresh c = by-test (ltb c 2048) (λ e. fresh .flag c (ltb-true c 2048 e)) (λ e. List·getD-eq-default flags 0 {n = c} (omega (arith, fresh .long, ltb-false c 2048 e)))
+no-flag flags fresh c = by-test (ltb c max-cells) (λ e. fresh .flag c (ltb-true c max-cells e)) (λ e. List·getD-eq-default flags 0 {n = c} (omega (arith, fresh .long, ltb-false c max-cells e)))
 
 -- a table as it is made
-pub no-marks : Represents (replicate 2048 0) []
+pub no-marks : Represents (replicate max-cells 0) []
 unfolding any if_then_else_
-no-marks = record { long = length-replicate {A = ℕ} 2048 0; flag = λ c below. getD-replicate {A = ℕ} 2048 c 0 0 below }
+no-marks = record { long = length-replicate {A = ℕ} max-cells 0; flag = λ c below. getD-replicate {A = ℕ} max-cells c 0 0 below }
 
-pub fresh-flags : (cells : ℕ) (flags : List ℕ) → cells ≤ 2048 → Represents flags [] → Flags cells flags
+pub fresh-flags : (cells : ℕ) (flags : List ℕ) → cells ≤ max-cells → Represents flags [] → Flags cells flags
 fresh-flags cells flags store fresh = record { store = store; long = fresh .long; within = λ c. omega (arith, no-flag flags fresh c) }
 
 flag-of-occurs : (n c : ℕ) (used : List ℕ) → n ≡ occurs c used → n ≤ 1 → n ≡ (if is-among c used then 1 else 0)
@@ -412,7 +416,7 @@ lowest-none zero first used taken = refl
 lowest-none (suc left) first used taken =
     rw (taken first (omega arith) (omega arith)) (lowest-none left (suc first) used (λ k low high. taken k (omega arith) (omega arith)))
 
-module _ (flags : List ℕ) (cells : ℕ) (store : cells ≤ 2048) where
+module _ (flags : List ℕ) (cells : ℕ) (store : cells ≤ max-cells) where
   pub lowest-found : (c : ℕ) → c < cells → getD flags c 0 ≡ 0 → ((k : ℕ) → k < c → getD flags k 0 ≡ 0 → ⊥) → LowestFree flags cells (Cell c)
   lowest-found c inside free before =
       record {
@@ -436,22 +440,17 @@ module _ (flags : List ℕ) (cells : ℕ) (store : cells ≤ 2048) where
 
 -- ---- of the state that is shown
 
--- the cells of the entries are those of the array
-each-tab : {A B : Type 0} (n : ℕ) (f : A → B) (g : ℕ → A) → each f (tab n g) ≡ tab n (λ i. f (g i))
-unfolding each tab
-each-tab zero f g = refl
-each-tab (suc n) f g = ap {B = List _} (λ l. f (g 0) ∷ l) (each-tab n f (λ i. g (suc i)))
-
-pub sent-is-history : (r : HistoryRing) (a : Arrays) → sent-cells r (a .cells) ≡ history-cells (entries-of r a)
+-- the cells of the entries are those of the words
+pub sent-is-history : (r : HistoryRing) (a : Arrays) → sent-cells r (a .history) ≡ history-cells (entries-of r a)
 unfolding sent-cells
-sent-is-history r a = sym (each-tab (r .length) (λ (e : Entry). e .cell) (entry-at r a))
+sent-is-history r a = sym (each-tab (λ (e : Entry). e .cell) (r .length) (entry-at r a))
 
-module _ (cells : ℕ) (core : Core) (history : List Entry) (members pending waiting : List ℕ) where
+module _ (cells : ℕ) (core : Core) (others : Rest) (members pending waiting : List ℕ) where
   abbrev state : State
-  state = shown core history members pending waiting
+  state = shown core others members pending waiting
 
   abbrev named : List ℕ
-  named = named-cells (core .counts) members pending (history-cells history)
+  named = named-cells (core .counts) members pending (history-cells (others .send .history))
 
   pub named-are-used : named ≡ used-cells state
   unfolding used-cells

@@ -1,4 +1,4 @@
--- Ids that are distinct, place by place: the rule "one id twice". Assumes nothing.
+-- Ids that are distinct, place by place: the rule "one id twice".
 use mathlib.Core.Path.{_≡_, refl, ap, sym, _∙_}
 use mathlib.Core.Bool.{Bool, true, false, _||_}
 use mathlib.Core.List.{List, [], _∷_}
@@ -17,6 +17,7 @@ use Rattle.srt_group_model.specs.Validity.{one-twice}
 use Rattle.srt_connection.specs.Rows.{row-size}
 use Rattle.srt_connection.specs.Members.{member-at, members-of, id-word}
 use Rattle.word_rows.specs.Tab.{tab}
+use Rattle.srt_tables.specs.PacketLaws.{each-tab}
 use Rattle.srt_state.specs.Walks.{any-there, any-nowhere, none-there}
 
 -- ---- a search that finds nothing, and a row that passes
@@ -68,11 +69,6 @@ twice-there (suc n) ids (suc i) (suc j) less below same =
 
 pub once-apart : (n : ℕ) (ids : ℕ → ℕ) → one-twice (tab n ids) ≡ false → Apart ids n
 once-apart n ids once = record { apart = λ i j less below same. not-both (twice-there n ids i j less below same) once }
-
-pub each-tab : {A B : Type 0} (g : A → B) (n : ℕ) (f : ℕ → A) → each g (tab n f) ≡ tab n (λ i. g (f i))
-unfolding each tab
-each-tab g zero f = refl
-each-tab g (suc n) f = ap (λ (rest : List _). g (f 0) ∷ rest) (each-tab g n (λ i. f (suc i)))
 
 -- ---- the ids of a table's members
 

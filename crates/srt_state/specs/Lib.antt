@@ -3,7 +3,6 @@ pub mod CellPassLaws
 pub mod Ids
 pub mod Outside
 pub mod Rules
-pub mod Shown
 pub mod Sums
 pub mod Tested
 pub mod Walks

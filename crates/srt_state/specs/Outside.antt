@@ -1,33 +1,35 @@
 -- Every rule but the two about cells, and the walks that test them: the core's numbers, each row once, and what rows say of each
--- other. Assumes nothing.
+-- other.
 use mathlib.Core.Path.{_≡_, refl, ap, ap₂, sym, _∙_}
 use mathlib.Core.Bool.{Bool, true, false, not, _&&_, _||_}
 use mathlib.Core.List.{List, [], _∷_}
-use Prim.Native.Nat.{ℕ, _-_, _≤_, _<_}
+use Prim.Native.Nat.{ℕ, _≤_, _<_}
 use native.Mathlib.Omega.{arith}
-use borrow.Author.Tests.{ltb-false, leb-false}
+use borrow.Author.Tests.{ltb-false, not-false}
 use lib.Dec.{leb, ltb}
 use lib.ListN.{length}
 use Rattle.srt_protocol.specs.Handshake.{has-group-mask}
 use Rattle.srt_group_model.specs.Tools.{any, each}
-use Rattle.srt_group_model.specs.Reason.{by-test, or-left, or-right, or-yes-left, or-yes-right, all-map}
+use Rattle.srt_group_model.specs.Reason.{or-left, or-right, or-yes-left, or-yes-right, all-map, or-assoc, or-no}
 use Rattle.srt_group_model.specs.State.{Member, State}
-use Rattle.srt_group_model.specs.Legs.{largest-sequence}
+use Rattle.srt_group_model.specs.Legs.{largest-32}
 use Rattle.srt_group_model.specs.Members.{id-of}
 use Rattle.srt_group_model.specs.Backup.{max-history}
-use Rattle.srt_group_model.specs.Validity.{above, is-blank, max-members, max-events, max-pending, max-waiting, count-above-limit, is-too-large, leg-sequence-too-large, sequence-too-large, one-twice, id-twice, ascends, held-sequence-twice, cell-twice, cell-beyond-store, reserved-sum-wrong, event-out-of-range, leg-out-of-range, member-out-of-range, field-out-of-range, broken-rules, is-invalid}
+use Rattle.srt_group_model.specs.Validity.{Ranged, _at-most_, record-words, record-out-of-range, above, is-blank, max-members, max-queued, max-pending, max-waiting, count-above-limit, is-too-large, leg-sequence-too-large, sequence-too-large, one-twice, id-twice, ascends, held-sequence-twice, cell-twice, cell-beyond-store, reserved-sum-wrong, event-out-of-range, leg-out-of-range, member-out-of-range, field-out-of-range, broken-rules, is-invalid}
 use Rattle.srt_group_model.specs.SumsKept.{none-of, of-none}
 use Rattle.srt_group_model.specs.RangesCalls.{no-either}
-use Rattle.srt_group_model.specs.Valid.{long-queue, Counted}
+use Rattle.srt_group_model.specs.Valid.{long-queue, Counted, round-of-rule}
 use Rattle.srt_group_model.specs.declared.Core.{Core}
+use Rattle.srt_group_model.specs.declared.Identity.{Identity}
+use Rattle.srt_group_model.specs.declared.Sending.{Sending}
 use Rattle.srt_group_model.specs.declared.Entry.{Entry}
 use Rattle.srt_group_model.specs.declared.Packet.{Packet}
 use Rattle.srt_connection.specs.Members.{member-at, members-of, members-length}
 use Rattle.srt_tables.specs.Packets.{packet-at, packets}
 use Rattle.srt_tables.specs.Waitings.{waitings}
 use Rattle.word_rows.specs.Tab.{tab-length}
-use Rattle.srt_state.specs.Shown.{shown}
-use Rattle.srt_state.specs.Rules.{event-sequence-too-large, membership-out-of-range, packet-out-of-range, entry-out-of-range, waiting-out-of-range, event-breaks-rule, queue-breaks-rule, leg-breaks-rule, member-breaks-rule, packet-breaks-rule, entry-breaks-rule, history-breaks-rule, or-assoc, or-no}
+use Rattle.srt_group_shown.specs.Shown.{rest, shown}
+use Rattle.srt_state.specs.Rules.{event-sequence-too-large, membership-out-of-range, packet-out-of-range, entry-out-of-range, waiting-out-of-range, event-breaks-rule, queue-breaks-rule, leg-breaks-rule, member-breaks-rule, packet-breaks-rule, entry-breaks-rule, history-breaks-rule}
 use Rattle.srt_state.specs.Walks.{any-or, none-there}
 use Rattle.srt_state.specs.Sums.{sums-wrong, sums-wrong-is, packet-small}
 use Rattle.srt_state.specs.Ids.{Apart, id-at, ids-of, once-apart}
@@ -38,7 +40,7 @@ use Rattle.srt_state.specs.Ids.{Apart, id-at, ids-of, once-apart}
 unfoldable pub rules-outside-cells : State → List Bool
 rules-outside-cells s =
     is-blank s ∷ count-above-limit s ∷ sequence-too-large s ∷ id-twice s ∷ held-sequence-twice s ∷ reserved-sum-wrong s
-    ∷ field-out-of-range s ∷ []
+    ∷ record-out-of-range s ∷ field-out-of-range s ∷ []
 
 unfoldable pub breaks-rule-outside-cells : State → Bool
 breaks-rule-outside-cells s = any (λ rule. rule) (rules-outside-cells s)
@@ -47,9 +49,9 @@ pub invalid-is : (cells : ℕ) (s : State) → is-invalid cells s ≡ (breaks-ru
 unfolding is-invalid broken-rules breaks-rule-outside-cells rules-outside-cells any
 invalid-is cells s =
     apart (is-blank s) (count-above-limit s) (sequence-too-large s) (id-twice s) (held-sequence-twice s) (cell-twice s)
-    (cell-beyond-store cells s) (reserved-sum-wrong s) (field-out-of-range s)
+    (cell-beyond-store cells s) (reserved-sum-wrong s) (record-out-of-range s || (field-out-of-range s || false))
   where
-    last : (f g h i : Bool) → (f || (g || (h || (i || false)))) ≡ ((h || (i || false)) || (f || g))
+    last : (f g h i : Bool) → (f || (g || (h || i))) ≡ ((h || i) || (f || g))
     last true g true i = refl
     last true g false true = refl
     last true g false false = refl
@@ -61,8 +63,8 @@ invalid-is cells s =
     last false false false false = refl
 
     apart : (a b c d e f g h i : Bool)
-        → (a || (b || (c || (d || (e || (f || (g || (h || (i || false)))))))))
-        ≡ ((a || (b || (c || (d || (e || (h || (i || false))))))) || (f || g))
+        → (a || (b || (c || (d || (e || (f || (g || (h || i))))))))
+        ≡ ((a || (b || (c || (d || (e || (h || i)))))) || (f || g))
     apart true b c d e f g h i = refl
     apart false true c d e f g h i = refl
     apart false false true d e f g h i = refl
@@ -79,29 +81,38 @@ counts-above-limit c =
     || (above max-waiting (c .counts .waiting)
     || (ltb 0 (c .visit .round) && leb (c .counts .members) (c .visit .round))))
 
-unfoldable pub core-breaks-rule : Core → Bool
-core-breaks-rule c =
-    not (has-group-mask (c .identity .id))
-    || (counts-above-limit c || (is-too-large (c .receiving .base) || is-too-large (c .sending .next)))
+-- the words of the record that have a range of their own, as the model lists them
+abbrev pub words : Identity → Core → Sending → List Ranged
+words identity c sending =
+    (identity .id at-most largest-32) ∷ (c .mode at-most 1) ∷ (c .peer at-most largest-32) ∷ (c .receiving .based at-most 1)
+    ∷ (sending .numbered at-most 1) ∷ (sending .carried at-most 1) ∷ (sending .carrier at-most largest-32) ∷ (sending .gap at-most 1)
+    ∷ (c .visit .continuation at-most 1) ∷ []
 
-pub core-tested : (c : Core) (b l : Bool) → b ≡ not (has-group-mask (c .identity .id)) → l ≡ counts-above-limit c
-    → (((b || l) || is-too-large (c .receiving .base)) || is-too-large (c .sending .next)) ≡ core-breaks-rule c
-unfolding core-breaks-rule
-core-tested c b l b-is l-is =
-    or-assoc (b || l) (is-too-large (c .receiving .base)) (is-too-large (c .sending .next))
-    ∙ or-assoc b l (is-too-large (c .receiving .base) || is-too-large (c .sending .next))
-    ∙ ap₂ (λ (x y : Bool). x || (y || (is-too-large (c .receiving .base) || is-too-large (c .sending .next)))) b-is l-is
+unfoldable pub words-out-of-range : Identity → Core → Sending → Bool
+words-out-of-range identity c sending = any (λ x. above (x .largest) (x .value)) (words identity c sending)
+
+unfoldable pub numbers-break-rule : Identity → Core → Sending → Bool
+numbers-break-rule identity c sending =
+    not (has-group-mask (identity .id))
+    || (counts-above-limit c
+    || (is-too-large (c .receiving .base) || (is-too-large (sending .next) || words-out-of-range identity c sending)))
+
+pub numbers-tested : (identity : Identity) (c : Core) (sending : Sending) (b l w : Bool) → b ≡ not (has-group-mask (identity .id))
+    → l ≡ counts-above-limit c → w ≡ words-out-of-range identity c sending
+    → ((((b || l) || is-too-large (c .receiving .base)) || is-too-large (sending .next)) || w) ≡ numbers-break-rule identity c sending
+unfolding numbers-break-rule
+numbers-tested identity c sending b l w b-is l-is w-is = simp (or-assoc, b-is, l-is, w-is)
 
 -- so many rows as the lent tables have
 pub record CountsWithin (c : Core) : Type 0 where
-  pub members : c .counts .members ≤ 64
-  pub pending : c .counts .pending ≤ 2048
-  pub waiting : c .counts .waiting ≤ 64
+  pub members : c .counts .members ≤ max-members
+  pub pending : c .counts .pending ≤ max-pending
+  pub waiting : c .counts .waiting ≤ max-waiting
 
-pub counts-within : (c : Core) → core-breaks-rule c ≡ false → CountsWithin c
-unfolding core-breaks-rule counts-above-limit
-counts-within c h =
-    let c0 = or-left (counts-above-limit c) _ (or-right (not (has-group-mask (c .identity .id))) _ h) in
+pub counts-within : (identity : Identity) (c : Core) (sending : Sending) → numbers-break-rule identity c sending ≡ false → CountsWithin c
+unfolding numbers-break-rule counts-above-limit
+counts-within identity c sending h =
+    let c0 = or-left (counts-above-limit c) _ (or-right (not (has-group-mask (identity .id))) _ h) in
     let c1 = or-right (above max-members (c .counts .members)) _ c0 in
     let c2 = or-right (above max-pending (c .counts .pending)) _ c1 in
     record {
@@ -126,9 +137,9 @@ rows-disagree c members pending =
     || (not (ascends (packets (c .counts .pending) pending))
     || sums-wrong (members-of (c .counts .members) members) (packets (c .counts .pending) pending) (c .owned))
 
-unfoldable pub tables-break-rule : Core → (members pending waiting : List ℕ) → Bool
-tables-break-rule c members pending waiting =
-    core-breaks-rule c || (rows-break-rule c members pending waiting || rows-disagree c members pending)
+unfoldable pub tables-break-rule : Identity → Core → Sending → (members pending waiting : List ℕ) → Bool
+tables-break-rule identity c sending members pending waiting =
+    numbers-break-rule identity c sending || (rows-break-rule c members pending waiting || rows-disagree c members pending)
 
 -- ---- the rules one by one
 
@@ -148,6 +159,7 @@ record Unbroken (s : State) : Type 0 where
   ids : id-twice s ≡ false
   order : held-sequence-twice s ≡ false
   sums : reserved-sum-wrong s ≡ false
+  words : record-out-of-range s ≡ false
   members : any member-out-of-range (s .members) ≡ false
   packets-in : any packet-out-of-range (s .receive .pending) ≡ false
   entries-in : any entry-out-of-range (s .send .history) ≡ false
@@ -171,7 +183,8 @@ unbroken-of-rules s h =
     let q1 = or-right (is-too-large (s .receive .numbers .base)) _ q0 in
     let q2 = or-right (is-too-large (s .send .numbers .next)) _ q1 in
     let q3 = or-right (any (λ (p : Packet). is-too-large (p .content .sequence)) (s .receive .pending)) _ q2 in
-    let f0 = or-left (field-out-of-range s) _ r6 in
+    let r7 = or-right (record-out-of-range s) _ r6 in
+    let f0 = or-left (field-out-of-range s) _ r7 in
     let f1 = or-right (any member-out-of-range (s .members)) _ f0 in
     let f2 = or-right (any packet-out-of-range (s .receive .pending)) _ f1 in
     record {
@@ -190,6 +203,7 @@ unbroken-of-rules s h =
       ids = or-left (id-twice s) _ r3;
       order = or-left (held-sequence-twice s) _ r4;
       sums = or-left (reserved-sum-wrong s) _ r5;
+      words = or-left (record-out-of-range s) _ r6;
       members = or-left (any member-out-of-range (s .members)) _ f0;
       packets-in = or-left (any packet-out-of-range (s .receive .pending)) _ f1;
       entries-in = or-left (any entry-out-of-range (s .send .history)) _ f2;
@@ -210,7 +224,8 @@ rules-of-unbroken s h =
     (no-either _ _ (h .ids)
     (no-either _ _ (h .order)
     (no-either _ _ (h .sums)
-    (no-either _ _ (no-either _ _ (h .members) (no-either _ _ (h .packets-in) (no-either _ _ (h .entries-in) (h .waiting-in)))) refl))))))
+    (no-either _ _ (h .words)
+    (no-either _ _ (no-either _ _ (h .members) (no-either _ _ (h .packets-in) (no-either _ _ (h .entries-in) (h .waiting-in)))) refl)))))))
 
 -- ---- the rows
 
@@ -288,10 +303,10 @@ entry-parts es = any-or (λ (e : Entry). is-too-large (e .sequence)) entry-out-o
 
 -- ---- the walks test the rules
 
-unfoldable pub walked : Core → List Entry → (members pending waiting : List ℕ) → Bool
-walked c history members pending waiting = tables-break-rule c members pending waiting || history-breaks-rule history
+unfoldable pub walked : Identity → Core → Sending → List Entry → (members pending waiting : List ℕ) → Bool
+walked identity c sending history members pending waiting = tables-break-rule identity c sending members pending waiting || history-breaks-rule history
 
-module _ (c : Core) (history : List Entry) (members pending waiting : List ℕ) where
+module _ (identity : Identity) (c : Core) (sending : Sending) (history : List Entry) (members pending waiting : List ℕ) where
   member-count : length (members-of (c .counts .members) members) ≡ c .counts .members
   member-count = members-length (c .counts .members) members
 
@@ -301,18 +316,19 @@ module _ (c : Core) (history : List Entry) (members pending waiting : List ℕ) 
   waiting-count : length (waitings (c .counts .waiting) waiting) ≡ c .counts .waiting
   waiting-count = tab-length (c .counts .waiting) _
 
-  unbroken-of-walk : walked c history members pending waiting ≡ false → Unbroken (shown c history members pending waiting)
-  unfolding walked tables-break-rule core-breaks-rule counts-above-limit rows-break-rule rows-disagree history-breaks-rule is-blank id-twice held-sequence-twice
+  unbroken-of-walk : walked identity c sending history members pending waiting ≡ false → Unbroken (shown c (rest identity sending history) members pending waiting)
+  unfolding walked tables-break-rule numbers-break-rule counts-above-limit rows-break-rule rows-disagree history-breaks-rule words-out-of-range record-out-of-range record-words is-blank id-twice held-sequence-twice
   unbroken-of-walk h =
-      let tables = or-left (tables-break-rule c members pending waiting) _ h in
-      let past = or-right (tables-break-rule c members pending waiting) _ h in
-      let numbers = or-left (core-breaks-rule c) _ tables in
-      let rest = or-right (core-breaks-rule c) _ tables in
-      let rows = or-left (rows-break-rule c members pending waiting) _ rest in
-      let between = or-right (rows-break-rule c members pending waiting) _ rest in
-      let n1 = or-right (not (has-group-mask (c .identity .id))) _ numbers in
+      let tables = or-left (tables-break-rule identity c sending members pending waiting) _ h in
+      let past = or-right (tables-break-rule identity c sending members pending waiting) _ h in
+      let numbers = or-left (numbers-break-rule identity c sending) _ tables in
+      let further = or-right (numbers-break-rule identity c sending) _ tables in
+      let rows = or-left (rows-break-rule c members pending waiting) _ further in
+      let between = or-right (rows-break-rule c members pending waiting) _ further in
+      let n1 = or-right (not (has-group-mask (identity .id))) _ numbers in
       let c0 = or-left (counts-above-limit c) _ n1 in
       let n2 = or-right (counts-above-limit c) _ n1 in
+      let n3 = or-right (is-too-large (c .receiving .base)) _ n2 in
       let c1 = or-right (above max-members (c .counts .members)) _ c0 in
       let c2 = or-right (above max-pending (c .counts .pending)) _ c1 in
       let ms = members-of (c .counts .members) members in
@@ -323,7 +339,7 @@ module _ (c : Core) (history : List Entry) (members pending waiting : List ℕ) 
       let d1 = or-right (one-twice (each id-of ms)) _ between in
       let entries = sym (entry-parts history) ∙ or-right (above max-history (length history)) _ past in
       record {
-        blank = or-left (not (has-group-mask (c .identity .id))) _ numbers;
+        blank = or-left (not (has-group-mask (identity .id))) _ numbers;
         few-members = ap (above max-members) member-count ∙ or-left (above max-members (c .counts .members)) _ c0;
         short-queues = of-none long-queue ms (all-map _ _ (λ m k. member-unbroken m k .short) ms none-member);
         few-packets = ap (above max-pending) packet-count ∙ or-left (above max-pending (c .counts .pending)) _ c1;
@@ -333,7 +349,7 @@ module _ (c : Core) (history : List Entry) (members pending waiting : List ℕ) 
             ap (λ (n : ℕ). ltb 0 (c .visit .round) && leb n (c .visit .round)) member-count
             ∙ or-right (above max-waiting (c .counts .waiting)) _ c2;
         base = or-left (is-too-large (c .receiving .base)) _ n2;
-        next = or-right (is-too-large (c .receiving .base)) _ n2;
+        next = or-left (is-too-large (sending .next)) _ n3;
         packet-sequences = or-left (any (λ (p : Packet). is-too-large (p .content .sequence)) ps) _ held;
         entry-sequences = or-left (any (λ (e : Entry). is-too-large (e .sequence)) history) _ entries;
         member-sequences =
@@ -341,15 +357,16 @@ module _ (c : Core) (history : List Entry) (members pending waiting : List ℕ) 
             (all-map _ _ (λ m k. member-unbroken m k .sequences) ms none-member);
         ids = or-left (one-twice (each id-of ms)) _ between;
         order = or-left (not (ascends ps)) _ d1;
-        sums = sym (sums-wrong-is (shown c history members pending waiting)) ∙ or-right (not (ascends ps)) _ d1;
+        sums = sym (sums-wrong-is (shown c (rest identity sending history) members pending waiting)) ∙ or-right (not (ascends ps)) _ d1;
+        words = or-right (is-too-large (sending .next)) _ n3;
         members = of-none member-out-of-range ms (all-map _ _ (λ m k. member-unbroken m k .fields) ms none-member);
         packets-in = or-right (any (λ (p : Packet). is-too-large (p .content .sequence)) ps) _ held;
         entries-in = or-right (any (λ (e : Entry). is-too-large (e .sequence)) history) _ entries;
         waiting-in = or-right (any packet-breaks-rule ps) _ r1;
       }
 
-  walk-of-unbroken : Unbroken (shown c history members pending waiting) → walked c history members pending waiting ≡ false
-  unfolding walked tables-break-rule core-breaks-rule counts-above-limit rows-break-rule rows-disagree history-breaks-rule is-blank id-twice held-sequence-twice
+  walk-of-unbroken : Unbroken (shown c (rest identity sending history) members pending waiting) → walked identity c sending history members pending waiting ≡ false
+  unfolding walked tables-break-rule numbers-break-rule counts-above-limit rows-break-rule rows-disagree history-breaks-rule words-out-of-range record-out-of-range record-words is-blank id-twice held-sequence-twice
   walk-of-unbroken h =
       no-either _ _
       (no-either _ _
@@ -359,18 +376,18 @@ module _ (c : Core) (history : List Entry) (members pending waiting : List ℕ) 
       (no-either _ _ (ap (above max-pending) (sym packet-count) ∙ h .few-packets)
       (no-either _ _ (ap (above max-waiting) (sym waiting-count) ∙ h .few-waiting)
       (ap (λ (n : ℕ). ltb 0 (c .visit .round) && leb n (c .visit .round)) (sym member-count) ∙ h .in-round))))
-      (no-either _ _ (h .base) (h .next))))
+      (no-either _ _ (h .base) (no-either _ _ (h .next) (h .words)))))
       (no-either _ _
       (no-either _ _ (members-walked _ (h .short-queues) (h .member-sequences) (h .members))
       (no-either _ _ (packet-parts _ ∙ no-either _ _ (h .packet-sequences) (h .packets-in)) (h .waiting-in)))
       (no-either _ _ (h .ids)
-      (no-either _ _ (h .order) (sums-wrong-is (shown c history members pending waiting) ∙ h .sums)))))
+      (no-either _ _ (h .order) (sums-wrong-is (shown c (rest identity sending history) members pending waiting) ∙ h .sums)))))
       (no-either _ _ (h .short-history) (entry-parts _ ∙ no-either _ _ (h .entry-sequences) (h .entries-in)))
 
-  pub walked-is : walked c history members pending waiting ≡ breaks-rule-outside-cells (shown c history members pending waiting)
+  pub walked-is : walked identity c sending history members pending waiting ≡ breaks-rule-outside-cells (shown c (rest identity sending history) members pending waiting)
   walked-is =
-      same-test _ _ (λ e. rules-of-unbroken (shown c history members pending waiting) (unbroken-of-walk e))
-      (λ e. walk-of-unbroken (unbroken-of-rules (shown c history members pending waiting) e))
+      same-test _ _ (λ e. rules-of-unbroken (shown c (rest identity sending history) members pending waiting) (unbroken-of-walk e))
+      (λ e. walk-of-unbroken (unbroken-of-rules (shown c (rest identity sending history) members pending waiting) e))
     where
       same-test : (a b : Bool) → (a ≡ false → b ≡ false) → (b ≡ false → a ≡ false) → a ≡ b
       same-test true true f g = refl
@@ -416,62 +433,58 @@ module _ (c : Core) (members pending waiting : List ℕ) where
         || sums-wrong (members-of (c .counts .members) members) (packets (c .counts .pending) pending) (c .owned)))
         (sym once ∙ id-is)
 
-  module _ (core : Bool) (core-is : core ≡ core-breaks-rule c) where
-    pub tables-by-core : core ≡ true → true ≡ tables-break-rule c members pending waiting
+  module _ (identity : Identity) (sending : Sending) (core : Bool) (core-is : core ≡ numbers-break-rule identity c sending) where
+    pub tables-by-core : core ≡ true → true ≡ tables-break-rule identity c sending members pending waiting
     unfolding tables-break-rule
-    tables-by-core it = sym (or-yes-left (core-breaks-rule c) _ (sym core-is ∙ it))
+    tables-by-core it = sym (or-yes-left (numbers-break-rule identity c sending) _ (sym core-is ∙ it))
 
     module _ (rows : Bool) (core-good : core ≡ false) (rows-is : rows ≡ rows-break-rule c members pending waiting) where
-      pub tables-by-rows : rows ≡ true → true ≡ tables-break-rule c members pending waiting
+      pub tables-by-rows : rows ≡ true → true ≡ tables-break-rule identity c sending members pending waiting
       unfolding tables-break-rule
       tables-by-rows it =
-          sym (or-yes-right (core-breaks-rule c) _ (or-yes-left (rows-break-rule c members pending waiting) _ (sym rows-is ∙ it)))
+          sym (or-yes-right (numbers-break-rule identity c sending) _ (or-yes-left (rows-break-rule c members pending waiting) _ (sym rows-is ∙ it)))
 
       pub tables-else : (between : Bool) → rows ≡ false → between ≡ rows-disagree c members pending
-          → between ≡ tables-break-rule c members pending waiting
+          → between ≡ tables-break-rule identity c sending members pending waiting
       unfolding tables-break-rule
       tables-else between rows-good between-is =
           between-is
           ∙ ap₂ (λ (a b : Bool). a || (b || rows-disagree c members pending)) (sym core-good ∙ core-is) (sym rows-good ∙ rows-is)
 
 -- with no history, the tables alone
-pub tables-are : (c : Core) (members pending waiting : List ℕ)
-    → tables-break-rule c members pending waiting ≡ breaks-rule-outside-cells (shown c [] members pending waiting)
+pub tables-are : (identity : Identity) (c : Core) (sending : Sending) (members pending waiting : List ℕ)
+    → tables-break-rule identity c sending members pending waiting ≡ breaks-rule-outside-cells (shown c (rest identity sending []) members pending waiting)
 unfolding walked history-breaks-rule any
-tables-are c members pending waiting = sym (or-no (tables-break-rule c members pending waiting)) ∙ walked-is c [] members pending waiting
+tables-are identity c sending members pending waiting = sym (or-no (tables-break-rule identity c sending members pending waiting)) ∙ walked-is identity c sending [] members pending waiting
 
 -- the tables and the history
-module _ (c : Core) (history : List Entry) (members pending waiting : List ℕ) (tables : Bool)
-    (tables-is : tables ≡ breaks-rule-outside-cells (shown c [] members pending waiting)) where
-  pub outside-by-tables : tables ≡ true → true ≡ breaks-rule-outside-cells (shown c history members pending waiting)
+module _ (identity : Identity) (c : Core) (sending : Sending) (history : List Entry) (members pending waiting : List ℕ) (tables : Bool)
+    (tables-is : tables ≡ breaks-rule-outside-cells (shown c (rest identity sending []) members pending waiting)) where
+  pub outside-by-tables : tables ≡ true → true ≡ breaks-rule-outside-cells (shown c (rest identity sending history) members pending waiting)
   unfolding walked
   outside-by-tables it =
       sym
-      (sym (walked-is c history members pending waiting)
-      ∙ or-yes-left (tables-break-rule c members pending waiting) _ (tables-are c members pending waiting ∙ sym tables-is ∙ it))
+      (sym (walked-is identity c sending history members pending waiting)
+      ∙ or-yes-left (tables-break-rule identity c sending members pending waiting) _ (tables-are identity c sending members pending waiting ∙ sym tables-is ∙ it))
 
   pub outside-by-history : (past : Bool) → tables ≡ false → past ≡ history-breaks-rule history
-      → past ≡ breaks-rule-outside-cells (shown c history members pending waiting)
+      → past ≡ breaks-rule-outside-cells (shown c (rest identity sending history) members pending waiting)
   unfolding walked
   outside-by-history past tables-good past-is =
       past-is
-      ∙ ap (λ (b : Bool). b || history-breaks-rule history) (sym (tables-are c members pending waiting ∙ sym tables-is ∙ tables-good))
-      ∙ walked-is c history members pending waiting
+      ∙ ap (λ (b : Bool). b || history-breaks-rule history) (sym (tables-are identity c sending members pending waiting ∙ sym tables-is ∙ tables-good))
+      ∙ walked-is identity c sending history members pending waiting
 
 -- the same as one equation, for a caller that tests the two one after the other
-pub outside-parts : (c : Core) (history : List Entry) (members pending waiting : List ℕ)
-    → breaks-rule-outside-cells (shown c history members pending waiting)
-    ≡ (breaks-rule-outside-cells (shown c [] members pending waiting) || history-breaks-rule history)
+pub outside-parts : (identity : Identity) (c : Core) (sending : Sending) (history : List Entry) (members pending waiting : List ℕ)
+    → breaks-rule-outside-cells (shown c (rest identity sending history) members pending waiting)
+    ≡ (breaks-rule-outside-cells (shown c (rest identity sending []) members pending waiting) || history-breaks-rule history)
 unfolding walked
-outside-parts c history members pending waiting =
-    sym (walked-is c history members pending waiting)
-    ∙ ap (λ (b : Bool). b || history-breaks-rule history) (tables-are c members pending waiting)
+outside-parts identity c sending history members pending waiting =
+    sym (walked-is identity c sending history members pending waiting)
+    ∙ ap (λ (b : Bool). b || history-breaks-rule history) (tables-are identity c sending members pending waiting)
 
 -- ---- what a caller has from the answer that no rule is broken
-
-round-within : (r n : ℕ) → (ltb 0 r && leb n r) ≡ false → r ≤ n - 1
-round-within r n h =
-    by-test (ltb 0 r) (λ e. omega (arith, leb-false n r (ap (λ (b : Bool). b && leb n r) (sym e) ∙ h))) (λ e. omega (arith, ltb-false 0 r e))
 
 -- the model's counts
 pub counted : (s : State) → breaks-rule-outside-cells s ≡ false → Counted s
@@ -483,66 +496,30 @@ counted s h =
       pending = ltb-false max-pending (length (s .receive .pending)) (u .few-packets);
       waiting = ltb-false max-waiting (length (s .waiting)) (u .few-waiting);
       history = ltb-false max-history (length (s .send .history)) (u .short-history);
-      round = round-within (s .visit .round) (length (s .members)) (u .in-round);
+      round = round-of-rule (s .visit .round) (length (s .members)) (u .in-round);
     }
 
 -- the counts of the rows in use
 pub record WithinLimits (c : Core) (history : List Entry) (members : List ℕ) : Type 0 where
   pub counts : CountsWithin c
-  pub entries : length history ≤ 512
+  pub entries : length history ≤ max-history
   pub queues : (i : ℕ) → i < c .counts .members → length (member-at members i .queue) ≤ 16
 
-pub within-limits : (c : Core) (history : List Entry) (members pending waiting : List ℕ)
-    → breaks-rule-outside-cells (shown c history members pending waiting) ≡ false → WithinLimits c history members
+pub within-limits : (identity : Identity) (c : Core) (sending : Sending) (history : List Entry) (members pending waiting : List ℕ)
+    → breaks-rule-outside-cells (shown c (rest identity sending history) members pending waiting) ≡ false → WithinLimits c history members
 unfolding members-of
-within-limits c history members pending waiting h =
-    let most = counted (shown c history members pending waiting) h in
+within-limits identity c sending history members pending waiting h =
+    let most = counted (shown c (rest identity sending history) members pending waiting) h in
     record {
       counts =
           record {
             members = omega (arith, most .members, members-length (c .counts .members) members);
-            pending = omega (arith, most .pending, packet-count c history members pending waiting);
-            waiting = omega (arith, most .waiting, waiting-count c history members pending waiting);
+            pending = omega (arith, most .pending, packet-count identity c sending history members pending waiting);
+            waiting = omega (arith, most .waiting, waiting-count identity c sending history members pending waiting);
           };
       entries = most .history;
       queues =
           λ i below.
-          ltb-false max-events (length (member-at members i .queue))
+          ltb-false max-queued (length (member-at members i .queue))
           (none-there long-queue (c .counts .members) (member-at members) (most .queues) i below);
     }
-
--- what the rows in use say, place by place
-pub record RowsAgree (c : Core) (members pending : List ℕ) : Type 0 where
-  pub ascending : ascends (packets (c .counts .pending) pending) ≡ true
-  pub distinct : Apart (id-at members) (c .counts .members)
-  pub sequences : (k : ℕ) → k < c .counts .pending → packet-at pending k .content .sequence ≤ largest-sequence
-  pub counts : (k : ℕ) → k < c .counts .pending → packet-at pending k .content .count ≤ 65535
-  pub base : c .receiving .base ≤ largest-sequence
-  pub next : c .sending .next ≤ largest-sequence
-
-pub rows-agree : (c : Core) (history : List Entry) (members pending waiting : List ℕ)
-    → breaks-rule-outside-cells (shown c history members pending waiting) ≡ false → RowsAgree c members pending
-unfolding id-twice held-sequence-twice
-rows-agree c history members pending waiting h =
-    let u = unbroken-of-rules (shown c history members pending waiting) h in
-    let ps = packets (c .counts .pending) pending in
-    let good = packet-parts ps ∙ no-either _ _ (u .packet-sequences) (u .packets-in) in
-    record {
-      ascending = not-no (ascends ps) (u .order);
-      distinct =
-          once-apart (c .counts .members) (id-at members) (ap one-twice (sym (ids-of (c .counts .members) members)) ∙ u .ids);
-      sequences =
-          λ k below.
-          ltb-false largest-sequence (packet-at pending k .content .sequence)
-          (none-there (λ (p : Packet). is-too-large (p .content .sequence)) (c .counts .pending) (packet-at pending)
-          (u .packet-sequences) k below);
-      counts =
-          λ k below.
-          packet-small (packet-at pending k) (none-there packet-breaks-rule (c .counts .pending) (packet-at pending) good k below);
-      base = ltb-false largest-sequence (c .receiving .base) (u .base);
-      next = ltb-false largest-sequence (c .sending .next) (u .next);
-    }
-  where
-    not-no : (b : Bool) → not b ≡ false → b ≡ true
-    not-no true e = refl
-    not-no false e = sym e

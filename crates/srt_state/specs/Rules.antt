@@ -1,20 +1,20 @@
 -- Document 01's rules of a valid state, row by row of the lent tables: the tests that stand inside the model's `any`, named.
--- Assumes nothing.
-use mathlib.Core.Path.{_≡_, refl, sym, ap, ap₂, _∙_}
-use mathlib.Core.Bool.{Bool, true, false, _&&_, _||_}
-use mathlib.Core.List.{List, []}
-use Prim.Native.Nat.{ℕ, zero, suc, _^_, _<_}
+use mathlib.Core.Path.{_≡_, ap, ap₂, _∙_}
+use mathlib.Core.Bool.{Bool, false, _&&_, _||_}
+use mathlib.Core.List.{List}
+use Prim.Native.Nat.{ℕ, _^_, _<_}
 use native.Mathlib.Omega.{arith}
 use borrow.Author.Tests.{le-ltb}
 use lib.Dec.{eqb}
 use lib.ListN.{length}
 use Rattle.srt_protocol.specs.Cells.{cell-size}
 use Rattle.srt_group_model.specs.Tools.{if_then_else_, any}
+use Rattle.srt_group_model.specs.Reason.{or-assoc}
 use Rattle.srt_group_model.specs.State.{Member}
 use Rattle.srt_group_model.specs.Backup.{max-history}
 use Rattle.srt_group_model.specs.Legs.{largest-16, largest-32, largest-64}
 use Rattle.srt_group_model.specs.Cells.{is-data}
-use Rattle.srt_group_model.specs.Validity.{above, max-events, is-too-large, leg-sequence-too-large, data-out-of-range, event-out-of-range, leg-out-of-range}
+use Rattle.srt_group_model.specs.Validity.{above, max-queued, is-too-large, leg-sequence-too-large, data-out-of-range, event-out-of-range, leg-out-of-range}
 use Rattle.srt_group_model.specs.declared.Event.{Event}
 use Rattle.srt_group_model.specs.declared.Leg.{Leg}
 use Rattle.srt_group_model.specs.declared.Membership.{Membership}
@@ -22,9 +22,6 @@ use Rattle.srt_group_model.specs.declared.Packet.{Packet}
 use Rattle.srt_group_model.specs.declared.Sender.{Sender}
 use Rattle.srt_group_model.specs.declared.Entry.{Entry}
 use Rattle.srt_group_model.specs.declared.Waiting.{Waiting}
-use Rattle.word_rows.specs.Tab.{tab, tab-length}
-use Rattle.srt_tables.specs.declared.history.HistoryRing.{HistoryRing}
-use Rattle.srt_tables.specs.Ring.{Arrays, entry-at, entries-of}
 
 -- ---- the tests
 
@@ -60,7 +57,7 @@ unfoldable pub event-breaks-rule : Event → Bool
 event-breaks-rule e = event-sequence-too-large e || event-out-of-range e
 
 unfoldable pub queue-breaks-rule : List Event → Bool
-queue-breaks-rule q = above max-events (length q) || any event-breaks-rule q
+queue-breaks-rule q = above max-queued (length q) || any event-breaks-rule q
 
 unfoldable pub leg-breaks-rule : Leg → Bool
 leg-breaks-rule l = leg-sequence-too-large l || leg-out-of-range l
@@ -77,34 +74,7 @@ entry-breaks-rule e = is-too-large (e .sequence) || entry-out-of-range e
 unfoldable pub history-breaks-rule : List Entry → Bool
 history-breaks-rule es = above max-history (length es) || any entry-breaks-rule es
 
--- the history's arrays as far as these rules read them: no cell
-abbrev pub without-cells : (sequences lengths sources : List ℕ) → Arrays
-without-cells sequences lengths sources = record { sequences = sequences; cells = []; lengths = lengths; sources = sources }
-
-same-tested : {A : Type 0} (test : A → Bool) (n : ℕ) (f g : ℕ → A) → ((i : ℕ) → test (f i) ≡ test (g i))
-    → any test (tab n f) ≡ any test (tab n g)
-unfolding any tab
-same-tested test zero f g same = refl
-same-tested test (suc n) f g same = ap₂ _||_ (same 0) (same-tested test n (λ i. f (suc i)) (λ i. g (suc i)) (λ i. same (suc i)))
-
-pub tested-without-cells : (r : HistoryRing) (a : Arrays)
-    → history-breaks-rule (entries-of r (without-cells (a .sequences) (a .lengths) (a .sources))) ≡ history-breaks-rule (entries-of r a)
-unfolding history-breaks-rule entry-breaks-rule entry-out-of-range
-tested-without-cells r a =
-    let b = without-cells (a .sequences) (a .lengths) (a .sources) in
-    ap₂ _||_
-    (ap (above max-history) (tab-length (r .length) (entry-at r b) ∙ sym (tab-length (r .length) (entry-at r a))))
-    (same-tested entry-breaks-rule (r .length) (entry-at r b) (entry-at r a) (λ i. refl))
-
--- ---- laws of a choice
-
-pub or-assoc : (a b c : Bool) → ((a || b) || c) ≡ (a || (b || c))
-or-assoc true b c = refl
-or-assoc false b c = refl
-
-pub or-no : (a : Bool) → (a || false) ≡ a
-or-no true = refl
-or-no false = refl
+-- ---- laws
 
 -- a member's three parts, as they are read and tested
 pub member-tested : (m : Member) (x : Membership) (l : Leg) (a b q : Bool) → x ≡ m .membership → a ≡ membership-out-of-range x

@@ -1,5 +1,5 @@
 -- The rule "a reserved sum unequal to its packets' counts", as one walk over the packets finds it: the counts of each packet
--- are added to the sum of its place, that of its member or the group's own. Assumes nothing.
+-- are added to the sum of its place, that of its member or the group's own.
 use mathlib.Core.Path.{_≡_, refl, ap, ap₂, sym, subst, _∙_}
 use mathlib.Core.Bool.{Bool, true, false, not, _&&_, _||_}
 use mathlib.Core.List.{List, [], _∷_, _++_}
@@ -20,7 +20,7 @@ use Rattle.srt_group_model.specs.Legs.{largest-16, largest-32}
 use Rattle.srt_group_model.specs.Members.{id-of, has-id, find}
 use Rattle.srt_group_model.specs.Removal.{is-owned}
 use Rattle.srt_group_model.specs.Cells.{is-data}
-use Rattle.srt_group_model.specs.Validity.{above, max-events, is-too-large, one-twice, held-count, queued-count, member-sum-wrong, is-unreserved, reserved-sum-wrong, data-out-of-range, event-out-of-range}
+use Rattle.srt_group_model.specs.Validity.{max-pending, max-members, above, max-queued, is-too-large, one-twice, held-count, queued-count, member-sum-wrong, is-unreserved, reserved-sum-wrong, data-out-of-range, event-out-of-range}
 use Rattle.srt_group_model.specs.declared.Data.{Data}
 use Rattle.srt_group_model.specs.declared.Event.{Event}
 use Rattle.srt_group_model.specs.declared.Membership.{Membership}
@@ -29,9 +29,9 @@ use Rattle.srt_group_model.specs.declared.Receiver.{Receiver}
 use Rattle.srt_connection.specs.declared.rows.Ring.{Ring}
 use Rattle.srt_connection.specs.declared.members.Found.{Found}
 use Rattle.srt_connection.specs.declared.members.Found.the-variants.{At, Nothing}
-use Rattle.srt_connection.specs.Rows.{part, ring-of, member-of}
+use Rattle.srt_connection.specs.Rows.{receiver-part, part, ring-of, member-of}
 use Rattle.srt_connection.specs.Members.{member-at, members-of, found-of, found-below, found-id, found-none}
-use Rattle.srt_tables.specs.Packets.{packet-at, packets}
+use Rattle.srt_tables.specs.Packets.{packet-at, packets, is-held-for}
 use Rattle.word_rows.specs.Tab.{tab, tab-push}
 use Rattle.srt_state.specs.Rules.{event-breaks-rule, queue-breaks-rule, member-breaks-rule, packet-breaks-rule, packet-out-of-range, event-sequence-too-large, leg-breaks-rule, membership-out-of-range}
 use Rattle.srt_state.specs.Walks.{any-there, any-nowhere, any-same, none-there, queued, the-queue, queue-length}
@@ -53,13 +53,9 @@ packet-count p = p .content .count
 abbrev pub event-count : Event → ℕ
 event-count e = e .content .count
 
--- held for a member, and not by the group itself
-abbrev pub is-held-for : ℕ → Packet → Bool
-is-held-for id p = eqb (p .member) id && not (is-owned p)
-
 -- the place of the group's own sum, behind those of the members
 abbrev pub own-place : ℕ
-own-place = 64
+own-place = max-members
 
 -- the place of the sum that a packet's count is added to
 unfoldable pub sum-place : List Member → Packet → Found
@@ -115,11 +111,11 @@ module _ {A : Type 0} (test : A → Bool) (count : A → ℕ) where
   unfolding counted if_then_else_
   counted-no x it = rw it
 
-  pub counted-small : (x : A) → (test x ≡ true → count x ≤ 65535) → counted test count x ≤ 65535
+  pub counted-small : (x : A) → (test x ≡ true → count x ≤ largest-16) → counted test count x ≤ largest-16
   unfolding counted
-  counted-small x small = if-elim (λ (n : ℕ). n ≤ 65535) (test x) (count x) 0 small (λ e. omega arith)
+  counted-small x small = if-elim (λ (n : ℕ). n ≤ largest-16) (test x) (count x) 0 small (λ e. omega arith)
 
-  pub sum-small : (n : ℕ) (f : ℕ → A) → ((i : ℕ) → i < n → test (f i) ≡ true → count (f i) ≤ 65535) → sum-of test count n f ≤ 65535 * n
+  pub sum-small : (n : ℕ) (f : ℕ → A) → ((i : ℕ) → i < n → test (f i) ≡ true → count (f i) ≤ largest-16) → sum-of test count n f ≤ largest-16 * n
   sum-small zero f small = omega (arith, sum-none f)
   sum-small (suc n) f small =
       omega (
@@ -132,19 +128,19 @@ module _ {A : Type 0} (test : A → Bool) (count : A → ℕ) where
 
 -- ---- counts that a packet or an event can have, from the rows' tests
 
-data-small : (d : Data) → data-out-of-range d ≡ false → d .count ≤ 65535
+data-small : (d : Data) → data-out-of-range d ≡ false → d .count ≤ largest-16
 unfolding data-out-of-range
 data-small d h =
     ltb-false largest-16 (d .count) (or-left (above largest-16 (d .count)) _ (or-right (eqb (d .count) 0) _ h))
 
-pub packet-small : (p : Packet) → packet-breaks-rule p ≡ false → packet-count p ≤ 65535
+pub packet-small : (p : Packet) → packet-breaks-rule p ≡ false → packet-count p ≤ largest-16
 unfolding packet-breaks-rule packet-out-of-range
 packet-small p h =
     data-small (p .content)
     (or-right (above 1 (p .owned)) _
     (or-right (above largest-32 (p .member)) _ (or-right (is-too-large (p .content .sequence)) _ h)))
 
-pub event-small : (e : Event) → event-breaks-rule e ≡ false → is-data e ≡ true → event-count e ≤ 65535
+pub event-small : (e : Event) → event-breaks-rule e ≡ false → is-data e ≡ true → event-count e ≤ largest-16
 unfolding event-breaks-rule event-out-of-range
 event-small e h it =
     data-small (e .content)
@@ -157,24 +153,24 @@ pub record Queued (row : List ℕ) (ring : Ring) (at sum : ℕ) : Type 0 where
   pub within : at ≤ ring .length
   pub is : sum ≡ sum-of is-data event-count at (queued row ring)
 
-module _ (row : List ℕ) (ring : Ring) (read : ring ≡ ring-of (part row 3)) (good : queue-breaks-rule (member-of row .queue) ≡ false) where
-  pub queue-short : ring .length ≤ 16
+module _ (row : List ℕ) (ring : Ring) (read : ring ≡ ring-of (part row receiver-part)) (good : queue-breaks-rule (member-of row .queue) ≡ false) where
+  pub queue-short : ring .length ≤ max-queued
   unfolding queue-breaks-rule
   queue-short =
-      let short = ltb-false 16 (length (member-of row .queue)) (or-left (above max-events (length (member-of row .queue))) _ good) in
+      let short = ltb-false max-queued (length (member-of row .queue)) (or-left (above max-queued (length (member-of row .queue))) _ good) in
       omega (arith, queue-length row ring read)
 
   event-good : (i : ℕ) → i < ring .length → event-breaks-rule (queued row ring i) ≡ false
   unfolding queue-breaks-rule
   event-good i below =
       none-there event-breaks-rule (ring .length) (queued row ring)
-      (ap (any event-breaks-rule) (sym (the-queue row ring read)) ∙ or-right (above max-events (length (member-of row .queue))) _ good) i below
+      (ap (any event-breaks-rule) (sym (the-queue row ring read)) ∙ or-right (above max-queued (length (member-of row .queue))) _ good) i below
 
   pub queued-start : Queued row ring 0 0
   queued-start = record { within = omega arith; is = sym (sum-none is-data event-count (queued row ring)) }
 
   module _ (at sum : ℕ) (here : Queued row ring at sum) where
-    pub queued-small : sum ≤ 65535 * at
+    pub queued-small : sum ≤ largest-16 * at
     queued-small =
         omega (
           arith,
@@ -213,8 +209,8 @@ module _ (row : List ℕ) (ring : Ring) (read : ring ≡ ring-of (part row 3)) (
         (ap (λ (n : ℕ). tab n (queued row ring)) whole ∙ sym (the-queue row ring read))
 
 -- the queued counts stay far below 2^64
-pub queued-count-small : (row : List ℕ) (ring : Ring) → ring ≡ ring-of (part row 3) → queue-breaks-rule (member-of row .queue) ≡ false
-    → queued-count (member-of row .queue) ≤ 1048560
+pub queued-count-small : (row : List ℕ) (ring : Ring) → ring ≡ ring-of (part row receiver-part) → queue-breaks-rule (member-of row .queue) ≡ false
+    → queued-count (member-of row .queue) ≤ largest-16 * max-queued
 queued-count-small row ring read good =
     let sum = sum-of is-data event-count (ring .length) (queued row ring) in
     let whole : Queued row ring (ring .length) sum = record { within = omega arith; is = refl } in
@@ -263,7 +259,7 @@ module _ (sums : List ℕ) (place more : ℕ) (long : place < length sums) where
   sum-elsewhere i add other is =
       getD-set-other sums place i (getD sums place 0 + more) 0 other ∙ sym (ap (λ (n : ℕ). getD sums i 0 + n) is ∙ add-zero (getD sums i 0))
 
-module _ (t : List ℕ) (count : ℕ) (few : count ≤ 64) (p : Packet) where
+module _ (t : List ℕ) (count : ℕ) (few : count ≤ max-members) (p : Packet) where
   placed-own : is-owned p ≡ true → Placed t count p own-place
   unfolding is-unreserved
   placed-own mine =
@@ -349,7 +345,7 @@ same-place i j e = cc
 never-nothing : {C : Type 0} (i : ℕ) → _≡_ {A = Found} Nothing (At i) → C
 never-nothing i e = let different : _≡_ {A = ℕ} 0 1 = cc in absurd (omega arith)
 
-module _ (t : List ℕ) (count : ℕ) (few : count ≤ 64) (once : one-twice (each id-of (members-of count t)) ≡ false) where
+module _ (t : List ℕ) (count : ℕ) (few : count ≤ max-members) (once : one-twice (each id-of (members-of count t)) ≡ false) where
   ids-apart : Apart (id-at t) count
   ids-apart = once-apart count (id-at t) (ap one-twice (sym (ids-of count t)) ∙ once)
 
@@ -364,7 +360,7 @@ module _ (t : List ℕ) (count : ℕ) (few : count ≤ 64) (once : one-twice (ea
       placed-held t count few p ids-apart other place (found-below count (p .member) place t is) (found-id count (p .member) place t is))
 
   module _ (pending : List ℕ) (n : ℕ) (good : any packet-breaks-rule (packets n pending) ≡ false) where
-    count-small : (k : ℕ) → k < n → packet-count (packet-at pending k) ≤ 65535
+    count-small : (k : ℕ) → k < n → packet-count (packet-at pending k) ≤ largest-16
     count-small k below =
         packet-small (packet-at pending k) (none-there packet-breaks-rule n (packet-at pending) good k below)
 
@@ -378,11 +374,11 @@ module _ (t : List ℕ) (count : ℕ) (few : count ≤ 64) (once : one-twice (ea
         }
 
     module _ (at : ℕ) (sums : List ℕ) (here : Adding t count pending at sums) (most : at ≤ n) where
-      pub own-small : getD sums own-place 0 ≤ 65535 * at
+      pub own-small : getD sums own-place 0 ≤ largest-16 * at
       own-small =
           omega (arith, here .own, sum-small is-owned packet-count at (packet-at pending) (λ i below it. count-small i (omega arith)))
 
-      pub held-small : (i : ℕ) → i < count → getD sums i 0 ≤ 65535 * at
+      pub held-small : (i : ℕ) → i < count → getD sums i 0 ≤ largest-16 * at
       held-small i below =
           omega (
             arith,
@@ -417,11 +413,11 @@ module _ (t : List ℕ) (count : ℕ) (few : count ≤ 64) (once : one-twice (ea
         place-inside = ⊎-elim (λ own. omega (arith, here .long)) (λ held. omega (arith, here .long)) (placed p place found .inside)
 
         -- the sum stays far below 2^64
-        pub sum-fits : n ≤ 2048 → getD sums place 0 + packet-count p < 2 ^ 64
+        pub sum-fits : n ≤ max-pending → getD sums place 0 + packet-count p < 2 ^ 64
         sum-fits most =
             omega (
               arith,
-              ⊎-elim (λ own. subst (λ (k : ℕ). getD sums k 0 ≤ 65535 * at) (sym own) (own-small at sums here (omega arith)))
+              ⊎-elim (λ own. subst (λ (k : ℕ). getD sums k 0 ≤ largest-16 * at) (sym own) (own-small at sums here (omega arith)))
                   (λ held. held-small at sums here (omega arith) place held) (placed p place found .inside),
               ap packet-count read,
               count-small at inside,
@@ -528,8 +524,8 @@ module _ (t : List ℕ) (count : ℕ) (pending : List ℕ) (n owned : ℕ) (answ
         ∙ sym (wrong-is ∙ ap (λ (b : Bool). not b || sums-differ t sums count) (eq-eqb owned (getD sums own-place 0) same))
 
 -- the sums stay far below 2^64
-pub sums-small : (t : List ℕ) (count : ℕ) → count ≤ 64 → one-twice (each id-of (members-of count t)) ≡ false → (pending : List ℕ) (n : ℕ)
-    → any packet-breaks-rule (packets n pending) ≡ false → n ≤ 2048 → (answer : Bool) (sums : List ℕ)
-    → AddedUp t count pending n answer sums → answer ≡ false → (i : ℕ) → i < count → getD sums i 0 ≤ 134215680
+pub sums-small : (t : List ℕ) (count : ℕ) → count ≤ max-members → one-twice (each id-of (members-of count t)) ≡ false → (pending : List ℕ) (n : ℕ)
+    → any packet-breaks-rule (packets n pending) ≡ false → n ≤ max-pending → (answer : Bool) (sums : List ℕ)
+    → AddedUp t count pending n answer sums → answer ≡ false → (i : ℕ) → i < count → getD sums i 0 ≤ largest-16 * max-pending
 sums-small t count few once pending n good most answer sums added reserved i below =
     omega (arith, held-small t count few once pending n good n sums (added .sums-are reserved) (omega arith) i below)

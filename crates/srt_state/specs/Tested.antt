@@ -1,23 +1,26 @@
--- Code 6 whole: the rules outside the cells, and then the pass over the cells. Assumes nothing.
+-- Code 6 whole: the rules outside the cells, and then the pass over the cells.
 use mathlib.Core.Path.{_≡_, refl, sym, ap, ap₂, subst, _∙_}
 use mathlib.Core.Bool.{Bool, true, false, not, _||_}
 use mathlib.Core.List.{List, []}
 use Prim.Native.Nat.{ℕ, _*_, _≤_}
 use native.Mathlib.Omega.{arith}
 use lib.ListN.{length}
+use borrow.Author.Tests.{not-false}
 use Rattle.word_rows.specs.Tab.{tab-length}
 use Rattle.srt_group_model.specs.declared.Core.{Core}
+use Rattle.srt_group_model.specs.declared.Identity.{Identity}
+use Rattle.srt_group_model.specs.declared.Sending.{Sending}
 use Rattle.srt_group_model.specs.Reason.{not-both}
 use Rattle.srt_group_model.specs.State.{State}
 use Rattle.srt_group_model.specs.Cells.{used-cells}
 use Rattle.srt_group_model.specs.CellsKept.{history-cells}
 use Rattle.srt_group_model.specs.Validity.{cell-twice, cell-beyond-store, is-invalid}
+use Rattle.srt_group_model.specs.Backup.{max-history}
 use Rattle.srt_connection.specs.Rows.{row-size}
 use Rattle.srt_tables.specs.declared.history.HistoryRing.{HistoryRing}
 use Rattle.srt_tables.specs.Ring.{Arrays, entry-at, entries-of}
-use Rattle.srt_state.specs.Shown.{shown}
-use Rattle.srt_state.specs.Rules.{without-cells, history-breaks-rule, tested-without-cells}
-use Rattle.srt_state.specs.Outside.{breaks-rule-outside-cells, invalid-is, outside-parts, WithinLimits, within-limits}
+use Rattle.srt_group_shown.specs.Shown.{rest, shown}
+use Rattle.srt_state.specs.Outside.{breaks-rule-outside-cells, invalid-is, WithinLimits, within-limits}
 use Rattle.srt_state.specs.CellPass.{Represents, sent-cells, named-cells, are-apart, Marked}
 use Rattle.srt_state.specs.CellPassLaws.{sent-is-history, named-are-used, cell-rules}
 
@@ -26,20 +29,12 @@ pub record Tested (cells : ℕ) (s : State) (r : Bool) (flags : List ℕ) : Type
   pub is : r ≡ is-invalid cells s
   pub represents : r ≡ false → Represents flags (used-cells s)
 
-module _ (core : Core) (r : HistoryRing) (a : Arrays) (members pending waiting : List ℕ) where
+module _ (identity : Identity) (core : Core) (sending : Sending) (r : HistoryRing) (a : Arrays) (members pending waiting : List ℕ) where
   abbrev state : State
-  state = shown core (entries-of r a) members pending waiting
+  state = shown core (rest identity sending (entries-of r a)) members pending waiting
 
   abbrev outside : Bool
-  outside =
-      breaks-rule-outside-cells (shown core (entries-of r (without-cells (a .sequences) (a .lengths) (a .sources))) members pending waiting)
-
-  -- these rules read no cell of the history
-  outside-is : outside ≡ breaks-rule-outside-cells state
-  outside-is =
-      outside-parts core (entries-of r (without-cells (a .sequences) (a .lengths) (a .sources))) members pending waiting
-      ∙ ap (λ (b : Bool). breaks-rule-outside-cells (shown core [] members pending waiting) || b) (tested-without-cells r a)
-      ∙ sym (outside-parts core (entries-of r a) members pending waiting)
+  outside = breaks-rule-outside-cells state
 
   module _ (cells : ℕ) where
     pub tested-broken : (flags : List ℕ) → outside ≡ true → Tested cells state true flags
@@ -48,37 +43,33 @@ module _ (core : Core) (r : HistoryRing) (a : Arrays) (members pending waiting :
           is =
               sym
               (invalid-is cells state
-              ∙ ap (λ (b : Bool). b || (cell-twice state || cell-beyond-store cells state)) (sym outside-is ∙ broken));
+              ∙ ap (λ (b : Bool). b || (cell-twice state || cell-beyond-store cells state)) broken);
           represents = λ no. not-both refl no;
         }
 
     pub tested-marked : (flags : List ℕ) (m : Bool) → outside ≡ false
-        → Marked cells (named-cells (core .counts) members pending (sent-cells r (a .cells))) m flags
+        → Marked cells (named-cells (core .counts) members pending (sent-cells r (a .history))) m flags
         → Tested cells state (not m) flags
     tested-marked flags m fine marked =
-        let same : named-cells (core .counts) members pending (sent-cells r (a .cells)) ≡ used-cells state =
-        ap (named-cells (core .counts) members pending) (sent-is-history r a) ∙ named-are-used cells core (entries-of r a) members pending waiting
+        let same : named-cells (core .counts) members pending (sent-cells r (a .history)) ≡ used-cells state =
+        ap (named-cells (core .counts) members pending) (sent-is-history r a) ∙ named-are-used cells core (rest identity sending (entries-of r a)) members pending waiting
         in
         record {
           is =
-              ap not (marked .is ∙ ap (are-apart cells) same ∙ ap (are-apart cells) (sym (named-are-used cells core (entries-of r a) members pending waiting)) ∙ cell-rules cells core (entries-of r a) members pending waiting)
+              ap not (marked .is ∙ ap (are-apart cells) same ∙ ap (are-apart cells) (sym (named-are-used cells core (rest identity sending (entries-of r a)) members pending waiting)) ∙ cell-rules cells core (rest identity sending (entries-of r a)) members pending waiting)
               ∙ not-not (cell-twice state || cell-beyond-store cells state)
-              ∙ ap (λ (b : Bool). b || (cell-twice state || cell-beyond-store cells state)) (sym (sym outside-is ∙ fine))
+              ∙ ap (λ (b : Bool). b || (cell-twice state || cell-beyond-store cells state)) (sym fine)
               ∙ sym (invalid-is cells state);
-          represents = λ no. subst (Represents flags) same (marked .represents (of-not m no));
+          represents = λ no. subst (Represents flags) same (marked .represents (not-false m no));
         }
       where
         not-not : (b : Bool) → not (not b) ≡ b
         not-not true = refl
         not-not false = refl
 
-        of-not : (b : Bool) → not b ≡ false → b ≡ true
-        of-not true e = refl
-        of-not false e = not-both refl e
-
   -- what the pass over the cells relies on
   pub within : outside ≡ false → WithinLimits core (entries-of r a) members
-  within fine = within-limits core (entries-of r a) members pending waiting (sym outside-is ∙ fine)
+  within fine = within-limits identity core sending (entries-of r a) members pending waiting fine
 
-  pub ring-fits : outside ≡ false → r .length ≤ 512
+  pub ring-fits : outside ≡ false → r .length ≤ max-history
   ring-fits fine = omega (arith, within fine .entries, tab-length (r .length) (entry-at r a))

@@ -1,4 +1,4 @@
--- A test over the rows of a table, as a walk finds it: the first row that passes, or none. Assumes nothing.
+-- A test over the rows of a table, as a walk finds it: the first row that passes, or none.
 use mathlib.Core.Path.{_≡_, refl, ap, ap₂, sym, _∙_}
 use mathlib.Core.Bool.{Bool, true, false, _||_}
 use mathlib.Core.List.{List, [], _∷_}
@@ -10,10 +10,10 @@ use lib.ListN.{length, getD}
 use Rattle.srt_group_model.specs.Tools.{any}
 use Rattle.srt_group_model.specs.Reason.{or-left, or-right, or-yes-left, or-yes-right}
 use Rattle.srt_group_model.specs.Backup.{max-history}
-use Rattle.srt_group_model.specs.Validity.{max-events}
+use Rattle.srt_group_model.specs.Validity.{max-queued}
 use Rattle.srt_group_model.specs.declared.Event.{Event}
 use Rattle.srt_connection.specs.declared.rows.Ring.{Ring}
-use Rattle.srt_connection.specs.Rows.{part, ring-of, event-in, queue-of, member-parts, member-of}
+use Rattle.srt_connection.specs.Rows.{receiver-part, part, ring-of, event-in, queue-of, member-parts, member-of}
 use Rattle.srt_tables.specs.declared.history.HistoryRing.{HistoryRing}
 use Rattle.srt_tables.specs.Ring.{Arrays, entry-in, entry-at, entries-of}
 use Rattle.word_rows.specs.Tab.{tab, tab-length}
@@ -87,9 +87,9 @@ module _ {A : Type 0} (test : A → Bool) (f : ℕ → A) where
 -- ---- a leg's queue, as the ring in its row shows it
 
 abbrev pub queued : List ℕ → Ring → ℕ → Event
-queued row ring at = event-in row ((ring .start + at) % 16)
+queued row ring at = event-in row ((ring .start + at) % max-queued)
 
-module _ (row : List ℕ) (ring : Ring) (read : ring ≡ ring-of (part row 3)) where
+module _ (row : List ℕ) (ring : Ring) (read : ring ≡ ring-of (part row receiver-part)) where
   pub the-queue : member-of row .queue ≡ tab (ring .length) (queued row ring)
   unfolding member-of member-parts queue-of
   the-queue = ap (λ (x : Ring). tab (x .length) (queued row x)) (sym read)
@@ -97,27 +97,27 @@ module _ (row : List ℕ) (ring : Ring) (read : ring ≡ ring-of (part row 3)) w
   pub queue-length : length (member-of row .queue) ≡ ring .length
   queue-length = ap length the-queue ∙ tab-length (ring .length) (queued row ring)
 
-  pub queue-too-long : 16 < ring .length → true ≡ queue-breaks-rule (member-of row .queue)
+  pub queue-too-long : max-queued < ring .length → true ≡ queue-breaks-rule (member-of row .queue)
   unfolding queue-breaks-rule
-  queue-too-long long = rw (lt-ltb max-events (length (member-of row .queue)) (omega (arith, queue-length)))
+  queue-too-long long = rw (lt-ltb max-queued (length (member-of row .queue)) (omega (arith, queue-length)))
 
-  pub queue-walked : {answer : Bool} → ring .length ≤ 16 → answer ≡ any event-breaks-rule (tab (ring .length) (queued row ring))
+  pub queue-walked : {answer : Bool} → ring .length ≤ max-queued → answer ≡ any event-breaks-rule (tab (ring .length) (queued row ring))
       → answer ≡ queue-breaks-rule (member-of row .queue)
   unfolding queue-breaks-rule
   queue-walked short walked =
       walked ∙ ap (any event-breaks-rule) (sym the-queue)
       ∙ ap (λ (long : Bool). long || any event-breaks-rule (member-of row .queue))
-      (sym (le-ltb max-events (length (member-of row .queue)) (omega (arith, queue-length))))
+      (sym (le-ltb max-queued (length (member-of row .queue)) (omega (arith, queue-length))))
 
 -- ---- the history's ring
 
 module _ (r : HistoryRing) (a : Arrays) where
-  pub history-too-long : 512 < r .length → true ≡ history-breaks-rule (entries-of r a)
+  pub history-too-long : max-history < r .length → true ≡ history-breaks-rule (entries-of r a)
   unfolding history-breaks-rule
   history-too-long long =
       rw (lt-ltb max-history (length (entries-of r a)) (omega (arith, tab-length (r .length) (entry-at r a))))
 
-  pub history-walked : {answer : Bool} → r .length ≤ 512 → answer ≡ any entry-breaks-rule (entries-of r a)
+  pub history-walked : {answer : Bool} → r .length ≤ max-history → answer ≡ any entry-breaks-rule (entries-of r a)
       → answer ≡ history-breaks-rule (entries-of r a)
   unfolding history-breaks-rule
   history-walked short walked =
@@ -125,6 +125,6 @@ module _ (r : HistoryRing) (a : Arrays) where
       ∙ ap (λ (long : Bool). long || any entry-breaks-rule (entries-of r a))
       (sym (le-ltb max-history (length (entries-of r a)) (omega (arith, tab-length (r .length) (entry-at r a)))))
 
-  -- the start read modulo 512 first
-  pub entry-there : (at index : ℕ) → at ≡ (r .start + index) % 512 → entry-in a at ≡ entry-at r a index
+  -- the start read modulo max-history first
+  pub entry-there : (at index : ℕ) → at ≡ (r .start + index) % max-history → entry-in a at ≡ entry-at r a index
   entry-there at index same = ap (entry-in a) same

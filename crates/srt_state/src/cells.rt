@@ -8,18 +8,22 @@ ghost use lib.ListN.{length};
 ghost use Rattle.srt_group_model.specs.Tools.{at-place};
 ghost use Rattle.srt_group_model.specs.Cells.{queue-cells, queued-cells};
 ghost use Rattle.srt_group_model.specs.CellsKept.{pending-cells};
+ghost use Rattle.srt_group_model.specs.Backup.{max-history};
+ghost use Rattle.srt_group_model.specs.Validity.{max-pending};
+ghost use Rattle.srt_protocol.specs.Cells.{max-cells};
 ghost use Rattle.srt_connection.specs.Rows.{row-size, member-of};
 ghost use Rattle.srt_connection.specs.Members.{member-at, members-of, has-row};
-ghost use Rattle.srt_tables.specs.Packets.{packets};
+ghost use Rattle.srt_tables.specs.Packets.{pending-size, packets};
 ghost use Rattle.srt_state.specs.CellPass.{Flags, Represents, Marks, event-cells, table-cells, sent-cells, named-cells, Marked, LowestFree};
 use crate::rows::queue_event;
-use srt_connection::queue::MAX_EVENTS;
 use srt_connection::queue::queue_length;
+use srt_connection::rows::MAX_QUEUED;
 use srt_connection::rows::ROW;
 use srt_connection::rows::ring_of;
 use srt_group_model::Counts;
 use srt_group_model::Event;
 use srt_tables::history::HistoryRing;
+use srt_tables::history::cell_of;
 use srt_tables::history::place;
 use srt_tables::pending::cell_at;
 
@@ -51,7 +55,7 @@ fn queued_event(row: &[u64], index: u64) -> Event
     ensures { λ r. ⌜ at-place index (member-of (now (row .entry)) .queue) ≡ some r ⌝ }
 {
     let ring = ring_of(row);
-    queue_event(row, ring, index % MAX_EVENTS)
+    queue_event(row, ring, index % MAX_QUEUED)
 }
 
 // Marks the cell of a queued event: only data has one.
@@ -111,7 +115,7 @@ fn mark_members(flags: &mut [u8], cells: usize, members: &[u64], count: usize) -
 
 // Marks the cells of the first `count` held packets.
 fn mark_pending(flags: &mut [u8], cells: usize, pending: &[u64], count: usize) -> bool
-    requires { ⌜ (18432 ≤ length (now pending)) × (count ≤ 2048) ⌝ }
+    requires { ⌜ (pending-size ≤ length (now pending)) × (count ≤ max-pending) ⌝ }
     requires { ⌜ Flags cells (now flags) ⌝ }
     ensures { λ r. ⌜ Marks cells (pending-cells (packets count (now (pending .entry)))) (now (flags .entry)) r (now (flags .exit)) ⌝ }
 {
@@ -135,7 +139,7 @@ pub fn mark_tables(
     pending: &[u64],
 ) -> bool
     requires { ⌜ counts .members * row-size ≤ length (now members) ⌝ }
-    requires { ⌜ (18432 ≤ length (now pending)) × (counts .pending ≤ 2048) ⌝ }
+    requires { ⌜ (pending-size ≤ length (now pending)) × (counts .pending ≤ max-pending) ⌝ }
     requires { ⌜ Flags cells (now flags) ⌝ }
     ensures { λ r. ⌜ Marks cells (table-cells counts (now (members .entry)) (now (pending .entry))) (now (flags .entry)) r (now (flags .exit)) ⌝ }
 {
@@ -145,17 +149,17 @@ pub fn mark_tables(
     mark_pending(flags, cells, pending, counts.pending)
 }
 
-// Marks the cells of the history: `sent` is its array of cells.
-pub fn mark_history(flags: &mut [u8], cells: usize, ring: HistoryRing, sent: &[u16]) -> bool
-    requires { ⌜ (ring .length ≤ 512) × (length (now sent) ≡ 512) ⌝ }
+// Marks the cells of the history's entries.
+pub fn mark_history(flags: &mut [u8], cells: usize, ring: HistoryRing, history: &[u64]) -> bool
+    requires { ⌜ (ring .length ≤ max-history) × (length (now history) ≡ max-history) ⌝ }
     requires { ⌜ Flags cells (now flags) ⌝ }
-    ensures { λ r. ⌜ Marks cells (sent-cells ring (now (sent .entry))) (now (flags .entry)) r (now (flags .exit)) ⌝ }
+    ensures { λ r. ⌜ Marks cells (sent-cells ring (now (history .entry))) (now (flags .entry)) r (now (flags .exit)) ⌝ }
 {
     let mut index: usize = 0;
     while index < ring.length {
         let at = place(ring, index);
-        let cell = sent[at];
-        if !mark_cell(flags, cells, cell as u64) {
+        let cell = cell_of(history[at]);
+        if !mark_cell(flags, cells, cell) {
             return false;
         }
         index += 1;
@@ -171,23 +175,23 @@ pub fn mark_cells(
     members: &[u64],
     pending: &[u64],
     ring: HistoryRing,
-    sent: &[u16],
+    history: &[u64],
 ) -> bool
     requires { ⌜ counts .members * row-size ≤ length (now members) ⌝ }
-    requires { ⌜ (18432 ≤ length (now pending)) × (counts .pending ≤ 2048) ⌝ }
-    requires { ⌜ (ring .length ≤ 512) × (length (now sent) ≡ 512) ⌝ }
-    requires { ⌜ (cells ≤ 2048) × Represents (now flags) [] ⌝ }
-    ensures { λ r. ⌜ Marked cells (named-cells counts (now (members .entry)) (now (pending .entry)) (sent-cells ring (now (sent .entry)))) r (now (flags .exit)) ⌝ }
+    requires { ⌜ (pending-size ≤ length (now pending)) × (counts .pending ≤ max-pending) ⌝ }
+    requires { ⌜ (ring .length ≤ max-history) × (length (now history) ≡ max-history) ⌝ }
+    requires { ⌜ (cells ≤ max-cells) × Represents (now flags) [] ⌝ }
+    ensures { λ r. ⌜ Marked cells (named-cells counts (now (members .entry)) (now (pending .entry)) (sent-cells ring (now (history .entry)))) r (now (flags .exit)) ⌝ }
 {
     if !mark_tables(flags, cells, counts, members, pending) {
         return false;
     }
-    mark_history(flags, cells, ring, sent)
+    mark_history(flags, cells, ring, history)
 }
 
 // The lowest cell of the store that has no mark.
 pub fn lowest_free(flags: &[u8], cells: usize) -> FreeCell
-    requires { ⌜ (cells ≤ 2048) × (cells ≤ length (now flags)) ⌝ }
+    requires { ⌜ (cells ≤ max-cells) × (cells ≤ length (now flags)) ⌝ }
     ensures { λ r. ⌜ LowestFree (now (flags .entry)) cells r ⌝ }
 {
     let mut cell: usize = 0;

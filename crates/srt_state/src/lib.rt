@@ -1,7 +1,6 @@
-// The group record and the lent tables together: what state they show, and whether it breaks a rule of document 01 (code 6).
+// Whether the state that the record and the lent tables show breaks a rule of document 01 (code 6).
 
 pub mod cells; // cells.rt: the pass over the named cells, and the lowest free one
-pub mod group; // group.rt: the record, by value, and its limits
 pub mod ids; // ids.rt: one id twice
 pub mod ranges; // ranges.rt: a value whose sequence is too large or whose field is out of range
 pub mod rows; // rows.rt: a row of a lent table that breaks a rule

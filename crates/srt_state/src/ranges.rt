@@ -3,6 +3,10 @@
 ghost use mathlib.Core.Path.{_≡_};
 ghost use Rattle.srt_group_model.specs.Validity.{is-too-large, leg-sequence-too-large, leg-out-of-range, data-out-of-range, event-out-of-range};
 ghost use Rattle.srt_state.specs.Rules.{flight-out-of-range, event-sequence-too-large, membership-out-of-range, packet-out-of-range, entry-out-of-range, waiting-out-of-range};
+use srt_connection::legs::LARGEST_16;
+use srt_connection::legs::LARGEST_32;
+use srt_connection::legs::LARGEST_SEQUENCE;
+use srt_connection::legs::NO_SEQUENCE;
 use srt_group_model::Data;
 use srt_group_model::Entry;
 use srt_group_model::Event;
@@ -11,18 +15,10 @@ use srt_group_model::Membership;
 use srt_group_model::Packet;
 use srt_group_model::Sender;
 use srt_group_model::Waiting;
+use srt_protocol::received_payload::CELL;
 
-const LARGEST_SEQUENCE: u64 = 0x7fff_ffff;
-
-const LARGEST_16: u64 = 0xffff;
-
-const LARGEST_32: u64 = 0xffff_ffff;
-
-// The bytes of a cell: the longest payload.
-const CELL: u64 = 1456;
-
-// The peer's first sequence where there is none.
-const NO_SEQUENCE: u64 = 0xffff_ffff;
+// The longest payload fills a cell.
+const LONGEST_PAYLOAD: u64 = CELL as u64;
 
 // ---- a sequence of 2^31 or more
 
@@ -56,7 +52,7 @@ pub fn data_out_of_range(content: Data) -> bool
         | (LARGEST_16 < content.count)
         | (LARGEST_32 < content.message)
         | (LARGEST_32 < content.timestamp)
-        | (CELL < content.length)
+        | (LONGEST_PAYLOAD < content.length)
 }
 
 pub fn event_out_of_range(event: Event) -> bool
@@ -114,7 +110,7 @@ pub fn packet_out_of_range(packet: Packet) -> bool
 pub fn entry_out_of_range(entry: Entry) -> bool
     ensures { λ r. ⌜ r ≡ entry-out-of-range entry ⌝ }
 {
-    CELL < entry.length as u64
+    LONGEST_PAYLOAD < entry.length
 }
 
 pub fn waiting_out_of_range(event: Waiting) -> bool

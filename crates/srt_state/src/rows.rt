@@ -3,12 +3,14 @@ ghost use mathlib.Core.Path.{_≡_};
 ghost use Prim.Native.Nat.{_+_, _*_, _%_, _≤_, _<_};
 ghost use lib.ListN.{length};
 ghost use Rattle.srt_group_model.specs.Tools.{any};
+ghost use Rattle.srt_group_model.specs.Validity.{max-waiting, max-pending, max-queued};
+ghost use Rattle.srt_group_model.specs.Backup.{max-history};
 ghost use Rattle.srt_connection.specs.Rows.{row-size, event-in, member-of};
 ghost use Rattle.srt_connection.specs.Members.{members-of};
-ghost use Rattle.srt_tables.specs.Packets.{packets};
-ghost use Rattle.srt_tables.specs.Waitings.{waitings};
-ghost use Rattle.srt_tables.specs.Ring.{entries-of};
-ghost use Rattle.srt_state.specs.Rules.{event-breaks-rule, leg-breaks-rule, queue-breaks-rule, member-breaks-rule, packet-breaks-rule, entry-breaks-rule, without-cells, history-breaks-rule, waiting-out-of-range};
+ghost use Rattle.srt_tables.specs.Packets.{pending-size, packets};
+ghost use Rattle.srt_tables.specs.Waitings.{waiting-size, waitings};
+ghost use Rattle.srt_tables.specs.Ring.{Long, arrays, entries-of};
+ghost use Rattle.srt_state.specs.Rules.{event-breaks-rule, leg-breaks-rule, queue-breaks-rule, member-breaks-rule, packet-breaks-rule, entry-breaks-rule, history-breaks-rule, waiting-out-of-range};
 use crate::ranges::entry_out_of_range;
 use crate::ranges::event_out_of_range;
 use crate::ranges::event_sequence_too_large;
@@ -18,6 +20,8 @@ use crate::ranges::membership_out_of_range;
 use crate::ranges::packet_out_of_range;
 use crate::ranges::sequence_too_large;
 use crate::ranges::waiting_out_of_range;
+use srt_connection::rows::FIRST_EVENT;
+use srt_connection::rows::MAX_QUEUED;
 use srt_connection::rows::ROW;
 use srt_connection::rows::Ring;
 use srt_connection::rows::event_part;
@@ -28,18 +32,11 @@ use srt_group_model::Entry;
 use srt_group_model::Event;
 use srt_group_model::Leg;
 use srt_group_model::Packet;
-use srt_protocol::time::Timestamp;
 use srt_tables::history::HistoryRing;
 use srt_tables::history::MAX_HISTORY;
-use srt_tables::history::place;
+use srt_tables::history::entry_at;
 use srt_tables::pending::packet;
 use srt_tables::waiting::waiting_event;
-
-// The events that a queue can hold.
-const MAX_EVENTS: u64 = 16;
-
-// The first part of a row that is an event.
-const FIRST_EVENT: u64 = 4;
 
 // ---- a leg's queue
 
@@ -51,21 +48,21 @@ pub fn event_breaks_rule(event: Event) -> bool
 
 // The event so many places after the front.
 pub fn queue_event(row: &[u64], ring: Ring, at: u64) -> Event
-    requires { ⌜ (length (now row) ≡ row-size) × (at < 16) ⌝ }
-    ensures { λ r. ⌜ r ≡ event-in (now (row .entry)) ((ring .start + at) % 16) ⌝ }
+    requires { ⌜ (length (now row) ≡ row-size) × (at < max-queued) ⌝ }
+    ensures { λ r. ⌜ r ≡ event-in (now (row .entry)) ((ring .start + at) % max-queued) ⌝ }
 {
-    let slot = (FIRST_EVENT + (ring.start % MAX_EVENTS + at) % MAX_EVENTS) as usize;
+    let slot = (FIRST_EVENT + (ring.start % MAX_QUEUED + at) % MAX_QUEUED) as usize;
     event_part(row, slot)
 }
 
-// A queue of more than sixteen events is not walked: its ring has no place for them.
+// A queue of more than MAX_QUEUED events is not walked: its ring has no place for them.
 fn queue_breaks_rule(row: &[u64]) -> bool
     requires { ⌜ length (now row) ≡ row-size ⌝ }
     ensures { λ r. ⌜ r ≡ queue-breaks-rule (member-of (now (row .entry)) .queue) ⌝ }
 {
     let ring = ring_of(row);
     let count = ring.length;
-    if MAX_EVENTS < count {
+    if MAX_QUEUED < count {
         return true;
     }
     let mut at: u64 = 0;
@@ -117,7 +114,7 @@ pub fn packet_breaks_rule(packet: Packet) -> bool
 }
 
 pub fn packets_break_rule(pending: &[u64], count: usize) -> bool
-    requires { ⌜ (18432 ≤ length (now pending)) × (count ≤ 2048) ⌝ }
+    requires { ⌜ (pending-size ≤ length (now pending)) × (count ≤ max-pending) ⌝ }
     ensures { λ r. ⌜ r ≡ any packet-breaks-rule (packets count (now (pending .entry))) ⌝ }
 {
     let mut at: usize = 0;
@@ -133,7 +130,7 @@ pub fn packets_break_rule(pending: &[u64], count: usize) -> bool
 // ---- waiting events
 
 pub fn waiting_breaks_rule(waiting: &[u64], count: usize) -> bool
-    requires { ⌜ (192 ≤ length (now waiting)) × (count ≤ 64) ⌝ }
+    requires { ⌜ (waiting-size ≤ length (now waiting)) × (count ≤ max-waiting) ⌝ }
     ensures { λ r. ⌜ r ≡ any waiting-out-of-range (waitings count (now (waiting .entry))) ⌝ }
 {
     let mut at: usize = 0;
@@ -151,31 +148,20 @@ pub fn waiting_breaks_rule(waiting: &[u64], count: usize) -> bool
 pub fn entry_breaks_rule(entry: Entry) -> bool
     ensures { λ r. ⌜ r ≡ entry-breaks-rule entry ⌝ }
 {
-    sequence_too_large(entry.sequence as u64) | entry_out_of_range(entry)
+    sequence_too_large(entry.sequence) | entry_out_of_range(entry)
 }
 
-// A history of more than 512 entries is not walked: its ring has no place for them.
-pub fn history_breaks_rule(
-    ring: HistoryRing,
-    sequences: &[u32],
-    lengths: &[u16],
-    sources: &[u64],
-) -> bool
-    requires { ⌜ (length (now sequences) ≡ 512) × ((length (now lengths) ≡ 512) × (length (now sources) ≡ 512)) ⌝ }
-    ensures { λ r. ⌜ r ≡ history-breaks-rule (entries-of ring (without-cells (now (sequences .entry)) (now (lengths .entry)) (now (sources .entry)))) ⌝ }
+// A history of more than MAX_HISTORY entries is not walked: its ring has no place for them.
+pub fn history_breaks_rule(ring: HistoryRing, history: &[u64], sources: &[u64]) -> bool
+    requires { ⌜ Long (arrays (now history) (now sources)) ⌝ }
+    ensures { λ r. ⌜ r ≡ history-breaks-rule (entries-of ring (arrays (now (history .entry)) (now (sources .entry)))) ⌝ }
 {
     if MAX_HISTORY < ring.length {
         return true;
     }
     let mut index: usize = 0;
     while index < ring.length {
-        let at = place(ring, index);
-        let entry = Entry {
-            sequence: sequences[at],
-            cell: 0,
-            length: lengths[at],
-            source: Timestamp(sources[at]),
-        };
+        let entry = entry_at(ring, history, sources, index);
         if entry_breaks_rule(entry) {
             return true;
         }

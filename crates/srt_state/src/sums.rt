@@ -8,14 +8,16 @@ ghost use lib.ListN.{length, getD};
 ghost use Rattle.srt_group_model.specs.Tools.{any, each};
 ghost use Rattle.srt_group_model.specs.Members.{id-of};
 ghost use Rattle.srt_group_model.specs.Cells.{is-data};
-ghost use Rattle.srt_group_model.specs.Validity.{one-twice, queued-count};
+ghost use Rattle.srt_group_model.specs.Validity.{max-queued, max-pending, max-members, one-twice, queued-count};
+ghost use Rattle.srt_group_model.specs.Legs.{largest-16};
 ghost use Rattle.srt_connection.specs.Rows.{row-size, member-of};
 ghost use Rattle.srt_connection.specs.Members.{members-of};
-ghost use Rattle.srt_tables.specs.Packets.{packets};
+ghost use Rattle.srt_tables.specs.Packets.{pending-size, packets};
 ghost use Rattle.srt_state.specs.Rules.{queue-breaks-rule, member-breaks-rule, packet-breaks-rule};
 ghost use Rattle.srt_state.specs.Sums.{counted, event-count, differs, sum-place, AddedUp, sums-differ, sums-wrong};
 use crate::rows::queue_event;
 use srt_connection::members::Found;
+use srt_connection::members::MAX_MEMBERS;
 use srt_connection::members::find;
 use srt_connection::rows::ROW;
 use srt_connection::rows::membership;
@@ -26,7 +28,7 @@ use srt_group_model::Packet;
 use srt_tables::pending::packet;
 
 // The place of the group's own sum, behind those of the members.
-const OWN_PLACE: usize = 64;
+const OWN_PLACE: usize = MAX_MEMBERS;
 
 // ---- the queued counts of a leg
 
@@ -42,7 +44,7 @@ fn data_count(event: Event) -> u64
 fn queued_count(row: &[u64]) -> u64
     requires { ⌜ length (now row) ≡ row-size ⌝ }
     requires { ⌜ queue-breaks-rule (member-of (now row) .queue) ≡ false ⌝ }
-    ensures { λ r. ⌜ (r ≡ queued-count (member-of (now (row .entry)) .queue)) × (r ≤ 1048560) ⌝ }
+    ensures { λ r. ⌜ (r ≡ queued-count (member-of (now (row .entry)) .queue)) × (r ≤ largest-16 * max-queued) ⌝ }
 {
     let ring = ring_of(row);
     let count = ring.length;
@@ -57,7 +59,7 @@ fn queued_count(row: &[u64]) -> u64
 
 // Whether a member whose held packets have this sum reserves another number, or its leg does for the held and the queued ones.
 fn member_differs(row: &[u64], held: u64) -> bool
-    requires { ⌜ (length (now row) ≡ row-size) × (held ≤ 134215680) ⌝ }
+    requires { ⌜ (length (now row) ≡ row-size) × (held ≤ largest-16 * max-pending) ⌝ }
     requires { ⌜ member-breaks-rule (member-of (now row)) ≡ false ⌝ }
     ensures { λ r. ⌜ r ≡ differs held (member-of (now (row .entry))) ⌝ }
 {
@@ -83,8 +85,8 @@ fn sum_place(members: &[u64], count: usize, packet: Packet) -> Found
 
 // Adds up the counts, and answers whether a packet is counted nowhere: not the group's own, and of no member.
 fn add_up(members: &[u64], count: usize, pending: &[u64], held: usize, sums: &mut [u64]) -> bool
-    requires { ⌜ (count * row-size ≤ length (now members)) × (count ≤ 64) ⌝ }
-    requires { ⌜ (18432 ≤ length (now pending)) × (held ≤ 2048) ⌝ }
+    requires { ⌜ (count * row-size ≤ length (now members)) × (count ≤ max-members) ⌝ }
+    requires { ⌜ (pending-size ≤ length (now pending)) × (held ≤ max-pending) ⌝ }
     requires { ⌜ one-twice (each id-of (members-of count (now members))) ≡ false ⌝ }
     requires { ⌜ any packet-breaks-rule (packets held (now pending)) ≡ false ⌝ }
     requires { ⌜ (length (now sums) ≡ 65) × (any (ltb 0) (now sums) ≡ false) ⌝ }
@@ -109,7 +111,7 @@ fn add_up(members: &[u64], count: usize, pending: &[u64], held: usize, sums: &mu
 fn members_differ(members: &[u64], count: usize, sums: &[u64]) -> bool
     requires { ⌜ (count * row-size ≤ length (now members)) × (count ≤ length (now sums)) ⌝ }
     requires { ⌜ any member-breaks-rule (members-of count (now members)) ≡ false ⌝ }
-    requires { ⌜ ((i : ℕ) → i < count → getD (now sums) i 0 ≤ 134215680) ⌝ }
+    requires { ⌜ ((i : ℕ) → i < count → getD (now sums) i 0 ≤ largest-16 * max-pending) ⌝ }
     ensures { λ r. ⌜ r ≡ sums-differ (now (members .entry)) (now (sums .entry)) count ⌝ }
 {
     let mut index: usize = 0;
@@ -132,8 +134,8 @@ pub fn reserved_sum_wrong(
     pending: &[u64],
     held: usize,
 ) -> bool
-    requires { ⌜ (count * row-size ≤ length (now members)) × (count ≤ 64) ⌝ }
-    requires { ⌜ (18432 ≤ length (now pending)) × (held ≤ 2048) ⌝ }
+    requires { ⌜ (count * row-size ≤ length (now members)) × (count ≤ max-members) ⌝ }
+    requires { ⌜ (pending-size ≤ length (now pending)) × (held ≤ max-pending) ⌝ }
     requires { ⌜ one-twice (each id-of (members-of count (now members))) ≡ false ⌝ }
     requires { ⌜ any member-breaks-rule (members-of count (now members)) ≡ false ⌝ }
     requires { ⌜ any packet-breaks-rule (packets held (now pending)) ≡ false ⌝ }

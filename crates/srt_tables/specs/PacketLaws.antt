@@ -1,7 +1,7 @@
 -- Laws of the pending packets: a search that halves, a packet put into its place and one taken out, the nearest and the
--- farthest, sums of counts. Assumes nothing.
+-- farthest, sums of counts.
 use mathlib.Core.Path.{_≡_, refl, ap, sym, subst, _∙_}
-use mathlib.Core.Bool.{Bool, true, false, not, _&&_, _||_}
+use mathlib.Core.Bool.{Bool, true, false, not, _||_}
 use mathlib.Core.List.{List, [], _∷_, _++_, append-nil, append-assoc}
 use mathlib.Core.Option.{none, some}
 use mathlib.Core.Logic.{⊎-elim}
@@ -17,23 +17,25 @@ use borrow.Author.Tests.{lt-ltb, le-ltb, le-leb, lt-leb, eq-eqb, ne-eqb, ltb-tru
 use Rattle.word_rows.specs.Tab.{tab, tab-at, tab-same, tab-none, tab-push, tab-insert, tab-remove, tab-length, inserted, removed}
 use Rattle.word_rows.specs.Rows.{Opened, Closed}
 use Rattle.srt_protocol.specs.Sequence.{half, sequence-distance}
+use Rattle.srt_protocol.specs.Cells.{max-cells}
 use Rattle.srt_group_model.specs.declared.Packet.{Packet}
+use Rattle.srt_group_model.specs.Reason.{and-left, and-right}
 use Rattle.srt_group_model.specs.Tools.{if_then_else_, if-some_give_otherwise_, or-else, any, place-of, such-that, each, total}
 use Rattle.srt_group_model.specs.Cells.{is-among}
 use Rattle.srt_group_model.specs.CellsKept.{pending-cells}
 use Rattle.srt_group_model.specs.Nearest.{sequence-of, has-sequence, is-held, insert, lowest, nearest, is-covered, farther, farthest}
 use Rattle.srt_group_model.specs.Removal.{own-packet, is-owned}
-use Rattle.srt_group_model.specs.Validity.{ascends}
+use Rattle.srt_group_model.specs.Validity.{max-pending, ascends}
 use Rattle.srt_tables.specs.declared.pending.Found.{Found}
 use Rattle.srt_tables.specs.declared.pending.Found.the-variants.{At, Nothing}
-use Rattle.srt_tables.specs.Packets.{packet-at, packets, Placed, Holds, found, place-found, packet-found, in-use, FoundPacket, by-group, with-owned-packet, count-if, is-held-for, CountsFit}
+use Rattle.srt_tables.specs.Packets.{pending-size, packet-row-size, index-rows, packet-at, packets, Placed, Holds, found, place-found, packet-found, in-use, FoundPacket, by-group, with-owned-packet, count-if, is-held-for, CountsFit}
 use Rattle.srt_tables.specs.PacketIndex.{cell-of, indexed-there, indexed-elsewhere, index-lent, index-back, back-length, closed-low, closed-high, opened-low, opened-high, put-in, put-length, put-there, put-elsewhere, member-word, same-member, owned-same-cell, owned-other-cell}
 
-drop-zero : (l : List Packet) → drop 0 l ≡ l
+pub drop-zero : (l : List Packet) → drop 0 l ≡ l
 drop-zero [] = refl
 drop-zero (p ∷ l) = refl
 
-each-tab : {A B : Type 0} (f : A → B) (n : ℕ) (g : ℕ → A) → each f (tab n g) ≡ tab n (λ i. f (g i))
+pub each-tab : {A B : Type 0} (f : A → B) (n : ℕ) (g : ℕ → A) → each f (tab n g) ≡ tab n (λ i. f (g i))
 unfolding each tab
 each-tab f zero g = refl
 each-tab f (suc n) g = cc (each-tab f n (λ i. g (suc i)))
@@ -41,14 +43,6 @@ each-tab f (suc n) g = cc (each-tab f n (λ i. g (suc i)))
 -- ---- ascending packets
 
 -- each sequence is below the next
-and-left : (a b : Bool) → (a && b) ≡ true → a ≡ true
-and-left true b e = refl
-and-left false b e = e
-
-and-right : (a b : Bool) → (a && b) ≡ true → b ≡ true
-and-right true b e = e
-and-right false b e = let different : _≡_ {A = ℕ} 0 1 = cc in absurd (omega arith)
-
 module _ (f : ℕ → Packet) where
   next-below : (n : ℕ) → ascends (tab (suc (suc n)) f) ≡ true → sequence-of (f 0) < sequence-of (f 1)
   unfolding ascends tab
@@ -201,9 +195,9 @@ insert-there (suc n) f p (suc place) within below here =
     (ap (λ (rest : List Packet). f 0 ∷ rest)
     (insert-there n (λ i. f (suc i)) p place (omega arith) (λ k lower. below (suc k) (omega arith)) (λ inside. here (omega arith))))
 
-pub packet-inserted : (words index : List ℕ) (count place : ℕ) (p : Packet) → (enough : 18432 ≤ length words) → count < 2048
+pub packet-inserted : (words index : List ℕ) (count place : ℕ) (p : Packet) → (enough : pending-size ≤ length words) → count < max-pending
     → Placed words count (sequence-of p) place → Opened 1 (index-lent words) place count index
-    → ascends (packets count words) ≡ true → is-held (sequence-of p) (packets count words) ≡ false → cell-of p < 2048
+    → ascends (packets count words) ≡ true → is-held (sequence-of p) (packets count words) ≡ false → cell-of p < max-cells
     → is-among (cell-of p) (pending-cells (packets count words)) ≡ false
     → Holds (length words) (put-in (index-back words index) place p) (count + 1) (insert p (packets count words))
 packet-inserted words index count place p enough room at gap up absent small unused =
@@ -222,10 +216,10 @@ packet-inserted words index count place p enough room at gap up absent small unu
     opened-long : length opened ≡ length words
     opened-long = back-length words enough index (gap .long)
 
-    opened-enough : 18432 ≤ length opened
+    opened-enough : pending-size ≤ length opened
     opened-enough = omega (arith, opened-long)
 
-    low : place < 2048
+    low : place < max-pending
     low = omega (arith, at .within)
 
     cell-free : (i j : ℕ) → i < count → packet-at opened j ≡ packet-at words i → cell-of (packet-at opened j) ≡ cell-of p → ⊥
@@ -251,7 +245,7 @@ packet-inserted words index count place p enough room at gap up absent small unu
 
 -- ---- a packet taken out of its place
 
-pub packet-removed : (words index : List ℕ) (count place : ℕ) → 18432 ≤ length words → place < count → count ≤ 2048
+pub packet-removed : (words index : List ℕ) (count place : ℕ) → pending-size ≤ length words → place < count → count ≤ max-pending
     → Closed 1 (index-lent words) place count index
     → Holds (length words) (index-back words index) (count - 1) (removed place (packets count words))
 packet-removed words index count place enough inside most gap =
@@ -388,7 +382,7 @@ module _ (test : Packet → Bool) where
           rest = λ k above below. here .rest k (omega arith) below;
         }
 
-    pub kept-one : at < count → count ≤ 2048 → 18432 ≤ length before → test (packet-at words at) ≡ true
+    pub kept-one : at < count → count ≤ max-pending → pending-size ≤ length before → test (packet-at words at) ≡ true
         → Keeping test count before (set words kept (getD words at 0)) (kept + 1) (at + 1)
     kept-one inside most enough passes =
         record {
@@ -406,7 +400,7 @@ module _ (test : Packet → Bool) where
               ∙ here .rest k (omega arith) below;
         }
       where
-        low : kept < 2048
+        low : kept < max-pending
         low = omega (arith, here .ordered)
 
         one-more : packets (kept + 1) (set words kept (getD words at 0)) ≡ packets kept words ++ (packet-at words at ∷ [])
@@ -525,8 +519,8 @@ owning-start id count before =
     record { within = omega arith; long = refl; done = λ k lower. absurd (omega arith); alike = λ k inside. refl }
 
 module _ (id count : ℕ) (before words : List ℕ) (at start : ℕ) (here : Owning id count before words at) (inside : at < count)
-    (start-is : start ≡ (256 + cell-of (packet-at words at)) * 8) where
-  pub owned-one : count ≤ 2048 → 18432 ≤ length before → getD words (start + 5) 0 ≡ id
+    (start-is : start ≡ (index-rows + cell-of (packet-at words at)) * packet-row-size) where
+  pub owned-one : count ≤ max-pending → pending-size ≤ length before → getD words (start + 5) 0 ≡ id
       → Owning id count before (set words (start + 6) 1) (at + 1)
   owned-one most enough mine =
       record {
@@ -539,11 +533,11 @@ module _ (id count : ℕ) (before words : List ℕ) (at start : ℕ) (here : Own
       after : List ℕ
       after = set words (start + 6) 1
 
-      long-enough : 18432 ≤ length words
+      long-enough : pending-size ≤ length words
       long-enough = omega (arith, here .long)
 
       -- the row is that of every packet with its cell, and they are all the member's
-      owned : (k : ℕ) → k < 2048 → cell-of (packet-at words k) ≡ cell-of (packet-at words at)
+      owned : (k : ℕ) → k < max-pending → cell-of (packet-at words k) ≡ cell-of (packet-at words at)
           → packet-at after k ≡ own-packet id (packet-at words k)
       owned k low same =
           owned-same-cell words at start start-is long-enough k low same
@@ -758,7 +752,7 @@ summing-start test count words =
 module _ (test : Packet → Bool) (count : ℕ) (words : List ℕ) (left sum : ℕ) (here : Summing test count words left sum)
     (fit : CountsFit count words) where
   -- the sum stays far below 2^64
-  pub sum-fits : count ≤ 2048 → (p : Packet) (at n : ℕ) → at ≡ left - 1 → 0 < left → p ≡ packet-at words at → n ≡ count-if test p
+  pub sum-fits : count ≤ max-pending → (p : Packet) (at n : ℕ) → at ≡ left - 1 → 0 < left → p ≡ packet-at words at → n ≡ count-if test p
       → sum + n < 2 ^ 64
   sum-fits most p at n at-is some-left p-is n-is =
       omega (

@@ -1,10 +1,10 @@
 -- The pending packets as an index of one word each, with a row of eight words for each cell, and what a search for a sequence
--- finds. The list of what the first `count` index words show is the model's list of pending packets. Assumes nothing.
+-- finds. The list of what the first `count` index words show is the model's list of pending packets.
 use mathlib.Core.Path.{_≡_, refl}
 use mathlib.Core.Bool.{Bool, not, _&&_}
 use mathlib.Core.List.{List, [], _∷_}
 use mathlib.Core.Option.{Option, none, some}
-use Prim.Native.Nat.{ℕ, _+_, _/_, _%_, _≤_, _<_}
+use Prim.Native.Nat.{ℕ, _+_, _*_, _/_, _%_, _≤_, _<_}
 use lib.Dec.{eqb}
 use lib.ListN.{length, getD}
 use Rattle.word_rows.specs.Tab.{tab}
@@ -13,10 +13,32 @@ use Rattle.srt_group_model.specs.declared.Packet.{Packet}
 use Rattle.srt_group_model.specs.Tools.{if_then_else_, if-some_give_otherwise_, place-of}
 use Rattle.srt_group_model.specs.Nearest.{sequence-of, has-sequence, farther}
 use Rattle.srt_group_model.specs.Removal.{is-owned}
+use Rattle.srt_group_model.specs.Validity.{max-pending}
+use Rattle.srt_protocol.specs.Cells.{max-cells}
 use Rattle.srt_tables.specs.declared.pending.Found.{Found}
 use Rattle.srt_tables.specs.declared.pending.Found.the-variants.{At, Nothing}
 
--- the packet of an index word, `sequence * 2048 + cell`, and the row of its cell; and the words of a packet's row
+-- ---- sizes
+
+-- the words of the index: one for each packet that is held
+abbrev pub index-size : ℕ
+index-size = max-pending
+
+-- the words of a cell's row
+abbrev pub packet-row-size : ℕ
+packet-row-size = 8
+
+-- the words of the table: the index, and behind it a row for each cell
+abbrev pub pending-size : ℕ
+pending-size = index-size + max-cells * packet-row-size
+
+-- the index takes as many words as so many rows
+abbrev pub index-rows : ℕ
+index-rows = index-size / packet-row-size
+
+-- ---- definitions
+
+-- the packet of an index word, `sequence * max-cells + cell`, and the row of its cell; and the words of a packet's row
 unfoldable pub packet-of : ℕ → List ℕ → Packet
 packet-of word row =
     record {
@@ -24,12 +46,12 @@ packet-of word row =
       owned = getD row 6 0;
       content =
           record {
-            sequence = word / 2048;
+            sequence = word / max-cells;
             count = getD row 0 0;
             message = getD row 1 0;
             timestamp = getD row 2 0;
             source = record { 0 = getD row 3 0 };
-            cell = word % 2048;
+            cell = word % max-cells;
             length = getD row 4 0;
           };
     }
@@ -39,9 +61,9 @@ row-words p =
     p .content .count ∷ p .content .message ∷ p .content .timestamp ∷ p .content .source .0 ∷ p .content .length
     ∷ p .member ∷ p .owned ∷ 0 ∷ []
 
--- the index takes as many words as 256 rows, and the rows of the cells stand behind it
+-- the rows of the cells stand behind the index
 unfoldable pub packet-at : List ℕ → ℕ → Packet
-packet-at words i = packet-of (getD words i 0) (row-at 8 words (256 + getD words i 0 % 2048))
+packet-at words i = packet-of (getD words i 0) (row-at packet-row-size words (index-rows + getD words i 0 % max-cells))
 
 -- the packets of the first `count` index words
 abbrev pub packets : ℕ → List ℕ → List Packet

@@ -4,17 +4,21 @@ ghost use mathlib.Core.Path.{_≡_};
 ghost use mathlib.Core.List.{[], _∷_, _++_};
 ghost use Prim.Native.Nat.{_+_, _-_, _≤_, _<_};
 ghost use lib.ListN.{length, drop};
-ghost use Rattle.srt_tables.specs.Waitings.{waiting-of, waiting-words, waiting-at, waitings, HoldsWaiting};
+ghost use Rattle.srt_group_model.specs.Validity.{max-waiting};
+ghost use Rattle.srt_tables.specs.Waitings.{waiting-size, waiting-row-size, waiting-of, waiting-words, waiting-at, waitings, HoldsWaiting};
 use srt_group_model::Waiting;
 
 // The words of a row.
-pub const WAITING_WORDS: usize = 3;
+const WAITING_WORDS: usize = 3;
 
 // The most events that wait: one for each visit of a poll.
 pub const MAX_WAITING: usize = 64;
 
+// The words of the table: a row for each of them.
+pub const WAITING_LENGTH: usize = MAX_WAITING * WAITING_WORDS;
+
 fn read_waiting(row: &[u64]) -> Waiting
-    requires { ⌜ length (now row) ≡ 3 ⌝ }
+    requires { ⌜ length (now row) ≡ waiting-row-size ⌝ }
     ensures { λ r. ⌜ r ≡ waiting-of (now (row .entry)) ⌝ }
 {
     Waiting {
@@ -25,7 +29,7 @@ fn read_waiting(row: &[u64]) -> Waiting
 }
 
 fn write_waiting(row: &mut [u64], event: Waiting)
-    requires { ⌜ length (now row) ≡ 3 ⌝ }
+    requires { ⌜ length (now row) ≡ waiting-row-size ⌝ }
     ensures { λ _. ⌜ now (row .exit) ≡ waiting-words event ⌝ }
 {
     row[0] = event.member;
@@ -35,7 +39,7 @@ fn write_waiting(row: &mut [u64], event: Waiting)
 
 // The event of a row: the first is the front.
 pub fn waiting_event(waiting: &[u64], at: usize) -> Waiting
-    requires { ⌜ (192 ≤ length (now waiting)) × (at < 64) ⌝ }
+    requires { ⌜ (waiting-size ≤ length (now waiting)) × (at < max-waiting) ⌝ }
     ensures { λ r. ⌜ r ≡ waiting-at (now (waiting .entry)) at ⌝ }
 {
     let start = at * WAITING_WORDS;
@@ -44,7 +48,7 @@ pub fn waiting_event(waiting: &[u64], at: usize) -> Waiting
 
 // An event behind the last.
 pub fn push_back(waiting: &mut [u64], count: usize, event: Waiting)
-    requires { ⌜ (192 ≤ length (now waiting)) × (count < 64) ⌝ }
+    requires { ⌜ (waiting-size ≤ length (now waiting)) × (count < max-waiting) ⌝ }
     ensures { λ _. ⌜ HoldsWaiting (length (now (waiting .entry))) (now (waiting .exit)) (count + 1) (waitings count (now (waiting .entry)) ++ (event ∷ [])) ⌝ }
 {
     let start = count * WAITING_WORDS;
@@ -53,7 +57,7 @@ pub fn push_back(waiting: &mut [u64], count: usize, event: Waiting)
 
 // The front goes.
 pub fn pop_front(waiting: &mut [u64], count: usize)
-    requires { ⌜ (192 ≤ length (now waiting)) × (0 < count) × (count ≤ 64) ⌝ }
+    requires { ⌜ (waiting-size ≤ length (now waiting)) × (0 < count) × (count ≤ max-waiting) ⌝ }
     ensures { λ _. ⌜ HoldsWaiting (length (now (waiting .entry))) (now (waiting .exit)) (count - 1) (drop 1 (waitings count (now (waiting .entry)))) ⌝ }
 {
     word_rows::close_gap(waiting, 0, count * WAITING_WORDS, WAITING_WORDS);

@@ -1,4 +1,4 @@
--- The data that the measurement puts into the tables. Assumes nothing.
+-- The data that the measurement puts into the tables.
 use mathlib.Core.Path.{_≡_, sym, subst}
 use mathlib.Core.Bool.{true, false}
 use mathlib.Core.List.{List}
@@ -7,9 +7,14 @@ use lib.ListN.{length}
 use Rattle.srt_group_model.specs.Cells.{is-among}
 use Rattle.srt_group_model.specs.CellsKept.{pending-cells}
 use Rattle.srt_group_model.specs.Nearest.{is-held}
-use Rattle.srt_group_model.specs.Validity.{ascends}
+use Rattle.srt_group_model.specs.Validity.{max-pending, ascends}
+use Rattle.srt_group_model.specs.Legs.{largest-sequence}
+use Rattle.srt_group_model.specs.Backup.{max-history}
+use Rattle.srt_protocol.specs.Cells.{max-cells}
 use Rattle.srt_group_model.specs.declared.Data.{Data}
-use Rattle.srt_tables.specs.Packets.{packets}
+use Rattle.srt_tables.specs.Packets.{pending-size, packets}
+use Rattle.srt_tables.specs.Ring.{Arrays, Long, after-push, push-fits}
+use Rattle.srt_tables.specs.declared.history.HistoryRing.{HistoryRing}
 
 abbrev pub data-of : (sequence cell : ℕ) → Data
 data-of sequence cell =
@@ -26,20 +31,20 @@ data-of sequence cell =
 -- what the table asks of a packet that is put in
 abbrev pub Insertable : List ℕ → ℕ → Data → Type 0
 Insertable pending count d =
-    ((18432 ≤ length pending) × (count < 2048))
+    ((pending-size ≤ length pending) × (count < max-pending))
     × ((ascends (packets count pending) ≡ true)
     × ((is-held (d .sequence) (packets count pending) ≡ false)
-    × (((d .sequence ≤ 2147483647) × (d .cell < 2048))
+    × (((d .sequence ≤ largest-sequence) × (d .cell < max-cells))
     × (is-among (d .cell) (pending-cells (packets count pending)) ≡ false))))
 
 pub insertable-made : (pending : List ℕ) (count sequence cell : ℕ) (d : Data) → d ≡ data-of sequence cell
     → Insertable pending count (data-of sequence cell) → Insertable pending count d
 insertable-made pending count sequence cell d is made = subst (Insertable pending count) (sym is) made
 
--- a ring over four arrays of 512 places
-pub record InArrays (entries : ℕ) (sequences cells lengths sources : List ℕ) : Type 0 where
-  pub fits : entries ≤ 512
-  pub sequences-long : length sequences ≡ 512
-  pub cells-long : length cells ≡ 512
-  pub lengths-long : length lengths ≡ 512
-  pub sources-long : length sources ≡ 512
+-- so many entries fit a ring over arrays of max-history places
+pub record InArrays (entries : ℕ) (a : Arrays) : Type 0 where
+  pub fits : entries ≤ max-history
+  pub long : Long a
+
+pub pushed-fits : (r longer : HistoryRing) → longer ≡ after-push r → r .length ≤ max-history → longer .length ≤ max-history
+pushed-fits r longer is fits = subst (λ (x : HistoryRing). x .length ≤ max-history) (sym is) (push-fits r fits)

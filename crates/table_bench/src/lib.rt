@@ -7,26 +7,32 @@ ghost use lib.ListN.{length};
 ghost use Rattle.srt_group_model.specs.Cells.{is-among};
 ghost use Rattle.srt_group_model.specs.CellsKept.{pending-cells};
 ghost use Rattle.srt_group_model.specs.Nearest.{is-held};
-ghost use Rattle.srt_group_model.specs.Validity.{ascends};
+ghost use Rattle.srt_group_model.specs.Validity.{max-pending, ascends};
+ghost use Rattle.srt_group_model.specs.Legs.{largest-sequence};
+ghost use Rattle.srt_group_model.specs.Backup.{max-history};
+ghost use Rattle.srt_protocol.specs.Cells.{max-cells};
 ghost use Rattle.srt_connection.specs.Members.{has-row};
-ghost use Rattle.srt_tables.specs.Packets.{packets};
+ghost use Rattle.srt_tables.specs.Packets.{pending-size, packets};
+ghost use Rattle.srt_tables.specs.Ring.{arrays};
 ghost use Rattle.srt_connection.specs.Rows.{row-size};
 ghost use Rattle.table_bench.specs.Made.{data-of, InArrays};
 use srt_connection::members::pop_at;
 use srt_connection::members::push_at;
 use srt_group_model::Counts;
 use srt_group_model::Data;
+use srt_group_model::Entry;
 use srt_group_model::Event;
 use srt_group_model::Packet;
 use srt_protocol::error::Outcome;
+use srt_protocol::received_payload::MAX_CELLS;
 use srt_protocol::time::Timestamp;
 use srt_state::cells::FreeCell;
 use srt_state::cells::lowest_free;
 use srt_state::cells::mark_cells;
 use srt_tables::history::HistoryRing;
 use srt_tables::history::drop_before;
-use srt_tables::history::place;
 use srt_tables::history::push_back;
+use srt_tables::history::store;
 use srt_tables::pending;
 use srt_tables::pending::Found;
 
@@ -44,25 +50,25 @@ fn data(sequence: u64, cell: u64) -> Data
     }
 }
 
-// The place of a sequence, or 2,048.
+// The place of a sequence, or MAX_CELLS.
 #[no_mangle]
 pub extern "C" fn table_find(pending: &[u64], count: usize, sequence: u64) -> usize
-    requires { ⌜ (18432 ≤ length (now pending)) × (count ≤ 2048) ⌝ }
+    requires { ⌜ (pending-size ≤ length (now pending)) × (count ≤ max-pending) ⌝ }
     requires { ⌜ ascends (packets count (now pending)) ≡ true ⌝ }
 {
     let found = pending::find(pending, count, sequence);
     match found {
         Found::At(at) => at,
-        Found::Nothing => 2048,
+        Found::Nothing => MAX_CELLS,
     }
 }
 
 #[no_mangle]
 pub extern "C" fn table_insert(pending: &mut [u64], count: usize, sequence: u64, cell: u64)
-    requires { ⌜ (18432 ≤ length (now pending)) × (count < 2048) ⌝ }
+    requires { ⌜ (pending-size ≤ length (now pending)) × (count < max-pending) ⌝ }
     requires { ⌜ ascends (packets count (now pending)) ≡ true ⌝ }
     requires { ⌜ is-held sequence (packets count (now pending)) ≡ false ⌝ }
-    requires { ⌜ (sequence ≤ 2147483647) × (cell < 2048) ⌝ }
+    requires { ⌜ (sequence ≤ largest-sequence) × (cell < max-cells) ⌝ }
     requires { ⌜ is-among cell (pending-cells (packets count (now pending))) ≡ false ⌝ }
 {
     let packet = Packet {
@@ -75,7 +81,7 @@ pub extern "C" fn table_insert(pending: &mut [u64], count: usize, sequence: u64,
 
 #[no_mangle]
 pub extern "C" fn table_remove(pending: &mut [u64], count: usize, at: usize)
-    requires { ⌜ (18432 ≤ length (now pending)) × (at < count) × (count ≤ 2048) ⌝ }
+    requires { ⌜ (pending-size ≤ length (now pending)) × (at < count) × (count ≤ max-pending) ⌝ }
 {
     pending::remove(pending, count, at);
 }
@@ -104,66 +110,65 @@ pub extern "C" fn table_pop(members: &mut [u64], index: usize)
 // One entry in, and the acknowledged ones out.
 fn sent(
     ring: HistoryRing,
-    sequences: &mut [u32],
-    cells: &mut [u16],
-    lengths: &mut [u16],
+    history: &mut [u64],
     sources: &mut [u64],
-    sequence: u32,
-    kept: u32,
+    sequence: u64,
+    kept: u64,
 ) -> HistoryRing
-    requires { ⌜ InArrays (ring .length) (now sequences) (now cells) (now lengths) (now sources) ⌝ }
-    requires { ⌜ sequence < 2147483647 ⌝ }
-    ensures { λ r. ⌜ InArrays (r .length) (now (sequences .exit)) (now (cells .exit)) (now (lengths .exit)) (now (sources .exit)) ⌝ }
+    requires { ⌜ InArrays (ring .length) (arrays (now history) (now sources)) ⌝ }
+    requires { ⌜ sequence ≤ largest-sequence ⌝ }
+    ensures { λ r. ⌜ InArrays (r .length) (arrays (now (history .exit)) (now (sources .exit))) ⌝ }
 {
-    let at = place(ring, ring.length);
-    sequences[at] = sequence;
-    cells[at] = 0;
-    lengths[at] = 1316;
-    sources[at] = sequence as u64;
+    let entry = Entry {
+        sequence,
+        cell: 0,
+        length: 1316,
+        source: Timestamp(sequence),
+    };
+    store(ring, history, sources, entry);
     let longer = push_back(ring);
     if sequence < kept {
         return longer;
     }
-    drop_before(longer, sequences, sequence - kept)
+    drop_before(longer, history, sequence - kept)
 }
 
 // So many times an entry goes into a history, and those more than `kept` sequences older than it go out. Answers the length.
 #[no_mangle]
 pub extern "C" fn table_history(
-    sequences: &mut [u32],
-    cells: &mut [u16],
-    lengths: &mut [u16],
+    history: &mut [u64],
     sources: &mut [u64],
-    rounds: u32,
-    kept: u32,
+    rounds: u64,
+    kept: u64,
 ) -> usize
-    requires { ⌜ InArrays 0 (now sequences) (now cells) (now lengths) (now sources) ⌝ }
-    requires { ⌜ (rounds ≤ 2147483647) × (kept ≤ rounds) ⌝ }
+    requires { ⌜ InArrays 0 (arrays (now history) (now sources)) ⌝ }
+    requires { ⌜ (rounds ≤ largest-sequence) × (kept ≤ rounds) ⌝ }
 {
     let mut ring = HistoryRing {
         start: 0,
         length: 0,
     };
-    let mut sequence: u32 = 0;
+    let mut sequence: u64 = 0;
     while sequence < rounds {
-        ring = sent(ring, sequences, cells, lengths, sources, sequence, kept);
+        ring = sent(ring, history, sources, sequence, kept);
         sequence += 1;
     }
     ring.length
 }
 
-// The cells that members, held packets and a history of so many sends name, and the lowest free one; 2,048 if there is none.
+// The cells that members, held packets and a history of so many sends name, and the lowest free one; MAX_CELLS if there is none.
 #[no_mangle]
 pub extern "C" fn table_cells(
     members: &[u64],
     pending: &[u64],
-    sent: &[u16],
+    history: &[u64],
     many: usize,
     held: usize,
     entries: usize,
 ) -> usize
-    requires { ⌜ (many * row-size ≤ length (now members)) × (18432 ≤ length (now pending)) × (held ≤ 2048) ⌝ }
-    requires { ⌜ (entries ≤ 512) × (length (now sent) ≡ 512) ⌝ }
+    requires { ⌜ many * row-size ≤ length (now members) ⌝ }
+    requires { ⌜ (pending-size ≤ length (now pending)) × (held ≤ max-pending) ⌝ }
+    requires { ⌜ (entries ≤ max-history) × (length (now history) ≡ max-history) ⌝ }
 {
     let counts = Counts {
         members: many,
@@ -174,13 +179,21 @@ pub extern "C" fn table_cells(
         start: 0,
         length: entries,
     };
-    let mut flags = [0u8; 2048];
-    if !mark_cells(&mut flags, 2048, counts, members, pending, ring, sent) {
-        return 2048;
+    let mut flags = [0u8; MAX_CELLS];
+    if !mark_cells(
+        &mut flags,
+        MAX_CELLS,
+        counts,
+        members,
+        pending,
+        ring,
+        history,
+    ) {
+        return MAX_CELLS;
     }
-    let free = lowest_free(&flags, 2048);
+    let free = lowest_free(&flags, MAX_CELLS);
     match free {
         FreeCell::Cell(cell) => cell,
-        FreeCell::Full => 2048,
+        FreeCell::Full => MAX_CELLS,
     }
 }

@@ -1,5 +1,5 @@
 -- Rows of words in one list, `width` words to a row: which words a row is, what it is where a row was lent and came back, and
--- what moving the rows behind a place does. Assumes nothing.
+-- what moving the rows behind a place does.
 use mathlib.Core.Path.{_≡_, refl, ap, sym, _∙_}
 use mathlib.Core.Logic.{_⊎_, ⊎-elim, inl, inr}
 use mathlib.Core.List.{List, [], _∷_, _++_}

@@ -1,9 +1,5 @@
--- `queue_one` calls `queue_data` on the record that `made` gives. Assumes nothing.
-use mathlib.Core.Path.{sym, subst}
-use lib.ListN.{length}
-use Rattle.srt_queueing.specs.declared.group.Group.{Group}
-use Rattle.srt_queueing.specs.Tables.{tables}
-use Rattle.srt_queueing.specs.Ready.{Ready}
+-- `queue_one` calls `queue_data` on the record that `made` gives.
+use Rattle.cell_bench.specs.Made.{made-ready}
 use borrow.Author.Needs.{needs}
 use Rattle.cell_bench.proofs.queue_one.Statement.{statement}
 use Rattle.cell_bench.proofs.queue_one.Tie as tie
@@ -12,10 +8,7 @@ made-requires : tie.Need-made-requires
 made-requires c κs = search needs
 
 queue-data-requires : tie.Need-queue-data-requires
-queue-data-requires c κs =
-    let a = c .before .before .before .before .before .before .before .before .before .before .before .before .before .before .args in
-    let t = tables (a .sequences .now) (a .cells .now) (a .lengths .now) (a .sources .now) (a .members .now) (a .pending .now) (a .waiting .now) in
-    subst (λ (g : Group). Ready g t (length (a .store .now)) (a .used .now)) (sym (c .before .before .before .made .ensures)) (c .before .before .before .before .before .before .before .before .before .before .before .before .before .before .pre)
+queue-data-requires c κs = made-ready (c .before .before .before .made .ensures) (c .before .before .before .before .before .before .before .before .before .before .before .before .pre)
 
 number-requires : tie.Need-number-requires
 number-requires c κs = search needs

@@ -1,4 +1,4 @@
--- `clear` meets its contract. The loop's invariant: the words passed are 0. Assumes nothing.
+-- `clear` meets its contract. The loop's invariant: the words passed are 0.
 use mathlib.Core.Path.{_≡_}
 use Prim.Native.Nat.{ℕ, _-_, _≤_, _<_}
 use native.Mathlib.Omega.{arith}
@@ -7,12 +7,13 @@ use Rattle.cell_set.specs.Sets.{all-cleared, one-cleared}
 use borrow.Author.Needs.{needs}
 use Rattle.cell_set.proofs.clear.Statement.{statement}
 use Rattle.cell_set.proofs.clear.Tie as tie
+use Rattle.cell_set.specs.Bits.{set-size}
 
 abbrev Inv-loop : tie.InvT-loop
-Inv-loop used₀ at₀ used at = (at ≤ 32) × ((length used ≡ 32) × ((k : ℕ) → k < at → getD used k 0 ≡ 0))
+Inv-loop used₀ at₀ used at = (at ≤ set-size) × ((length used ≡ set-size) × ((k : ℕ) → k < at → getD used k 0 ≡ 0))
 
 abbrev μ-loop : tie.MeasureT-loop
-μ-loop used₀ at₀ used at = 32 - at
+μ-loop used₀ at₀ used at = set-size - at
 
 loop-holds : tie.Need-loop-holds Inv-loop μ-loop
 loop-holds c = (omega arith, (c .pre, λ k h. absurd (omega arith)))

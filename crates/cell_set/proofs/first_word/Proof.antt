@@ -1,16 +1,17 @@
--- `first_word` meets its contract. The loop's invariant: every cell of the words passed is taken. Assumes nothing.
+-- `first_word` meets its contract. The loop's invariant: every cell of the words passed is taken.
 use Prim.Native.Nat.{_-_, _≤_}
 use native.Mathlib.Omega.{arith}
 use borrow.Author.Needs.{needs}
 use Rattle.cell_set.specs.Sets.{Passed, full-passed}
 use Rattle.cell_set.proofs.first_word.Statement.{statement}
 use Rattle.cell_set.proofs.first_word.Tie as tie
+use Rattle.cell_set.specs.Bits.{set-size}
 
 abbrev Inv-loop : tie.InvT-loop
-Inv-loop used at₀ at = (at ≤ 32) × Passed used at
+Inv-loop used at₀ at = (at ≤ set-size) × Passed used at
 
 abbrev μ-loop : tie.MeasureT-loop
-μ-loop used at₀ at = 32 - at
+μ-loop used at₀ at = set-size - at
 
 loop-holds : tie.Need-loop-holds Inv-loop μ-loop
 loop-holds c = (omega arith, λ n h. absurd (omega arith))

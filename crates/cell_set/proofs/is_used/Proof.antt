@@ -1,4 +1,4 @@
--- `is_used` meets its contract: the bit is read as it is defined. Assumes nothing.
+-- `is_used` meets its contract: the bit is read as it is defined.
 use mathlib.Core.Path.{refl}
 use Rattle.cell_set.specs.Bits.{bit, bit-at}
 use borrow.Author.Needs.{needs}

@@ -1,4 +1,4 @@
--- `lowest_free` meets its contract: the laws of the first word that is not full. Assumes nothing.
+-- `lowest_free` meets its contract: the laws of the first word that is not full.
 use native.Mathlib.Omega.{arith}
 use borrow.Author.Needs.{needs}
 use Rattle.cell_set.specs.Sets.{none-free, ones-inside, found-in-word, beyond-store}

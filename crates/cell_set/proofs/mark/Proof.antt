@@ -1,4 +1,4 @@
--- `mark` meets its contract: the laws `beyond-refused`, `again-refused` and `cell-marked`. Assumes nothing.
+-- `mark` meets its contract: the laws `beyond-refused`, `again-refused` and `cell-marked`.
 use Rattle.cell_set.specs.Marks.{beyond-refused, again-refused, cell-marked}
 use borrow.Author.Needs.{needs}
 use Rattle.cell_set.proofs.mark.Statement.{statement}

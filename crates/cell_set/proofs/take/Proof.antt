@@ -1,4 +1,4 @@
--- `take` meets its contract: the law `cell-taken`. Assumes nothing.
+-- `take` meets its contract: the law `cell-taken`.
 use Rattle.cell_set.specs.Sets.{cell-taken}
 use borrow.Author.Needs.{needs}
 use Rattle.cell_set.proofs.take.Statement.{statement}

@@ -1,5 +1,5 @@
 -- `columns::answer_block` meets its contract: with each part that is answered, the buffer holds the line that the part leaves
--- open. Assumes nothing.
+-- open.
 use Prim.Native.Nat.{ℕ, _-_, _≤_}
 use native.Mathlib.Omega.{arith}
 use mathlib.Core.Path.{_≡_, refl, _∙_}

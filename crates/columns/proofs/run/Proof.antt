@@ -1,4 +1,4 @@
--- `columns::run` is safe and ends: the turns are counted down. Assumes nothing.
+-- `columns::run` is safe and ends: the turns are counted down.
 use Prim.Native.Nat.{_≤_}
 use native.Mathlib.Omega.{arith}
 use mathlib.Core.Path.{_≡_, sym}

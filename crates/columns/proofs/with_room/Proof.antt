@@ -1,4 +1,4 @@
--- `columns::with_room` meets its contract: behind a write all room is free. Assumes nothing.
+-- `columns::with_room` meets its contract: behind a write all room is free.
 use native.Mathlib.Omega.{arith}
 use mathlib.Core.Path.{sym}
 use lib.Seq.{length-take-le}

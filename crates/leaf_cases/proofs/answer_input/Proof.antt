@@ -1,4 +1,4 @@
--- `answer_input` is safe: what is written of the output lies within it. Assumes nothing.
+-- `answer_input` is safe: what is written of the output lies within it.
 use mathlib.Core.Path.{sym}
 use lib.Seq.{length-take-le}
 use borrow.Author.Needs.{needs}

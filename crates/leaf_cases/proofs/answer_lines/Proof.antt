@@ -1,4 +1,4 @@
--- `answer_lines` is safe and ends: the output keeps its length, and each turn counts a line. Assumes nothing.
+-- `answer_lines` is safe and ends: the output keeps its length, and each turn counts a line.
 use mathlib.Core.Path.{_≡_}
 use Prim.Native.Nat.{_-_}
 use lib.ListN.{length}

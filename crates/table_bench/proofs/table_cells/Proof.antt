@@ -1,4 +1,4 @@
--- `table_cells` may mark: its flags are fresh. Assumes nothing.
+-- `table_cells` may mark: its flags are fresh.
 use Rattle.srt_state.specs.CellPassLaws.{no-marks}
 use borrow.Author.Needs.{needs}
 use Rattle.table_bench.proofs.table_cells.Statement.{statement}

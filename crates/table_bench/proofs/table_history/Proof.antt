@@ -1,17 +1,16 @@
--- `table_history` keeps to the ring. Assumes nothing.
+-- `table_history` keeps to the ring.
 use Prim.Native.Nat.{_-_}
+use Rattle.srt_tables.specs.Ring.{arrays}
 use Rattle.table_bench.specs.Made.{InArrays}
 use borrow.Author.Needs.{needs}
 use Rattle.table_bench.proofs.table_history.Statement.{statement}
 use Rattle.table_bench.proofs.table_history.Tie as tie
 
 abbrev Inv-loop : tie.InvT-loop
-Inv-loop sequences₀ cells₀ lengths₀ sources₀ rounds kept ring₀ sequence₀ sequences cells lengths sources ring sequence =
-    InArrays (ring .length) sequences cells lengths sources
+Inv-loop history₀ sources₀ rounds kept ring₀ sequence₀ history sources ring sequence = InArrays (ring .length) (arrays history sources)
 
 abbrev μ-loop : tie.MeasureT-loop
-μ-loop sequences₀ cells₀ lengths₀ sources₀ rounds kept ring₀ sequence₀ sequences cells lengths sources ring sequence =
-    rounds - sequence
+μ-loop history₀ sources₀ rounds kept ring₀ sequence₀ history sources ring sequence = rounds - sequence
 
 loop-holds : tie.Need-loop-holds Inv-loop μ-loop
 loop-holds c = search needs
@@ -34,12 +33,6 @@ same-length c = search needs
 same-length-2 : tie.Need-same-length-2 Inv-loop μ-loop
 same-length-2 c = search needs
 
-same-length-3 : tie.Need-same-length-3 Inv-loop μ-loop
-same-length-3 c = search needs
-
-same-length-4 : tie.Need-same-length-4 Inv-loop μ-loop
-same-length-4 c = search needs
-
 returns : tie.Need-returns Inv-loop μ-loop
 returns c = search needs
 
@@ -56,6 +49,4 @@ table-history-spec =
     loop-again
     same-length
     same-length-2
-    same-length-3
-    same-length-4
     returns)

@@ -1,4 +1,4 @@
--- `table_insert` may call `insert`. Assumes nothing.
+-- `table_insert` may call `insert`.
 use borrow.Author.Needs.{needs}
 use denote.Ref.{now}
 use Rattle.table_bench.specs.Made.{insertable-made}

@@ -1,5 +1,5 @@
 -- `close_gap` meets its contract. The loop's invariant: the words below `from` are as they were, those from there up to `at` stand
--- `width` before, and the rest has not moved. Assumes nothing.
+-- `width` before, and the rest has not moved.
 use mathlib.Core.Path.{_≡_, refl}
 use Prim.Native.Nat.{ℕ, _+_, _-_, _≤_, _<_}
 use native.Mathlib.Omega.{arith}

@@ -1,5 +1,5 @@
 -- `open_gap` meets its contract. The loop's invariant: the words below `at + width` are as they were, and those from `at` up to
--- `end` stand `width` further on. Assumes nothing.
+-- `end` stand `width` further on.
 use mathlib.Core.Path.{_≡_, refl}
 use Prim.Native.Nat.{ℕ, _+_, _-_, _≤_, _<_}
 use native.Mathlib.Omega.{arith}

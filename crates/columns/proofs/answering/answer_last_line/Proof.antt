@@ -1,4 +1,4 @@
--- `columns::answering::answer_last_line` meets its contract: size 0 is no line. Assumes nothing.
+-- `columns::answering::answer_last_line` meets its contract: size 0 is no line.
 use native.Mathlib.Omega.{arith}
 use mathlib.Core.Path.{_≡_}
 use denote.Ref.{now}

@@ -1,4 +1,4 @@
--- `columns::answering::answer_line` meets its contract: the answer goes by what is read of the line. Assumes nothing.
+-- `columns::answering::answer_line` meets its contract: the answer goes by what is read of the line.
 use native.Mathlib.Omega.{arith}
 use mathlib.Core.Path.{refl}
 use denote.Ref.{now}

@@ -1,4 +1,4 @@
--- `columns::answering::answer_next` meets its contract: a well-formed line that stands whole is answered from where it stands. Assumes nothing.
+-- `columns::answering::answer_next` meets its contract: a well-formed line that stands whole is answered from where it stands.
 use native.Mathlib.Omega.{arith}
 use mathlib.Core.Path.{_≡_, refl}
 use denote.Ref.{now}

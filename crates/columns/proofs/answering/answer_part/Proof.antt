@@ -1,4 +1,4 @@
--- `columns::answering::answer_part` meets its contract: each turn is a further advance over the block. Assumes nothing.
+-- `columns::answering::answer_part` meets its contract: each turn is a further advance over the block.
 use Prim.Native.Nat.{_-_}
 use native.Mathlib.Omega.{arith}
 use mathlib.Core.Path.{_≡_, refl, _∙_}

@@ -1,4 +1,4 @@
--- `columns::answering::answer_taken` meets its contract: a line that ended is answered, another is held. Assumes nothing.
+-- `columns::answering::answer_taken` meets its contract: a line that ended is answered, another is held.
 use native.Mathlib.Omega.{arith}
 use denote.Ref.{now}
 use Rattle.columns.proofs.AnswerLaws.{taken-ended, taken-open}

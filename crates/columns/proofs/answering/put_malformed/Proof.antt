@@ -1,4 +1,4 @@
--- `columns::answering::put_malformed` meets its contract: the text has room. Assumes nothing.
+-- `columns::answering::put_malformed` meets its contract: the text has room.
 use native.Mathlib.Omega.{arith}
 use denote.Ref.{now}
 use Rattle.columns.specs.Answer.{malformed-text}

@@ -1,4 +1,4 @@
--- `columns::answering::put_numbers` meets its contract: a line of 8 numbers has room in 161 bytes. Assumes nothing.
+-- `columns::answering::put_numbers` meets its contract: a line of 8 numbers has room in 161 bytes.
 use native.Mathlib.Omega.{arith}
 use denote.Ref.{now}
 use Rattle.listing.specs.Text.{line-text}

@@ -1,5 +1,4 @@
 -- `listing::reading::clear` meets its contract: so many zeros as were stored stand at the start.
--- Assumes nothing.
 use Prim.Native.Nat.{ℕ, _+_, _-_, _≤_}
 use native.Mathlib.Omega.{arith}
 use mathlib.Core.Path.{_≡_, refl, ap, sym, _∙_}

@@ -1,5 +1,4 @@
 -- `listing::reading::fits_with_digit` meets its contract: 2^64 is 10 times `LARGEST_TENTH` and 6.
--- Assumes nothing.
 use Prim.Native.Nat.{ℕ, _+_, _*_, _≤_, _<_, _^_}
 use native.Mathlib.Omega.{arith}
 use mathlib.Core.Bool.{Bool, true, false}

@@ -1,5 +1,4 @@
 -- `listing::reading::leading_spaces` meets its contract: what follows the spaces passed so far follows all of them.
--- Assumes nothing.
 use Prim.Native.Nat.{_-_, _≤_}
 use native.Mathlib.Omega.{arith}
 use mathlib.Core.Path.{_≡_, refl, sym, _∙_}

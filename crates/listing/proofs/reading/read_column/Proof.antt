@@ -1,5 +1,4 @@
 -- `listing::reading::read_column` meets its contract: behind the leading spaces stand the digits.
--- Assumes nothing.
 use mathlib.Core.Path.{ap, _∙_}
 use Rattle.listing.specs.Column.{column, digits-read}
 use borrow.Author.Needs.{needs}

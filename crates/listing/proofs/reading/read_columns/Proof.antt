@@ -1,5 +1,5 @@
 -- `listing::reading::read_columns` meets its contract: the columns that are left decide whether all are numbers, and their
--- values behind those that are stored are the values of all. Assumes nothing.
+-- values behind those that are stored are the values of all.
 use Prim.Native.Nat.{ℕ, _+_, _-_, _*_, _≤_}
 use native.Mathlib.Omega.{arith}
 use native.Mathlib.Numerals.{add-one}

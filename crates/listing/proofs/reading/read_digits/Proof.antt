@@ -1,5 +1,4 @@
 -- `listing::reading::read_digits` meets its contract: the bytes that are left, behind the value so far, read as the whole.
--- Assumes nothing.
 use Prim.Native.Nat.{_+_, _-_, _*_, _≤_, _<_, _^_}
 use native.Mathlib.Omega.{arith}
 use mathlib.Core.Path.{_≡_, sym, _∙_}

@@ -1,5 +1,5 @@
 -- `listing::reading::read_line` meets its contract: a line is well-formed where its columns are numbers and end where it
--- ends. Assumes nothing.
+-- ends.
 use Prim.Native.Nat.{ℕ}
 use mathlib.Core.Bool.{false}
 use mathlib.Core.Path.{_≡_, ap, sym, _∙_}

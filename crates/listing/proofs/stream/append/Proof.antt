@@ -1,5 +1,5 @@
 -- `listing::stream::append` meets its contract: the bytes are added where they fit, and else the line is longer than the
--- buffer. Assumes nothing.
+-- buffer.
 use Prim.Native.Nat.{_+_, _≤_}
 use native.Mathlib.Omega.{arith}
 use mathlib.Core.Path.{refl}

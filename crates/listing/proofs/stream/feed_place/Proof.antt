@@ -1,5 +1,5 @@
 -- `listing::stream::feed_place` meets its contract: the bytes passed, with the first line of what is left, are the first line,
--- and what is left has a line feed where the whole has one. Assumes nothing.
+-- and what is left has a line feed where the whole has one.
 use Prim.Native.Nat.{ℕ, _-_, _≤_, _<_}
 use native.Mathlib.Omega.{arith}
 use mathlib.Core.Path.{_≡_, refl, ap, sym, _∙_}

@@ -1,5 +1,4 @@
 -- `listing::stream::read_held_line` meets its contract: a line within the buffer is the buffer's bytes up to its size.
--- Assumes nothing.
 use Prim.Native.Nat.{ℕ, _≤_, _<_}
 use native.Mathlib.Omega.{arith}
 use mathlib.Core.Path.{_≡_, ap, sym}

@@ -1,5 +1,5 @@
 -- `listing::stream::read_whole_line` meets its contract: the columns that stand at the place end at a line feed exactly where
--- a well-formed line stands there. Assumes nothing.
+-- a well-formed line stands there.
 use Prim.Native.Nat.{ℕ, _+_, _-_, _*_, _≤_, _<_}
 use native.Mathlib.Omega.{arith}
 use mathlib.Core.Path.{refl, sym, subst, _∙_}

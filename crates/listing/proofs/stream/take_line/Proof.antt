@@ -1,5 +1,5 @@
 -- `listing::stream::take_line` meets its contract: the bytes before the line feed are the first line, and what is behind it
--- is the rest. Assumes nothing.
+-- is the rest.
 use Prim.Native.Nat.{ℕ, _<_}
 use native.Mathlib.Omega.{arith}
 use mathlib.Core.Bool.{false}

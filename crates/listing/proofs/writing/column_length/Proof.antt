@@ -1,5 +1,4 @@
 -- `listing::writing::column_length` meets its contract: the larger of the width and the count of digits.
--- Assumes nothing.
 use native.Mathlib.Omega.{arith}
 use Rattle.listing.proofs.TextLaws.{length-right-justified}
 use borrow.Author.Needs.{needs}

@@ -1,5 +1,4 @@
 -- `listing::writing::copy_in` meets its contract: so many bytes as were stored stand from the place on.
--- Assumes nothing.
 use Prim.Native.Nat.{ℕ, _+_, _-_, _≤_}
 use native.Mathlib.Omega.{arith}
 use mathlib.Core.Path.{_≡_, refl, ap, sym, _∙_}

@@ -1,5 +1,5 @@
 -- `listing::writing::digit_count` meets its contract: the power has as many zeros as digits were counted, and the number
--- is not below the power of one digit less. A 64-bit number is below 10^20. Assumes nothing.
+-- is not below the power of one digit less. A 64-bit number is below 10^20.
 use Prim.Native.Nat.{ℕ, suc, _-_, _≤_, _<_, _^_}
 use native.Mathlib.Omega.{arith}
 use native.Mathlib.Numerals.{add-one}

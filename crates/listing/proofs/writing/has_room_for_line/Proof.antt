@@ -1,5 +1,5 @@
 -- `listing::writing::has_room_for_line` meets its contract: what is used of the room, with the columns that are left, is as
--- long as all columns. Assumes nothing.
+-- long as all columns.
 use Prim.Native.Nat.{ℕ, _+_, _-_, _≤_, _<_}
 use native.Mathlib.Omega.{arith}
 use mathlib.Core.Path.{_≡_, sym, _∙_}

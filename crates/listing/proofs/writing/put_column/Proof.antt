@@ -1,5 +1,4 @@
 -- `listing::writing::put_column` meets its contract: spaces over the width with the digits over their end are the column.
--- Assumes nothing.
 use Prim.Native.Nat.{ℕ, _+_, _-_}
 use native.Mathlib.Omega.{arith}
 use mathlib.Core.Path.{_≡_, ap, _∙_}

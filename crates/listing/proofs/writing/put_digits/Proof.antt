@@ -1,5 +1,5 @@
 -- `listing::writing::put_digits` meets its contract: the digits that are left, placed before those that are stored, give
--- the whole. Assumes nothing.
+-- the whole.
 use Prim.Native.Nat.{ℕ, _+_, _-_, _/_, _%_, _≤_, _<_}
 use native.Mathlib.Omega.{arith}
 use mathlib.Core.Path.{_≡_, refl, ap, sym, _∙_}

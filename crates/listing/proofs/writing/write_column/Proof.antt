@@ -1,5 +1,4 @@
 -- `listing::writing::write_column` meets its contract: it refuses exactly where the column has no room.
--- Assumes nothing.
 use native.Mathlib.Omega.{arith}
 use denote.Ref.{now}
 use Rattle.listing.specs.Text.{right-justified}

@@ -1,5 +1,4 @@
 -- `listing::writing::write_line` meets its contract: it refuses exactly where the line has no room.
--- Assumes nothing.
 use Prim.Native.Nat.{_-_, _≤_, _<_}
 use native.Mathlib.Omega.{arith}
 use mathlib.Core.Path.{sym, _∙_}

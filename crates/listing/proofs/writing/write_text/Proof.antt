@@ -1,5 +1,4 @@
 -- `listing::writing::write_text` meets its contract: it refuses exactly where the text has no room.
--- Assumes nothing.
 use native.Mathlib.Omega.{arith}
 use mathlib.Core.Path.{refl}
 use denote.Ref.{now}

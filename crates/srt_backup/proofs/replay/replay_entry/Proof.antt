@@ -1,17 +1,8 @@
--- `replay_entry` meets its contract. Assumes nothing.
-use Rattle.srt_backup.specs.Replay.{entry-failed, entry-went}
+-- `replay_entry` meets its contract.
+use Rattle.srt_backup.specs.Replay.{entry-failed, entry-sent}
 use borrow.Author.Needs.{needs}
 use Rattle.srt_backup.proofs.replay.replay_entry.Statement.{statement}
 use Rattle.srt_backup.proofs.replay.replay_entry.Tie as tie
-
-cast-sequence : tie.Need-cast-sequence
-cast-sequence c = search needs
-
-cast-cell : tie.Need-cast-cell
-cast-cell c = search needs
-
-cast-size : tie.Need-cast-size
-cast-size c = search needs
 
 send-shared-with-sequence-requires : tie.Need-send-shared-with-sequence-requires
 send-shared-with-sequence-requires c κs = search needs
@@ -33,7 +24,7 @@ same-length c = search needs
 
 returns-2 : tie.Need-returns-2
 returns-2 c =
-    entry-went _ _ _ _ _ _
+    entry-sent _ _ _ _ _ _
     (c .before .before .before .before .before .before .before .before .send-shared-with-sequence .ensures) _
     (c .before .before .before .before .before .before .result .given .1) (c .before .before .write-sent .ensures)
 
@@ -41,9 +32,6 @@ pub replay-entry-spec : {M : Type 1} → statement M
 replay-entry-spec =
     tie.close
     (tie.spec
-    cast-sequence
-    cast-cell
-    cast-size
     send-shared-with-sequence-requires
     enum-known-result
     enum-told

@@ -1,4 +1,4 @@
--- `send_on` meets its contract. Assumes nothing.
+-- `send_on` meets its contract.
 use Rattle.srt_backup.specs.OwnSend.{own-not-sent, own-sent}
 use borrow.Author.Needs.{needs}
 use Rattle.srt_backup.proofs.send.send_on.Statement.{statement}
@@ -46,7 +46,6 @@ returns-2 c =
     (c .before .before .before .before .before .before .before .before .before .before .before .before .before .before .leg-at .ensures)
     (c .before .before .before .before .before .before .before .before .before .before .before .before .before .send-shared-with-sequence .ensures)
     _
-    (c .before .before .before .before .before .before .before .before .before .before .before .before .before .before .before .before .before .before .pre .1)
     (c .before .before .before .before .before .before .before .before .before .before .before .result .given .1)
     (c .before .before .before .before .before .before .before .before .membership-at .ensures)
     (c .before .before .before .before .before .before .put-leg-at .ensures) (c .before .before .write-sent .ensures)

@@ -1,4 +1,4 @@
--- `demote_stale_backup_carrier` meets its contract: each return is a law of Stale.antt. Assumes nothing.
+-- `demote_stale_backup_carrier` meets its contract: each return is a law of Stale.antt.
 use mathlib.Core.Path.{sym, _∙_}
 use native.Mathlib.Omega.{arith}
 use borrow.Author.Tests.{not-true, not-false}

@@ -1,4 +1,4 @@
--- `first_standby` meets its contract. The loop's invariant: no member that was passed is a connected Standby. Assumes nothing.
+-- `first_standby` meets its contract. The loop's invariant: no member that was passed is a connected Standby.
 use Prim.Native.Nat.{_≤_, _-_}
 use Rattle.srt_group_model.specs.Members.{is-standby}
 use Rattle.srt_members.specs.Scan.{Passed, passed-start, passed-on, found-first, found-nowhere}

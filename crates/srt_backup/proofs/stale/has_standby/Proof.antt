@@ -1,4 +1,4 @@
--- `has_standby` meets its contract: one is there if one is found. Assumes nothing.
+-- `has_standby` meets its contract: one is there if one is found.
 use mathlib.Core.Path.{sym, _∙_}
 use Rattle.srt_group_model.specs.Members.{is-standby}
 use Rattle.srt_members.specs.Scan.{any-at, any-nowhere}

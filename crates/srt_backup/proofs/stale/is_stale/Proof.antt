@@ -1,4 +1,4 @@
--- `is_stale` meets its contract: a leg with no sender, or with nothing in flight, is not; else silence decides. Assumes nothing.
+-- `is_stale` meets its contract: a leg with no sender, or with nothing in flight, is not; else silence decides.
 use borrow.Author.Tests.{not-true, not-false}
 use Rattle.srt_backup.specs.Stale.{no-sender-not-stale, no-flight-not-stale, stale-by-silence}
 use borrow.Author.Needs.{needs}

@@ -1,4 +1,4 @@
--- `stability_timeout` meets its contract: it is the larger of the two. Assumes nothing.
+-- `stability_timeout` meets its contract: it is the larger of the two.
 use Rattle.srt_group_model.specs.Backup.{stability-timeout}
 use borrow.Author.Needs.{needs}
 use Rattle.srt_backup.proofs.stale.stability_timeout.Statement.{statement}

@@ -1,21 +1,18 @@
--- `replay_flight` meets its contract. Assumes nothing.
-use Rattle.srt_backup.specs.Replay.{arrays-of}
+-- `replay_flight` meets its contract.
 use Rattle.srt_backup.specs.TakeOver.{gap-not-replayed, unaligned-not-replayed, aligned-replayed}
 use borrow.Author.Needs.{needs}
+use Rattle.srt_tables.specs.Ring.{arrays}
 use Rattle.srt_backup.proofs.takeover.replay_flight.Statement.{statement}
 use Rattle.srt_backup.proofs.takeover.replay_flight.Tie as tie
 
 returns : tie.Need-returns
-returns c = let args = c .before .before .before .before .before .before .before .args in
+returns c = let args = c .before .before .before .before .before .before .args in
     gap-not-replayed _ _ (args .sending) (args .ring)
-    (arrays-of (args .sequences .now) (args .cells .now) (args .lengths .now) (args .sources .now))
+    (arrays (args .history .now) (args .sources .now))
     _ _ _ (c .if1 .taken)
 
 entry-at-requires : tie.Need-entry-at-requires
 entry-at-requires c κs = search needs
-
-cast-sequence : tie.Need-cast-sequence
-cast-sequence c = search needs
 
 leg-at-requires : tie.Need-leg-at-requires
 leg-at-requires c κs = search needs
@@ -34,16 +31,16 @@ same-length c = search needs
 
 returns-2 : tie.Need-returns-2
 returns-2 c =
-    let args = c .before .before .before .before .before .before .before .before .before .before .before .before .before .before .args in
+    let args = c .before .before .before .before .before .before .before .before .before .before .before .before .args in
     unaligned-not-replayed _ _ (args .sending) (args .ring)
-    (arrays-of (args .sequences .now) (args .cells .now) (args .lengths .now) (args .sources .now))
-    _ _ _ (c .before .before .before .before .before .before .before .if1 .left)
-    (c .before .before .before .before .before .before .entry-at .ensures) (c .before .before .before .leg-at .ensures)
+    (arrays (args .history .now) (args .sources .now))
+    _ _ _ (c .before .before .before .before .before .before .if1 .left)
+    (c .before .before .before .before .before .entry-at .ensures) (c .before .before .before .leg-at .ensures)
     (c .before .before .align-leg .ensures) (c .enum-told .given .1)
 
 replay-on-requires : tie.Need-replay-on-requires
 replay-on-requires c κs =
-    c .before .before .before .before .before .before .before .before .before .before .before .before .before .before .before .before .before .pre
+    c .before .before .before .before .before .before .before .before .before .before .before .before .before .before .before .pre
 
 same-length-2 : tie.Need-same-length-2
 same-length-2 c = search needs
@@ -53,12 +50,12 @@ same-length-3 c = search needs
 
 returns-3 : tie.Need-returns-3
 returns-3 c =
-    let args = c .before .before .before .before .before .before .before .before .before .before .before .before .before .before .before .before .before .before .before .before .before .before .args in
+    let args = c .before .before .before .before .before .before .before .before .before .before .before .before .before .before .before .before .before .before .before .before .args in
     aligned-replayed _ _ (args .sending) (args .ring)
-    (arrays-of (args .sequences .now) (args .cells .now) (args .lengths .now) (args .sources .now))
+    (arrays (args .history .now) (args .sources .now))
     _ _ _
-    (c .before .before .before .before .before .before .before .before .before .before .before .before .before .before .before .if1 .left)
-    (c .before .before .before .before .before .before .before .before .before .before .before .before .before .before .entry-at .ensures)
+    (c .before .before .before .before .before .before .before .before .before .before .before .before .before .before .if1 .left)
+    (c .before .before .before .before .before .before .before .before .before .before .before .before .before .entry-at .ensures)
     (c .before .before .before .before .before .before .before .before .before .before .before .leg-at .ensures)
     (c .before .before .before .before .before .before .before .before .before .before .align-leg .ensures) _
     (c .before .before .before .before .before .before .before .before .result .given .1)
@@ -70,7 +67,6 @@ replay-flight-spec =
     (tie.spec
     returns
     entry-at-requires
-    cast-sequence
     leg-at-requires
     align-leg-requires
     enum-known-result

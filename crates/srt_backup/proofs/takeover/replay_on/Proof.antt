@@ -1,7 +1,7 @@
--- `replay_on` meets its contract. Assumes nothing.
-use Rattle.srt_backup.specs.Replay.{arrays-of}
+-- `replay_on` meets its contract.
 use Rattle.srt_backup.specs.TakeOver.{no-room-to-replay, replayed-with-room}
 use borrow.Author.Needs.{needs}
+use Rattle.srt_tables.specs.Ring.{arrays}
 use Rattle.srt_backup.proofs.takeover.replay_on.Statement.{statement}
 use Rattle.srt_backup.proofs.takeover.replay_on.Tie as tie
 
@@ -16,9 +16,9 @@ same-length c = search needs
 
 returns : tie.Need-returns
 returns c =
-    let args = c .before .before .before .before .before .before .before .before .before .before .before .before .args in
+    let args = c .before .before .before .before .before .before .before .before .before .before .args in
     no-room-to-replay _ _ (args .ring)
-    (arrays-of (args .sequences .now) (args .cells .now) (args .lengths .now) (args .sources .now))
+    (arrays (args .history .now) (args .sources .now))
     _ _ _ _ (c .before .before .before .before .before .remaining-window-packets .ensures)
     (c .before .before .before .before .if1 .taken) (c .before .before .put-leg-at .ensures)
 
@@ -26,12 +26,10 @@ membership-at-requires : tie.Need-membership-at-requires
 membership-at-requires c κs = search needs
 
 replay-entries-requires : tie.Need-replay-entries-requires
-replay-entries-requires c κs =
-    (c .before .before .before .before .before .before .before .before .before .before .before .pre .0, (c .before .before .before .before .before .before .before .before .before .before .before .pre .1 .0, c .before .before .before .before .before .before .before .before .before .before .before .pre .1 .1 .1))
+replay-entries-requires c κs = let pre = c .before .before .before .before .before .before .before .before .before .pre in (pre .0, pre .1 .1)
 
 put-leg-at-requires-2 : tie.Need-put-leg-at-requires-2
-put-leg-at-requires-2 c κs =
-    c .before .before .before .before .before .before .before .before .before .before .before .before .before .before .before .before .pre .1 .1 .0
+put-leg-at-requires-2 c κs = c .before .before .before .before .before .before .before .before .before .before .before .before .before .before .pre .1 .0
 
 replay-outcome-requires : tie.Need-replay-outcome-requires
 replay-outcome-requires c κs = search needs
@@ -44,9 +42,9 @@ same-length-3 c = search needs
 
 returns-2 : tie.Need-returns-2
 returns-2 c =
-    let args = c .before .before .before .before .before .before .before .before .before .before .before .before .before .before .before .before .before .before .before .before .args in
+    let args = c .before .before .before .before .before .before .before .before .before .before .before .before .before .before .before .before .before .before .args in
     replayed-with-room _ _ (args .ring)
-    (arrays-of (args .sequences .now) (args .cells .now) (args .lengths .now) (args .sources .now))
+    (arrays (args .history .now) (args .sources .now))
     _ _ _ _
     (c .before .before .before .before .before .before .before .before .before .before .before .before .before .remaining-window-packets .ensures)
     (c .before .before .before .before .before .before .before .before .before .before .before .before .if1 .left)

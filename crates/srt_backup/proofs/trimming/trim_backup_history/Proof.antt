@@ -1,7 +1,6 @@
--- `trim_backup_history` meets its contract. Assumes nothing.
-use native.Mathlib.Omega.{arith}
+-- `trim_backup_history` meets its contract.
 use borrow.Author.Tests.{not-true, not-false}
-use Rattle.srt_backup.specs.Trimming.{oldest-small, no-sender-none-trimmed, acknowledged-trimmed}
+use Rattle.srt_backup.specs.Trimming.{no-sender-none-trimmed, acknowledged-trimmed}
 use borrow.Author.Needs.{needs}
 use Rattle.srt_backup.proofs.trimming.trim_backup_history.Statement.{statement}
 use Rattle.srt_backup.proofs.trimming.trim_backup_history.Tie as tie
@@ -16,9 +15,6 @@ returns c =
 
 oldest-unacked-sequence-requires : tie.Need-oldest-unacked-sequence-requires
 oldest-unacked-sequence-requires c κs = search needs
-
-cast-oldest : tie.Need-cast-oldest
-cast-oldest c = record { fits = oldest-small _ (c .oldest-unacked-sequence .ensures) }
 
 drop-before-requires : tie.Need-drop-before-requires
 drop-before-requires c κs = search needs
@@ -39,7 +35,6 @@ trim-backup-history-spec =
     has-sender-requires
     returns
     oldest-unacked-sequence-requires
-    cast-oldest
     drop-before-requires
     starts-after-requires
     returns-2)

@@ -1,7 +1,6 @@
--- `trim_by_carrier` meets its contract. Assumes nothing.
+-- `trim_by_carrier` meets its contract.
 use mathlib.Core.Path.{sym, _∙_}
 use native.Mathlib.Omega.{arith}
-use borrow.Author.Tests.{not-true, not-false}
 use Rattle.srt_connection.specs.Members.{found-below}
 use Rattle.srt_backup.specs.Trimming.{no-carrier-none-trimmed, carrier-gone-none-trimmed, carrier-trimmed}
 use borrow.Author.Needs.{needs}
@@ -9,10 +8,7 @@ use Rattle.srt_backup.proofs.trimming.trim_by_carrier.Statement.{statem
 use Rattle.srt_backup.proofs.trimming.trim_by_carrier.Tie as tie
 
 returns : tie.Need-returns
-returns c = no-carrier-none-trimmed _ _ _ _ _ (c .before .before .before .before .pre .0 .0) (not-true _ (c .if1 .taken))
-
-cast-carrier : tie.Need-cast-carrier
-cast-carrier c = search needs
+returns c = no-carrier-none-trimmed _ _ _ _ _ (c .before .before .before .before .pre .0 .0) (c .if1 .taken)
 
 find-requires : tie.Need-find-requires
 find-requires c κs = search needs
@@ -25,9 +21,7 @@ enum-told c = search needs
 
 returns-2 : tie.Need-returns-2
 returns-2 c =
-    carrier-gone-none-trimmed _ _ _ _ _ (not-false _ (c .before .before .before .before .if1 .left))
-    (c .before .before .before .before .before .before .before .before .pre .0 .0)
-    (sym (c .enum-told .given .1) ∙ c .before .before .find .ensures)
+    carrier-gone-none-trimmed _ _ _ _ _ (c .before .before .before .if1 .left) (c .before .before .before .before .before .before .before .pre .0 .0) (sym (c .enum-told .given .1) ∙ c .before .before .find .ensures)
 
 leg-at-requires : tie.Need-leg-at-requires
 leg-at-requires c κs =
@@ -38,16 +32,14 @@ trim-backup-history-requires c κs = search needs
 
 returns-3 : tie.Need-returns-3
 returns-3 c =
-    carrier-trimmed _ _ _ _ _ (not-false _ (c .before .before .before .before .before .before .before .if1 .left)) _
-    (sym (c .before .before .before .found .given .1) ∙ c .before .before .before .before .before .find .ensures)
-    (c .before .leg-at .ensures) (c .trim-backup-history .ensures)
+    carrier-trimmed _ _ _ _ _ (c .before .before .before .before .before .before .if1 .left) _ (sym (c .before .before .before .found .given .1) ∙ c .before .before .before .before .before .find .ensures) (c .before .leg-at .ensures)
+    (c .trim-backup-history .ensures)
 
 pub trim-by-carrier-spec : {M : Type 1} → statement M
 trim-by-carrier-spec =
     tie.close
     (tie.spec
     returns
-    cast-carrier
     find-requires
     enum-known-found
     enum-told

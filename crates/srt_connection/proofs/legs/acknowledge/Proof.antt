@@ -1,4 +1,4 @@
--- `acknowledge` meets its contract. Assumes nothing.
+-- `acknowledge` meets its contract.
 use borrow.Author.Needs.{needs}
 use Rattle.srt_connection.proofs.legs.acknowledge.Statement.{statement}
 use Rattle.srt_connection.proofs.legs.acknowledge.Tie as tie

@@ -1,4 +1,4 @@
--- `can_send` meets its contract: its two tests are the definition's. Assumes nothing.
+-- `can_send` meets its contract: its two tests are the definition's.
 use borrow.Author.Tests.{eq-eqb, ne-eqb}
 use borrow.Author.Needs.{needs}
 use Rattle.srt_group_model.specs.Legs.{can-send}

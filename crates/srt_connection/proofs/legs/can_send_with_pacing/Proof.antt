@@ -1,4 +1,4 @@
--- `can_send_with_pacing` meets its contract: its two tests are the definition's. Assumes nothing.
+-- `can_send_with_pacing` meets its contract: its two tests are the definition's.
 use borrow.Author.Needs.{needs}
 use Rattle.srt_group_model.specs.Legs.{can-send-with-pacing}
 use Rattle.srt_connection.proofs.legs.can_send_with_pacing.Statement.{statement}

@@ -1,4 +1,4 @@
--- `gives_up_at` meets its contract: never at latency 0, else the source time and the latency after it. Assumes nothing.
+-- `gives_up_at` meets its contract: never at latency 0, else the source time and the latency after it.
 use borrow.Author.Tests.{eq-eqb, ne-eqb}
 use borrow.Author.Needs.{needs}
 use Rattle.srt_group_model.specs.Tools.{flagged}

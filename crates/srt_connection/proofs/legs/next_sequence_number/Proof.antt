@@ -1,4 +1,4 @@
--- `next_sequence_number` meets its contract. Assumes nothing.
+-- `next_sequence_number` meets its contract.
 use borrow.Author.Tests.{eq-eqb, ne-eqb}
 use Rattle.srt_group_model.specs.Tools.{flagged}
 use Rattle.srt_connection.proofs.legs.next_sequence_number.Statement.{statement}

@@ -1,4 +1,4 @@
--- `oldest_unacked_sequence` meets its contract. Assumes nothing.
+-- `oldest_unacked_sequence` meets its contract.
 use borrow.Author.Needs.{needs}
 use Rattle.srt_group_model.specs.Legs.{oldest-unacked-sequence}
 use Rattle.srt_connection.proofs.legs.oldest_unacked_sequence.Statement.{statement}

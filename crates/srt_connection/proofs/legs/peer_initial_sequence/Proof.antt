@@ -1,4 +1,4 @@
--- `peer_initial_sequence` meets its contract. Assumes nothing.
+-- `peer_initial_sequence` meets its contract.
 use borrow.Author.Tests.{eq-eqb, ne-eqb}
 use Rattle.srt_group_model.specs.Tools.{flagged}
 use Rattle.srt_connection.proofs.legs.peer_initial_sequence.Statement.{statement}

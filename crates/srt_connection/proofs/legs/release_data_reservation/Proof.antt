@@ -1,4 +1,4 @@
--- `release_data_reservation` meets its contract: subtraction of numbers stops at 0. Assumes nothing.
+-- `release_data_reservation` meets its contract: subtraction of numbers stops at 0.
 use mathlib.Core.Path.{_≡_}
 use Prim.Native.Nat.{_-_}
 use native.Mathlib.Omega.{arith}

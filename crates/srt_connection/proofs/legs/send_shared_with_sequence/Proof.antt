@@ -1,5 +1,4 @@
--- `send_shared_with_sequence` meets its contract: it fails at the first of the definition's three tests that does. Assumes
--- nothing.
+-- `send_shared_with_sequence` meets its contract: it fails at the first of the definition's three tests that does.
 use mathlib.Core.Path.{sym, _∙_}
 use borrow.Author.Tests.{eq-eqb, ne-eqb, le-leb, lt-leb, not-true, not-false}
 use borrow.Author.Needs.{needs}

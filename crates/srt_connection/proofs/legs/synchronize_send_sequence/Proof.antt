@@ -1,4 +1,4 @@
--- `synchronize_send_sequence` meets its contract. Assumes nothing.
+-- `synchronize_send_sequence` meets its contract.
 use borrow.Author.Tests.{eq-eqb, ne-eqb}
 use Rattle.srt_group_model.specs.Tools.{if_then_else_}
 use Rattle.srt_group_model.specs.Legs.{synchronize-send-sequence}

@@ -1,4 +1,4 @@
--- `advance_receive_sequence_at` meets its contract: the row is changed as the definition says (`changed-by`). Assumes nothing.
+-- `advance_receive_sequence_at` meets its contract: the row is changed as the definition says (`changed-by`).
 use mathlib.Core.Path.{ap}
 use borrow.Author.Needs.{needs}
 use Rattle.srt_group_model.specs.declared.Receiver.{Receiver}

@@ -1,4 +1,4 @@
--- `append_member` meets its contract: the law `appended-row`. Assumes nothing.
+-- `append_member` meets its contract: the law `appended-row`.
 use borrow.Author.Needs.{needs}
 use Rattle.srt_connection.specs.Members.{new-member, appended-row}
 use Rattle.srt_connection.proofs.members.append_member.Statement.{statement}

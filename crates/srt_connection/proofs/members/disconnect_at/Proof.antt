@@ -1,4 +1,4 @@
--- `disconnect_at` meets its contract: the leg that is put is disconnected (`leg-changed`). Assumes nothing.
+-- `disconnect_at` meets its contract: the leg that is put is disconnected (`leg-changed`).
 use mathlib.Core.Path.{ap, _∙_}
 use borrow.Author.Needs.{needs}
 use Rattle.srt_group_model.specs.Legs.{disconnect-leg}

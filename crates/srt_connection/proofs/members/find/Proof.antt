@@ -1,4 +1,4 @@
--- `find` meets its contract. The loop's invariant: no row that was passed has the id. Assumes nothing.
+-- `find` meets its contract. The loop's invariant: no row that was passed has the id.
 use mathlib.Core.Path.{_≡_, sym}
 use Prim.Native.Nat.{ℕ, _≤_, _<_, _-_, _*_}
 use native.Mathlib.Omega.{arith}

@@ -1,4 +1,4 @@
--- `poll_event_for_group_at` meets its contract: the row that is lent and comes back is changed, and no other. Assumes nothing.
+-- `poll_event_for_group_at` meets its contract: the row that is lent and comes back is changed, and no other.
 use borrow.Author.Needs.{needs}
 use Rattle.srt_connection.specs.Members.{lent-member, polled-row}
 use Rattle.srt_connection.proofs.members.poll_event_for_group_at.Statement.{statement}

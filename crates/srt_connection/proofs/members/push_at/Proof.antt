@@ -1,4 +1,4 @@
--- `push_at` meets its contract: the row that is lent and comes back is changed, and no other. Assumes nothing.
+-- `push_at` meets its contract: the row that is lent and comes back is changed, and no other.
 use borrow.Author.Needs.{needs}
 use Rattle.srt_connection.specs.Members.{lent-member, pushed-row}
 use Rattle.srt_connection.proofs.members.push_at.Statement.{statement}

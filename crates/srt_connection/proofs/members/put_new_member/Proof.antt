@@ -1,4 +1,4 @@
--- `put_new_member` meets its contract: the law `new-put`. Assumes nothing.
+-- `put_new_member` meets its contract: the law `new-put`.
 use borrow.Author.Needs.{needs}
 use Rattle.srt_connection.specs.Members.{new-put}
 use Rattle.srt_connection.proofs.members.put_new_member.Statement.{statement}

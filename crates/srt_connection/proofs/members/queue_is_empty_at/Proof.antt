@@ -1,4 +1,4 @@
--- `queue_is_empty_at` meets its contract: the row that is lent is the one at the index. Assumes nothing.
+-- `queue_is_empty_at` meets its contract: the row that is lent is the one at the index.
 use mathlib.Core.Path.{ap, _∙_}
 use borrow.Author.Needs.{needs}
 use Rattle.srt_group_model.specs.Tools.{is-empty}

@@ -1,4 +1,4 @@
--- `queue_length_at` meets its contract: the row that is lent is the one at the index. Assumes nothing.
+-- `queue_length_at` meets its contract: the row that is lent is the one at the index.
 use mathlib.Core.Path.{ap, _∙_}
 use borrow.Author.Needs.{needs}
 use lib.ListN.{length}

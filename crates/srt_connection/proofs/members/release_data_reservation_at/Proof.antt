@@ -1,4 +1,4 @@
--- `release_data_reservation_at` meets its contract: the leg that is put is released (`leg-changed`). Assumes nothing.
+-- `release_data_reservation_at` meets its contract: the leg that is put is released (`leg-changed`).
 use mathlib.Core.Path.{ap, _∙_}
 use borrow.Author.Needs.{needs}
 use Rattle.srt_group_model.specs.Legs.{release-data-reservation}

@@ -1,5 +1,5 @@
 -- `remove_member` meets its contract. The loop's invariant: the words from the removed row up to `at` are those one row further
--- on, and the others are as they were (`Moved`). The measure is what is left. Assumes nothing.
+-- on, and the others are as they were (`Moved`). The measure is what is left.
 use Prim.Native.Nat.{_≤_, _-_, _*_}
 use native.Mathlib.Omega.{arith}
 use borrow.Author.Needs.{needs}

@@ -1,4 +1,4 @@
--- `budget_after` meets its contract. Assumes nothing.
+-- `budget_after` meets its contract.
 use native.Mathlib.Omega.{arith}
 use borrow.Author.Tests.{eq-eqb, ne-eqb}
 use borrow.Author.Needs.{needs}

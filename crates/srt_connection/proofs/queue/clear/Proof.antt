@@ -1,4 +1,4 @@
--- `clear` meets its contract: the law `cleared-is`. Assumes nothing.
+-- `clear` meets its contract: the law `cleared-is`.
 use borrow.Author.Needs.{needs}
 use Rattle.srt_connection.specs.Queue.{cleared-is}
 use Rattle.srt_connection.proofs.queue.clear.Statement.{statement}

@@ -1,4 +1,4 @@
--- `front` meets its contract: the laws `front-none` and `front-is`. Assumes nothing.
+-- `front` meets its contract: the laws `front-none` and `front-is`.
 use mathlib.Core.Path.{sym, ap}
 use borrow.Author.Needs.{needs}
 use Rattle.srt_connection.specs.Queue.{optional-event, front-none, front-is}

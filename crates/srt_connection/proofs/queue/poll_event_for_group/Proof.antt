@@ -1,4 +1,4 @@
--- `poll_event_for_group` meets its contract: one law for each of document 01's three cases. Assumes nothing.
+-- `poll_event_for_group` meets its contract: one law for each of document 01's three cases.
 use mathlib.Core.Path.{sym, _∙_}
 use native.Mathlib.Omega.{arith}
 use borrow.Author.Needs.{needs}

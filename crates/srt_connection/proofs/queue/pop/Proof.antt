@@ -1,4 +1,4 @@
--- `pop` meets its contract: the laws `popped-empty` and `popped-is`. Assumes nothing.
+-- `pop` meets its contract: the laws `popped-empty` and `popped-is`.
 use borrow.Author.Needs.{needs}
 use Rattle.srt_connection.specs.Queue.{popped-empty, popped-is}
 use Rattle.srt_connection.proofs.queue.pop.Statement.{statement}

@@ -1,4 +1,4 @@
--- `push` meets its contract: the laws `push-refused` and `push-accepted`. Assumes nothing.
+-- `push` meets its contract: the laws `push-refused` and `push-accepted`.
 use native.Mathlib.Omega.{arith}
 use borrow.Author.Needs.{needs}
 use Rattle.srt_connection.specs.Queue.{push-refused, push-accepted}

@@ -1,4 +1,4 @@
--- `queue_is_empty` meets its contract. Assumes nothing.
+-- `queue_is_empty` meets its contract.
 use borrow.Author.Needs.{needs}
 use Rattle.srt_connection.specs.Queue.{empty-is}
 use Rattle.srt_connection.proofs.queue.queue_is_empty.Statement.{statement}

@@ -1,4 +1,4 @@
--- `queue_length` meets its contract. Assumes nothing.
+-- `queue_length` meets its contract.
 use borrow.Author.Needs.{needs}
 use Rattle.srt_connection.specs.Queue.{length-is}
 use Rattle.srt_connection.proofs.queue.queue_length.Statement.{statement}

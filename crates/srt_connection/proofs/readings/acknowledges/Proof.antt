@@ -1,4 +1,4 @@
--- `acknowledges` meets its contract: its two tests are the definition's. Assumes nothing.
+-- `acknowledges` meets its contract: its two tests are the definition's.
 use borrow.Author.Needs.{needs}
 use Rattle.srt_connection.specs.Readings.{acknowledges}
 use Rattle.srt_connection.proofs.readings.acknowledges.Statement.{statement}

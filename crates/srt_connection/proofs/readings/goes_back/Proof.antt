@@ -1,4 +1,4 @@
--- `goes_back` meets its contract: each field has one test. Assumes nothing.
+-- `goes_back` meets its contract: each field has one test.
 use borrow.Author.Tests.{ne-eqb}
 use borrow.Author.Needs.{needs}
 use Rattle.srt_group_model.specs.Legs.{goes-back}

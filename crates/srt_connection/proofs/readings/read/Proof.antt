@@ -1,4 +1,4 @@
--- `read` meets its contract: 2 before 32. Assumes nothing.
+-- `read` meets its contract: 2 before 32.
 use borrow.Author.Needs.{needs}
 use Rattle.srt_group_model.specs.Tools.{if_then_else_}
 use Rattle.srt_connection.specs.Readings.{reading}

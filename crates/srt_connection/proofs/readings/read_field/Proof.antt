@@ -1,4 +1,4 @@
--- `read_field` meets its contract: each arm is a row of `readings`, and there are no others. Assumes nothing.
+-- `read_field` meets its contract: each arm is a row of `readings`, and there are no others.
 use borrow.Author.Needs.{needs}
 use Rattle.srt_group_model.specs.Legs.{readings, reading-of}
 use Rattle.srt_group_model.specs.Tools.{if-some_give_otherwise_, at-place}

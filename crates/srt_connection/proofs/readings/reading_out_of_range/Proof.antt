@@ -1,5 +1,5 @@
 -- `reading_out_of_range` meets its contract: each arm is a row of `readings`, and there are no others; a word is never above
--- 64 bits. Assumes nothing.
+-- 64 bits.
 use mathlib.Core.Path.{sym}
 use native.Mathlib.Omega.{arith}
 use borrow.Author.Tests.{le-ltb}

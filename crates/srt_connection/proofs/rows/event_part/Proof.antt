@@ -1,7 +1,7 @@
--- `event_part` meets its contract: the part that is lent is the one asked for. Assumes nothing.
+-- `event_part` meets its contract: the part that is lent is the one asked for.
 use mathlib.Core.Path.{ap, _∙_}
 use borrow.Author.Needs.{needs}
-use Rattle.srt_connection.specs.Rows.{event-of}
+use Rattle.srt_connection.specs.Rows.{part-size, event-of}
 use Rattle.word_rows.specs.Rows.{row-part}
 use Rattle.srt_connection.proofs.rows.event_part.Statement.{statement}
 use Rattle.srt_connection.proofs.rows.event_part.Tie as tie
@@ -30,7 +30,7 @@ read-event-requires c κs = search needs
 returns : tie.Need-returns
 returns c =
     c .read-event .ensures ∙ ap event-of
-    (row-part 9 (c .before .before .before .args .row .now) (c .before .before .before .args .place))
+    (row-part part-size (c .before .before .before .args .row .now) (c .before .before .before .args .place))
 
 pub event-part-spec : {M : Type 1} → statement M
 event-part-spec =

@@ -1,4 +1,4 @@
--- `leg` meets its contract: the law `leg-read`. Assumes nothing.
+-- `leg` meets its contract: the law `leg-read`.
 use borrow.Author.Needs.{needs}
 use Rattle.srt_connection.specs.Rows.{leg-read}
 use Rattle.srt_connection.proofs.rows.leg.Statement.{statement}

@@ -1,7 +1,7 @@
--- `link_part` meets its contract: the part that is lent is part 1. Assumes nothing.
+-- `link_part` meets its contract: the part that is lent is the link's.
 use mathlib.Core.Path.{ap, _∙_}
 use borrow.Author.Needs.{needs}
-use Rattle.srt_connection.specs.Rows.{link-part-of}
+use Rattle.srt_connection.specs.Rows.{part-size, link-part, link-part-of}
 use Rattle.word_rows.specs.Rows.{row-part}
 use Rattle.srt_connection.proofs.rows.link_part.Statement.{statement}
 use Rattle.srt_connection.proofs.rows.link_part.Tie as tie
@@ -19,7 +19,7 @@ read-link-part-requires : tie.Need-read-link-part-requires
 read-link-part-requires c κs = search needs
 
 returns : tie.Need-returns
-returns c = c .read-link-part .ensures ∙ ap link-part-of (row-part 9 (c .before .before .before .args .row .now) 1)
+returns c = c .read-link-part .ensures ∙ ap link-part-of (row-part part-size (c .before .before .before .args .row .now) link-part)
 
 pub link-part-spec : {M : Type 1} → statement M
 link-part-spec =

@@ -1,7 +1,7 @@
--- `membership` meets its contract: the part that is lent is part 0. Assumes nothing.
+-- `membership` meets its contract: the part that is lent is the membership's.
 use mathlib.Core.Path.{ap, _∙_}
 use borrow.Author.Needs.{needs}
-use Rattle.srt_connection.specs.Rows.{membership-of, membership-read}
+use Rattle.srt_connection.specs.Rows.{part-size, membership-part, membership-of, membership-read}
 use Rattle.word_rows.specs.Rows.{row-part}
 use Rattle.srt_connection.proofs.rows.membership.Statement.{statement}
 use Rattle.srt_connection.proofs.rows.membership.Tie as tie
@@ -20,7 +20,7 @@ read-membership-requires c κs = search needs
 
 returns : tie.Need-returns
 returns c =
-    c .read-membership .ensures ∙ ap membership-of (row-part 9 (c .before .before .before .args .row .now) 0) ∙ membership-read
+    c .read-membership .ensures ∙ ap membership-of (row-part part-size (c .before .before .before .args .row .now) membership-part) ∙ membership-read
     (c .before .before .before .args .row .now)
 
 pub membership-spec : {M : Type 1} → statement M

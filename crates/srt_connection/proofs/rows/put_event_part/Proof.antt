@@ -1,4 +1,4 @@
--- `put_event_part` meets its contract. Assumes nothing.
+-- `put_event_part` meets its contract.
 use borrow.Author.Needs.{needs}
 use Rattle.srt_connection.proofs.rows.put_event_part.Statement.{statement}
 use Rattle.srt_connection.proofs.rows.put_event_part.Tie as tie

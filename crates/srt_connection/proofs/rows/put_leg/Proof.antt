@@ -1,4 +1,4 @@
--- `put_leg` meets its contract: the law `leg-put`. Assumes nothing.
+-- `put_leg` meets its contract: the law `leg-put`.
 use borrow.Author.Needs.{needs}
 use Rattle.srt_connection.specs.Rows.{leg-put}
 use Rattle.srt_connection.proofs.rows.put_leg.Statement.{statement}

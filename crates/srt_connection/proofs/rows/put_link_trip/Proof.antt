@@ -1,4 +1,4 @@
--- `put_link_trip` meets its contract: the law `link-trip-put`. Assumes nothing.
+-- `put_link_trip` meets its contract: the law `link-trip-put`.
 use borrow.Author.Needs.{needs}
 use Rattle.srt_connection.specs.Rows.{link-trip-put}
 use Rattle.srt_connection.proofs.rows.put_link_trip.Statement.{statement}

@@ -1,4 +1,4 @@
--- `put_membership` meets its contract: the law `membership-put`. Assumes nothing.
+-- `put_membership` meets its contract: the law `membership-put`.
 use borrow.Author.Needs.{needs}
 use Rattle.srt_connection.specs.Rows.{membership-put}
 use Rattle.srt_connection.proofs.rows.put_membership.Statement.{statement}

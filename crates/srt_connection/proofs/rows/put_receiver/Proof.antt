@@ -1,4 +1,4 @@
--- `put_receiver` meets its contract: the law `receiver-put`. Assumes nothing.
+-- `put_receiver` meets its contract: the law `receiver-put`.
 use borrow.Author.Needs.{needs}
 use Rattle.srt_connection.specs.Rows.{receiver-put}
 use Rattle.word_rows.specs.Rows.{row-at}

@@ -1,4 +1,4 @@
--- `put_ring` meets its contract: the part that is lent is part 3. Assumes nothing.
+-- `put_ring` meets its contract: the part that is lent is part 3.
 use borrow.Author.Needs.{needs}
 use Rattle.word_rows.specs.Rows.{row-at}
 use Rattle.srt_connection.proofs.rows.put_ring.Statement.{statement}

@@ -1,4 +1,4 @@
--- `put_sender` meets its contract: the law `sender-put`. Assumes nothing.
+-- `put_sender` meets its contract: the law `sender-put`.
 use borrow.Author.Needs.{needs}
 use Rattle.srt_connection.specs.Rows.{sender-put}
 use Rattle.srt_connection.proofs.rows.put_sender.Statement.{statement}

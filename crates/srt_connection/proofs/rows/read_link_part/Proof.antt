@@ -1,4 +1,4 @@
--- `read_link_part` meets its contract. Assumes nothing.
+-- `read_link_part` meets its contract.
 use mathlib.Core.Path.{refl}
 use native.Mathlib.Omega.{arith}
 use Rattle.srt_connection.specs.Rows.{link-part-of}

@@ -1,4 +1,4 @@
--- `read_receiver` meets its contract. Assumes nothing.
+-- `read_receiver` meets its contract.
 use mathlib.Core.Path.{refl}
 use native.Mathlib.Omega.{arith}
 use Rattle.srt_connection.specs.Rows.{receiver-of}

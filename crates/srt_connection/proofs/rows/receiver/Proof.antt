@@ -1,7 +1,7 @@
--- `receiver` meets its contract: the part that is lent is part 3. Assumes nothing.
+-- `receiver` meets its contract: the part that is lent is the receiver's.
 use mathlib.Core.Path.{ap, _∙_}
 use borrow.Author.Needs.{needs}
-use Rattle.srt_connection.specs.Rows.{receiver-of, receiver-read}
+use Rattle.srt_connection.specs.Rows.{part-size, receiver-part, receiver-of, receiver-read}
 use Rattle.word_rows.specs.Rows.{row-part}
 use Rattle.srt_connection.proofs.rows.receiver.Statement.{statement}
 use Rattle.srt_connection.proofs.rows.receiver.Tie as tie
@@ -20,7 +20,7 @@ read-receiver-requires c κs = search needs
 
 returns : tie.Need-returns
 returns c =
-    c .read-receiver .ensures ∙ ap receiver-of (row-part 9 (c .before .before .before .args .row .now) 3) ∙ receiver-read
+    c .read-receiver .ensures ∙ ap receiver-of (row-part part-size (c .before .before .before .args .row .now) receiver-part) ∙ receiver-read
     (c .before .before .before .args .row .now)
 
 pub receiver-spec : {M : Type 1} → statement M

@@ -1,7 +1,7 @@
--- `ring_of` meets its contract: the part that is lent is part 3. Assumes nothing.
+-- `ring_of` meets its contract: the part that is lent is the receiver's.
 use mathlib.Core.Path.{ap, _∙_}
 use borrow.Author.Needs.{needs}
-use Rattle.srt_connection.specs.Rows.{ring-of}
+use Rattle.srt_connection.specs.Rows.{part-size, receiver-part, ring-of}
 use Rattle.word_rows.specs.Rows.{row-part}
 use Rattle.srt_connection.proofs.rows.ring_of.Statement.{statement}
 use Rattle.srt_connection.proofs.rows.ring_of.Tie as tie
@@ -19,7 +19,7 @@ read-ring-requires : tie.Need-read-ring-requires
 read-ring-requires c κs = search needs
 
 returns : tie.Need-returns
-returns c = c .read-ring .ensures ∙ ap ring-of (row-part 9 (c .before .before .before .args .row .now) 3)
+returns c = c .read-ring .ensures ∙ ap ring-of (row-part part-size (c .before .before .before .args .row .now) receiver-part)
 
 pub ring-of-spec : {M : Type 1} → statement M
 ring-of-spec =

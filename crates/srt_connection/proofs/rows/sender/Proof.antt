@@ -1,7 +1,7 @@
--- `sender` meets its contract: the part that is lent is part 2. Assumes nothing.
+-- `sender` meets its contract: the part that is lent is the sender's.
 use mathlib.Core.Path.{ap, _∙_}
 use borrow.Author.Needs.{needs}
-use Rattle.srt_connection.specs.Rows.{sender-of, sender-read}
+use Rattle.srt_connection.specs.Rows.{part-size, sender-part, sender-of, sender-read}
 use Rattle.word_rows.specs.Rows.{row-part}
 use Rattle.srt_connection.proofs.rows.sender.Statement.{statement}
 use Rattle.srt_connection.proofs.rows.sender.Tie as tie
@@ -20,7 +20,7 @@ read-sender-requires c κs = search needs
 
 returns : tie.Need-returns
 returns c =
-    c .read-sender .ensures ∙ ap sender-of (row-part 9 (c .before .before .before .args .row .now) 2) ∙ sender-read
+    c .read-sender .ensures ∙ ap sender-of (row-part part-size (c .before .before .before .args .row .now) sender-part) ∙ sender-read
     (c .before .before .before .args .row .now)
 
 pub sender-spec : {M : Type 1} → statement M

@@ -1,4 +1,4 @@
--- `write_link_part` meets its contract: nine stores on nine words. Assumes nothing.
+-- `write_link_part` meets its contract: nine stores on nine words.
 use native.Mathlib.Omega.{arith}
 use borrow.Author.Needs.{needs}
 use lib.ListN.{length-set}

@@ -1,4 +1,4 @@
--- `write_receiver` meets its contract. Assumes nothing.
+-- `write_receiver` meets its contract.
 use mathlib.Core.Path.{refl}
 use native.Mathlib.Omega.{arith}
 use borrow.Author.Needs.{needs}

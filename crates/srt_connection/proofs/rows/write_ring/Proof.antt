@@ -1,4 +1,4 @@
--- `write_ring` meets its contract. Assumes nothing.
+-- `write_ring` meets its contract.
 use mathlib.Core.Path.{refl}
 use native.Mathlib.Omega.{arith}
 use borrow.Author.Needs.{needs}

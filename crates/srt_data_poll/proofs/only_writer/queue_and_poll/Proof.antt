@@ -1,13 +1,13 @@
--- `queue_and_poll` meets its contract. Assumes nothing.
+-- `queue_and_poll` meets its contract.
 use borrow.Author.Needs.{needs}
 use Rattle.srt_data_poll.proofs.only_writer.queue_and_poll.Statement.{statement}
 use Rattle.srt_data_poll.proofs.only_writer.queue_and_poll.Tie as tie
 
 queue-data-requires : tie.Need-queue-data-requires
-queue-data-requires c κs = c .before .before .before .before .before .before .before .before .before .before .before .before .before .before .before .before .pre .0
+queue-data-requires c κs = c .before .before .before .before .before .before .before .before .before .before .before .before .before .before .pre .0
 
 poll-data-bounded-requires : tie.Need-poll-data-bounded-requires
-poll-data-bounded-requires c κs = (c .before .before .before .before .before .before .before .before .before .before .before .before .queue-data .ensures .ready, c .before .before .before .before .before .before .before .before .before .before .before .before .before .before .before .before .before .before .before .before .before .before .before .before .before .before .before .before .before .pre .1)
+poll-data-bounded-requires c κs = (c .before .before .before .before .before .before .before .before .before .before .before .before .queue-data .ensures .ready, c .before .before .before .before .before .before .before .before .before .before .before .before .before .before .before .before .before .before .before .before .before .before .before .before .before .before .before .pre .1)
 
 same-length : tie.Need-same-length
 same-length c = search needs

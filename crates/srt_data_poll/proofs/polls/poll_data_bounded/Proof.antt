@@ -1,21 +1,16 @@
--- `poll_data_bounded` meets its contract. Assumes nothing.
+-- `poll_data_bounded` meets its contract.
 use borrow.Author.Needs.{needs}
 use native.Mathlib.Omega.{arith}
-use Rattle.srt_data_poll.specs.Polling.{usable, writable, performed}
-use Rattle.srt_queueing.specs.Tables.{tables}
+use Rattle.srt_data_poll.specs.Polling.{usable, sending-fits, writable, performed}
 use Rattle.srt_data_poll.proofs.polls.poll_data_bounded.Statement.{statement}
 use Rattle.srt_data_poll.proofs.polls.poll_data_bounded.Tie as tie
 
 poll-data-bounded-requires : tie.Need-poll-data-bounded-requires
-poll-data-bounded-requires c κs =
-    let a = c .before .before .before .before .before .before .before .before .before .before .before .before .before .before .before .args in
-    (usable (a .time .0) (a .max-events) (a .group) (tables (a .sequences .now) (a .cells .now) (a .lengths .now) (a .sources .now) (a .members .now) (a .pending .now) (a .waiting .now)) (a .store .now) (a .output .now) (a .used .now) (c .before .before .before .before .before .before .before .before .before .before .before .before .before .before .before .pre .0) (c .before .before .before .before .before .before .before .before .before .before .before .before .before .before .before .pre .1), c .before .before .before .before .before .before .before .before .before .before .before .before .before .before .before .pre .0 .shows .cells .long)
+poll-data-bounded-requires c κs = (usable (c .before .before .before .before .before .before .before .before .before .before .before .before .pre .0), (sending-fits (c .before .before .before .before .before .before .before .before .before .before .before .before .pre .0), c .before .before .before .before .before .before .before .before .before .before .before .before .pre .0 .shows .cells .long))
 
 write-payload-requires : tie.Need-write-payload-requires
 write-payload-requires c κs =
-    let a = c .before .before .before .before .before .before .before .before .before .before .before .before .before .before .before .before .before .before .before .before .before .before .before .before .before .args in
-    writable (a .time .0) (a .max-events) (a .group) (tables (a .sequences .now) (a .cells .now) (a .lengths .now) (a .sources .now) (a .members .now) (a .pending .now) (a .waiting .now)) (a .store .now) (a .output .now) (a .used .now) (c .before .before .before .before .before .before .before .before .before .before .before .before .before .before .before .before .before .before .before .before .before .before .before .before .before .pre .0) (c .before .before .before .before .before .before .before .before .before .before .before .before .before .before .before .before .before .before .before .before .before .before .before .before .before .pre .1) _ _ _ _ (a .used .now)
-    (c .before .before .before .before .before .before .before .before .before .poll-data-bounded .ensures .0)
+    writable _ _ _ _ _ _ (c .before .before .before .before .before .before .before .before .before .poll-data-bounded .ensures .0) (c .before .before .before .before .before .before .before .before .before .before .before .before .before .before .before .before .before .before .before .before .before .before .pre .0) (c .before .before .before .before .before .before .before .before .before .before .before .before .before .before .before .before .before .before .before .before .before .before .pre .1)
 
 same-length : tie.Need-same-length
 same-length c = search needs
@@ -34,9 +29,9 @@ same-length-5 c = search needs
 
 returns : tie.Need-returns
 returns c =
-    let a = c .before .before .before .before .before .before .before .before .before .before .before .before .before .before .before .before .before .before .before .before .before .before .before .before .before .before .before .before .before .before .args in
-    performed (a .time .0) (a .max-events) (a .group) (tables (a .sequences .now) (a .cells .now) (a .lengths .now) (a .sources .now) (a .members .now) (a .pending .now) (a .waiting .now)) (a .store .now) (a .output .now) (a .used .now) (c .before .before .before .before .before .before .before .before .before .before .before .before .before .before .before .before .before .before .before .before .before .before .before .before .before .before .before .before .before .before .pre .0) (c .before .before .before .before .before .before .before .before .before .before .before .before .before .before .before .before .before .before .before .before .before .before .before .before .before .before .before .before .before .before .pre .1) _ _ _ _ _
-    (c .before .before .before .before .before .before .before .before .before .before .before .before .before .before .poll-data-bounded .ensures .0) (omega (arith, c .before .before .before .before .before .before .before .before .before .before .before .before .before .before .before .before .before .before .before .before .before .before .before .before .before .before .before .before .before .before .good .1 .1 .1 .1 .1 .1 .1 .1 .1 .1 .1 .0)) (c .before .before .before .before .before .before .before .before .before .before .before .before .before .before .poll-data-bounded .ensures .1) _ (c .before .before .before .before .write-payload .ensures)
+    performed _ _ _ _ _ _ (c .before .before .before .before .before .before .before .before .before .before .before .before .poll-data-bounded .ensures .0) (c .before .before .before .before .before .before .before .before .before .before .before .before .before .before .before .before .before .before .before .before .before .before .before .before .before .args .store .now) (c .before .before .before .before .before .before .before .before .before .before .before .before .before .before .before .before .before .before .before .before .before .before .before .before .before .args .output .now) _ (c .before .before .before .before .before .before .before .before .before .before .before .before .before .before .before .before .before .before .before .before .before .before .before .before .before .pre .0) (c .before .before .before .before .before .before .before .before .before .before .before .before .before .before .before .before .before .before .before .before .before .before .before .before .before .pre .1)
+    _ _ (omega (arith, c .before .before .before .before .before .before .before .before .before .before .before .before .before .before .before .before .before .before .before .before .before .before .before .before .before .good .1 .1 .1 .1 .1 .1 .1 .1 .1 .1 .1 .1 .0))
+    (c .before .before .before .before .before .before .before .before .before .before .before .before .poll-data-bounded .ensures .1) (c .before .before .write-payload .ensures)
 
 pub poll-data-bounded-spec : {M : Type 1} → statement M
 poll-data-bounded-spec =

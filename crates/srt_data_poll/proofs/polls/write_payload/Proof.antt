@@ -1,4 +1,4 @@
--- `write_payload` meets its contract. Assumes nothing.
+-- `write_payload` meets its contract.
 use borrow.Author.Needs.{needs}
 use Rattle.srt_data_poll.specs.Polling.{wrote-some, wrote-none}
 use Rattle.srt_data_poll.proofs.polls.write_payload.Statement.{statement}

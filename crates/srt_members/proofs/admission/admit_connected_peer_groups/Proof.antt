@@ -1,5 +1,5 @@
 -- `admit_connected_peer_groups` meets its contract. The loop's invariant: the rows passed are done, and what is left gives the
--- rest (`Admitting`). Assumes nothing.
+-- rest (`Admitting`).
 use mathlib.Core.Path.{refl}
 use Prim.Native.Nat.{_-_}
 use Rattle.srt_members.specs.Admission.{Admitting, admitting-start, admitting-on, admitting-done}

@@ -1,4 +1,4 @@
--- `admit_peer_group` meets its contract. Assumes nothing.
+-- `admit_peer_group` meets its contract.
 use borrow.Author.Tests.{not-true, not-false}
 use Rattle.srt_members.specs.Admission.{admitted-not-arriving, admitted-arriving}
 use borrow.Author.Needs.{needs}

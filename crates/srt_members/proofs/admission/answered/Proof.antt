@@ -1,4 +1,4 @@
--- `answered` meets its contract: one law for each answer. Assumes nothing.
+-- `answered` meets its contract: one law for each answer.
 use mathlib.Core.Path.{refl, sym, _∙_}
 use Rattle.srt_members.specs.Admission.{answered-based, answered-first, answered-nothing}
 use borrow.Author.Needs.{needs}
@@ -9,7 +9,7 @@ bound-peer-requires : tie.Need-bound-peer-requires
 bound-peer-requires c κs = search needs
 
 returns : tie.Need-returns
-returns c = answered-based _ _ _ (c .before .bound-peer .ensures) (c .if1 .taken) refl refl
+returns c = answered-based _ _ _ (c .before .before .bound-peer .ensures) (c .if1 .taken) refl refl
 
 peer-initial-sequence-requires : tie.Need-peer-initial-sequence-requires
 peer-initial-sequence-requires c κs = search needs
@@ -22,13 +22,13 @@ enum-told c = search needs
 
 returns-2 : tie.Need-returns-2
 returns-2 c =
-    answered-first _ _ _ (c .before .before .before .before .before .bound-peer .ensures)
+    answered-first _ _ _ (c .before .before .before .before .before .before .bound-peer .ensures)
     (c .before .before .before .before .if1 .left) refl
     (sym (c .before .first .given .1) ∙ c .before .before .before .peer-initial-sequence .ensures)
 
 returns-3 : tie.Need-returns-3
 returns-3 c =
-    answered-nothing _ _ _ (c .before .before .before .before .bound-peer .ensures) (c .before .before .before .if1 .left) refl
+    answered-nothing _ _ _ (c .before .before .before .before .before .bound-peer .ensures) (c .before .before .before .if1 .left) refl
     (sym (c .enum-told .given .1) ∙ c .before .before .peer-initial-sequence .ensures)
 
 pub answered-spec : {M : Type 1} → statement M

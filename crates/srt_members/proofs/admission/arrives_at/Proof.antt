@@ -1,4 +1,4 @@
--- `arrives_at` meets its contract: one law for each answer. Assumes nothing.
+-- `arrives_at` meets its contract: one law for each answer.
 use Rattle.srt_members.specs.Admission.{admitted-does-not-arrive, broken-does-not-arrive, arrives-if-connected}
 use borrow.Author.Needs.{needs}
 use Rattle.srt_members.proofs.admission.arrives_at.Statement.{statement}

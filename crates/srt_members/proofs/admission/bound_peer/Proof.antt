@@ -1,4 +1,4 @@
--- `bound_peer` meets its contract. Assumes nothing.
+-- `bound_peer` meets its contract.
 use borrow.Author.Tests.{eq-eqb, ne-eqb}
 use Rattle.srt_group_model.specs.Tools.{if_then_else_}
 use Rattle.srt_members.proofs.admission.bound_peer.Statement.{statement}

@@ -1,4 +1,4 @@
--- `membership_after` meets its contract: its tests are the definition's. Assumes nothing.
+-- `membership_after` meets its contract: its tests are the definition's.
 use borrow.Author.Tests.{eq-eqb, ne-eqb}
 use Rattle.srt_group_model.specs.Tools.{if_then_else_}
 use Rattle.srt_members.specs.Admission.{membership-after}

@@ -1,4 +1,4 @@
--- `align_leg` meets its contract. Assumes nothing.
+-- `align_leg` meets its contract.
 use Rattle.srt_group_model.specs.Tools.{if_then_else_}
 use Rattle.srt_group_model.specs.Members.{align-leg}
 use borrow.Author.Needs.{needs}

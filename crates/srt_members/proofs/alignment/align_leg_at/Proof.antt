@@ -1,4 +1,4 @@
--- `align_leg_at` meets its contract. Assumes nothing.
+-- `align_leg_at` meets its contract.
 use mathlib.Core.Path.{sym, _∙_}
 use Rattle.srt_members.specs.Alignment.{leg-not-aligned, leg-aligned}
 use borrow.Author.Needs.{needs}

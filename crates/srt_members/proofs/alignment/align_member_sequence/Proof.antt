@@ -1,4 +1,4 @@
--- `align_member_sequence` meets its contract: one law for each answer. Assumes nothing.
+-- `align_member_sequence` meets its contract: one law for each answer.
 use mathlib.Core.Path.{sym, _∙_}
 use Rattle.srt_members.specs.Alignment.{align-past, align-no-source, align-with}
 use borrow.Author.Needs.{needs}

@@ -1,4 +1,4 @@
--- `alignment_source` meets its contract: one law for each answer. Assumes nothing.
+-- `alignment_source` meets its contract: one law for each answer.
 use mathlib.Core.Path.{sym, _∙_}
 use Rattle.srt_members.specs.Alignment.{is-other-sender, source-numbered, source-none, source-other}
 use Rattle.srt_members.specs.Scan.{found-row}

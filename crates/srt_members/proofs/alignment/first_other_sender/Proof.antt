@@ -1,4 +1,4 @@
--- `first_other_sender` meets its contract. The loop's invariant: no member that was passed is another sender. Assumes nothing.
+-- `first_other_sender` meets its contract. The loop's invariant: no member that was passed is another sender.
 use Prim.Native.Nat.{_≤_, _-_}
 use Rattle.srt_members.specs.Alignment.{is-other-sender}
 use Rattle.srt_members.specs.Scan.{Passed, passed-start, passed-on, found-first, found-nowhere}

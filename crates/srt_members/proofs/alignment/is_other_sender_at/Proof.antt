@@ -1,4 +1,4 @@
--- `is_other_sender_at` meets its contract: one law for each answer. Assumes nothing.
+-- `is_other_sender_at` meets its contract: one law for each answer.
 use borrow.Author.Tests.{not-true, not-false}
 use Rattle.srt_members.specs.Alignment.{same-is-not-other, unconnected-is-no-sender, other-if-started}
 use borrow.Author.Needs.{needs}

@@ -1,4 +1,4 @@
--- `sends_next` meets its contract: its two tests are the definition's. Assumes nothing.
+-- `sends_next` meets its contract: its two tests are the definition's.
 use borrow.Author.Tests.{eq-eqb, ne-eqb}
 use Rattle.srt_members.proofs.alignment.sends_next.Statement.{statement}
 use Rattle.srt_members.proofs.alignment.sends_next.Tie as tie

@@ -1,4 +1,4 @@
--- `first_with_event` meets its contract. The loop's invariant: no member that was passed has an event. Assumes nothing.
+-- `first_with_event` meets its contract. The loop's invariant: no member that was passed has an event.
 use Prim.Native.Nat.{_≤_, _-_}
 use Rattle.srt_members.specs.Turns.{has-event, found-from, found-from-nowhere}
 use Rattle.srt_members.specs.Scan.{Passed, passed-start, passed-on}

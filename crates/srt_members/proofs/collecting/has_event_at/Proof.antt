@@ -1,4 +1,4 @@
--- `has_event_at` meets its contract. Assumes nothing.
+-- `has_event_at` meets its contract.
 use mathlib.Core.Path.{ap}
 use mathlib.Core.Bool.{not}
 use Rattle.srt_members.specs.Turns.{has-event}

@@ -1,4 +1,4 @@
--- `in_turn` meets its contract: from the round's place on, then among those before it. Assumes nothing.
+-- `in_turn` meets its contract: from the round's place on, then among those before it.
 use mathlib.Core.Path.{sym, _∙_}
 use Rattle.srt_members.specs.Turns.{turn-later, turn-again}
 use borrow.Author.Needs.{needs}

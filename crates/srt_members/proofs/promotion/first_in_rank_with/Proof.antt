@@ -1,4 +1,4 @@
--- `first_in_rank_with` meets its contract: one law for each answer. Assumes nothing.
+-- `first_in_rank_with` meets its contract: one law for each answer.
 use borrow.Author.Tests.{not-true, not-false}
 use Rattle.srt_members.specs.Rank.{first-unless-standby, first-alone, first-still, first-now, row-of-found}
 use borrow.Author.Needs.{needs}

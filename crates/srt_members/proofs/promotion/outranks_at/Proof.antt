@@ -1,4 +1,4 @@
--- `outranks_at` meets its contract: by the weights, then by the ids. Assumes nothing.
+-- `outranks_at` meets its contract: by the weights, then by the ids.
 use Rattle.srt_members.specs.Rank.{outranks-by-weight, outranked-by-weight, outranks-by-id}
 use Rattle.srt_members.proofs.promotion.outranks_at.Statement.{statement}
 use Rattle.srt_members.proofs.promotion.outranks_at.Tie as tie

@@ -1,4 +1,4 @@
--- `promote_backup_member` meets its contract: the member that is found turns Active. Assumes nothing.
+-- `promote_backup_member` meets its contract: the member that is found turns Active.
 use mathlib.Core.Path.{sym, _∙_}
 use Rattle.srt_members.specs.Rank.{promotion-below, promoted, promoted-none}
 use borrow.Author.Needs.{needs}

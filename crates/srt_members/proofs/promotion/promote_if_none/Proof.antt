@@ -1,4 +1,4 @@
--- `promote_if_none` meets its contract. Assumes nothing.
+-- `promote_if_none` meets its contract.
 use borrow.Author.Tests.{not-true, not-false}
 use Rattle.srt_members.specs.Rank.{promoted-not-in-backup, promoted-not-needed, promoted-if-none}
 use borrow.Author.Needs.{needs}

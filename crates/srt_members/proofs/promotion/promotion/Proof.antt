@@ -1,4 +1,4 @@
--- `promotion` meets its contract. The loop's invariant: `best` is the first in rank of the rows from `left` on. Assumes nothing.
+-- `promotion` meets its contract. The loop's invariant: `best` is the first in rank of the rows from `left` on.
 use mathlib.Core.Path.{refl}
 use Rattle.srt_members.specs.Rank.{Ranking, ranking-start, ranking-on, ranking-done, ranking-row}
 use borrow.Author.Needs.{needs}

@@ -1,5 +1,4 @@
 -- `break_disconnected` meets its contract. The loop's invariant: the rows passed are changed, the others not yet (`Changing`).
--- Assumes nothing.
 use Prim.Native.Nat.{_≤_, _-_}
 use Rattle.srt_group_model.specs.Members.{break-disconnected}
 use Rattle.srt_connection.specs.Members.{Changing, changing-start, changing-on, changing-done}

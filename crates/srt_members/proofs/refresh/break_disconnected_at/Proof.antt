@@ -1,4 +1,4 @@
--- `break_disconnected_at` meets its contract: one law for each way out. Assumes nothing.
+-- `break_disconnected_at` meets its contract: one law for each way out.
 use borrow.Author.Tests.{not-true, not-false}
 use Rattle.srt_members.specs.Refresh.{broken-already, not-broken, broken-now}
 use borrow.Author.Needs.{needs}

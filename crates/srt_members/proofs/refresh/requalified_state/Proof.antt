@@ -1,4 +1,4 @@
--- `requalified_state` meets its contract: its tests are the definition's. Assumes nothing.
+-- `requalified_state` meets its contract: its tests are the definition's.
 use borrow.Author.Tests.{not-true, not-false}
 use Rattle.srt_group_model.specs.Tools.{if_then_else_}
 use Rattle.srt_members.specs.Refresh.{requalified-state}

@@ -1,4 +1,4 @@
--- `requalifies_at` meets its contract. Assumes nothing.
+-- `requalifies_at` meets its contract.
 use borrow.Author.Tests.{not-true, not-false}
 use Rattle.srt_members.specs.Refresh.{stays-unstable, requalifies-if-sending}
 use borrow.Author.Needs.{needs}

@@ -1,4 +1,4 @@
--- `requalify_at` meets its contract: the member is left out, or its alignment is refused, or it turns. Assumes nothing.
+-- `requalify_at` meets its contract: the member is left out, or its alignment is refused, or it turns.
 use borrow.Author.Tests.{not-true, not-false}
 use Rattle.srt_group_model.specs.Members.{requalify}
 use Rattle.srt_members.specs.Refresh.{requalifies, requalified-state, turn-left-out, turn-refused, turn-made}

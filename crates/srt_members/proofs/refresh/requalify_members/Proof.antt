@@ -1,4 +1,4 @@
--- `requalify_members` meets its contract: members break, requalify, and one may be promoted. Assumes nothing.
+-- `requalify_members` meets its contract: members break, requalify, and one may be promoted.
 use Rattle.srt_members.specs.Refresh.{requalified}
 use borrow.Author.Needs.{needs}
 use native.Mathlib.Omega.{arith}

@@ -1,7 +1,6 @@
 -- `requalify_unstable_members` meets its contract. The loop's invariant: the steps that are left give the rest (`Stepping`).
--- Assumes nothing.
 use Prim.Native.Nat.{_-_}
-use Rattle.srt_group_model.specs.Tools.{flagged}
+use Rattle.srt_group_model.specs.Tools.{is-set, flagged}
 use Rattle.srt_group_model.specs.Members.{requalify}
 use Rattle.srt_members.specs.Refresh.{Stepping, stepping-start, stepping-on, stepping-done}
 use native.Mathlib.Omega.{arith}
@@ -10,7 +9,7 @@ use Rattle.srt_members.proofs.refresh.requalify_unstable_members.Tie as
 
 abbrev Inv-loop : tie.InvT-loop
 Inv-loop members₀ count mode numbered number i₀ members i =
-    Stepping (requalify mode (flagged numbered number)) count members₀ i members
+    Stepping (requalify mode (flagged (is-set numbered) number)) count members₀ i members
 
 abbrev μ-loop : tie.MeasureT-loop
 μ-loop members₀ count mode numbered number i₀ members i = count - i

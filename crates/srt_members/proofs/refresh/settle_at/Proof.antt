@@ -1,4 +1,4 @@
--- `settle_at` meets its contract: the member is left out, or its alignment is refused, or it turns. Assumes nothing.
+-- `settle_at` meets its contract: the member is left out, or its alignment is refused, or it turns.
 use borrow.Author.Tests.{not-true, not-false}
 use Rattle.srt_group_model.specs.Members.{settle}
 use Rattle.srt_members.specs.Refresh.{settles, settled-state, turn-left-out, turn-refused, turn-made}

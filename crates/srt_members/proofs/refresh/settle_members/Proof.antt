@@ -1,4 +1,4 @@
--- `settle_members` meets its contract: the members settle, then one may be promoted. Assumes nothing.
+-- `settle_members` meets its contract: the members settle, then one may be promoted.
 use Rattle.srt_members.specs.Refresh.{settled}
 use borrow.Author.Needs.{needs}
 use native.Mathlib.Omega.{arith}

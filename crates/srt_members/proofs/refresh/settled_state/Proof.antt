@@ -1,4 +1,4 @@
--- `settled_state` meets its contract. Assumes nothing.
+-- `settled_state` meets its contract.
 use Rattle.srt_group_model.specs.Tools.{if_then_else_}
 use Rattle.srt_members.specs.Refresh.{settled-state}
 use borrow.Author.Needs.{needs}

@@ -1,4 +1,4 @@
--- `settles_at` meets its contract. Assumes nothing.
+-- `settles_at` meets its contract.
 use Rattle.srt_members.specs.Refresh.{settles}
 use borrow.Author.Needs.{needs}
 use Rattle.srt_members.proofs.refresh.settles_at.Statement.{statement}

@@ -1,5 +1,4 @@
--- `largest_window` meets its contract. The loop's invariant: `largest` is the largest of the rows from `left` on. Assumes
--- nothing.
+-- `largest_window` meets its contract. The loop's invariant: `largest` is the largest of the rows from `left` on.
 use mathlib.Core.Path.{_≡_, refl}
 use Prim.Native.Nat.{_≤_}
 use lib.ListN.{drop}

@@ -1,4 +1,4 @@
--- `all_disconnected` meets its contract. The loop's invariant: it is for the members that are left to say. Assumes nothing.
+-- `all_disconnected` meets its contract. The loop's invariant: it is for the members that are left to say.
 use mathlib.Core.Path.{_≡_, refl}
 use Prim.Native.Nat.{_≤_, _-_}
 use borrow.Author.Tests.{not-true, not-false}

@@ -1,4 +1,4 @@
--- `first_active` meets its contract. The loop's invariant: no member that was passed is active. Assumes nothing.
+-- `first_active` meets its contract. The loop's invariant: no member that was passed is active.
 use Prim.Native.Nat.{_≤_, _-_}
 use Rattle.srt_group_model.specs.Members.{is-active}
 use Rattle.srt_members.specs.Scan.{Passed, passed-start, passed-on, found-first, found-nowhere}

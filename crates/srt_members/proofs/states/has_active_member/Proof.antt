@@ -1,4 +1,4 @@
--- `has_active_member` meets its contract: a member is active if one is found. Assumes nothing.
+-- `has_active_member` meets its contract: a member is active if one is found.
 use mathlib.Core.Path.{sym, _∙_}
 use Rattle.srt_group_model.specs.Members.{is-active}
 use Rattle.srt_members.specs.Scan.{any-at, any-nowhere}

@@ -1,4 +1,4 @@
--- `is_active_at` meets its contract. Assumes nothing.
+-- `is_active_at` meets its contract.
 use Rattle.srt_group_model.specs.Members.{is-active}
 use borrow.Author.Needs.{needs}
 use Rattle.srt_members.proofs.states.is_active_at.Statement.{statement}

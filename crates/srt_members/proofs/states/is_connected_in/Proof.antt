@@ -1,4 +1,4 @@
--- `is_connected_in` meets its contract: its two tests are the definition's. Assumes nothing.
+-- `is_connected_in` meets its contract: its two tests are the definition's.
 use borrow.Author.Tests.{eq-eqb, ne-eqb}
 use borrow.Author.Needs.{needs}
 use Rattle.srt_members.proofs.states.is_connected_in.Statement.{statement}

@@ -1,4 +1,4 @@
--- `is_standby_at` meets its contract. Assumes nothing.
+-- `is_standby_at` meets its contract.
 use Rattle.srt_group_model.specs.Members.{is-standby}
 use borrow.Author.Needs.{needs}
 use Rattle.srt_members.proofs.states.is_standby_at.Statement.{statement}

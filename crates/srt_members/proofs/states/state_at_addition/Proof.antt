@@ -1,4 +1,4 @@
--- `state_at_addition` meets its contract: its tests are the definition's. Assumes nothing.
+-- `state_at_addition` meets its contract: its tests are the definition's.
 use borrow.Author.Tests.{not-true, not-false}
 use Rattle.srt_group_model.specs.Tools.{if_then_else_}
 use Rattle.srt_group_model.specs.Calls.{state-at-addition}

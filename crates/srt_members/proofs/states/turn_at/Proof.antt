@@ -1,4 +1,4 @@
--- `turn_at` meets its contract: the membership that is put has the state (`membership-changed`). Assumes nothing.
+-- `turn_at` meets its contract: the membership that is put has the state (`membership-changed`).
 use mathlib.Core.Path.{ap}
 use Rattle.srt_connection.specs.Members.{membership-changed}
 use Rattle.srt_members.specs.Scan.{with-state}

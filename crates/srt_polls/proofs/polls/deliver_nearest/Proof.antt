@@ -1,7 +1,7 @@
--- `deliver_nearest` meets its contract: nothing is held, or the nearest packet sets the base, and is delivered. Assumes nothing.
+-- `deliver_nearest` meets its contract: nothing is held, or the nearest packet sets the base, and is delivered.
 use native.Mathlib.Omega.{arith}
 use Rattle.srt_tables.specs.PacketLaws.{at-in-use}
-use Rattle.srt_polls.specs.SkipLaws.{nearest-fits, deliverable-based, none-to-deliver, delivered-first}
+use Rattle.srt_polls.specs.SkipLaws.{deliverable-based, none-to-deliver, delivered-first}
 use borrow.Author.Needs.{needs}
 use mathlib.Core.List.{[]}
 use Rattle.srt_polls.specs.PollsUsed.{follows-based}
@@ -25,16 +25,13 @@ returns : tie.Need-returns
 returns c = (λ ws. none-to-deliver _ _ _ ws (c .before .before .nearest .ensures) (c .enum-told .given .1), follows-same _ _ _ _ (c .before .before .before .before .before .before .before .pre .1))
 
 packet-requires : tie.Need-packet-requires
-packet-requires c κs = (c .before .before .before .before .before .before .before .before .before .pre .0 .deliverable .pending-long, omega (arith, at-in-use _ _ _ (c .before .before .before .before .nearest .ensures .within) (c .before .before .nearest2 .given .1), c .before .before .before .before .before .before .before .before .before .pre .0 .deliverable .held-few))
+packet-requires c κs = (c .before .before .before .before .before .before .before .before .before .pre .0 .pending-long, omega (arith, at-in-use _ _ _ (c .before .before .before .before .nearest .ensures .within) (c .before .before .nearest2 .given .1), c .before .before .before .before .before .before .before .before .before .pre .0 .held-few))
 
 set-base-requires : tie.Need-set-base-requires
-set-base-requires c κs = nearest-fits _ _ _ (c .before .before .before .before .before .nearest .ensures) _ (c .before .before .before .nearest2 .given .1) (c .packet .ensures) (c .before .before .before .before .before .before .before .before .before .before .pre .0)
-
-cast-base : tie.Need-cast-base
-cast-base c = omega (arith, nearest-fits _ _ _ (c .before .before .before .before .before .before .nearest .ensures) _ (c .before .before .before .before .nearest2 .given .1) (c .before .packet .ensures) (c .before .before .before .before .before .before .before .before .before .before .before .pre .0))
+set-base-requires c κs = search needs
 
 deliver-requires : tie.Need-deliver-requires
-deliver-requires c κs = (deliverable-based _ _ _ _ _ (c .before .before .before .set-base .ensures) (c .before .before .before .before .before .before .before .before .before .before .before .before .before .before .pre .0 .deliverable), c .before .before .before .before .before .before .before .before .before .before .before .before .before .before .pre .1)
+deliver-requires c κs = (deliverable-based _ _ _ _ _ (c .before .before .before .set-base .ensures) (c .before .before .before .before .before .before .before .before .before .before .before .before .before .before .pre .0), c .before .before .before .before .before .before .before .before .before .before .before .before .before .before .pre .1)
 
 same-length-2 : tie.Need-same-length-2
 same-length-2 c = omega (arith, c .before .before .before .before .before .before .before .before .before .before .before .before .before .before .before .before .before .before .before .before .before .pre .1, c .before .before .before .before .before .before .deliver .ensures .0 [] .members-long, c .before .before .before .before .before .before .deliver .ensures .0 [] .pending-long, c .before .before .before .before .before .before .deliver .ensures .0 [] .waiting-long, c .before .before .before .before .before .before .deliver .ensures .1 .long)
@@ -63,7 +60,6 @@ deliver-nearest-spec =
     returns
     packet-requires
     set-base-requires
-    cast-base
     deliver-requires
     same-length-2
     same-length-3

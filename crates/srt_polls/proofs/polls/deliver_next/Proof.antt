@@ -1,11 +1,12 @@
--- `deliver_next` meets its contract: the base is set, or the nearest packet sets it. Assumes nothing.
-use Rattle.srt_polls.specs.SkipLaws.{skippable, next-at-base, next-nearest}
+-- `deliver_next` meets its contract: the base is set, or the nearest packet sets it.
+use Rattle.srt_polls.specs.SkipLaws.{next-at-base, next-nearest}
 use borrow.Author.Needs.{needs}
+use Rattle.srt_receiving.specs.DeliveryLaws.{deliverable}
 use Rattle.srt_polls.proofs.polls.deliver_next.Statement.{statement}
 use Rattle.srt_polls.proofs.polls.deliver_next.Tie as tie
 
 skip-given-up-gap-requires : tie.Need-skip-given-up-gap-requires
-skip-given-up-gap-requires c κs = (c .before .before .before .before .before .before .before .before .before .pre .0, (c .before .before .before .before .before .before .before .before .before .pre .1 .0, c .before .before .before .before .before .before .before .before .before .pre .1 .1))
+skip-given-up-gap-requires c κs = (c .before .before .before .before .before .before .before .before .before .before .pre .0, (c .before .before .before .before .before .before .before .before .before .before .pre .1 .0, c .before .before .before .before .before .before .before .before .before .before .pre .1 .1))
 
 same-length : tie.Need-same-length
 same-length c = search needs
@@ -26,7 +27,7 @@ returns c = (
 )
 
 deliver-nearest-requires : tie.Need-deliver-nearest-requires
-deliver-nearest-requires c κs = (skippable _ _ _ _ (c .before .before .before .before .before .before .before .before .pre .0), c .before .before .before .before .before .before .before .before .pre .1 .1)
+deliver-nearest-requires c κs = (deliverable _ _ _ _ (c .before .before .before .before .before .before .before .before .before .pre .0), c .before .before .before .before .before .before .before .before .before .pre .1 .1)
 
 same-length-5 : tie.Need-same-length-5
 same-length-5 c = search needs
@@ -39,7 +40,7 @@ same-length-7 c = search needs
 
 returns-2 : tie.Need-returns-2
 returns-2 c = (
-  next-nearest _ _ _ _ _ _ _ _ _ (c .before .before .before .before .before .before .before .before .before .before .before .before .before .before .before .pre .0) (c .before .before .before .before .before .before .before .before .before .before .if1 .left) (c .before .before .before .before .before .before .deliver-nearest .ensures .0 _),
+  next-nearest _ _ _ _ _ _ _ _ _ (c .before .before .before .before .before .before .before .before .before .before .before .before .before .before .before .before .pre .0) (c .before .before .before .before .before .before .before .before .before .before .if1 .left) (c .before .before .before .before .before .before .deliver-nearest .ensures .0 _),
   c .before .before .before .before .before .before .deliver-nearest .ensures .1,
 )
 

@@ -1,5 +1,5 @@
--- `give_next` meets its contract: an event waits, or the next packet is given. Assumes nothing.
-use Rattle.srt_polls.specs.RefreshLaws.{refreshable, usable-refreshed}
+-- `give_next` meets its contract: an event waits, or the next packet is given.
+use Rattle.srt_polls.specs.RefreshLaws.{usable-refreshed, rows-there}
 use Rattle.srt_polls.specs.EventPollLaws.{event-next, packet-next, still-none-waits}
 use borrow.Author.Needs.{needs}
 use Rattle.srt_polls.specs.PollsUsed.{follows-given, follows-refreshed}
@@ -15,15 +15,15 @@ same-length c = search needs
 
 returns : tie.Need-returns
 returns c = (
-  event-next _ _ _ _ _ _ _ _ (c .before .before .before .before .before .before .before .before .before .before .before .pre .0) (c .before .before .before .before .if1 .taken) (c .before .before .give-waiting .ensures _ _),
-  follows-given _ _ _ _ _ _ _ (c .before .before .before .before .before .before .before .before .before .before .before .pre .1) (c .before .before .give-waiting .ensures _ _),
+  event-next _ _ _ _ _ _ _ _ _ (c .before .before .before .before .before .before .before .before .before .before .before .pre .0) (c .before .before .before .before .if1 .taken) (c .before .before .give-waiting .ensures _ _),
+  follows-given _ _ _ _ _ _ _ (c .before .before .before .before .before .before .before .before .before .before .before .pre .1 .1) (c .before .before .give-waiting .ensures _ _),
 )
 
 refresh-states-requires : tie.Need-refresh-states-requires
-refresh-states-requires c κs = refreshable _ _ _ _ (c .before .before .before .before .before .before .before .before .pre .0)
+refresh-states-requires c κs = rows-there _ _ _ _ (c .before .before .before .before .before .before .before .before .pre .0)
 
 deliver-next-requires : tie.Need-deliver-next-requires
-deliver-next-requires c κs = (usable-refreshed _ _ _ _ (c .before .before .before .before .before .before .before .before .before .before .before .before .before .before .before .pre .0) _ _ (c .before .before .before .before .before .before .refresh-states .ensures), (still-none-waits (c .before .before .before .before .before .before .before .before .if1 .left) (c .before .before .before .before .before .before .refresh-states .ensures), c .before .before .before .before .before .before .before .before .before .before .before .before .before .before .before .pre .1))
+deliver-next-requires c κs = (usable-refreshed _ (c .before .before .before .before .before .before .before .before .before .before .before .before .before .before .before .pre .1 .0) _ _ _ _ (c .before .before .before .before .before .before .before .before .before .before .before .before .before .before .before .pre .0) _ _ (c .before .before .before .before .before .before .refresh-states .ensures), (still-none-waits (c .before .before .before .before .before .before .before .before .if1 .left) (c .before .before .before .before .before .before .refresh-states .ensures), c .before .before .before .before .before .before .before .before .before .before .before .before .before .before .before .pre .1 .1))
 
 same-length-2 : tie.Need-same-length-2
 same-length-2 c = search needs
@@ -39,8 +39,8 @@ same-length-5 c = search needs
 
 returns-2 : tie.Need-returns-2
 returns-2 c = (
-  packet-next _ _ _ _ _ _ _ _ _ _ _ _ (c .before .before .before .before .before .before .before .before .before .before .before .before .before .before .before .before .before .if1 .left) (c .before .before .before .before .before .before .before .before .before .before .before .before .before .before .before .refresh-states .ensures) (c .before .before .before .before .before .before .before .before .deliver-next .ensures .0),
-  follows-then (follows-refreshed _ _ _ _ _ _ (c .before .before .before .before .before .before .before .before .before .before .before .before .before .before .before .before .before .before .before .before .before .before .before .before .pre .1) (c .before .before .before .before .before .before .before .before .before .before .before .before .before .before .before .refresh-states .ensures)) (c .before .before .before .before .before .before .before .before .deliver-next .ensures .1),
+  packet-next _ _ _ _ _ _ _ _ _ _ _ _ _ (c .before .before .before .before .before .before .before .before .before .before .before .before .before .before .before .before .before .if1 .left) (c .before .before .before .before .before .before .before .before .before .before .before .before .before .before .before .refresh-states .ensures) (c .before .before .before .before .before .before .before .before .deliver-next .ensures .0),
+  follows-then (follows-refreshed _ _ _ _ _ _ _ (c .before .before .before .before .before .before .before .before .before .before .before .before .before .before .before .before .before .before .before .before .before .before .before .before .pre .1 .1) (c .before .before .before .before .before .before .before .before .before .before .before .before .before .before .before .refresh-states .ensures)) (c .before .before .before .before .before .before .before .before .deliver-next .ensures .1),
 )
 
 pub give-next-spec : {M : Type 1} → statement M

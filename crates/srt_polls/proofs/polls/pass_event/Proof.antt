@@ -1,4 +1,4 @@
--- `pass_event` meets its contract, for each answer of an event poll. Assumes nothing.
+-- `pass_event` meets its contract, for each answer of an event poll.
 use Rattle.srt_polls.specs.DataPollLaws.{nothing-passed, event-passed, packet-passed}
 use borrow.Author.Needs.{needs}
 use Rattle.srt_polls.proofs.polls.pass_event.Statement.{statement}

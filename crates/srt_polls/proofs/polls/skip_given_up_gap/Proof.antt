@@ -1,13 +1,13 @@
--- `skip_given_up_gap` meets its contract: the base stays, or the queues are collected first. Assumes nothing.
+-- `skip_given_up_gap` meets its contract: the base stays, or the queues are collected first.
 use Rattle.srt_receiving.specs.DeliveryLaws.{deliverable}
-use Rattle.srt_polls.specs.SkipLaws.{skippable, gap-stays, gap-passed}
+use Rattle.srt_polls.specs.SkipLaws.{gap-stays, gap-passed}
 use borrow.Author.Needs.{needs}
 use Rattle.srt_receiving.specs.Follows.{follows-then}
 use Rattle.srt_polls.proofs.polls.skip_given_up_gap.Statement.{statement}
 use Rattle.srt_polls.proofs.polls.skip_given_up_gap.Tie as tie
 
 base-stays-requires : tie.Need-base-stays-requires
-base-stays-requires c κs = skippable _ _ _ _ (c .before .before .before .before .before .before .pre .0)
+base-stays-requires c κs = deliverable _ _ _ _ (c .before .before .before .before .before .before .pre .0)
 
 deliver-requires : tie.Need-deliver-requires
 deliver-requires c κs = (deliverable _ _ _ _ (c .before .before .before .before .before .before .before .before .before .before .before .pre .0), c .before .before .before .before .before .before .before .before .before .before .before .pre .1 .1)

@@ -1,4 +1,4 @@
--- `check_cell` meets its contract: one law for each outcome. Assumes nothing.
+-- `check_cell` meets its contract: one law for each outcome.
 use mathlib.Core.Path.{sym}
 use native.Mathlib.Omega.{arith}
 use borrow.Author.Needs.{needs}

@@ -1,5 +1,4 @@
 -- `copy_bytes` meets its contract. The loop's invariant: the bytes before `i` are those of `from`, the rest are as they were.
--- Assumes nothing.
 use mathlib.Core.Path.{_≡_, refl, _∙_}
 use mathlib.Core.List.{_++_}
 use Prim.Native.Nat.{_-_, _≤_}

@@ -1,5 +1,5 @@
 -- `copy_payload` meets its contract: what `check_cell` accepts stays within the store (`cell-within`), and the parts that were
--- lent on are what `cell-bytes` and `overwritten` say (`range-copied`). Assumes nothing.
+-- lent on are what `cell-bytes` and `overwritten` say (`range-copied`).
 use mathlib.Core.Path.{refl, sym, _∙_}
 use native.Mathlib.Omega.{arith}
 use borrow.Author.Needs.{needs}
@@ -10,9 +10,6 @@ use Rattle.srt_protocol.specs.CellLaws.{cell-within, output-short, outpu
 use Rattle.srt_protocol.proofs.Parts.{range-copied}
 use Rattle.srt_protocol.proofs.received_payload.copy_payload.Statement.{statement}
 use Rattle.srt_protocol.proofs.received_payload.copy_payload.Tie as tie
-
-add-if1 : tie.Need-add-if1
-add-if1 c = search needs
 
 returns : tie.Need-returns
 returns c =
@@ -96,7 +93,6 @@ pub copy-payload-spec : {M : Type 1} → statement M
 copy-payload-spec =
     tie.close
     (tie.spec
-    add-if1
     returns
     check-cell-requires
     enum-known-checked

@@ -1,5 +1,5 @@
 -- `put_payload` meets its contract: what `check_cell` accepts stays within the store (`cell-within`), and the part that was lent
--- on is what `overwritten` says (`part-copied`). Assumes nothing.
+-- on is what `overwritten` says (`part-copied`).
 use mathlib.Core.Path.{refl, sym, _∙_}
 use Prim.Native.Nat.{_*_}
 use native.Mathlib.Omega.{arith}

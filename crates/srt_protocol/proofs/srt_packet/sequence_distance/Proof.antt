@@ -1,4 +1,4 @@
--- `sequence_distance` meets its contract: the law `distance-wrapped`, at half of 2^31. Assumes nothing.
+-- `sequence_distance` meets its contract: the law `distance-wrapped`, at half of 2^31.
 use borrow.Author.Needs.{needs}
 use lib.Dec.{lit<}
 use Rattle.srt_protocol.specs.Circle.{distance-wrapped}

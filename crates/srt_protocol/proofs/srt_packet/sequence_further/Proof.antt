@@ -1,5 +1,4 @@
 -- `sequence_further` meets its contract: 2^31 divides 2^32, so the sum cut to 32 bits and then to 31 is the sum cut to 31.
--- Assumes nothing.
 use borrow.Author.Needs.{needs}
 use Rattle.srt_protocol.specs.Circle.{further}
 use Rattle.srt_protocol.specs.Sequence.{half}

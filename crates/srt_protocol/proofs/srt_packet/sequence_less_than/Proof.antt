@@ -1,4 +1,4 @@
--- `sequence_less_than` meets its contract: its two tests on the distance are the two of the definition. Assumes nothing.
+-- `sequence_less_than` meets its contract: its two tests on the distance are the two of the definition.
 use borrow.Author.Needs.{needs}
 use borrow.Author.Tests.{lt-ltb, le-ltb}
 use Rattle.srt_protocol.specs.Circle.{before}

@@ -1,4 +1,4 @@
--- `enqueue` meets its contract: 31, or the packet in the queue, its count reserved, its payload in the cell, and the cell taken. Assumes nothing.
+-- `enqueue` meets its contract: 31, or the packet in the queue, its count reserved, its payload in the cell, and the cell taken.
 use native.Mathlib.Omega.{arith}
 use Rattle.srt_queueing.specs.Queueing.{enqueue-refused, enqueue-accepted, room-left}
 use borrow.Author.Needs.{needs}

@@ -1,9 +1,8 @@
--- `queue_data` meets its contract: 2, 3, 4, 30, and then 31 or the packet is queued. Assumes nothing.
+-- `queue_data` meets its contract: 2, 3, 4, 30, and then 31 or the packet is queued.
 use mathlib.Core.Path.{sym, subst, _∙_}
 use Prim.Native.Nat.{ℕ}
 use native.Mathlib.Omega.{arith}
 use Rattle.cell_set.specs.Sets.{LowestFree}
-use Rattle.srt_queueing.specs.Tables.{tables}
 use Rattle.srt_queueing.specs.Queueing.{data-refused, rows-there, unknown-refused, long-refused, full-refused, enqueueable, performed}
 use borrow.Author.Needs.{needs}
 use Rattle.srt_queueing.proofs.queueing.queue_data.Statement.{statement}
@@ -16,15 +15,11 @@ data-unfit-requires c κs = search needs
 
 returns : tie.Need-returns
 returns c =
-    let a = c .before .before .before .before .before .before .before .before .before .before .before .before .args in
-    let t = tables (a .sequences .now) (a .cells .now) (a .lengths .now) (a .sources .now) (a .members .now) (a .pending .now) (a .waiting .now) in
-    data-refused (a .id) (a .content) (a .payload .now) (a .group) t (a .store .now) (a .used .now) (c .before .before .before .before .before .before .before .before .before .before .before .before .pre) (sym (c .before .data-unfit .ensures) ∙ c .if1 .taken)
+    data-refused _ _ _ _ _ _ _ (c .before .before .before .before .before .before .before .before .before .before .pre) (sym (c .before .data-unfit .ensures) ∙ c .if1 .taken)
 
 find-requires : tie.Need-find-requires
 find-requires c κs =
-    let a = c .before .before .before .before .before .before .before .before .before .before .before .before .before .args in
-    let t = tables (a .sequences .now) (a .cells .now) (a .lengths .now) (a .sources .now) (a .members .now) (a .pending .now) (a .waiting .now) in
-    rows-there (a .id) (a .content) (a .payload .now) (a .group) t (a .store .now) (a .used .now) (c .before .before .before .before .before .before .before .before .before .before .before .before .before .pre)
+    rows-there (c .before .before .before .before .before .before .before .before .before .before .before .args .id) (c .before .before .before .before .before .before .before .before .before .before .before .args .content) (c .before .before .before .before .before .before .before .before .before .before .before .args .payload .now) _ _ (c .before .before .before .before .before .before .before .before .before .before .before .args .store .now) _ (c .before .before .before .before .before .before .before .before .before .before .before .pre)
 
 enum-known-found : tie.Need-enum-known-found
 enum-known-found c = search needs
@@ -37,25 +32,20 @@ same-length c = search needs
 
 returns-2 : tie.Need-returns-2
 returns-2 c =
-    let a = c .before .before .before .before .before .before .before .before .before .before .before .before .before .before .before .before .args in
-    let t = tables (a .sequences .now) (a .cells .now) (a .lengths .now) (a .sources .now) (a .members .now) (a .pending .now) (a .waiting .now) in
-    unknown-refused (a .id) (a .content) (a .payload .now) (a .group) t (a .store .now) (a .used .now) (c .before .before .before .before .before .before .before .before .before .before .before .before .before .before .before .before .pre) (sym (c .before .before .before .before .before .data-unfit .ensures) ∙ c .before .before .before .before .if1 .left) (sym (c .enum-told .given .1) ∙ c .before .before .find .ensures)
+    unknown-refused _ _ _ _ _ _ _ (c .before .before .before .before .before .before .before .before .before .before .before .before .before .before .pre) (sym (c .before .before .before .before .before .data-unfit .ensures) ∙ c .before .before .before .before .if1 .left) (sym (c .enum-told .given .1) ∙ c .before .before .find .ensures)
 
 same-length-2 : tie.Need-same-length-2
 same-length-2 c = search needs
 
 returns-3 : tie.Need-returns-3
 returns-3 c =
-    let a = c .before .before .before .before .before .before .before .before .before .before .before .before .before .before .before .before .before .before .args in
-    let t = tables (a .sequences .now) (a .cells .now) (a .lengths .now) (a .sources .now) (a .members .now) (a .pending .now) (a .waiting .now) in
-    long-refused (a .id) (a .content) (a .payload .now) (a .group) t (a .store .now) (a .used .now) (c .before .before .before .before .before .before .before .before .before .before .before .before .before .before .before .before .before .before .pre) (sym (c .before .before .before .before .before .before .before .data-unfit .ensures) ∙ c .before .before .before .before .before .before .if1 .left) _ (sym (c .before .before .found .given .1) ∙ c .before .before .before .before .find .ensures) (c .if2 .taken)
+    long-refused _ _ _ _ _ _ _ (c .before .before .before .before .before .before .before .before .before .before .before .before .before .before .before .before .pre) (sym (c .before .before .before .before .before .before .before .data-unfit .ensures) ∙ c .before .before .before .before .before .before .if1 .left) _ (sym (c .before .before .found .given .1) ∙ c .before .before .before .before .find .ensures) (c .if2 .taken)
 
 cells-of-requires : tie.Need-cells-of-requires
 cells-of-requires c κs = search needs
 
 lowest-free-requires : tie.Need-lowest-free-requires
-lowest-free-requires c κs =
-    (c .before .before .before .before .before .before .before .before .before .before .before .before .before .before .before .before .before .before .before .before .pre .shows .cells .long, omega (arith, c .cells-of .ensures))
+lowest-free-requires c κs = (c .before .before .before .before .before .before .before .before .before .before .before .before .before .before .before .before .before .before .pre .shows .cells .long, omega (arith, c .cells-of .ensures))
 
 enum-known-lowest : tie.Need-enum-known-lowest
 enum-known-lowest c = search needs
@@ -71,15 +61,13 @@ same-length-4 c = search needs
 
 returns-4 : tie.Need-returns-4
 returns-4 c =
-    let a = c .before .before .before .before .before .before .before .before .before .before .before .before .before .before .before .before .before .before .before .before .before .before .before .args in
-    let t = tables (a .sequences .now) (a .cells .now) (a .lengths .now) (a .sources .now) (a .members .now) (a .pending .now) (a .waiting .now) in
-    full-refused (a .id) (a .content) (a .payload .now) (a .group) t (a .store .now) (a .used .now) (c .before .before .before .before .before .before .before .before .before .before .before .before .before .before .before .before .before .before .before .before .before .before .before .pre) (sym (c .before .before .before .before .before .before .before .before .before .before .before .before .data-unfit .ensures) ∙ c .before .before .before .before .before .before .before .before .before .before .before .if1 .left) _ (sym (c .before .before .before .before .before .before .before .found .given .1) ∙ c .before .before .before .before .before .before .before .before .before .find .ensures) (c .before .before .before .before .before .if2 .left) (subst (λ (n : ℕ). LowestFree (a .used .now) n (c .before .before .lowest-free .result)) (c .before .before .before .cells-of .ensures) (c .before .before .lowest-free .ensures)) (c .enum-told2 .given .1)
+    full-refused _ _ _ _ _ _ _ (c .before .before .before .before .before .before .before .before .before .before .before .before .before .before .before .before .before .before .before .before .before .pre) (sym (c .before .before .before .before .before .before .before .before .before .before .before .before .data-unfit .ensures) ∙ c .before .before .before .before .before .before .before .before .before .before .before .if1 .left) _ (sym (c .before .before .before .before .before .before .before .found .given .1) ∙ c .before .before .before .before .before .before .before .before .before .find .ensures) (c .before .before .before .before .before .if2 .left)
+    (subst (λ (n : ℕ). LowestFree (c .before .before .before .before .before .before .before .before .before .before .before .before .before .before .before .before .before .before .before .before .before .args .used .now) n (c .before .before .lowest-free .result)) (c .before .before .before .cells-of .ensures) (c .before .before .lowest-free .ensures)) (c .enum-told2 .given .1)
 
 enqueue-requires : tie.Need-enqueue-requires
 enqueue-requires c κs =
-    let a = c .before .before .before .before .before .before .before .before .before .before .before .before .before .before .before .before .before .before .before .before .before .before .before .before .before .before .before .args in
-    let t = tables (a .sequences .now) (a .cells .now) (a .lengths .now) (a .sources .now) (a .members .now) (a .pending .now) (a .waiting .now) in
-    enqueueable (a .id) (a .content) (a .payload .now) (a .group) t (a .store .now) (a .used .now) (c .before .before .before .before .before .before .before .before .before .before .before .before .before .before .before .before .before .before .before .before .before .before .before .before .before .before .before .pre) (sym (c .before .before .before .before .before .before .before .before .before .before .before .before .before .before .before .before .data-unfit .ensures) ∙ c .before .before .before .before .before .before .before .before .before .before .before .before .before .before .before .if1 .left) _ (sym (c .before .before .before .before .before .before .before .before .before .before .before .found .given .1) ∙ c .before .before .before .before .before .before .before .before .before .before .before .before .before .find .ensures) (c .before .before .before .before .before .before .before .before .before .if2 .left) _ (subst (λ (n : ℕ). LowestFree (a .used .now) n (c .before .before .before .before .before .before .lowest-free .result)) (c .before .before .before .before .before .before .before .cells-of .ensures) (c .before .before .before .before .before .before .lowest-free .ensures)) (c .before .before .before .before .lowest .given .1)
+    enqueueable _ _ (c .before .before .before .before .before .before .before .before .before .before .before .before .before .before .before .before .before .before .before .before .before .before .before .before .before .args .payload .now) _ _ (c .before .before .before .before .before .before .before .before .before .before .before .before .before .before .before .before .before .before .before .before .before .before .before .before .before .args .store .now) _ (c .before .before .before .before .before .before .before .before .before .before .before .before .before .before .before .before .before .before .before .before .before .before .before .before .before .pre) (sym (c .before .before .before .before .before .before .before .before .before .before .before .before .before .before .before .before .data-unfit .ensures) ∙ c .before .before .before .before .before .before .before .before .before .before .before .before .before .before .before .if1 .left) _ (sym (c .before .before .before .before .before .before .before .before .before .before .before .found .given .1) ∙ c .before .before .before .before .before .before .before .before .before .before .before .before .before .find .ensures) (c .before .before .before .before .before .before .before .before .before .if2 .left)
+    _ (subst (λ (n : ℕ). LowestFree (c .before .before .before .before .before .before .before .before .before .before .before .before .before .before .before .before .before .before .before .before .before .before .before .before .before .args .used .now) n (c .before .before .before .before .before .before .lowest-free .result)) (c .before .before .before .before .before .before .before .cells-of .ensures) (c .before .before .before .before .before .before .lowest-free .ensures)) (c .before .before .before .before .lowest .given .1)
 
 same-length-5 : tie.Need-same-length-5
 same-length-5 c = search needs
@@ -92,9 +80,8 @@ same-length-7 c = search needs
 
 returns-5 : tie.Need-returns-5
 returns-5 c =
-    let a = c .before .before .before .before .before .before .before .before .before .before .before .before .before .before .before .before .before .before .before .before .before .before .before .before .before .before .before .before .before .before .before .before .before .before .args in
-    let t = tables (a .sequences .now) (a .cells .now) (a .lengths .now) (a .sources .now) (a .members .now) (a .pending .now) (a .waiting .now) in
-    performed (a .id) (a .content) (a .payload .now) (a .group) t (a .store .now) (a .used .now) (c .before .before .before .before .before .before .before .before .before .before .before .before .before .before .before .before .before .before .before .before .before .before .before .before .before .before .before .before .before .before .before .before .before .before .pre) (sym (c .before .before .before .before .before .before .before .before .before .before .before .before .before .before .before .before .before .before .before .before .before .before .before .data-unfit .ensures) ∙ c .before .before .before .before .before .before .before .before .before .before .before .before .before .before .before .before .before .before .before .before .before .before .if1 .left) _ (sym (c .before .before .before .before .before .before .before .before .before .before .before .before .before .before .before .before .before .before .found .given .1) ∙ c .before .before .before .before .before .before .before .before .before .before .before .before .before .before .before .before .before .before .before .before .find .ensures) (c .before .before .before .before .before .before .before .before .before .before .before .before .before .before .before .before .if2 .left) _ (subst (λ (n : ℕ). LowestFree (a .used .now) n (c .before .before .before .before .before .before .before .before .before .before .before .before .before .lowest-free .result)) (c .before .before .before .before .before .before .before .before .before .before .before .before .before .before .cells-of .ensures) (c .before .before .before .before .before .before .before .before .before .before .before .before .before .lowest-free .ensures)) (c .before .before .before .before .before .before .before .before .before .before .before .lowest .given .1) _ _ _ _ (c .before .before .before .before .before .before .enqueue .ensures)
+    performed _ _ _ _ _ _ _ (c .before .before .before .before .before .before .before .before .before .before .before .before .before .before .before .before .before .before .before .before .before .before .before .before .before .before .before .before .before .before .before .before .pre) (sym (c .before .before .before .before .before .before .before .before .before .before .before .before .before .before .before .before .before .before .before .before .before .before .before .data-unfit .ensures) ∙ c .before .before .before .before .before .before .before .before .before .before .before .before .before .before .before .before .before .before .before .before .before .before .if1 .left) _ (sym (c .before .before .before .before .before .before .before .before .before .before .before .before .before .before .before .before .before .before .found .given .1) ∙ c .before .before .before .before .before .before .before .before .before .before .before .before .before .before .before .before .before .before .before .before .find .ensures) (c .before .before .before .before .before .before .before .before .before .before .before .before .before .before .before .before .if2 .left)
+    _ (subst (λ (n : ℕ). LowestFree (c .before .before .before .before .before .before .before .before .before .before .before .before .before .before .before .before .before .before .before .before .before .before .before .before .before .before .before .before .before .before .before .before .args .used .now) n (c .before .before .before .before .before .before .before .before .before .before .before .before .before .lowest-free .result)) (c .before .before .before .before .before .before .before .before .before .before .before .before .before .before .cells-of .ensures) (c .before .before .before .before .before .before .before .before .before .before .before .before .before .lowest-free .ensures)) (c .before .before .before .before .before .before .before .before .before .before .before .lowest .given .1) _ _ _ _ (c .before .before .before .before .before .before .enqueue .ensures)
 
 pub queue-data-spec : {M : Type 1} → statement M
 queue-data-spec =

@@ -1,4 +1,4 @@
--- `reserve_leg_at` meets its contract: the receiver that is put is the one that was there with the count added. Assumes nothing.
+-- `reserve_leg_at` meets its contract: the receiver that is put is the one that was there with the count added.
 use mathlib.Core.Path.{ap}
 use Prim.Native.Nat.{_+_}
 use native.Mathlib.Omega.{arith}

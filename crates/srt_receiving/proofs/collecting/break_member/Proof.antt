@@ -1,4 +1,4 @@
--- `break_member` meets its contract, case by case. Assumes nothing.
+-- `break_member` meets its contract, case by case.
 use borrow.Author.Tests.{not-true, not-false}
 use Rattle.srt_receiving.specs.CollectLaws.{not-broken, broken-alone, broken-promoted}
 use borrow.Author.Needs.{needs}

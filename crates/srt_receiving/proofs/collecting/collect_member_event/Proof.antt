@@ -1,4 +1,4 @@
--- `collect_member_event` meets its contract. Assumes nothing.
+-- `collect_member_event` meets its contract.
 use Rattle.srt_receiving.specs.VisitLaws.{collected-data, collected-other}
 use borrow.Author.Needs.{needs}
 use Rattle.srt_receiving.specs.UsedLaws.{data-freed, event-kept}

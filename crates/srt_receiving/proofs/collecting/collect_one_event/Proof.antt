@@ -1,4 +1,4 @@
--- `collect_one_event` meets its contract. Assumes nothing.
+-- `collect_one_event` meets its contract.
 use mathlib.Core.Path.{sym, _∙_}
 use Rattle.srt_receiving.specs.TurnLaws.{in-turn-inside}
 use Rattle.srt_receiving.specs.VisitLaws.{collects-none, collects-one}

@@ -1,14 +1,17 @@
--- `collect_until_held` meets its contract. The loop's invariant: what is left of the visits gives what all of them give (`Holding`). Assumes nothing.
-use borrow.Author.Tests.{not-true, not-false}
+-- `collect_until_held` meets its contract. The loop's invariant: what is left of the visits gives what all of them give (`Holding`).
 use Rattle.srt_receiving.specs.GatherLaws.{Holding, holding-start, holding-on, holding-ended, holding-done}
 use borrow.Author.Needs.{needs}
 use native.Mathlib.Omega.{arith}
 use Rattle.srt_receiving.specs.Follows.{Follows, follows-same, follows-then}
+use Rattle.srt_group_model.specs.FlagLaws.{zero-unset, other-set}
+use Rattle.srt_group_shown.specs.Tables.{receive-tables}
 use Rattle.srt_receiving.proofs.collecting.collect_until_held.Statement.{statement}
 use Rattle.srt_receiving.proofs.collecting.collect_until_held.Tie as tie
 
 abbrev Inv-loop : tie.InvT-loop
-Inv-loop members₀ pending₀ waiting₀ used₀ budget visited₀ left₀ members pending waiting used visited left = Holding left (visited₀ .core) budget members₀ pending₀ waiting₀ visited members pending waiting × Follows (visited₀ .core) members₀ pending₀ used₀ (visited .core) members pending used
+Inv-loop members₀ pending₀ waiting₀ used₀ budget visited₀ left₀ members pending waiting used visited left =
+    Holding left (visited₀ .core) budget (receive-tables members₀ pending₀ waiting₀) visited (receive-tables members pending waiting)
+    × Follows (visited₀ .core) members₀ pending₀ used₀ (visited .core) members pending used
 
 abbrev μ-loop : tie.MeasureT-loop
 μ-loop members₀ pending₀ waiting₀ used₀ budget visited₀ left₀ members pending waiting used visited left = left
@@ -43,7 +46,7 @@ returns c =
     let args = c .before .before .before .before .before .before .before .before .before .before .before .before .before .before .before .before .before .before .before .before .before .before .args in
     let visit-until-held = c .before .before .before .before .before .before .before .before .before .before .before .visit-until-held in (
       holding-ended (args .core) (args .budget) (args .members .now) (args .pending .now) (args .waiting .now) _ _ (visit-until-held .result) _ _ _ _ _ _
-          (c .before .before .before .before .before .before .before .before .before .before .before .before .before .before .before .before .loop-test .taken) (c .before .before .before .before .before .before .before .before .before .before .before .before .before .before .before .before .before .loop .inv .0) (visit-until-held .ensures .0) (not-true (visit-until-held .result .went) (c .before .if1 .taken)),
+          (c .before .before .before .before .before .before .before .before .before .before .before .before .before .before .before .before .loop-test .taken) (c .before .before .before .before .before .before .before .before .before .before .before .before .before .before .before .before .before .loop .inv .0) (visit-until-held .ensures .0) (zero-unset (visit-until-held .result .more) (c .before .if1 .taken)),
       follows-then (c .before .before .before .before .before .before .before .before .before .before .before .before .before .before .before .before .before .loop .inv .1) (visit-until-held .ensures .1),
     )
 
@@ -55,7 +58,7 @@ loop-again c =
     let args = c .before .before .before .before .before .before .before .before .before .before .before .before .before .before .before .before .before .before .before .before .before .args in
     let visit-until-held = c .before .before .before .before .before .before .before .before .before .before .visit-until-held in (
       holding-on (args .core) (args .budget) (args .members .now) (args .pending .now) (args .waiting .now) _ _ (visit-until-held .result) _ _ _ _ _ _
-          (c .before .before .before .before .before .before .before .before .before .before .before .before .before .before .before .loop-test .taken) (c .before .before .before .before .before .before .before .before .before .before .before .before .before .before .before .before .loop .inv .0) (visit-until-held .ensures .0) (not-false (visit-until-held .result .went) (c .if1 .left)),
+          (c .before .before .before .before .before .before .before .before .before .before .before .before .before .before .before .loop-test .taken) (c .before .before .before .before .before .before .before .before .before .before .before .before .before .before .before .before .loop .inv .0) (visit-until-held .ensures .0) (other-set (visit-until-held .result .more) (c .if1 .left)),
       follows-then (c .before .before .before .before .before .before .before .before .before .before .before .before .before .before .before .before .loop .inv .1) (visit-until-held .ensures .1),
     )
 

@@ -1,4 +1,4 @@
--- `ends_with_none_held` meets its contract: its two tests are the definition's. Assumes nothing.
+-- `ends_with_none_held` meets its contract: its two tests are the definition's.
 use borrow.Author.Tests.{eq-eqb, ne-eqb}
 use Rattle.srt_receiving.proofs.collecting.ends_with_none_held.Statement.{statement}
 use Rattle.srt_receiving.proofs.collecting.ends_with_none_held.Tie as tie

@@ -1,4 +1,4 @@
--- `is_discarded` meets its contract. Assumes nothing.
+-- `is_discarded` meets its contract.
 use Rattle.srt_receiving.specs.CollectLaws.{discarded-late, discarded-if-held}
 use borrow.Author.Needs.{needs}
 use Rattle.srt_receiving.proofs.collecting.is_discarded.Statement.{statement}
@@ -26,4 +26,10 @@ returns-2 c =
     discarded-if-held (args .packet) (args .core) (args .pending .now) (is-late .ensures) (if1 .left) (is-held .ensures)
 
 pub is-discarded-spec : {M : Type 1} → statement M
-is-discarded-spec = tie.close (tie.spec is-late-requires returns is-held-requires returns-2)
+is-discarded-spec =
+    tie.close
+    (tie.spec
+    is-late-requires
+    returns
+    is-held-requires
+    returns-2)

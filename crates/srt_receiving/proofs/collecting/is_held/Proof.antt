@@ -1,4 +1,4 @@
--- `is_held` meets its contract: it is held if the search finds it. Assumes nothing.
+-- `is_held` meets its contract: it is held if the search finds it.
 use mathlib.Core.Path.{sym, _∙_}
 use Rattle.srt_tables.specs.Packets.{packets}
 use Rattle.srt_receiving.specs.CollectLaws.{held-found, held-nowhere}

@@ -1,4 +1,4 @@
--- `or_continue` meets its contract. Assumes nothing.
+-- `or_continue` meets its contract.
 use Rattle.srt_receiving.specs.GatherLaws.{asked-as-well, not-asked}
 use borrow.Author.Needs.{needs}
 use Rattle.srt_receiving.proofs.collecting.or_continue.Statement.{statement}
@@ -11,7 +11,12 @@ returns : tie.Need-returns
 returns c = asked-as-well (c .before .before .args .core) (c .before .before .args .asked) (c .before .if1 .taken) (c .ask-to-continue .ensures)
 
 returns-2 : tie.Need-returns-2
-returns-2 c = not-asked (c .before .args .core) (c .before .args .asked) (c .if1 .left)
+returns-2 c = not-asked (c .before .args .core) (c .before .args .asked) (c .if1 .left) (c .before .pre)
 
 pub or-continue-spec : {M : Type 1} → statement M
-or-continue-spec = tie.close (tie.spec ask-to-continue-requires returns returns-2)
+or-continue-spec =
+    tie.close
+    (tie.spec
+    ask-to-continue-requires
+    returns
+    returns-2)

@@ -1,4 +1,4 @@
--- `report_event` meets its contract. Assumes nothing.
+-- `report_event` meets its contract.
 use Rattle.srt_receiving.specs.CollectLaws.{reported}
 use borrow.Author.Needs.{needs}
 use Rattle.srt_receiving.proofs.collecting.report_event.Statement.{statement}

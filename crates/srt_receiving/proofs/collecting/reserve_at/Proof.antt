@@ -1,4 +1,4 @@
--- `reserve_at` meets its contract: the membership that is put is the one that was there with the count added. Assumes nothing.
+-- `reserve_at` meets its contract: the membership that is put is the one that was there with the count added.
 use mathlib.Core.Path.{ap}
 use Prim.Native.Nat.{_+_}
 use Rattle.srt_group_model.specs.State.{with-reserved}

@@ -1,4 +1,4 @@
--- `retain_group_packet` meets its contract. Assumes nothing.
+-- `retain_group_packet` meets its contract.
 use mathlib.Core.Path.{sym, _∙_}
 use Rattle.srt_receiving.specs.CollectLaws.{discarded, held, not-held, receive-of}
 use borrow.Author.Needs.{needs}
@@ -8,9 +8,7 @@ use Rattle.srt_receiving.proofs.collecting.retain_group_packet.Statemen
 use Rattle.srt_receiving.proofs.collecting.retain_group_packet.Tie as tie
 
 is-discarded-requires : tie.Need-is-discarded-requires
-is-discarded-requires c κs =
-    let pre = c .before .before .before .before .before .pre in
-    ((pre .1 .0 .long, omega (arith, pre .1 .0 .few)), (pre .1 .0 .ascending, pre .1 .0 .sequence))
+is-discarded-requires c κs = ((c .before .before .before .before .before .pre .1 .0 .long, omega (arith, c .before .before .before .before .before .pre .1 .0 .few)), c .before .before .before .before .before .pre .1 .0 .ascending)
 
 release-data-reservation-at-requires : tie.Need-release-data-reservation-at-requires
 release-data-reservation-at-requires c κs = search needs

@@ -1,4 +1,4 @@
--- `take_front` meets its contract, for each answer of the leg. Assumes nothing.
+-- `take_front` meets its contract, for each answer of the leg.
 use mathlib.Core.Path.{ap, sym, _∙_}
 use Rattle.srt_group_model.specs.declared.Membership.{Membership}
 use Rattle.srt_receiving.specs.VisitLaws.{visits-nothing, visits-spent, visits-event, collectable}

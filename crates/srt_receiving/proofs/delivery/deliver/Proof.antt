@@ -1,7 +1,6 @@
--- `deliver` meets its contract: the base is not held, or its packet is delivered. Assumes nothing.
-use mathlib.Core.Path.{ap, sym, _∙_}
+-- `deliver` meets its contract: the base is not held, or its packet is delivered.
+use mathlib.Core.Path.{sym, _∙_}
 use native.Mathlib.Omega.{arith}
-use Rattle.srt_group_model.specs.declared.Packet.{Packet}
 use Rattle.srt_receiving.specs.PollLaws.{held-below, base-not-held, base-delivered}
 use borrow.Author.Needs.{needs}
 use Rattle.srt_receiving.specs.Follows.{follows-same}
@@ -27,17 +26,7 @@ packet-requires : tie.Need-packet-requires
 packet-requires c κs = (c .before .before .before .before .before .before .before .before .before .pre .0 .pending-long, omega (arith, c .before .before .before .before .before .before .before .before .before .pre .0 .held-few, held-below _ _ _ _ (sym (c .before .before .found .given .1) ∙ c .before .before .before .before .find .ensures)))
 
 deliver-packet-requires : tie.Need-deliver-packet-requires
-deliver-packet-requires c κs = (
-  c .before .before .before .before .before .before .before .before .before .before .before .before .before .pre .0,
-  (
-    omega (
-      arith,
-      c .before .before .before .before .before .before .before .before .before .before .before .before .before .pre .0 .counts .fit _ (held-below _ _ _ _ (sym (c .before .before .before .before .before .before .found .given .1) ∙ c .before .before .before .before .before .before .before .before .find .ensures)),
-      ap (λ (x : Packet). x .content .count) (c .before .before .before .packet .ensures),
-    ),
-    c .before .before .before .before .before .before .before .before .before .before .before .before .before .pre .1,
-  ),
-)
+deliver-packet-requires c κs = search needs
 
 same-length-2 : tie.Need-same-length-2
 same-length-2 c = search needs

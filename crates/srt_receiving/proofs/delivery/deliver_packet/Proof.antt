@@ -1,4 +1,4 @@
--- `deliver_packet` meets its contract: what is released, advanced and removed are its parts. Assumes nothing.
+-- `deliver_packet` meets its contract: what is released, advanced and removed are its parts.
 use mathlib.Core.Path.{ap}
 use native.Mathlib.Omega.{arith}
 use Rattle.srt_group_model.specs.declared.Core.{Core}
@@ -11,14 +11,8 @@ use Rattle.srt_receiving.proofs.delivery.deliver_packet.Tie as tie
 release-covered-requires : tie.Need-release-covered-requires
 release-covered-requires c κs = search needs
 
-cast-steps : tie.Need-cast-steps
-cast-steps c = search needs
-
-sequence-further-requires : tie.Need-sequence-further-requires
-sequence-further-requires c κs = search needs
-
-cast-advance-receive-sequence-of-all : tie.Need-cast-advance-receive-sequence-of-all
-cast-advance-receive-sequence-of-all c = search needs
+word-further-requires : tie.Need-word-further-requires
+word-further-requires c κs = search needs
 
 advance-receive-sequence-of-all-requires : tie.Need-advance-receive-sequence-of-all-requires
 advance-receive-sequence-of-all-requires c κs = omega (arith, c .before .before .before .before .before .before .release-covered .ensures .0 .long, ap (λ (x : Core). x .counts .members) (c .before .before .before .before .before .before .release-covered .ensures .0 .rest))
@@ -38,7 +32,7 @@ same-length-3 c = search needs
 returns : tie.Need-returns
 returns c =
     let done =
-    delivered-all _ _ _ _ _ _ _ _ _ _ _ (c .before .before .before .before .before .before .before .before .before .before .before .sequence-further .ensures)
+    delivered-all _ _ _ _ _ _ _ _ _ _ _ (c .before .before .before .before .before .before .before .before .before .before .before .word-further .ensures)
     record {
       released = c .before .before .before .before .before .before .before .before .before .before .before .before .before .before .before .before .release-covered .ensures .0;
       advanced = c .before .before .before .before .before .before .before .before .before .advance-receive-sequence-of-all .ensures;
@@ -51,9 +45,7 @@ deliver-packet-spec =
     tie.close
     (tie.spec
     release-covered-requires
-    cast-steps
-    sequence-further-requires
-    cast-advance-receive-sequence-of-all
+    word-further-requires
     advance-receive-sequence-of-all-requires
     remove-covered-requires
     same-length

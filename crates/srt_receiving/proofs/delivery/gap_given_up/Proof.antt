@@ -1,4 +1,4 @@
--- `gap_given_up` meets its contract: nothing is held, all legs are gone, or the nearest packet's leg is asked. Assumes nothing.
+-- `gap_given_up` meets its contract: nothing is held, all legs are gone, or the nearest packet's leg is asked.
 use native.Mathlib.Omega.{arith}
 use Rattle.srt_tables.specs.PacketLaws.{at-in-use}
 use Rattle.srt_receiving.specs.DeliveryLaws.{nothing-held, all-gone, left-to-the-leg}

@@ -1,4 +1,4 @@
--- `give_waiting` meets its contract: none waits, or the first is given. Assumes nothing.
+-- `give_waiting` meets its contract: none waits, or the first is given.
 use native.Mathlib.Omega.{arith}
 use Rattle.srt_receiving.specs.PollLaws.{none-waits, first-waits}
 use borrow.Author.Needs.{needs}

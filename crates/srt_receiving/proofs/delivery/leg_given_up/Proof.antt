@@ -1,4 +1,4 @@
--- `leg_given_up` meets its contract: by the deadline, or never. Assumes nothing.
+-- `leg_given_up` meets its contract: by the deadline, or never.
 use mathlib.Core.Path.{sym, _∙_}
 use Rattle.srt_receiving.specs.DeliveryLaws.{given-up-from, never-given-up}
 use borrow.Author.Needs.{needs}

@@ -1,4 +1,4 @@
--- `leg_gives_up` meets its contract: the member's own leg, the first, or none is asked. Assumes nothing.
+-- `leg_gives_up` meets its contract: the member's own leg, the first, or none is asked.
 use mathlib.Core.Path.{sym, _∙_}
 use native.Mathlib.Omega.{arith}
 use Rattle.srt_connection.specs.Members.{found-below}

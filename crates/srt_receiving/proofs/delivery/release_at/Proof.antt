@@ -1,4 +1,4 @@
--- `release_at` meets its contract: the membership is put with less, then the leg is released. Assumes nothing.
+-- `release_at` meets its contract: the membership is put with less, then the leg is released.
 use Rattle.srt_receiving.specs.DeliveryLaws.{member-released}
 use borrow.Author.Needs.{needs}
 use Rattle.srt_receiving.proofs.delivery.release_at.Statement.{statement}

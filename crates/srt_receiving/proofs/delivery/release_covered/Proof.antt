@@ -1,10 +1,10 @@
--- `release_covered` meets its contract. The loop's invariant: releasing what is left gives what releasing all gives. Assumes nothing.
+-- `release_covered` meets its contract. The loop's invariant: releasing what is left gives what releasing all gives.
 use mathlib.Core.Path.{ap}
 use Prim.Native.Nat.{_-_}
 use native.Mathlib.Omega.{arith}
 use Rattle.srt_group_model.specs.declared.Core.{Core}
 use Rattle.srt_group_model.specs.Nearest.{is-covered}
-use Rattle.srt_receiving.specs.DeliveryLaws.{Releasing, releasing-start, releasing-on, releasing-done, Deliverable}
+use Rattle.srt_receiving.specs.DeliveryLaws.{Releasing, releasing-start, releasing-on, releasing-done}
 use Rattle.srt_receiving.specs.UsedLaws.{Freeing, freeing-start, freeing-on, freeing-done}
 use Rattle.srt_receiving.proofs.delivery.release_covered.Statement.{statement}
 use Rattle.srt_receiving.proofs.delivery.release_covered.Tie as tie

@@ -1,4 +1,4 @@
--- `release_if_covered` meets its contract: the packet is covered and released, or stays. Assumes nothing.
+-- `release_if_covered` meets its contract: the packet is covered and released, or stays.
 use native.Mathlib.Omega.{arith}
 use Rattle.srt_receiving.specs.DeliveryLaws.{covered-released, not-covered-kept}
 use borrow.Author.Needs.{needs}

@@ -1,4 +1,4 @@
--- `release_pending_reservation` meets its contract: the group's own sum, the member's, or none. Assumes nothing.
+-- `release_pending_reservation` meets its contract: the group's own sum, the member's, or none.
 use mathlib.Core.Path.{sym, _∙_}
 use native.Mathlib.Omega.{arith}
 use Rattle.srt_connection.specs.Members.{found-below}

@@ -1,4 +1,4 @@
--- `skip_to` meets its contract: the distance is added to the skipped total. Assumes nothing.
+-- `skip_to` meets its contract: the distance is added to the skipped total.
 use Rattle.srt_receiving.specs.PollLaws.{skips}
 use borrow.Author.Needs.{needs}
 use Rattle.srt_receiving.proofs.delivery.skip_to.Statement.{statement}

@@ -1,4 +1,4 @@
--- `remove_member_at` meets its contract: the member taken out, the limit, the base and what is retired are its parts. Assumes nothing.
+-- `remove_member_at` meets its contract: the member taken out, the limit, the base and what is retired are its parts.
 use Rattle.srt_removal.specs.RemovalLaws.{taken-held, removed-all}
 use borrow.Author.Needs.{needs}
 use Rattle.srt_removal.proofs.removal.remove_member_at.Statement.{statement}

@@ -1,4 +1,4 @@
--- `take_out` meets its contract: the held packets owned and the row removed are its parts. Assumes nothing.
+-- `take_out` meets its contract: the held packets owned and the row removed are its parts.
 use mathlib.Core.Path.{refl, ap}
 use native.Mathlib.Omega.{arith}
 use Rattle.srt_group_model.specs.declared.Membership.{Membership}

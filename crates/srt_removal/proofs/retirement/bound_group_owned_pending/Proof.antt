@@ -1,4 +1,4 @@
--- `bound_group_owned_pending` meets its contract. The loop's invariant: bounding from here on gives what bounding all gives (`Bounding`). Assumes nothing.
+-- `bound_group_owned_pending` meets its contract. The loop's invariant: bounding from here on gives what bounding all gives (`Bounding`).
 use native.Mathlib.Omega.{arith}
 use Rattle.srt_tables.specs.PacketLaws.{at-in-use}
 use Rattle.srt_removal.specs.RetireLaws.{Bounding, bounding-start, bounding-on, bounded-within, bounded-none}

@@ -1,4 +1,4 @@
--- `retire_at` meets its contract: what is removed at the place is what the definition takes out by its sequence. Assumes nothing.
+-- `retire_at` meets its contract: what is removed at the place is what the definition takes out by its sequence.
 use Rattle.srt_removal.specs.RetireLaws.{retired-one}
 use mathlib.Core.Path.{refl}
 use borrow.Author.Needs.{needs}

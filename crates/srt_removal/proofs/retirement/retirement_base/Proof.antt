@@ -1,13 +1,13 @@
--- `retirement_base` meets its contract: the base, the nearest packet's sequence, or 0 where none is held. Assumes nothing.
+-- `retirement_base` meets its contract: the base, the nearest packet's sequence, or 0 where none is held.
 use native.Mathlib.Omega.{arith}
 use Rattle.srt_tables.specs.PacketLaws.{at-in-use}
-use Rattle.srt_removal.specs.RetireLaws.{based-there, based-nowhere, based-nearest, nearest-fits}
+use Rattle.srt_removal.specs.RetireLaws.{based-there, based-nowhere, based-nearest}
 use borrow.Author.Needs.{needs}
 use Rattle.srt_removal.proofs.retirement.retirement_base.Statement.{statement}
 use Rattle.srt_removal.proofs.retirement.retirement_base.Tie as tie
 
 returns : tie.Need-returns
-returns c = λ history members waiting. based-there _ _ history members waiting (c .if1 .taken)
+returns c = λ others members waiting. based-there _ _ others members waiting (c .if1 .taken)
 
 nearest-requires : tie.Need-nearest-requires
 nearest-requires c κs = search needs
@@ -19,16 +19,13 @@ enum-told : tie.Need-enum-told
 enum-told c = search needs
 
 returns-2 : tie.Need-returns-2
-returns-2 c = λ history members waiting. based-nowhere _ _ history members waiting (c .before .before .before .if1 .left) (c .before .before .nearest .ensures) (c .enum-told .given .1)
+returns-2 c = λ others members waiting. based-nowhere _ _ others members waiting (c .before .before .before .if1 .left) (c .before .before .nearest .ensures) (c .enum-told .given .1)
 
 sequence-at-requires : tie.Need-sequence-at-requires
-sequence-at-requires c κs = (c .before .before .before .before .before .before .pre .pending-long, omega (arith, at-in-use _ _ _ (c .before .before .before .nearest .ensures .within) (c .before .nearest2 .given .1), c .before .before .before .before .before .before .pre .held-few))
-
-cast-result : tie.Need-cast-result
-cast-result c = omega (arith, nearest-fits _ _ _ (c .before .before .before .before .before .before .before .pre) (c .before .before .before .before .nearest .ensures) (c .before .before .nearest2 .given .1) (c .sequence-at .ensures))
+sequence-at-requires c κs = (c .before .before .before .before .before .before .before .pre .pending-long, omega (arith, at-in-use _ _ _ (c .before .before .before .nearest .ensures .within) (c .before .nearest2 .given .1), c .before .before .before .before .before .before .before .pre .held-few))
 
 returns-3 : tie.Need-returns-3
-returns-3 c = λ history members waiting. based-nearest _ _ history members waiting (c .before .before .before .before .before .if1 .left) (c .before .before .before .before .nearest .ensures) _ (c .before .before .nearest2 .given .1) (c .sequence-at .ensures)
+returns-3 c = λ others members waiting. based-nearest _ _ others members waiting (c .before .before .before .before .before .if1 .left) (c .before .before .before .before .nearest .ensures) _ (c .before .before .nearest2 .given .1) (c .sequence-at .ensures)
 
 pub retirement-base-spec : {M : Type 1} → statement M
 retirement-base-spec =
@@ -40,5 +37,4 @@ retirement-base-spec =
     enum-told
     returns-2
     sequence-at-requires
-    cast-result
     returns-3)

@@ -1,4 +1,4 @@
--- `attempt_send_at` meets its contract: one law for each way out. Assumes nothing.
+-- `attempt_send_at` meets its contract: one law for each way out.
 use mathlib.Core.Path.{sym, _∙_}
 use native.Mathlib.Omega.{arith}
 use borrow.Author.Tests.{not-true, not-false}
@@ -56,7 +56,8 @@ put-leg-at-requires c κs =
 
 write-sent-requires : tie.Need-write-sent-requires
 write-sent-requires c κs =
-    c .before .before .before .before .before .before .before .before .before .before .before .before .before .before .before .before .before .before .pre .1
+    let room = c .before .before .before .before .before .before .before .before .before .before .before .before .before .before .before .before .before .before .pre .1 in
+    omega arith
 
 add-result : tie.Need-add-result
 add-result c =

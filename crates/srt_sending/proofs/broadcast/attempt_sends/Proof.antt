@@ -1,4 +1,4 @@
--- `attempt_sends` meets its contract. The loop's invariant: the members passed are tried, the others not yet. Assumes nothing.
+-- `attempt_sends` meets its contract. The loop's invariant: the members passed are tried, the others not yet.
 use Prim.Native.Nat.{_-_}
 use native.Mathlib.Omega.{arith}
 use Rattle.srt_sending.specs.Broadcast.{Attempting, attempting-start, attempting-on, attempting-done}

@@ -1,4 +1,4 @@
--- `has_full_window` meets its contract. Assumes nothing.
+-- `has_full_window` meets its contract.
 use mathlib.Core.Path.{sym}
 use borrow.Author.Needs.{needs}
 use Rattle.srt_sending.proofs.broadcast.has_full_window.Statement.{statement}

@@ -1,4 +1,4 @@
--- `is_mismatched_at` meets its contract: one law for each answer. Assumes nothing.
+-- `is_mismatched_at` meets its contract: one law for each answer.
 use borrow.Author.Tests.{not-true, not-false}
 use Rattle.srt_sending.specs.Broadcast.{inactive-matches, active-matches}
 use borrow.Author.Needs.{needs}

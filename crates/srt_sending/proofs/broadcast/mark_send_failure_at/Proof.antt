@@ -1,4 +1,4 @@
--- `mark_send_failure_at` meets its contract: one law for each way out. Assumes nothing.
+-- `mark_send_failure_at` meets its contract: one law for each way out.
 use Rattle.srt_sending.specs.Broadcast.{marked-unstable, marked-broken}
 use borrow.Author.Needs.{needs}
 use Rattle.srt_sending.proofs.broadcast.mark_send_failure_at.Statement.{statement}

@@ -1,14 +1,11 @@
--- `sequence_for_send` meets its contract: one law for each answer. Assumes nothing.
+-- `sequence_for_send` meets its contract: one law for each answer.
 use Rattle.srt_sending.specs.Broadcast.{numbered-number, leg-number}
 use borrow.Author.Needs.{needs}
 use Rattle.srt_sending.proofs.broadcast.sequence_for_send.Statement.{statement}
 use Rattle.srt_sending.proofs.broadcast.sequence_for_send.Tie as tie
 
-cast-result : tie.Need-cast-result
-cast-result c = search needs
-
 returns : tie.Need-returns
-returns c = numbered-number _ _ (c .before .if1 .taken)
+returns c = numbered-number _ _ (c .if1 .taken)
 
 sender-at-requires : tie.Need-sender-at-requires
 sender-at-requires c κs = search needs
@@ -17,4 +14,4 @@ returns-2 : tie.Need-returns-2
 returns-2 c = leg-number _ _ (c .before .if1 .left) (c .sender-at .ensures)
 
 pub sequence-for-send-spec : {M : Type 1} → statement M
-sequence-for-send-spec = tie.close (tie.spec cast-result returns sender-at-requires returns-2)
+sequence-for-send-spec = tie.close (tie.spec returns sender-at-requires returns-2)

@@ -1,5 +1,4 @@
--- `sequence_mismatch` meets its contract. The loop's invariant: no leg that was passed is active and elsewhere. Assumes
--- nothing.
+-- `sequence_mismatch` meets its contract. The loop's invariant: no leg that was passed is active and elsewhere.
 use Prim.Native.Nat.{_≤_, _-_}
 use native.Mathlib.Omega.{arith}
 use Rattle.srt_members.specs.Scan.{Passed, passed-start, passed-on, found-first, found-nowhere}

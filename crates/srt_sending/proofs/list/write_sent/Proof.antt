@@ -1,5 +1,6 @@
--- `write_sent` meets its contract: the part that was lent comes back as the send's row. Assumes nothing.
+-- `write_sent` meets its contract: the part that was lent comes back as the send's row.
 use Rattle.word_rows.specs.Rows.{row-back}
+use Rattle.srt_group_model.specs.Sending.{sent-row-size}
 use Rattle.srt_sending.specs.SentList.{five-words, wrote-one}
 use borrow.Author.Needs.{needs}
 use Rattle.srt_sending.proofs.list.write_sent.Statement.{statement}
@@ -44,7 +45,7 @@ same-length c = search needs
 returns : tie.Need-returns
 returns c =
     wrote-one _ _ _ _
-    (rw (c .before .before .write-row .ensures) (row-back 5 _ _ _ (five-words _)))
+    (rw (c .before .before .write-row .ensures) (row-back sent-row-size _ _ _ (five-words _)))
 
 pub write-sent-spec : {M : Type 1} → statement M
 write-sent-spec =

@@ -1,4 +1,4 @@
--- `backup_member_ready` meets its contract: one law for each answer. Assumes nothing.
+-- `backup_member_ready` meets its contract: one law for each answer.
 use borrow.Author.Tests.{not-true, not-false}
 use Rattle.srt_sending.specs.BackupReadiness.{cannot-send-yet, has-no-sender, ready-if-takes-over}
 use borrow.Author.Needs.{needs}

@@ -1,4 +1,4 @@
--- `broadcast_send_ready` meets its contract. The loop's invariant: no leg that was passed can send. Assumes nothing.
+-- `broadcast_send_ready` meets its contract. The loop's invariant: no leg that was passed can send.
 use Prim.Native.Nat.{_≤_, _-_}
 use native.Mathlib.Omega.{arith}
 use Rattle.srt_members.specs.Scan.{Passed, passed-start, passed-on, found-first, found-nowhere, any-at, any-nowhere}

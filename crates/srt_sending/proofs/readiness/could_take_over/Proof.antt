@@ -1,4 +1,4 @@
--- `could_take_over` meets its contract: one law for each answer. Assumes nothing.
+-- `could_take_over` meets its contract: one law for each answer.
 use borrow.Author.Tests.{not-true, not-false}
 use Rattle.srt_sending.specs.BackupReadiness.{gap-refuses, window-refuses, stands-decides}
 use borrow.Author.Needs.{needs}

@@ -1,4 +1,4 @@
--- `gap_allows` meets its contract: one law for each answer. Assumes nothing.
+-- `gap_allows` meets its contract: one law for each answer.
 use borrow.Author.Tests.{not-true, not-false}
 use Rattle.srt_sending.specs.BackupReadiness.{allows-without, allows-none, allows-whole}
 use Rattle.srt_sending.proofs.readiness.gap_allows.Statement.{statement}

@@ -1,5 +1,5 @@
 -- `group_time_until_send` meets its contract. The loop's invariant: `least` is the least wait of the members from `left`
--- on. Assumes nothing.
+-- on.
 use native.Mathlib.Omega.{arith}
 use Rattle.srt_sending.specs.Readiness.{LeastFrom, least-start, least-on, wait-none, wait-least}
 use borrow.Author.Needs.{needs}

@@ -1,4 +1,4 @@
--- `least_wait_with` meets its contract: one law for each answer. Assumes nothing.
+-- `least_wait_with` meets its contract: one law for each answer.
 use borrow.Author.Tests.{not-true, not-false}
 use Rattle.srt_sending.specs.Readiness.{least-without, least-alone, least-now, least-before}
 use borrow.Author.Needs.{needs}

@@ -1,4 +1,4 @@
--- `may_carry` meets its contract. Assumes nothing.
+-- `may_carry` meets its contract.
 use Rattle.srt_sending.specs.Readiness.{active-carries, standby-carries}
 use Rattle.srt_sending.proofs.readiness.may_carry.Statement.{statement}
 use Rattle.srt_sending.proofs.readiness.may_carry.Tie as tie

@@ -1,4 +1,4 @@
--- `ready_to_send` meets its contract. Assumes nothing.
+-- `ready_to_send` meets its contract.
 use mathlib.Core.Path.{sym}
 use borrow.Author.Needs.{needs}
 use Rattle.srt_sending.proofs.readiness.ready_to_send.Statement.{statement}

@@ -1,4 +1,4 @@
--- `replay_length` meets its contract. Assumes nothing.
+-- `replay_length` meets its contract.
 use Rattle.srt_sending.specs.BackupReadiness.{replays-all, replays-none}
 use Rattle.srt_sending.proofs.readiness.replay_length.Statement.{statement}
 use Rattle.srt_sending.proofs.readiness.replay_length.Tie as tie

@@ -1,4 +1,4 @@
--- `replay_sequence` meets its contract: one law for each answer. Assumes nothing.
+-- `replay_sequence` meets its contract: one law for each answer.
 use borrow.Author.Tests.{not-true, not-false}
 use Rattle.srt_sending.specs.BackupReadiness.{no-replay, nothing-to-replay, replay-from}
 use borrow.Author.Needs.{needs}

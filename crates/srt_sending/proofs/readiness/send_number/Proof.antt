@@ -1,17 +1,13 @@
--- `send_number` meets its contract. Assumes nothing.
+-- `send_number` meets its contract.
 use Rattle.srt_sending.specs.BackupReadiness.{number-there, number-missing}
-use borrow.Author.Needs.{needs}
 use Rattle.srt_sending.proofs.readiness.send_number.Statement.{statement}
 use Rattle.srt_sending.proofs.readiness.send_number.Tie as tie
 
-cast-t3 : tie.Need-cast-t3
-cast-t3 c = search needs
-
 returns : tie.Need-returns
-returns c = number-there (c .before .before .args .sending) (c .before .if1 .taken)
+returns c = number-there (c .before .before .args .sending) (c .if1 .taken)
 
 returns-2 : tie.Need-returns-2
-returns-2 c = number-missing (c .before .args .sending) (c .if1 .left)
+returns-2 c = number-missing (c .before .before .args .sending) (c .if1 .left)
 
 pub send-number-spec : {M : Type 1} → statement M
-send-number-spec = tie.close (tie.spec cast-t3 returns returns-2)
+send-number-spec = tie.close (tie.spec returns returns-2)

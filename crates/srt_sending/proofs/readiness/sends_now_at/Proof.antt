@@ -1,4 +1,4 @@
--- `sends_now_at` meets its contract. Assumes nothing.
+-- `sends_now_at` meets its contract.
 use mathlib.Core.Path.{sym}
 use borrow.Author.Needs.{needs}
 use Rattle.srt_sending.proofs.readiness.sends_now_at.Statement.{statement}

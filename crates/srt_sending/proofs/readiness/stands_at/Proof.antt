@@ -1,4 +1,4 @@
--- `stands_at` meets its contract: one law for each answer. Assumes nothing.
+-- `stands_at` meets its contract: one law for each answer.
 use Rattle.srt_sending.specs.BackupReadiness.{stands-anywhere, stands-there, stands-elsewhere}
 use borrow.Author.Needs.{needs}
 use Rattle.srt_sending.proofs.readiness.stands_at.Statement.{statement}

@@ -1,4 +1,4 @@
--- `lowest_free` meets its contract. The loop's invariant: each cell passed has a mark. Assumes nothing.
+-- `lowest_free` meets its contract. The loop's invariant: each cell passed has a mark.
 use mathlib.Core.Path.{_≡_}
 use Prim.Native.Nat.{ℕ, _-_, _≤_, _<_}
 use native.Mathlib.Omega.{arith}

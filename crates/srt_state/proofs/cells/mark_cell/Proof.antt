@@ -1,4 +1,4 @@
--- `mark_cell` meets its contract: the laws `beyond-refused`, `again-refused` and `cell-marked`. Assumes nothing.
+-- `mark_cell` meets its contract: the laws `beyond-refused`, `again-refused` and `cell-marked`.
 use native.Mathlib.Omega.{arith}
 use borrow.Author.Needs.{needs}
 use Rattle.srt_state.specs.CellPassLaws.{beyond-refused, again-refused, cell-marked}

@@ -1,4 +1,4 @@
--- `mark_cells` meets its contract: the lent tables, and then the history. Assumes nothing.
+-- `mark_cells` meets its contract: the lent tables, and then the history.
 use borrow.Author.Needs.{needs}
 use Rattle.srt_state.specs.CellPass.{sent-cells}
 use Rattle.srt_state.specs.CellPassLaws.{fresh-flags, flags-after, tables-refused, history-marked}
@@ -14,7 +14,7 @@ same-length c = search needs
 
 returns : tie.Need-returns
 returns c =
-    tables-refused (c .before .before .before .before .before .before .before .before .before .args .counts) (c .before .before .before .before .before .before .before .before .before .args .members .now) (c .before .before .before .before .before .before .before .before .before .args .pending .now) (sent-cells (c .before .before .before .before .before .before .before .before .before .args .ring) (c .before .before .before .before .before .before .before .before .before .args .sent .now)) _ _
+    tables-refused (c .before .before .before .before .before .before .before .before .before .args .counts) (c .before .before .before .before .before .before .before .before .before .args .members .now) (c .before .before .before .before .before .before .before .before .before .args .pending .now) (sent-cells (c .before .before .before .before .before .before .before .before .before .args .ring) (c .before .before .before .before .before .before .before .before .before .args .history .now)) _ _
     (c .before .before .before .before .before .before .before .before .before .pre .1 .1 .1 .1) _ _ (c .before .before .before .mark-tables .ensures) (c .if1 .taken)
 
 mark-history-requires : tie.Need-mark-history-requires
@@ -25,7 +25,7 @@ same-length-2 c = search needs
 
 returns-2 : tie.Need-returns-2
 returns-2 c =
-    history-marked (c .before .before .before .before .before .before .before .before .before .before .before .before .before .args .counts) (c .before .before .before .before .before .before .before .before .before .before .before .before .before .args .members .now) (c .before .before .before .before .before .before .before .before .before .before .before .before .before .args .pending .now) (sent-cells (c .before .before .before .before .before .before .before .before .before .before .before .before .before .args .ring) (c .before .before .before .before .before .before .before .before .before .before .before .before .before .args .sent .now)) _ _
+    history-marked (c .before .before .before .before .before .before .before .before .before .before .before .before .before .args .counts) (c .before .before .before .before .before .before .before .before .before .before .before .before .before .args .members .now) (c .before .before .before .before .before .before .before .before .before .before .before .before .before .args .pending .now) (sent-cells (c .before .before .before .before .before .before .before .before .before .before .before .before .before .args .ring) (c .before .before .before .before .before .before .before .before .before .before .before .before .before .args .history .now)) _ _
     (c .before .before .before .before .before .before .before .before .before .before .before .before .before .pre .1 .1 .1 .1) _ _ (c .before .before .before .before .before .before .before .mark-tables .ensures) (c .before .before .before .before .if1 .left) _ _ (c .before .before .mark-history .ensures)
 
 pub mark-cells-spec : {M : Type 1} → statement M

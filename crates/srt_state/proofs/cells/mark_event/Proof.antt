@@ -1,4 +1,4 @@
--- `mark_event` meets its contract: an event that is not data has no cell. Assumes nothing.
+-- `mark_event` meets its contract: an event that is not data has no cell.
 use borrow.Author.Needs.{needs}
 use Rattle.srt_state.specs.CellPassLaws.{no-data-passed, data-marked}
 use Rattle.srt_state.proofs.cells.mark_event.Statement.{statement}

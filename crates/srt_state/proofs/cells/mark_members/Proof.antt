@@ -1,4 +1,4 @@
--- `mark_members` meets its contract. The loop's invariant: the cells of the queues passed are marked. Assumes nothing.
+-- `mark_members` meets its contract. The loop's invariant: the cells of the queues passed are marked.
 use mathlib.Core.Path.{refl}
 use Prim.Native.Nat.{_-_}
 use native.Mathlib.Omega.{arith}

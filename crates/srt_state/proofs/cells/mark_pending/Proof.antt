@@ -1,4 +1,4 @@
--- `mark_pending` meets its contract. The loop's invariant: the cells of the packets passed are marked. Assumes nothing.
+-- `mark_pending` meets its contract. The loop's invariant: the cells of the packets passed are marked.
 use mathlib.Core.List.{[], _∷_}
 use Prim.Native.Nat.{_-_}
 use native.Mathlib.Omega.{arith}

@@ -1,4 +1,4 @@
--- `mark_queue` meets its contract. The loop's invariant: the cells of the events passed are marked. Assumes nothing.
+-- `mark_queue` meets its contract. The loop's invariant: the cells of the events passed are marked.
 use Prim.Native.Nat.{_-_}
 use native.Mathlib.Omega.{arith}
 use borrow.Author.Needs.{needs}

@@ -1,4 +1,4 @@
--- `mark_queue_at` meets its contract: the row that is lent is the one at the index. Assumes nothing.
+-- `mark_queue_at` meets its contract: the row that is lent is the one at the index.
 use mathlib.Core.Path.{ap}
 use borrow.Author.Needs.{needs}
 use Rattle.srt_group_model.specs.Cells.{queue-cells}

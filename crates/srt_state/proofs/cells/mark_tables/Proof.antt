@@ -1,4 +1,4 @@
--- `mark_tables` meets its contract: the queues, and then the held packets. Assumes nothing.
+-- `mark_tables` meets its contract: the queues, and then the held packets.
 use borrow.Author.Needs.{needs}
 use Rattle.srt_group_model.specs.CellsKept.{pending-cells}
 use Rattle.srt_tables.specs.Packets.{packets}

@@ -1,4 +1,4 @@
--- `queued_event` meets its contract: the law `event-read`. Assumes nothing.
+-- `queued_event` meets its contract: the law `event-read`.
 use borrow.Author.Needs.{needs}
 use Rattle.srt_state.specs.CellPassLaws.{event-read}
 use Rattle.srt_state.proofs.cells.queued_event.Statement.{statement}

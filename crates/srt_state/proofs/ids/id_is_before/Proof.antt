@@ -1,4 +1,4 @@
--- `id_is_before` meets its contract. The loop's invariant: no member from `left` up to this one has its id. Assumes nothing.
+-- `id_is_before` meets its contract. The loop's invariant: no member from `left` up to this one has its id.
 use native.Mathlib.Omega.{arith}
 use Rattle.srt_state.specs.Ids.{Later, later-start, later-one, later-none, before-there}
 use borrow.Author.Needs.{needs}

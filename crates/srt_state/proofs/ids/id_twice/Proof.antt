@@ -1,4 +1,4 @@
--- `id_twice` meets its contract. The loop's invariant: the ids before `index` are distinct. Assumes nothing.
+-- `id_twice` meets its contract. The loop's invariant: the ids before `index` are distinct.
 use Prim.Native.Nat.{_-_}
 use native.Mathlib.Omega.{arith}
 use Rattle.srt_state.specs.Ids.{Apart, id-at, apart-start, apart-one, apart-all, twice-here}

@@ -1,4 +1,4 @@
--- `event_sequence_too_large` meets its contract. Assumes nothing.
+-- `event_sequence_too_large` meets its contract.
 use mathlib.Core.Path.{refl}
 use Rattle.srt_state.specs.Rules.{event-sequence-too-large}
 use Rattle.srt_state.proofs.ranges.event_sequence_too_large.Statement.{statement}

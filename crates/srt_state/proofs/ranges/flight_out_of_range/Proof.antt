@@ -1,4 +1,4 @@
--- `flight_out_of_range` meets its contract: with a sender, and without one. Assumes nothing.
+-- `flight_out_of_range` meets its contract: with a sender, and without one.
 use borrow.Author.Tests.{eq-eqb, ne-eqb}
 use Rattle.srt_group_model.specs.Tools.{if_then_else_}
 use Rattle.srt_state.specs.Rules.{flight-out-of-range}

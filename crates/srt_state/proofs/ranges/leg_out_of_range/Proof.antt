@@ -1,8 +1,9 @@
--- `leg_out_of_range` meets its contract: a word is never above 64 bits. Assumes nothing.
+-- `leg_out_of_range` meets its contract: a word is never above 64 bits.
 use native.Mathlib.Omega.{arith}
 use borrow.Author.Needs.{needs}
 use Rattle.srt_group_model.specs.Validity.{leg-out-of-range}
-use Rattle.srt_state.specs.Rules.{flight-out-of-range, or-assoc, no-word-above}
+use Rattle.srt_group_model.specs.Reason.{or-assoc}
+use Rattle.srt_state.specs.Rules.{flight-out-of-range, no-word-above}
 use Rattle.srt_state.proofs.ranges.leg_out_of_range.Statement.{statement}
 use Rattle.srt_state.proofs.ranges.leg_out_of_range.Tie as tie
 

@@ -1,11 +1,8 @@
--- `entry_breaks_rule` meets its contract. Assumes nothing.
+-- `entry_breaks_rule` meets its contract.
 use borrow.Author.Needs.{needs}
 use Rattle.srt_state.specs.Rules.{entry-breaks-rule}
 use Rattle.srt_state.proofs.rows.entry_breaks_rule.Statement.{statement}
 use Rattle.srt_state.proofs.rows.entry_breaks_rule.Tie as tie
-
-cast-sequence-too-large : tie.Need-cast-sequence-too-large
-cast-sequence-too-large c = search needs
 
 sequence-too-large-requires : tie.Need-sequence-too-large-requires
 sequence-too-large-requires c κs = search needs
@@ -18,4 +15,4 @@ unfolding entry-breaks-rule
 returns c = cc (c .entry-out-of-range .ensures, c .before .sequence-too-large .ensures)
 
 pub entry-breaks-rule-spec : {M : Type 1} → statement M
-entry-breaks-rule-spec = tie.close (tie.spec cast-sequence-too-large sequence-too-large-requires entry-out-of-range-requires returns)
+entry-breaks-rule-spec = tie.close (tie.spec sequence-too-large-requires entry-out-of-range-requires returns)

@@ -1,4 +1,4 @@
--- `event_breaks_rule` meets its contract. Assumes nothing.
+-- `event_breaks_rule` meets its contract.
 use borrow.Author.Needs.{needs}
 use Rattle.srt_state.specs.Rules.{event-breaks-rule}
 use Rattle.srt_state.proofs.rows.event_breaks_rule.Statement.{statement}

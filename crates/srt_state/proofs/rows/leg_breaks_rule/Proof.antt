@@ -1,4 +1,4 @@
--- `leg_breaks_rule` meets its contract. Assumes nothing.
+-- `leg_breaks_rule` meets its contract.
 use borrow.Author.Needs.{needs}
 use Rattle.srt_state.specs.Rules.{leg-breaks-rule}
 use Rattle.srt_state.proofs.rows.leg_breaks_rule.Statement.{statement}

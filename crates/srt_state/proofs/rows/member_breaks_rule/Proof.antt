@@ -1,4 +1,4 @@
--- `member_breaks_rule` meets its contract. Assumes nothing.
+-- `member_breaks_rule` meets its contract.
 use borrow.Author.Needs.{needs}
 use Rattle.srt_connection.specs.Rows.{member-of}
 use Rattle.srt_state.specs.Rules.{member-tested}

@@ -1,4 +1,4 @@
--- `members_break_rule` meets its contract. The loop's invariant: no row that was passed breaks a rule. Assumes nothing.
+-- `members_break_rule` meets its contract. The loop's invariant: no row that was passed breaks a rule.
 use Prim.Native.Nat.{_-_}
 use native.Mathlib.Omega.{arith}
 use borrow.Author.Needs.{needs}

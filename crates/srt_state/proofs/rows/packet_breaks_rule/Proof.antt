@@ -1,4 +1,4 @@
--- `packet_breaks_rule` meets its contract. Assumes nothing.
+-- `packet_breaks_rule` meets its contract.
 use borrow.Author.Needs.{needs}
 use Rattle.srt_state.specs.Rules.{packet-breaks-rule}
 use Rattle.srt_state.proofs.rows.packet_breaks_rule.Statement.{statement}

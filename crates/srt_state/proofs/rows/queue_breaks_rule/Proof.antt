@@ -1,4 +1,4 @@
--- `queue_breaks_rule` meets its contract. The loop's invariant: no event that was passed breaks a rule. Assumes nothing.
+-- `queue_breaks_rule` meets its contract. The loop's invariant: no event that was passed breaks a rule.
 use Prim.Native.Nat.{_-_}
 use native.Mathlib.Omega.{arith}
 use borrow.Author.Needs.{needs}

@@ -1,4 +1,4 @@
--- `queue_event` meets its contract: the slot is the event's place in the ring. Assumes nothing.
+-- `queue_event` meets its contract: the slot is the event's place in the ring.
 use mathlib.Core.Path.{ap, _∙_}
 use Prim.Native.Nat.{ℕ}
 use native.Mathlib.Omega.{arith}

@@ -1,4 +1,4 @@
--- `add_up` meets its contract. The loop's invariant: the sums are those of the packets before `at`. Assumes nothing.
+-- `add_up` meets its contract. The loop's invariant: the sums are those of the packets before `at`.
 use mathlib.Core.Path.{sym, _∙_}
 use Prim.Native.Nat.{_-_, _≤_}
 use native.Mathlib.Omega.{arith}

@@ -1,4 +1,4 @@
--- `data_count` meets its contract. Assumes nothing.
+-- `data_count` meets its contract.
 use mathlib.Core.Path.{sym}
 use borrow.Author.Tests.{eq-eqb, ne-eqb}
 use Rattle.srt_group_model.specs.Cells.{is-data}

@@ -1,4 +1,4 @@
--- `member_differs` meets its contract. Assumes nothing.
+-- `member_differs` meets its contract.
 use Rattle.srt_connection.specs.Rows.{member-of}
 use Rattle.srt_state.specs.Sums.{queue-good, differs-tested}
 use borrow.Author.Needs.{needs}

@@ -1,4 +1,4 @@
--- `members_differ` meets its contract. The loop's invariant: no member that was passed differs. Assumes nothing.
+-- `members_differ` meets its contract. The loop's invariant: no member that was passed differs.
 use mathlib.Core.Path.{refl, ap, _∙_}
 use Prim.Native.Nat.{_-_}
 use native.Mathlib.Omega.{arith}

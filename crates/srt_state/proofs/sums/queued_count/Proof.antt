@@ -1,4 +1,4 @@
--- `queued_count` meets its contract. The loop's invariant: `sum` is that of the events before `at`. Assumes nothing.
+-- `queued_count` meets its contract. The loop's invariant: `sum` is that of the events before `at`.
 use Prim.Native.Nat.{_-_}
 use native.Mathlib.Omega.{arith}
 use Rattle.srt_state.specs.Sums.{Queued, queued-start, queued-fits, queued-one, queued-all, queue-short, queued-count-small}

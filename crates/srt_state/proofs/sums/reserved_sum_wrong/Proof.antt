@@ -1,4 +1,4 @@
--- `reserved_sum_wrong` meets its contract. Assumes nothing.
+-- `reserved_sum_wrong` meets its contract.
 use mathlib.Core.Path.{refl}
 use native.Mathlib.Omega.{arith}
 use Rattle.srt_group_model.specs.Tools.{any}

@@ -1,4 +1,4 @@
--- `sum_place` meets its contract. Assumes nothing.
+-- `sum_place` meets its contract.
 use mathlib.Core.Path.{sym, _∙_}
 use borrow.Author.Tests.{eq-eqb, ne-eqb}
 use Rattle.srt_state.specs.Sums.{place-own, place-held}

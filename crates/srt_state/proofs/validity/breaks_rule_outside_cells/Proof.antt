@@ -1,6 +1,6 @@
--- `breaks_rule_outside_cells` meets its contract. Assumes nothing.
-use Rattle.srt_state.specs.Outside.{outside-by-tables, outside-by-history}
+-- `breaks_rule_outside_cells` meets its contract.
 use borrow.Author.Needs.{needs}
+use Rattle.srt_state.specs.Outside.{outside-by-tables, outside-by-history}
 use Rattle.srt_state.proofs.validity.breaks_rule_outside_cells.Statement.{statement}
 use Rattle.srt_state.proofs.validity.breaks_rule_outside_cells.Tie as tie
 
@@ -9,14 +9,18 @@ tables-break-rule-requires c κs = search needs
 
 returns : tie.Need-returns
 returns c =
-    outside-by-tables (c .before .before .before .before .before .before .before .before .args .core) _ (c .before .before .before .before .before .before .before .before .args .members .now) (c .before .before .before .before .before .before .before .before .args .pending .now) (c .before .before .before .before .before .before .before .before .args .waiting .now) _ (c .before .tables-break-rule .ensures) (c .if1 .taken)
+    let a = c .before .before .before .before .before .before .before .args in
+    outside-by-tables (a .identity) (a .core) (a .sending) _ (a .members .now) (a .pending .now) (a .waiting .now) _
+    (c .before .tables-break-rule .ensures) (c .if1 .taken)
 
 history-breaks-rule-requires : tie.Need-history-breaks-rule-requires
 history-breaks-rule-requires c κs = search needs
 
 returns-2 : tie.Need-returns-2
 returns-2 c =
-    outside-by-history (c .before .before .before .before .before .before .before .before .before .args .core) _ (c .before .before .before .before .before .before .before .before .before .args .members .now) (c .before .before .before .before .before .before .before .before .before .args .pending .now) (c .before .before .before .before .before .before .before .before .before .args .waiting .now) _ (c .before .before .tables-break-rule .ensures) _ (c .before .if1 .left) (c .history-breaks-rule .ensures)
+    let a = c .before .before .before .before .before .before .before .before .args in
+    outside-by-history (a .identity) (a .core) (a .sending) _ (a .members .now) (a .pending .now) (a .waiting .now) _
+    (c .before .before .tables-break-rule .ensures) _ (c .before .if1 .left) (c .history-breaks-rule .ensures)
 
 pub breaks-rule-outside-cells-spec : {M : Type 1} → statement M
 breaks-rule-outside-cells-spec =

@@ -1,4 +1,4 @@
--- `is_blank` meets its contract. Assumes nothing.
+-- `is_blank` meets its contract.
 use mathlib.Core.Path.{ap}
 use mathlib.Core.Bool.{not}
 use borrow.Author.Needs.{needs}

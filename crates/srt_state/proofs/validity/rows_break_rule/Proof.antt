@@ -1,4 +1,4 @@
--- `rows_break_rule` meets its contract. Assumes nothing.
+-- `rows_break_rule` meets its contract.
 use Rattle.srt_state.specs.Outside.{rows-tested}
 use borrow.Author.Needs.{needs}
 use Rattle.srt_state.proofs.validity.rows_break_rule.Statement.{statement}

@@ -1,4 +1,4 @@
--- `rows_disagree` meets its contract. Assumes nothing.
+-- `rows_disagree` meets its contract.
 use mathlib.Core.Path.{sym, _∙_}
 use native.Mathlib.Omega.{arith}
 use Rattle.srt_state.specs.Outside.{members-good, packets-good, disagree-by-id, disagree-else}

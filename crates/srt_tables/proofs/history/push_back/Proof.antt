@@ -1,4 +1,4 @@
--- `push_back` meets its contract, with room and without. Assumes nothing.
+-- `push_back` meets its contract, with room and without.
 use mathlib.Core.Path.{sym}
 use native.Mathlib.Omega.{arith}
 use Rattle.srt_tables.specs.Ring.{push-with-room, push-of-full}

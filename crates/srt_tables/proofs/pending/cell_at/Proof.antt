@@ -1,4 +1,4 @@
--- `cell_at` meets its contract: the index word tells the cell. Assumes nothing.
+-- `cell_at` meets its contract: the index word tells the cell.
 use native.Mathlib.Omega.{arith}
 use Rattle.srt_tables.specs.PacketIndex.{index-cell}
 use borrow.Author.Needs.{needs}

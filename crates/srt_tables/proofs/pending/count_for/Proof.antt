@@ -1,4 +1,4 @@
--- `count_for` meets its contract: one law for each answer. Assumes nothing.
+-- `count_for` meets its contract: one law for each answer.
 use Rattle.srt_tables.specs.PacketLaws.{count-for-is, count-for-owned, count-for-other}
 use borrow.Author.Needs.{needs}
 use Rattle.srt_tables.proofs.pending.count_for.Statement.{statement}

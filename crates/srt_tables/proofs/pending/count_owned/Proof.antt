@@ -1,4 +1,4 @@
--- `count_owned` meets its contract: one law for each answer. Assumes nothing.
+-- `count_owned` meets its contract: one law for each answer.
 use Rattle.srt_tables.specs.PacketLaws.{count-owned-is, count-owned-not}
 use borrow.Author.Needs.{needs}
 use Rattle.srt_tables.proofs.pending.count_owned.Statement.{statement}

@@ -1,4 +1,4 @@
--- `farther` meets its contract: one law for each answer. Assumes nothing.
+-- `farther` meets its contract: one law for each answer.
 use mathlib.Core.Path.{sym, ap, _∙_}
 use native.Mathlib.Omega.{arith}
 use borrow.Author.Tests.{not-true, not-false}
@@ -31,24 +31,24 @@ returns-2 c =
 sequence-at-requires : tie.Need-sequence-at-requires
 sequence-at-requires c κs = search needs
 
-distance-ahead-requires : tie.Need-distance-ahead-requires
-distance-ahead-requires c κs = search needs
+word-distance-requires : tie.Need-word-distance-requires
+word-distance-requires c κs = search needs
 
 sequence-at-requires-2 : tie.Need-sequence-at-requires-2
 sequence-at-requires-2 c κs =
     let entry = c .before .before .before .before .before .before .before .before in
     (omega arith, omega (arith, at-in-use _ _ _ (entry .pre .1) (c .before .before .before .best .given .1)))
 
-distance-ahead-requires-2 : tie.Need-distance-ahead-requires-2
-distance-ahead-requires-2 c κs = search needs
+word-distance-requires-2 : tie.Need-word-distance-requires-2
+word-distance-requires-2 c κs = search needs
 
 returns-3 : tie.Need-returns-3
 returns-3 c =
     let tested = c .before .before .before .before .before .before .before .before in
     let mine = sym (tested .before .is-owned .ensures) ∙ not-false (tested .before .is-owned .result) (tested .if1 .left) in
     farther-here _ _ _ _ (omega arith) mine _ _ (c .before .before .before .before .before .before .best .given .1) _ _
-    (c .before .before .before .distance-ahead .ensures ∙ ap (sequence-distance _) (c .before .before .before .before .sequence-at .ensures))
-    (c .before .distance-ahead2 .ensures ∙ ap (sequence-distance _) (c .before .before .sequence-at2 .ensures))
+    (c .before .before .before .word-distance .ensures ∙ ap (sequence-distance _) (c .before .before .before .before .sequence-at .ensures))
+    (c .before .word-distance2 .ensures ∙ ap (sequence-distance _) (c .before .before .sequence-at2 .ensures))
     (c .if2 .taken)
 
 returns-4 : tie.Need-returns-4
@@ -56,8 +56,8 @@ returns-4 c =
     let tested = c .before .before .before .before .before .before .before .before in
     let mine = sym (tested .before .is-owned .ensures) ∙ not-false (tested .before .is-owned .result) (tested .if1 .left) in
     farther-there _ _ _ _ (omega arith) mine _ _ (c .before .before .before .before .before .before .best .given .1) _ _
-    (c .before .before .before .distance-ahead .ensures ∙ ap (sequence-distance _) (c .before .before .before .before .sequence-at .ensures))
-    (c .before .distance-ahead2 .ensures ∙ ap (sequence-distance _) (c .before .before .sequence-at2 .ensures))
+    (c .before .before .before .word-distance .ensures ∙ ap (sequence-distance _) (c .before .before .before .before .sequence-at .ensures))
+    (c .before .word-distance2 .ensures ∙ ap (sequence-distance _) (c .before .before .sequence-at2 .ensures))
     (c .if2 .left) (tested .before .before .before .pre .1)
 
 pub farther-spec : {M : Type 1} → statement M
@@ -70,8 +70,8 @@ farther-spec =
     enum-told
     returns-2
     sequence-at-requires
-    distance-ahead-requires
+    word-distance-requires
     sequence-at-requires-2
-    distance-ahead-requires-2
+    word-distance-requires-2
     returns-3
     returns-4)

@@ -1,4 +1,4 @@
--- `farthest_owned` meets its contract. The loop's invariant: `best` is the farthest of the rows from `left` on. Assumes nothing.
+-- `farthest_owned` meets its contract. The loop's invariant: `best` is the farthest of the rows from `left` on.
 use mathlib.Core.Path.{refl}
 use native.Mathlib.Omega.{arith}
 use Rattle.srt_tables.specs.PacketLaws.{Looking, looking-start, looked-one, looked-all}

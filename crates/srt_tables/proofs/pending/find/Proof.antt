@@ -1,4 +1,4 @@
--- `find` meets its contract: what stands at the sequence's place tells whether it is held. Assumes nothing.
+-- `find` meets its contract: what stands at the sequence's place tells whether it is held.
 use mathlib.Core.Path.{sym, _∙_}
 use native.Mathlib.Omega.{arith}
 use Rattle.srt_tables.specs.PacketLaws.{find-there, find-other, find-past}

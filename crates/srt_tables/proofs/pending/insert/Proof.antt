@@ -1,8 +1,8 @@
 -- `insert` meets its contract: the index words behind the place move up by one, and the packet's index word and row are written.
--- Assumes nothing.
 use mathlib.Core.Path.{ap, _∙_}
 use Prim.Native.Nat.{_+_, _*_}
 use lib.ListN.{length}
+use Rattle.srt_protocol.specs.Cells.{max-cells}
 use native.Mathlib.Omega.{arith}
 use Rattle.srt_tables.specs.PacketIndex.{opened-enough}
 use Rattle.srt_tables.specs.PacketLaws.{packet-inserted}
@@ -42,7 +42,7 @@ put-row-requires c κs =
     let entry = c .before .before .before .before .before .before .before .before .before in
     let packet = entry .args .packet in (
       opened-enough (entry .args .pending .now) _ (entry .args .count) _ (omega arith) (c .before .before .before .before .open-gap .ensures) (c .before .before .before .before .before .before .place .result)
-          (packet .content .sequence * 2048 + packet .content .cell),
+          (packet .content .sequence * max-cells + packet .content .cell),
       entry .pre .1 .1 .1 .0 .1,
     )
 

@@ -1,4 +1,4 @@
--- `is_ascending` meets its contract. The loop's invariant: the packets before `next` ascend. Assumes nothing.
+-- `is_ascending` meets its contract. The loop's invariant: the packets before `next` ascend.
 use Prim.Native.Nat.{_-_}
 use native.Mathlib.Omega.{arith}
 use Rattle.srt_tables.specs.PacketLaws.{Ascending, ascending-start, ascending-one, ascending-all, ascending-not}

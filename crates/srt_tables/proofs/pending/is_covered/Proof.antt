@@ -1,4 +1,4 @@
--- `is_covered` meets its contract. Assumes nothing.
+-- `is_covered` meets its contract.
 use mathlib.Core.Path.{ap}
 use Prim.Native.Nat.{ℕ}
 use lib.Dec.{ltb}
@@ -6,14 +6,11 @@ use borrow.Author.Needs.{needs}
 use Rattle.srt_tables.proofs.pending.is_covered.Statement.{statement}
 use Rattle.srt_tables.proofs.pending.is_covered.Tie as tie
 
-distance-ahead-requires : tie.Need-distance-ahead-requires
-distance-ahead-requires c κs = search needs
-
-cast-result : tie.Need-cast-result
-cast-result c = search needs
+word-distance-requires : tie.Need-word-distance-requires
+word-distance-requires c κs = search needs
 
 returns : tie.Need-returns
-returns c = ap (λ (n : ℕ). ltb n (c .before .args .run)) (c .distance-ahead .ensures)
+returns c = ap (λ (n : ℕ). ltb n (c .before .args .run)) (c .word-distance .ensures)
 
 pub is-covered-spec : {M : Type 1} → statement M
-is-covered-spec = tie.close (tie.spec distance-ahead-requires cast-result returns)
+is-covered-spec = tie.close (tie.spec word-distance-requires returns)

@@ -1,4 +1,4 @@
--- `is_owned` meets its contract: the word of the row tells. Assumes nothing.
+-- `is_owned` meets its contract: the word of the row tells.
 use mathlib.Core.Path.{ap}
 use Prim.Native.Nat.{ℕ}
 use lib.Dec.{eqb}

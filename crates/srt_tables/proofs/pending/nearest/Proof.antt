@@ -1,4 +1,4 @@
--- `nearest` meets its contract: the first packet, or the first that is half the space above it. Assumes nothing.
+-- `nearest` meets its contract: the first packet, or the first that is half the space above it.
 use mathlib.Core.Path.{sym, ap}
 use Prim.Native.Nat.{ℕ, _+_}
 use native.Mathlib.Omega.{arith}

@@ -1,5 +1,5 @@
 -- `own_packets` meets its contract. The loop's invariant: the packets before `at` that are the member's have become the group's
--- own, and each packet is as it was or has. Assumes nothing.
+-- own, and each packet is as it was or has.
 use Prim.Native.Nat.{_-_}
 use native.Mathlib.Omega.{arith}
 use Rattle.srt_tables.specs.PacketLaws.{Owning, owning-start, owned-one, owned-not, owned-all}

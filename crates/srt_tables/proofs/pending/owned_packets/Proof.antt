@@ -1,4 +1,4 @@
--- `owned_packets` meets its contract. The loop's invariant: `sum` is that of the packets from `left` on. Assumes nothing.
+-- `owned_packets` meets its contract. The loop's invariant: `sum` is that of the packets from `left` on.
 use mathlib.Core.Path.{refl}
 use native.Mathlib.Omega.{arith}
 use Rattle.srt_group_model.specs.Removal.{is-owned}

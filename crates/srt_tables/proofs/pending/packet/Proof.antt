@@ -1,4 +1,4 @@
--- `packet` meets its contract: the part that is lent is the row of the packet's cell. Assumes nothing.
+-- `packet` meets its contract: the part that is lent is the row of the packet's cell.
 use mathlib.Core.Path.{_∙_}
 use native.Mathlib.Omega.{arith}
 use Rattle.srt_tables.specs.PacketIndex.{packet-part}

@@ -1,4 +1,4 @@
--- `place` meets its contract. The loop's invariant: the place is between `low` and `high`. Assumes nothing.
+-- `place` meets its contract. The loop's invariant: the place is between `low` and `high`.
 use Prim.Native.Nat.{_-_}
 use native.Mathlib.Omega.{arith}
 use Rattle.srt_tables.specs.PacketLaws.{Between, between-above, between-below}

@@ -1,4 +1,4 @@
--- `put_row` meets its contract: the part that was lent comes back as the packet's row. Assumes nothing.
+-- `put_row` meets its contract: the part that was lent comes back as the packet's row.
 use native.Mathlib.Omega.{arith}
 use Rattle.word_rows.specs.Rows.{row-back}
 use Rattle.srt_tables.specs.PacketIndex.{eight-words}

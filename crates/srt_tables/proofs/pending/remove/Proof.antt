@@ -1,4 +1,4 @@
--- `remove` meets its contract: the index words behind the place move down by one. Assumes nothing.
+-- `remove` meets its contract: the index words behind the place move down by one.
 use native.Mathlib.Omega.{arith}
 use Rattle.srt_tables.specs.PacketLaws.{packet-removed}
 use borrow.Author.Needs.{needs}

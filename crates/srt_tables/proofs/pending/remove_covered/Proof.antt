@@ -1,5 +1,5 @@
 -- `remove_covered` meets its contract. The loop's invariant: of the packets before `at` those that are not covered stand first,
--- and the packets from there on are as they were. Assumes nothing.
+-- and the packets from there on are as they were.
 use mathlib.Core.Bool.{not}
 use Prim.Native.Nat.{_-_}
 use native.Mathlib.Omega.{arith}

@@ -1,4 +1,4 @@
--- `reserved_packets` meets its contract. The loop's invariant: `sum` is that of the packets from `left` on. Assumes nothing.
+-- `reserved_packets` meets its contract. The loop's invariant: `sum` is that of the packets from `left` on.
 use mathlib.Core.Path.{refl}
 use native.Mathlib.Omega.{arith}
 use Rattle.srt_group_model.specs.Validity.{held-count}

@@ -1,4 +1,4 @@
--- `sequence_at` meets its contract: the index word tells the sequence. Assumes nothing.
+-- `sequence_at` meets its contract: the index word tells the sequence.
 use Rattle.srt_tables.specs.PacketIndex.{index-sequence}
 use borrow.Author.Needs.{needs}
 use Rattle.srt_tables.proofs.pending.sequence_at.Statement.{statement}

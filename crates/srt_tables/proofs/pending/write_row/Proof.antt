@@ -1,4 +1,4 @@
--- `write_row` meets its contract: every word of the row is stored. Assumes nothing.
+-- `write_row` meets its contract: every word of the row is stored.
 use native.Mathlib.Omega.{arith}
 use lib.ListN.{length-set}
 use Rattle.srt_tables.specs.Packets.{row-words}

@@ -1,4 +1,4 @@
--- `pop_front` meets its contract: the rows behind the first move down by one. Assumes nothing.
+-- `pop_front` meets its contract: the rows behind the first move down by one.
 use native.Mathlib.Omega.{arith}
 use Rattle.srt_tables.specs.Waitings.{waiting-popped}
 use borrow.Author.Needs.{needs}

@@ -1,4 +1,4 @@
--- `push_back` meets its contract: the part that was lent comes back as the event's row. Assumes nothing.
+-- `push_back` meets its contract: the part that was lent comes back as the event's row.
 use mathlib.Core.Path.{sym, subst}
 use mathlib.Core.List.{List, [], _∷_, _++_}
 use Prim.Native.Nat.{ℕ, _+_}

@@ -1,4 +1,4 @@
--- `read_waiting` meets its contract: each field is its word. Assumes nothing.
+-- `read_waiting` meets its contract: each field is its word.
 use mathlib.Core.Path.{refl}
 use Rattle.srt_tables.specs.Waitings.{waiting-of}
 use borrow.Author.Needs.{needs}

@@ -1,4 +1,4 @@
--- `waiting_event` meets its contract: the part that is lent is the row. Assumes nothing.
+-- `waiting_event` meets its contract: the part that is lent is the row.
 use mathlib.Core.Path.{ap, _∙_}
 use Rattle.word_rows.specs.Rows.{row-part}
 use Rattle.srt_tables.specs.Waitings.{waiting-of, waiting-at}

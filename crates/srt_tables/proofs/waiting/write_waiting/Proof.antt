@@ -1,4 +1,4 @@
--- `write_waiting` meets its contract: every word of the row is stored. Assumes nothing.
+-- `write_waiting` meets its contract: every word of the row is stored.
 use native.Mathlib.Omega.{arith}
 use Rattle.srt_tables.specs.Waitings.{waiting-words}
 use Rattle.srt_tables.specs.PacketIndex.{all-stored}

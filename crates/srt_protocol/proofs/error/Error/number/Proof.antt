@@ -1,4 +1,4 @@
--- `Error::number` meets its contract: in each arm the refusal is the variant that was matched. Assumes nothing.
+-- `Error::number` meets its contract: in each arm the refusal is the variant that was matched.
 use mathlib.Core.Path.{sym, ap}
 use Rattle.srt_protocol.specs.Errors.{error-number}
 use borrow.Author.Needs.{needs}

@@ -1,4 +1,4 @@
--- `Outcome::number` meets its contract: 0, or the number of the refusal that was matched. Assumes nothing.
+-- `Outcome::number` meets its contract: 0, or the number of the refusal that was matched.
 use mathlib.Core.Path.{sym, ap, _∙_}
 use Rattle.srt_protocol.specs.Errors.{outcome-number}
 use borrow.Author.Needs.{needs}
