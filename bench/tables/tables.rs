@@ -56,7 +56,7 @@ fn packet(sequence: u32, cell: usize) -> Packet {
     Packet { member: 1, owned: false, sequence, count: 1, message: 0, timestamp: 0, source: sequence as u64, cell, length: 1316 }
 }
 
-// A word of the history, as crates/srt_tables packs it: a sequence, a cell and a length.
+// A word of the history, as crates/srt_group_tables packs it: a sequence, a cell and a length.
 fn entry_word(sequence: u64, cell: u64, length: u64) -> u64 {
     (sequence * 2048 + cell) * 2048 + length
 }

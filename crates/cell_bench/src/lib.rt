@@ -4,7 +4,7 @@ ghost use Prim.Native.Nat.{_≤_, _<_};
 ghost use lib.ListN.{length};
 ghost use Rattle.srt_protocol.specs.Cells.{max-cells};
 ghost use Rattle.cell_set.specs.Bits.{set-size};
-ghost use Rattle.srt_connection.specs.Members.{has-row};
+ghost use Rattle.srt_connection_members.specs.Members.{has-row};
 ghost use Rattle.srt_group_shown.specs.Tables.{tables};
 ghost use Rattle.srt_group_shown.specs.Ready.{Ready};
 ghost use Rattle.srt_group.specs.Made.{parts-of};
@@ -13,7 +13,7 @@ use cell_set::FreeCell;
 use cell_set::free;
 use cell_set::lowest_free;
 use cell_set::take;
-use srt_connection::members::pop_at;
+use srt_connection_members::pop_at;
 use srt_group::Group;
 use srt_group_model::Core;
 use srt_group_model::Counts;
@@ -22,11 +22,11 @@ use srt_group_model::Identity;
 use srt_group_model::Receiving;
 use srt_group_model::Sending;
 use srt_group_model::Visit;
+use srt_group_queueing::queueing::queue_data;
+use srt_group_state::cells;
+use srt_group_tables::history::HistoryRing;
 use srt_protocol::received_payload::MAX_CELLS;
 use srt_protocol::time::Timestamp;
-use srt_queueing::queueing::queue_data;
-use srt_state::cells;
-use srt_tables::history::HistoryRing;
 
 // The lowest free cell; MAX_CELLS if there is none.
 #[no_mangle]

@@ -6,8 +6,8 @@ use Rattle.srt_group_model.specs.declared.Core.{Core}
 use Rattle.srt_group_model.specs.State.{State}
 use Rattle.srt_group_model.specs.Calls.{new}
 use Rattle.word_rows.specs.Tab.{tab}
-use Rattle.srt_connection.specs.Members.{members-of}
-use Rattle.srt_tables.specs.Ring.{entries-of}
+use Rattle.srt_connection_members.specs.Members.{members-of}
+use Rattle.srt_group_tables.specs.Ring.{entries-of}
 use Rattle.srt_group_shown.specs.Tables.{Parts, parts, Tables, state-of}
 use Rattle.srt_group.specs.declared.Group.{Group}
 

@@ -5,16 +5,15 @@ ghost use lib.ListN.{length};
 ghost use Rattle.srt_group_model.specs.Backup.{max-history};
 ghost use Rattle.srt_group_model.specs.Calls.{new};
 ghost use Rattle.srt_group.specs.Made.{Fresh};
-use srt_connection::members;
 use srt_group_model::Core;
 use srt_group_model::Counts;
 use srt_group_model::Identity;
 use srt_group_model::Receiving;
 use srt_group_model::Sending;
 use srt_group_model::Visit;
+use srt_group_tables::history;
+use srt_group_tables::history::HistoryRing;
 use srt_protocol::received_payload;
-use srt_tables::history;
-use srt_tables::history::HistoryRing;
 
 // By who moves what: fixed at creation; what a poll carries through by value; what sending moves; the places of the history in use.
 // Every field is a 64-bit word, so that whatever a host lends can be read, and refused (6) where it is beyond its range.
@@ -28,7 +27,7 @@ pub struct Group {
 
 impl Group {
     // The most members of a group, the most sends that its history holds, and the bytes of a cell.
-    pub const MAX_MEMBERS: usize = members::MAX_MEMBERS;
+    pub const MAX_MEMBERS: usize = srt_connection_members::MAX_MEMBERS;
 
     pub const MAX_HISTORY: usize = history::MAX_HISTORY;
 

@@ -13,9 +13,9 @@ use Rattle.srt_group_model.specs.CellsKept.{uses-used}
 use Rattle.srt_group_model.specs.Counts.{pending-few}
 use Rattle.srt_group_model.specs.Sound.{Sound}
 use Rattle.word_rows.specs.Tab.{tab-length}
-use Rattle.srt_connection.specs.Members.{members-of}
-use Rattle.srt_tables.specs.Packets.{packet-at, packets}
-use Rattle.srt_tables.specs.Waitings.{waitings}
+use Rattle.srt_connection_members.specs.Members.{members-of}
+use Rattle.srt_group_tables.specs.Packets.{packet-at, packets}
+use Rattle.srt_group_tables.specs.Waitings.{waitings}
 
 -- what receiving leaves alone: what is fixed at creation, and the sending side. A step that reads none of it is promised over every one.
 pub record Rest : Type 0 where

@@ -8,11 +8,11 @@ use Rattle.srt_group_model.specs.declared.Identity.{Identity}
 use Rattle.srt_group_model.specs.declared.Sending.{Sending}
 use Rattle.srt_group_model.specs.State.{State}
 use Rattle.srt_group_model.specs.Backup.{max-history}
-use Rattle.srt_connection.specs.Members.{members-size}
-use Rattle.srt_tables.specs.Packets.{pending-size}
-use Rattle.srt_tables.specs.Waitings.{waiting-size}
-use Rattle.srt_tables.specs.declared.history.HistoryRing.{HistoryRing}
-use Rattle.srt_tables.specs.Ring.{arrays, entries-of}
+use Rattle.srt_connection_members.specs.Members.{members-size}
+use Rattle.srt_group_tables.specs.Packets.{pending-size}
+use Rattle.srt_group_tables.specs.Waitings.{waiting-size}
+use Rattle.srt_group_tables.specs.declared.history.HistoryRing.{HistoryRing}
+use Rattle.srt_group_tables.specs.Ring.{arrays, entries-of}
 use Rattle.srt_group_shown.specs.Shown.{Rest, rest, shown}
 
 -- the record's parts, by who moves them: fixed at creation; what a poll carries through; what sending moves; the history's places

@@ -12,9 +12,9 @@ use Rattle.srt_group_model.specs.Legs.{largest-sequence}
 use Rattle.srt_group_model.specs.Backup.{max-history}
 use Rattle.srt_protocol.specs.Cells.{max-cells}
 use Rattle.srt_group_model.specs.declared.Data.{Data}
-use Rattle.srt_tables.specs.Packets.{pending-size, packets}
-use Rattle.srt_tables.specs.Ring.{Arrays, Long, after-push, push-fits}
-use Rattle.srt_tables.specs.declared.history.HistoryRing.{HistoryRing}
+use Rattle.srt_group_tables.specs.Packets.{pending-size, packets}
+use Rattle.srt_group_tables.specs.Ring.{Arrays, Long, after-push, push-fits}
+use Rattle.srt_group_tables.specs.declared.history.HistoryRing.{HistoryRing}
 
 abbrev pub data-of : (sequence cell : ℕ) → Data
 data-of sequence cell =

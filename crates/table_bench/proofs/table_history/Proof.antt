@@ -1,6 +1,6 @@
 -- `table_history` keeps to the ring.
 use Prim.Native.Nat.{_-_}
-use Rattle.srt_tables.specs.Ring.{arrays}
+use Rattle.srt_group_tables.specs.Ring.{arrays}
 use Rattle.table_bench.specs.Made.{InArrays}
 use borrow.Author.Needs.{needs}
 use Rattle.table_bench.proofs.table_history.Statement.{statement}

@@ -1,0 +1,4 @@
+pub mod Tab
+pub mod Row
+pub mod Rows
+pub mod Queue

@@ -1,0 +1,35 @@
+-- `align_carrier` meets its contract.
+use borrow.Author.Tests.{not-true, not-false}
+use Rattle.srt_group_backup.specs.TakeOver.{not-numbered-not-aligned, carrier-not-aligned, carrier-aligned}
+use borrow.Author.Needs.{needs}
+use Rattle.srt_group_backup.proofs.takeover.align_carrier.Statement.{statement}
+use Rattle.srt_group_backup.proofs.takeover.align_carrier.Tie as tie
+
+returns : tie.Need-returns
+returns c = not-numbered-not-aligned _ _ _ _ (c .if1 .taken)
+
+align-member-sequence-requires : tie.Need-align-member-sequence-requires
+align-member-sequence-requires c κs = search needs
+
+same-length : tie.Need-same-length
+same-length c = search needs
+
+returns-2 : tie.Need-returns-2
+returns-2 c = carrier-not-aligned _ _ _ _ (c .before .before .before .before .before .if1 .left) (c .before .before .before .align-member-sequence .ensures) (not-true _ (c .if2 .taken))
+
+same-length-2 : tie.Need-same-length-2
+same-length-2 c = search needs
+
+returns-3 : tie.Need-returns-3
+returns-3 c = carrier-aligned _ _ _ _ (c .before .before .before .before .before .if1 .left) (c .before .before .before .align-member-sequence .ensures) (not-false _ (c .if2 .left))
+
+pub align-carrier-spec : {M : Type 1} → statement M
+align-carrier-spec =
+    tie.close
+    (tie.spec
+    returns
+    align-member-sequence-requires
+    same-length
+    returns-2
+    same-length-2
+    returns-3)

@@ -1,0 +1,26 @@
+-- `refresh_states` meets its contract: what has settled requalifies.
+use Rattle.srt_group_polls.specs.RefreshLaws.{still-long, requalifies}
+use borrow.Author.Needs.{needs}
+use Rattle.srt_group_polls.proofs.refresh.refresh_states.Statement.{statement}
+use Rattle.srt_group_polls.proofs.refresh.refresh_states.Tie as tie
+
+refresh-pending-states-requires : tie.Need-refresh-pending-states-requires
+refresh-pending-states-requires c κs = search needs
+
+requalify-members-requires : tie.Need-requalify-members-requires
+requalify-members-requires c κs = still-long (c .before .before .before .before .before .before .pre) (c .before .before .before .refresh-pending-states .ensures)
+
+same-length : tie.Need-same-length
+same-length c = search needs
+
+returns : tie.Need-returns
+returns c = requalifies _ _ _ _ _ _ (c .before .before .before .before .before .before .refresh-pending-states .ensures) (c .before .before .requalify-members .ensures)
+
+pub refresh-states-spec : {M : Type 1} → statement M
+refresh-states-spec =
+    tie.close
+    (tie.spec
+    refresh-pending-states-requires
+    requalify-members-requires
+    same-length
+    returns)

@@ -1,0 +1,49 @@
+-- `take_out` meets its contract: the held packets owned and the row removed are its parts.
+use mathlib.Core.Path.{refl, ap}
+use native.Mathlib.Omega.{arith}
+use Rattle.srt_group_model.specs.declared.Membership.{Membership}
+use Rattle.srt_group_removal.specs.RemovalLaws.{taken-all}
+use borrow.Author.Needs.{needs}
+use Rattle.srt_group_removal.proofs.removal.take_out.Statement.{statement}
+use Rattle.srt_group_removal.proofs.removal.take_out.Tie as tie
+
+membership-at-requires : tie.Need-membership-at-requires
+membership-at-requires c κs = search needs
+
+own-packets-requires : tie.Need-own-packets-requires
+own-packets-requires c κs = search needs
+
+remove-member-requires : tie.Need-remove-member-requires
+remove-member-requires c κs = search needs
+
+sub-left : tie.Need-sub-left
+sub-left c = search needs
+
+lowered-requires : tie.Need-lowered-requires
+lowered-requires c κs = search needs
+
+add-owned : tie.Need-add-owned
+add-owned c = omega (arith, c .before .before .before .before .before .before .before .before .before .before .before .before .before .before .before .pre .sum, ap (λ (m : Membership). m .reserved) (c .before .before .before .before .before .before .before .before .before .before .before .membership-at .ensures))
+
+same-length : tie.Need-same-length
+same-length c = search needs
+
+same-length-2 : tie.Need-same-length-2
+same-length-2 c = search needs
+
+returns : tie.Need-returns
+returns c = taken-all _ _ _ _ _ _ (c .before .before .before .before .before .before .before .before .before .before .before .before .before .before .before .before .before .pre .there) (c .before .before .before .before .before .before .before .before .before .before .before .before .before .membership-at .ensures) (c .before .before .before .before .before .before .before .before .before .before .before .own-packets .ensures) (c .before .before .before .before .before .before .before .remove-member .ensures) refl (c .before .before .before .before .lowered .ensures) refl
+
+pub take-out-spec : {M : Type 1} → statement M
+take-out-spec =
+    tie.close
+    (tie.spec
+    membership-at-requires
+    own-packets-requires
+    remove-member-requires
+    sub-left
+    lowered-requires
+    add-owned
+    same-length
+    same-length-2
+    returns)

@@ -1,0 +1,64 @@
+-- `bound_group_owned_pending` meets its contract. The loop's invariant: bounding from here on gives what bounding all gives (`Bounding`).
+use native.Mathlib.Omega.{arith}
+use Rattle.srt_group_tables.specs.PacketLaws.{at-in-use}
+use Rattle.srt_group_removal.specs.RetireLaws.{Bounding, bounding-start, bounding-on, bounded-within, bounded-none}
+use borrow.Author.Needs.{needs}
+use Rattle.srt_group_removal.proofs.retirement.bound_group_owned_pending.Statement.{statement}
+use Rattle.srt_group_removal.proofs.retirement.bound_group_owned_pending.Tie as tie
+
+abbrev Inv-loop : tie.InvT-loop
+Inv-loop core₀ pending₀ limit base core pending = Bounding limit base core₀ pending₀ core pending
+
+abbrev μ-loop : tie.MeasureT-loop
+μ-loop core₀ pending₀ limit base core pending = core .counts .pending
+
+loop-holds : tie.Need-loop-holds Inv-loop μ-loop
+loop-holds c = bounding-start _ _ _ _ (c .before .pre)
+
+farthest-owned-requires : tie.Need-farthest-owned-requires Inv-loop μ-loop
+farthest-owned-requires c κs = (c .before .before .before .loop .inv .held .pending-long, c .before .before .before .loop .inv .held .held-few)
+
+enum-known-farthest : tie.Need-enum-known-farthest Inv-loop μ-loop
+enum-known-farthest c = search needs
+
+enum-told : tie.Need-enum-told Inv-loop μ-loop
+enum-told c = search needs
+
+same-length : tie.Need-same-length Inv-loop μ-loop
+same-length c = c .before .before .before .before .before .before .loop .inv .pending-long
+
+returns : tie.Need-returns Inv-loop μ-loop
+returns c = bounded-none _ _ _ _ _ _ (c .before .before .before .before .before .before .loop .inv) (c .before .before .farthest-owned .ensures) (c .enum-told .given .1)
+
+retire-at-requires : tie.Need-retire-at-requires Inv-loop μ-loop
+retire-at-requires c κs = (c .before .before .before .before .before .before .before .before .loop .inv .held, omega (arith, at-in-use _ _ _ (c .before .before .before .before .farthest-owned .ensures .within) (c .before .before .farthest .given .1)))
+
+loop-less : tie.Need-loop-less Inv-loop μ-loop
+loop-less c = omega (arith, c .before .before .retire-at .ensures .one-less)
+
+loop-again : tie.Need-loop-again Inv-loop μ-loop
+loop-again c = bounding-on _ _ _ _ _ _ (c .before .before .before .before .before .before .before .before .before .before .before .loop .inv) _ _ _ (c .before .before .before .before .before .before .before .before .before .if1 .taken) (c .before .before .before .before .before .before .before .farthest-owned .ensures) (c .before .before .before .before .before .farthest .given .1) (c .before .before .retire-at .ensures)
+
+same-length-2 : tie.Need-same-length-2 Inv-loop μ-loop
+same-length-2 c = c .before .before .loop .inv .pending-long
+
+returns-2 : tie.Need-returns-2 Inv-loop μ-loop
+returns-2 c = bounded-within _ _ _ _ _ _ (c .before .before .loop .inv) (c .if1 .left)
+
+pub bound-group-owned-pending-spec : {M : Type 1} → statement M
+bound-group-owned-pending-spec =
+    tie.close
+    (tie.spec
+    Inv-loop
+    μ-loop
+    loop-holds
+    farthest-owned-requires
+    enum-known-farthest
+    enum-told
+    same-length
+    returns
+    retire-at-requires
+    loop-less
+    loop-again
+    same-length-2
+    returns-2)

@@ -1,0 +1,28 @@
+-- `retire_at` meets its contract: what is removed at the place is what the definition takes out by its sequence.
+use Rattle.srt_group_removal.specs.RetireLaws.{retired-one}
+use mathlib.Core.Path.{refl}
+use borrow.Author.Needs.{needs}
+use Rattle.srt_group_removal.proofs.retirement.retire_at.Statement.{statement}
+use Rattle.srt_group_removal.proofs.retirement.retire_at.Tie as tie
+
+packet-requires : tie.Need-packet-requires
+packet-requires c κs = search needs
+
+remove-requires : tie.Need-remove-requires
+remove-requires c κs = search needs
+
+less-requires : tie.Need-less-requires
+less-requires c κs = search needs
+
+sub-left : tie.Need-sub-left
+sub-left c = search needs
+
+same-length : tie.Need-same-length
+same-length c = search needs
+
+returns : tie.Need-returns
+returns c = retired-one _ _ _ (c .before .before .before .before .before .before .before .before .before .pre .0) (c .before .before .before .before .before .before .before .before .before .pre .1) _ (c .before .before .before .before .before .before .packet .ensures) refl (c .before .less .ensures) (c .before .before .before .before .remove .ensures)
+
+pub retire-at-spec : {M : Type 1} → statement M
+retire-at-spec =
+    tie.close (tie.spec packet-requires remove-requires less-requires sub-left same-length returns)

@@ -1,0 +1,57 @@
+-- `could_take_over` meets its contract: one law for each answer.
+use borrow.Author.Tests.{not-true, not-false}
+use Rattle.srt_group_sending.specs.BackupReadiness.{gap-refuses, window-refuses, stands-decides}
+use borrow.Author.Needs.{needs}
+use Rattle.srt_group_sending.proofs.readiness.could_take_over.Statement.{statement}
+use Rattle.srt_group_sending.proofs.readiness.could_take_over.Tie as tie
+
+takes-over-requires : tie.Need-takes-over-requires
+takes-over-requires c κs = search needs
+
+replay-length-requires : tie.Need-replay-length-requires
+replay-length-requires c κs = search needs
+
+gap-allows-requires : tie.Need-gap-allows-requires
+gap-allows-requires c κs = search needs
+
+returns : tie.Need-returns
+returns c =
+    gap-refuses _ _ _ _ _ (c .before .before .before .takes-over .ensures) (c .before .before .replay-length .ensures)
+    (c .before .gap-allows .ensures) (not-true _ (c .if1 .taken))
+
+remaining-window-packets-requires : tie.Need-remaining-window-packets-requires
+remaining-window-packets-requires c κs = search needs
+
+returns-2 : tie.Need-returns-2
+returns-2 c =
+    window-refuses _ _ _ _ _ (c .before .before .before .before .before .takes-over .ensures)
+    (c .before .before .before .before .replay-length .ensures) (c .before .before .before .gap-allows .ensures) (not-false _
+    (c .before .before .if1 .left)) (c .before .remaining-window-packets .ensures) (c .if2 .taken)
+
+replay-sequence-requires : tie.Need-replay-sequence-requires
+replay-sequence-requires c κs = search needs
+
+stands-at-requires : tie.Need-stands-at-requires
+stands-at-requires c κs = search needs
+
+returns-3 : tie.Need-returns-3
+returns-3 c =
+    stands-decides _ _ _ _ _ (c .before .before .before .before .before .before .before .takes-over .ensures)
+    (c .before .before .before .before .before .before .replay-length .ensures)
+    (c .before .before .before .before .before .gap-allows .ensures) (not-false _
+    (c .before .before .before .before .if1 .left)) (c .before .before .before .remaining-window-packets .ensures)
+    (c .before .before .if2 .left) (c .before .replay-sequence .ensures) (c .stands-at .ensures)
+
+pub could-take-over-spec : {M : Type 1} → statement M
+could-take-over-spec =
+    tie.close
+    (tie.spec
+    takes-over-requires
+    replay-length-requires
+    gap-allows-requires
+    returns
+    remaining-window-packets-requires
+    returns-2
+    replay-sequence-requires
+    stands-at-requires
+    returns-3)

@@ -1,0 +1,17 @@
+-- `front_sequence` meets its contract.
+use Rattle.srt_group_sending.specs.BackupReadiness.{front-missing, front-there}
+use borrow.Author.Needs.{needs}
+use Rattle.srt_group_sending.proofs.readiness.front_sequence.Statement.{statement}
+use Rattle.srt_group_sending.proofs.readiness.front_sequence.Tie as tie
+
+returns : tie.Need-returns
+returns c = front-missing _ _ (c .if1 .taken)
+
+sequence-at-requires : tie.Need-sequence-at-requires
+sequence-at-requires c κs = search needs
+
+returns-2 : tie.Need-returns-2
+returns-2 c = front-there _ _ (c .before .if1 .left) (c .sequence-at .ensures)
+
+pub front-sequence-spec : {M : Type 1} → statement M
+front-sequence-spec = tie.close (tie.spec returns sequence-at-requires returns-2)

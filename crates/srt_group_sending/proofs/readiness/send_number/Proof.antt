@@ -1,0 +1,13 @@
+-- `send_number` meets its contract.
+use Rattle.srt_group_sending.specs.BackupReadiness.{number-there, number-missing}
+use Rattle.srt_group_sending.proofs.readiness.send_number.Statement.{statement}
+use Rattle.srt_group_sending.proofs.readiness.send_number.Tie as tie
+
+returns : tie.Need-returns
+returns c = number-there (c .before .before .args .sending) (c .if1 .taken)
+
+returns-2 : tie.Need-returns-2
+returns-2 c = number-missing (c .before .before .args .sending) (c .if1 .left)
+
+pub send-number-spec : {M : Type 1} → statement M
+send-number-spec = tie.close (tie.spec returns returns-2)

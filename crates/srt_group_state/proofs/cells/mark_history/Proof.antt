@@ -1,0 +1,86 @@
+-- `mark_history` meets its contract. The loop's invariant: the cells of the entries passed are marked.
+use mathlib.Core.List.{[], _∷_}
+use Prim.Native.Nat.{_+_, _-_, _%_}
+use native.Mathlib.Omega.{arith}
+use lib.ListN.{getD}
+use Rattle.srt_group_model.specs.Backup.{max-history}
+use Rattle.srt_group_tables.specs.Ring.{word-cell}
+use Rattle.srt_group_state.specs.CellPassLaws.{Marking, sent-are, word-names, marking-start, marking-on, marking-stopped, marking-done}
+use borrow.Author.Needs.{needs}
+use Rattle.srt_group_state.proofs.cells.mark_history.Statement.{statement}
+use Rattle.srt_group_state.proofs.cells.mark_history.Tie as tie
+
+abbrev Inv-loop : tie.InvT-loop
+Inv-loop flags₀ cells ring history index₀ flags index =
+    Marking cells (λ i. word-cell (getD history ((ring .start + i) % max-history) 0) ∷ []) (ring .length) flags₀ index flags
+
+abbrev μ-loop : tie.MeasureT-loop
+μ-loop flags₀ cells ring history index₀ flags index = ring .length - index
+
+loop-holds : tie.Need-loop-holds Inv-loop μ-loop
+loop-holds c = marking-start _ _ _ _ (c .before .before .pre .1)
+
+place-requires : tie.Need-place-requires Inv-loop μ-loop
+place-requires c κs = search needs
+
+mul-cell-of : tie.Need-mul-cell-of Inv-loop μ-loop
+mul-cell-of c = search needs
+
+shared-slice-read-cell-of : tie.Need-shared-slice-read-cell-of Inv-loop μ-loop
+shared-slice-read-cell-of c = search needs
+
+cell-of-requires : tie.Need-cell-of-requires Inv-loop μ-loop
+cell-of-requires c κs = search needs
+
+mark-cell-requires : tie.Need-mark-cell-requires Inv-loop μ-loop
+mark-cell-requires c κs = c .before .before .before .before .before .before .loop .inv .flags
+
+same-length : tie.Need-same-length Inv-loop μ-loop
+same-length c = search needs
+
+returns : tie.Need-returns Inv-loop μ-loop
+returns c =
+    let args = c .before .before .before .before .before .before .before .before .before .before .before .before .before .args in
+    marking-stopped _ _ _ _ _ _ (c .before .before .before .before .before .before .before .before .before .before .loop .inv) _ _ _ _ (sent-are (args .ring) _)
+    (word-names (args .history .now) _ _ _ (c .before .before .before .before .before .before .before .place .ensures .0) (c .before .before .before .before .before .cell-of .ensures .0))
+    (omega arith) (c .if2 .taken) (c .before .before .before .mark-cell .ensures)
+
+add-index : tie.Need-add-index Inv-loop μ-loop
+add-index c = search needs
+
+loop-less : tie.Need-loop-less Inv-loop μ-loop
+loop-less c = search needs
+
+loop-again : tie.Need-loop-again Inv-loop μ-loop
+loop-again c =
+    let args = c .before .before .before .before .before .before .before .before .before .before .before .before .before .args in
+    marking-on _ _ _ _ _ _ (c .before .before .before .before .before .before .before .before .before .before .loop .inv) _ _ _
+    (word-names (args .history .now) _ _ _ (c .before .before .before .before .before .before .before .place .ensures .0) (c .before .before .before .before .before .cell-of .ensures .0))
+    (omega arith) (c .if2 .left) (c .before .before .before .mark-cell .ensures)
+
+same-length-2 : tie.Need-same-length-2 Inv-loop μ-loop
+same-length-2 c = search needs
+
+returns-2 : tie.Need-returns-2 Inv-loop μ-loop
+returns-2 c =
+    marking-done _ _ _ _ _ _ (c .before .before .loop .inv) _ (sent-are (c .before .before .before .before .before .args .ring) _) (omega arith)
+
+pub mark-history-spec : {M : Type 1} → statement M
+mark-history-spec =
+    tie.close
+    (tie.spec
+    Inv-loop
+    μ-loop
+    loop-holds
+    place-requires
+    mul-cell-of
+    shared-slice-read-cell-of
+    cell-of-requires
+    mark-cell-requires
+    same-length
+    returns
+    add-index
+    loop-less
+    loop-again
+    same-length-2
+    returns-2)

@@ -1,0 +1,64 @@
+-- `mark_members` meets its contract. The loop's invariant: the cells of the queues passed are marked.
+use mathlib.Core.Path.{refl}
+use Prim.Native.Nat.{_-_}
+use native.Mathlib.Omega.{arith}
+use borrow.Author.Needs.{needs}
+use Rattle.srt_group_model.specs.Cells.{queue-cells}
+use Rattle.srt_connection_members.specs.Members.{member-at}
+use Rattle.srt_group_state.specs.CellPassLaws.{Marking, queues-are, marking-start, marking-on, marking-stopped, marking-done}
+use Rattle.srt_group_state.proofs.cells.mark_members.Statement.{statement}
+use Rattle.srt_group_state.proofs.cells.mark_members.Tie as tie
+
+abbrev Inv-loop : tie.InvT-loop
+Inv-loop flags₀ cells members count index₀ flags index =
+    Marking cells (λ i. queue-cells (member-at members i)) count flags₀ index flags
+
+abbrev μ-loop : tie.MeasureT-loop
+μ-loop flags₀ cells members count index₀ flags index = count - index
+
+loop-holds : tie.Need-loop-holds Inv-loop μ-loop
+loop-holds c = marking-start _ _ _ _ (c .before .before .pre .1)
+
+mark-queue-at-requires : tie.Need-mark-queue-at-requires Inv-loop μ-loop
+mark-queue-at-requires c κs = (omega arith, c .before .before .loop .inv .flags)
+
+same-length : tie.Need-same-length Inv-loop μ-loop
+same-length c = search needs
+
+returns : tie.Need-returns Inv-loop μ-loop
+returns c =
+    marking-stopped _ _ _ _ _ _ (c .before .before .before .before .before .before .loop .inv) _ _ _ _ (queues-are _ _) refl (omega arith) (c .if1 .taken)
+    (c .before .before .before .mark-queue-at .ensures)
+
+add-index : tie.Need-add-index Inv-loop μ-loop
+add-index c = search needs
+
+loop-less : tie.Need-loop-less Inv-loop μ-loop
+loop-less c = search needs
+
+loop-again : tie.Need-loop-again Inv-loop μ-loop
+loop-again c =
+    marking-on _ _ _ _ _ _ (c .before .before .before .before .before .before .loop .inv) _ _ _ refl (omega arith) (c .if1 .left)
+    (c .before .before .before .mark-queue-at .ensures)
+
+same-length-2 : tie.Need-same-length-2 Inv-loop μ-loop
+same-length-2 c = search needs
+
+returns-2 : tie.Need-returns-2 Inv-loop μ-loop
+returns-2 c = marking-done _ _ _ _ _ _ (c .before .loop .inv) _ (queues-are _ _) (omega arith)
+
+pub mark-members-spec : {M : Type 1} → statement M
+mark-members-spec =
+    tie.close
+    (tie.spec
+    Inv-loop
+    μ-loop
+    loop-holds
+    mark-queue-at-requires
+    same-length
+    returns
+    add-index
+    loop-less
+    loop-again
+    same-length-2
+    returns-2)

@@ -1,0 +1,69 @@
+-- `mark_pending` meets its contract. The loop's invariant: the cells of the packets passed are marked.
+use mathlib.Core.List.{[], _∷_}
+use Prim.Native.Nat.{_-_}
+use native.Mathlib.Omega.{arith}
+use borrow.Author.Needs.{needs}
+use Rattle.srt_group_tables.specs.Packets.{packet-at}
+use Rattle.srt_group_state.specs.CellPassLaws.{Marking, pending-are, cell-names, marking-start, marking-on, marking-stopped, marking-done}
+use Rattle.srt_group_state.proofs.cells.mark_pending.Statement.{statement}
+use Rattle.srt_group_state.proofs.cells.mark_pending.Tie as tie
+
+abbrev Inv-loop : tie.InvT-loop
+Inv-loop flags₀ cells pending count at₀ flags at =
+    Marking cells (λ i. packet-at pending i .content .cell ∷ []) count flags₀ at flags
+
+abbrev μ-loop : tie.MeasureT-loop
+μ-loop flags₀ cells pending count at₀ flags at = count - at
+
+loop-holds : tie.Need-loop-holds Inv-loop μ-loop
+loop-holds c = marking-start _ _ _ _ (c .before .before .pre .1)
+
+cell-at-requires : tie.Need-cell-at-requires Inv-loop μ-loop
+cell-at-requires c κs = search needs
+
+mark-cell-requires : tie.Need-mark-cell-requires Inv-loop μ-loop
+mark-cell-requires c κs = c .before .before .before .loop .inv .flags
+
+same-length : tie.Need-same-length Inv-loop μ-loop
+same-length c = search needs
+
+returns : tie.Need-returns Inv-loop μ-loop
+returns c =
+    marking-stopped _ _ _ _ _ _ (c .before .before .before .before .before .before .before .loop .inv) _ _ _ _ (pending-are _ _)
+    (cell-names _ _ (c .before .before .before .before .before .cell-at .ensures .0)) (omega arith) (c .if1 .taken)
+    (c .before .before .before .mark-cell .ensures)
+
+add-at : tie.Need-add-at Inv-loop μ-loop
+add-at c = search needs
+
+loop-less : tie.Need-loop-less Inv-loop μ-loop
+loop-less c = search needs
+
+loop-again : tie.Need-loop-again Inv-loop μ-loop
+loop-again c =
+    marking-on _ _ _ _ _ _ (c .before .before .before .before .before .before .before .loop .inv) _ _ _
+    (cell-names _ _ (c .before .before .before .before .before .cell-at .ensures .0)) (omega arith) (c .if1 .left)
+    (c .before .before .before .mark-cell .ensures)
+
+same-length-2 : tie.Need-same-length-2 Inv-loop μ-loop
+same-length-2 c = search needs
+
+returns-2 : tie.Need-returns-2 Inv-loop μ-loop
+returns-2 c = marking-done _ _ _ _ _ _ (c .before .loop .inv) _ (pending-are _ _) (omega arith)
+
+pub mark-pending-spec : {M : Type 1} → statement M
+mark-pending-spec =
+    tie.close
+    (tie.spec
+    Inv-loop
+    μ-loop
+    loop-holds
+    cell-at-requires
+    mark-cell-requires
+    same-length
+    returns
+    add-at
+    loop-less
+    loop-again
+    same-length-2
+    returns-2)

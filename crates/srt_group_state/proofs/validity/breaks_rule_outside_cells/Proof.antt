@@ -1,0 +1,27 @@
+-- `breaks_rule_outside_cells` meets its contract.
+use borrow.Author.Needs.{needs}
+use Rattle.srt_group_state.specs.Outside.{outside-by-tables, outside-by-history}
+use Rattle.srt_group_state.proofs.validity.breaks_rule_outside_cells.Statement.{statement}
+use Rattle.srt_group_state.proofs.validity.breaks_rule_outside_cells.Tie as tie
+
+tables-break-rule-requires : tie.Need-tables-break-rule-requires
+tables-break-rule-requires c κs = search needs
+
+returns : tie.Need-returns
+returns c =
+    let a = c .before .before .before .before .before .before .before .args in
+    outside-by-tables (a .identity) (a .core) (a .sending) _ (a .members .now) (a .pending .now) (a .waiting .now) _
+    (c .before .tables-break-rule .ensures) (c .if1 .taken)
+
+history-breaks-rule-requires : tie.Need-history-breaks-rule-requires
+history-breaks-rule-requires c κs = search needs
+
+returns-2 : tie.Need-returns-2
+returns-2 c =
+    let a = c .before .before .before .before .before .before .before .before .args in
+    outside-by-history (a .identity) (a .core) (a .sending) _ (a .members .now) (a .pending .now) (a .waiting .now) _
+    (c .before .before .tables-break-rule .ensures) _ (c .before .if1 .left) (c .history-breaks-rule .ensures)
+
+pub breaks-rule-outside-cells-spec : {M : Type 1} → statement M
+breaks-rule-outside-cells-spec =
+    tie.close (tie.spec tables-break-rule-requires returns history-breaks-rule-requires returns-2)

@@ -1,0 +1,127 @@
+-- The pending packets as an index of one word each, with a row of eight words for each cell, and what a search for a sequence
+-- finds. The list of what the first `count` index words show is the model's list of pending packets.
+use mathlib.Core.Path.{_≡_, refl}
+use mathlib.Core.Bool.{Bool, not, _&&_}
+use mathlib.Core.List.{List, [], _∷_}
+use mathlib.Core.Option.{Option, none, some}
+use Prim.Native.Nat.{ℕ, _+_, _*_, _/_, _%_, _≤_, _<_}
+use lib.Dec.{eqb}
+use lib.ListN.{length, getD}
+use Rattle.word_rows.specs.Tab.{tab}
+use Rattle.word_rows.specs.Rows.{row-at}
+use Rattle.srt_group_model.specs.declared.Packet.{Packet}
+use Rattle.srt_group_model.specs.Tools.{if_then_else_, if-some_give_otherwise_, place-of}
+use Rattle.srt_group_model.specs.Nearest.{sequence-of, has-sequence, farther}
+use Rattle.srt_group_model.specs.Removal.{is-owned}
+use Rattle.srt_group_model.specs.Validity.{max-pending}
+use Rattle.srt_protocol.specs.Cells.{max-cells}
+use Rattle.srt_group_tables.specs.declared.pending.Found.{Found}
+use Rattle.srt_group_tables.specs.declared.pending.Found.the-variants.{At, Nothing}
+
+-- ---- sizes
+
+-- the words of the index: one for each packet that is held
+abbrev pub index-size : ℕ
+index-size = max-pending
+
+-- the words of a cell's row
+abbrev pub packet-row-size : ℕ
+packet-row-size = 8
+
+-- the words of the table: the index, and behind it a row for each cell
+abbrev pub pending-size : ℕ
+pending-size = index-size + max-cells * packet-row-size
+
+-- the index takes as many words as so many rows
+abbrev pub index-rows : ℕ
+index-rows = index-size / packet-row-size
+
+-- ---- definitions
+
+-- the packet of an index word, `sequence * max-cells + cell`, and the row of its cell; and the words of a packet's row
+unfoldable pub packet-of : ℕ → List ℕ → Packet
+packet-of word row =
+    record {
+      member = getD row 5 0;
+      owned = getD row 6 0;
+      content =
+          record {
+            sequence = word / max-cells;
+            count = getD row 0 0;
+            message = getD row 1 0;
+            timestamp = getD row 2 0;
+            source = record { 0 = getD row 3 0 };
+            cell = word % max-cells;
+            length = getD row 4 0;
+          };
+    }
+
+unfoldable pub row-words : Packet → List ℕ
+row-words p =
+    p .content .count ∷ p .content .message ∷ p .content .timestamp ∷ p .content .source .0 ∷ p .content .length
+    ∷ p .member ∷ p .owned ∷ 0 ∷ []
+
+-- the rows of the cells stand behind the index
+unfoldable pub packet-at : List ℕ → ℕ → Packet
+packet-at words i = packet-of (getD words i 0) (row-at packet-row-size words (index-rows + getD words i 0 % max-cells))
+
+-- the packets of the first `count` index words
+abbrev pub packets : ℕ → List ℕ → List Packet
+packets count words = tab count (packet-at words)
+
+-- a place among the first `count`: what is before it is below the sequence, and what is from there on is not
+pub record Placed (words : List ℕ) (count sequence place : ℕ) : Type 0 where
+  pub within : place ≤ count
+  pub below : (k : ℕ) → k < place → sequence-of (packet-at words k) < sequence
+  pub above : (k : ℕ) → place ≤ k → k < count → sequence ≤ sequence-of (packet-at words k)
+
+-- what a table of so many words holds after a call
+pub record Holds (long : ℕ) (after : List ℕ) (count : ℕ) (ps : List Packet) : Type 0 where
+  pub length-kept : length after ≡ long
+  pub is : packets count after ≡ ps
+
+-- the place of the packet with a sequence
+abbrev pub found : Option ℕ → Found
+found none = Nothing
+found (some i) = At i
+
+abbrev pub place-found : ℕ → List Packet → Found
+place-found sequence ps = found (place-of (has-sequence sequence) ps)
+
+-- the packet at the place that was found
+abbrev pub packet-found : List ℕ → Found → Option Packet
+packet-found words Nothing = none
+packet-found words (At i) = some (packet-at words i)
+
+-- a place that was found is that of an index word in use
+abbrev pub in-use : ℕ → Found → Type 0
+in-use count Nothing = Unit {0}
+in-use count (At i) = i < count
+
+-- a search that gives a packet, by its place
+pub record FoundPacket (words : List ℕ) (count : ℕ) (r : Found) (p : Option Packet) : Type 0 where
+  pub within : in-use count r
+  pub is : packet-found words r ≡ p
+
+-- a packet that the group holds itself
+abbrev pub by-group : Packet → Packet
+by-group p = record { member = p .member; owned = 1; content = p .content }
+
+-- a packet before those of which `best` is the farthest: it counts only if the group holds it itself
+unfoldable pub with-owned-packet : ℕ → Packet → Option Packet → Option Packet
+with-owned-packet base p best =
+    if is-owned p then (if-some best give (λ q. some (farther base p q)) otherwise some p) else best
+
+-- ---- sums of counts
+
+-- a packet's count if it passes a test, else 0
+unfoldable pub count-if : (Packet → Bool) → Packet → ℕ
+count-if test p = if test p then p .content .count else 0
+
+-- held for a member, and not by the group itself
+abbrev pub is-held-for : ℕ → Packet → Bool
+is-held-for id p = eqb (p .member) id && not (is-owned p)
+
+-- every count is one that a packet can have
+pub record CountsFit (count : ℕ) (words : List ℕ) : Type 0 where
+  pub fit : (k : ℕ) → k < count → packet-at words k .content .count ≤ 65535

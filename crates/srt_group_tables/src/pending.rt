@@ -1,0 +1,365 @@
+// Complete payloads waiting behind a sequence gap, in a lent table. Its first words are an index that ascends: a word is a
+// sequence times MAX_CELLS, plus a cell. Behind the index each cell has a row of eight words with the rest of its packet. The
+// first `count` index words are in use; what the others hold is free, and so is the row of a cell that none of them names.
+// A packet put in or taken out moves one word of each packet above it, and no row.
+ghost use mathlib.Core.Path.{_≡_};
+ghost use mathlib.Core.Bool.{true, false};
+ghost use Prim.Native.Nat.{_+_, _-_, _*_, _≤_, _<_};
+ghost use lib.ListN.{length};
+ghost use lib.Dec.{ltb};
+ghost use Rattle.word_rows.specs.Tab.{removed};
+ghost use Rattle.srt_protocol.specs.Sequence.{sequence-distance};
+ghost use Rattle.srt_protocol.specs.Cells.{max-cells, overwritten};
+ghost use Rattle.srt_group_model.specs.Cells.{is-among};
+ghost use Rattle.srt_group_model.specs.CellsKept.{pending-cells};
+ghost use Rattle.srt_group_model.specs.Nearest.{sequence-of, insert, is-held, nearest, not-covered, farthest};
+ghost use Rattle.srt_group_model.specs.Tools.{each, such-that, total};
+ghost use Rattle.srt_group_model.specs.Removal.{own-packet, is-owned};
+ghost use Rattle.srt_group_model.specs.Validity.{max-pending, ascends, held-count};
+ghost use Rattle.srt_group_model.specs.Legs.{largest-sequence};
+ghost use Rattle.srt_group_tables.specs.Packets.{pending-size, packet-row-size, index-rows, packet-of, row-words, packet-at, packets, Placed, Holds, place-found, packet-found, in-use, FoundPacket, with-owned-packet, count-if, is-held-for, CountsFit};
+use srt_group_model::Data;
+use srt_group_model::Packet;
+use srt_protocol::received_payload::MAX_CELLS;
+use srt_protocol::srt_packet::word_distance;
+use srt_protocol::time::Timestamp;
+
+// The most packets that are held: as many as a store has cells.
+pub const MAX_PENDING: usize = MAX_CELLS;
+
+// The words of the index.
+const INDEX_WORDS: usize = MAX_PENDING;
+
+// The words of a row.
+const ROW_WORDS: usize = 8;
+
+// The words of the table: the index, and behind it a row for each cell.
+pub const PENDING_LENGTH: usize = INDEX_WORDS + MAX_CELLS * ROW_WORDS;
+
+// The word of a row that holds the packet's member.
+const MEMBER: usize = 5;
+
+// The word of a row that is 1 if the group holds the packet itself.
+const OWNED: usize = 6;
+
+// The most cells that a store has: an index word is a sequence times this, plus a cell.
+pub const CELLS: u64 = MAX_CELLS as u64;
+
+// Half of the sequence space.
+const HALF_SPACE: u64 = 0x4000_0000;
+
+// The place of a packet, or that there is none.
+pub enum Found {
+    At(usize),
+    Nothing,
+}
+
+// Where the row of a cell starts.
+fn row_start(cell: usize) -> usize
+    requires { ⌜ cell < max-cells ⌝ }
+    ensures { λ r. ⌜ r ≡ (index-rows + cell) * packet-row-size ⌝ }
+{
+    INDEX_WORDS + cell * ROW_WORDS
+}
+
+// The packet of an index word and the row of its cell.
+fn read_packet(word: u64, row: &[u64]) -> Packet
+    requires { ⌜ length (now row) ≡ packet-row-size ⌝ }
+    ensures { λ r. ⌜ r ≡ packet-of word (now (row .entry)) ⌝ }
+{
+    Packet {
+        member: row[MEMBER],
+        owned: row[OWNED],
+        content: Data {
+            sequence: word / CELLS,
+            count: row[0],
+            message: row[1],
+            timestamp: row[2],
+            source: Timestamp(row[3]),
+            cell: word % CELLS,
+            length: row[4],
+        },
+    }
+}
+
+// All of a packet but its sequence and its cell. The last word is free.
+fn write_row(row: &mut [u64], packet: Packet)
+    requires { ⌜ length (now row) ≡ packet-row-size ⌝ }
+    ensures { λ _. ⌜ now (row .exit) ≡ row-words packet ⌝ }
+{
+    row[0] = packet.content.count;
+    row[1] = packet.content.message;
+    row[2] = packet.content.timestamp;
+    row[3] = packet.content.source.0;
+    row[4] = packet.content.length;
+    row[MEMBER] = packet.member;
+    row[OWNED] = packet.owned;
+    row[7] = 0;
+}
+
+// The sequence of the packet at a place.
+pub fn sequence_at(pending: &[u64], at: usize) -> u64
+    requires { ⌜ (pending-size ≤ length (now pending)) × (at < max-pending) ⌝ }
+    ensures { λ r. ⌜ r ≡ sequence-of (packet-at (now (pending .entry)) at) ⌝ }
+{
+    pending[at] / CELLS
+}
+
+// The cell of the packet at a place.
+pub fn cell_at(pending: &[u64], at: usize) -> usize
+    requires { ⌜ (pending-size ≤ length (now pending)) × (at < max-pending) ⌝ }
+    ensures { λ r. ⌜ (r ≡ packet-at (now (pending .entry)) at .content .cell) × (r < max-cells) ⌝ }
+{
+    (pending[at] % CELLS) as usize
+}
+
+// The packet at a place.
+pub fn packet(pending: &[u64], at: usize) -> Packet
+    requires { ⌜ (pending-size ≤ length (now pending)) × (at < max-pending) ⌝ }
+    ensures { λ r. ⌜ r ≡ packet-at (now (pending .entry)) at ⌝ }
+{
+    let start = row_start(cell_at(pending, at));
+    read_packet(pending[at], &pending[start..start + ROW_WORDS])
+}
+
+// A packet's row is written at its cell.
+fn put_row(pending: &mut [u64], packet: Packet)
+    requires { ⌜ (pending-size ≤ length (now pending)) × (packet .content .cell < max-cells) ⌝ }
+    ensures { λ _. ⌜ now (pending .exit) ≡ overwritten ((index-rows + packet .content .cell) * packet-row-size) (row-words packet) (now (pending .entry)) ⌝ }
+{
+    let start = row_start(packet.content.cell as usize);
+    write_row(&mut pending[start..start + ROW_WORDS], packet);
+}
+
+// The first place whose packet's sequence is not below `sequence`, by halving.
+fn place(pending: &[u64], count: usize, sequence: u64) -> usize
+    requires { ⌜ (pending-size ≤ length (now pending)) × (count ≤ max-pending) ⌝ }
+    requires { ⌜ ascends (packets count (now pending)) ≡ true ⌝ }
+    ensures { λ r. ⌜ Placed (now (pending .entry)) count sequence r ⌝ }
+{
+    let mut low: usize = 0;
+    let mut high: usize = count;
+    while low < high {
+        let middle = low + (high - low) / 2;
+        if sequence_at(pending, middle) < sequence {
+            low = middle + 1;
+        } else {
+            high = middle;
+        }
+    }
+    low
+}
+
+// The place of the packet with a sequence.
+pub fn find(pending: &[u64], count: usize, sequence: u64) -> Found
+    requires { ⌜ (pending-size ≤ length (now pending)) × (count ≤ max-pending) ⌝ }
+    requires { ⌜ ascends (packets count (now pending)) ≡ true ⌝ }
+    ensures { λ r. ⌜ r ≡ place-found sequence (packets count (now (pending .entry))) ⌝ }
+{
+    let at = place(pending, count, sequence);
+    if at < count {
+        if sequence_at(pending, at) == sequence {
+            return Found::At(at);
+        }
+    }
+    Found::Nothing
+}
+
+// A packet into its place in ascending order. No held packet has its cell, so no row in use is written over.
+pub fn insert(pending: &mut [u64], count: usize, packet: Packet)
+    requires { ⌜ (pending-size ≤ length (now pending)) × (count < max-pending) ⌝ }
+    requires { ⌜ ascends (packets count (now pending)) ≡ true ⌝ }
+    requires { ⌜ is-held (packet .content .sequence) (packets count (now pending)) ≡ false ⌝ }
+    requires { ⌜ (packet .content .sequence ≤ largest-sequence) × (packet .content .cell < max-cells) ⌝ }
+    requires { ⌜ is-among (packet .content .cell) (pending-cells (packets count (now pending))) ≡ false ⌝ }
+    ensures { λ _. ⌜ Holds (length (now (pending .entry))) (now (pending .exit)) (count + 1) (insert packet (packets count (now (pending .entry)))) ⌝ }
+{
+    let sequence = packet.content.sequence;
+    let at = place(pending, count, sequence);
+    word_rows::open_gap(&mut pending[0..INDEX_WORDS], at, count, 1);
+    pending[at] = sequence * CELLS + packet.content.cell;
+    put_row(pending, packet);
+}
+
+// The packet at a place is taken out.
+pub fn remove(pending: &mut [u64], count: usize, at: usize)
+    requires { ⌜ (pending-size ≤ length (now pending)) × (at < count) × (count ≤ max-pending) ⌝ }
+    ensures { λ _. ⌜ Holds (length (now (pending .entry))) (now (pending .exit)) (count - 1) (removed at (packets count (now (pending .entry)))) ⌝ }
+{
+    word_rows::close_gap(&mut pending[0..INDEX_WORDS], at, count, 1);
+}
+
+// The nearest packet in wrapping order. Pending sequences span less than half the sequence space, so either none lies half a
+// space above the lowest, and that one is nearest, or the span wraps, and the first of those above is.
+pub fn nearest(pending: &[u64], count: usize) -> Found
+    requires { ⌜ (pending-size ≤ length (now pending)) × (count ≤ max-pending) ⌝ }
+    requires { ⌜ ascends (packets count (now pending)) ≡ true ⌝ }
+    ensures { λ r. ⌜ FoundPacket (now (pending .entry)) count r (nearest (packets count (now (pending .entry)))) ⌝ }
+{
+    if count == 0 {
+        return Found::Nothing;
+    }
+    let lowest = sequence_at(pending, 0);
+    let wrapped = place(pending, count, lowest + HALF_SPACE);
+    if wrapped < count {
+        return Found::At(wrapped);
+    }
+    Found::At(0)
+}
+
+// Whether a sequence starts inside a run of so many sequences from `first` on.
+fn is_covered(first: u64, run: u64, sequence: u64) -> bool
+    ensures { λ r. ⌜ r ≡ ltb (sequence-distance first sequence) run ⌝ }
+{
+    word_distance(first, sequence) < run
+}
+
+// The packets that start inside a run are taken out, in one pass. Answers how many are left.
+pub fn remove_covered(pending: &mut [u64], count: usize, first: u64, run: u64) -> usize
+    requires { ⌜ (pending-size ≤ length (now pending)) × (count ≤ max-pending) ⌝ }
+    ensures { λ r. ⌜ (r ≤ count) × Holds (length (now (pending .entry))) (now (pending .exit)) r (not-covered first run (packets count (now (pending .entry)))) ⌝ }
+{
+    let mut kept: usize = 0;
+    let mut at: usize = 0;
+    while at < count {
+        if is_covered(first, run, sequence_at(pending, at)) {
+            at += 1;
+        } else {
+            pending[kept] = pending[at];
+            kept += 1;
+            at += 1;
+        }
+    }
+    kept
+}
+
+// Whether the packets ascend by sequence.
+pub fn is_ascending(pending: &[u64], count: usize) -> bool
+    requires { ⌜ (pending-size ≤ length (now pending)) × (count ≤ max-pending) ⌝ }
+    ensures { λ r. ⌜ r ≡ ascends (packets count (now (pending .entry))) ⌝ }
+{
+    let mut next: usize = 1;
+    while next < count {
+        let at = next - 1;
+        if sequence_at(pending, next) <= sequence_at(pending, at) {
+            return false;
+        }
+        next += 1;
+    }
+    true
+}
+
+// The packets of a member become the group's own.
+pub fn own_packets(pending: &mut [u64], count: usize, member: u64)
+    requires { ⌜ (pending-size ≤ length (now pending)) × (count ≤ max-pending) ⌝ }
+    ensures { λ _. ⌜ Holds (length (now (pending .entry))) (now (pending .exit)) count (each (own-packet member) (packets count (now (pending .entry)))) ⌝ }
+{
+    let mut at: usize = 0;
+    while at < count {
+        let start = row_start(cell_at(pending, at));
+        if pending[start + MEMBER] == member {
+            pending[start + OWNED] = 1;
+            at += 1;
+        } else {
+            at += 1;
+        }
+    }
+}
+
+// Whether the group holds the packet at a place itself.
+fn is_owned(pending: &[u64], at: usize) -> bool
+    requires { ⌜ (pending-size ≤ length (now pending)) × (at < max-pending) ⌝ }
+    ensures { λ r. ⌜ r ≡ is-owned (packet-at (now (pending .entry)) at) ⌝ }
+{
+    let start = row_start(cell_at(pending, at));
+    pending[start + OWNED] == 1
+}
+
+// The farther of the packet at a place, if the group holds it itself, and the farthest of those behind it.
+fn farther(pending: &[u64], count: usize, base: u64, at: usize, best: Found) -> Found
+    requires { ⌜ (pending-size ≤ length (now pending)) × (count ≤ max-pending) × (at < count) ⌝ }
+    requires { ⌜ in-use count best ⌝ }
+    ensures { λ r. ⌜ FoundPacket (now (pending .entry)) count r (with-owned-packet base (packet-at (now (pending .entry)) at) (packet-found (now (pending .entry)) best)) ⌝ }
+{
+    if !is_owned(pending, at) {
+        return best;
+    }
+    let Found::At(farthest) = best else {
+        return Found::At(at);
+    };
+    let here = word_distance(base, sequence_at(pending, at));
+    let there = word_distance(base, sequence_at(pending, farthest));
+    if there < here {
+        return Found::At(at);
+    }
+    best
+}
+
+// Of the packets that the group holds itself, the one farthest ahead of a base.
+pub fn farthest_owned(pending: &[u64], count: usize, base: u64) -> Found
+    requires { ⌜ (pending-size ≤ length (now pending)) × (count ≤ max-pending) ⌝ }
+    ensures { λ r. ⌜ FoundPacket (now (pending .entry)) count r (farthest base (such-that is-owned (packets count (now (pending .entry))))) ⌝ }
+{
+    let mut best = Found::Nothing;
+    let mut left = count;
+    while 0 < left {
+        let at = left - 1;
+        best = farther(pending, count, base, at, best);
+        left = at;
+    }
+    best
+}
+
+// A packet's count, if it is held for the member and not by the group itself.
+fn count_for(packet: Packet, member: u64) -> u64
+    ensures { λ r. ⌜ r ≡ count-if (is-held-for member) packet ⌝ }
+{
+    if packet.member == member {
+        if packet.owned != 1 {
+            return packet.content.count;
+        }
+    }
+    0
+}
+
+// A packet's count, if the group holds it itself.
+fn count_owned(packet: Packet) -> u64
+    ensures { λ r. ⌜ r ≡ count-if is-owned packet ⌝ }
+{
+    if packet.owned == 1 {
+        return packet.content.count;
+    }
+    0
+}
+
+// The counts of the packets that are held for a member, added up.
+pub fn reserved_packets(pending: &[u64], count: usize, member: u64) -> u64
+    requires { ⌜ (pending-size ≤ length (now pending)) × (count ≤ max-pending) ⌝ }
+    requires { ⌜ CountsFit count (now pending) ⌝ }
+    ensures { λ r. ⌜ r ≡ held-count member (packets count (now (pending .entry))) ⌝ }
+{
+    let mut sum: u64 = 0;
+    let mut left = count;
+    while 0 < left {
+        let at = left - 1;
+        sum += count_for(packet(pending, at), member);
+        left = at;
+    }
+    sum
+}
+
+// The counts of the packets that the group holds itself, added up.
+pub fn owned_packets(pending: &[u64], count: usize) -> u64
+    requires { ⌜ (pending-size ≤ length (now pending)) × (count ≤ max-pending) ⌝ }
+    requires { ⌜ CountsFit count (now pending) ⌝ }
+    ensures { λ r. ⌜ r ≡ total (λ p. p .content .count) (such-that is-owned (packets count (now (pending .entry)))) ⌝ }
+{
+    let mut sum: u64 = 0;
+    let mut left = count;
+    while 0 < left {
+        let at = left - 1;
+        sum += count_owned(packet(pending, at));
+        left = at;
+    }
+    sum
+}
