@@ -11,7 +11,8 @@ use lib.ListN.{length, take, drop, getD, length-drop, drop-of-length-le}
 use borrow.Author.Tests.{ltb-true, ltb-false, le-leb, ne-eqb, leb-false}
 use Rattle.listing.specs.Line.{well-formed, line-numbers, line-answer}
 use Rattle.listing.specs.Text.{line-text}
-use Rattle.listing.specs.Stream.{lines, has-feed, first-line, after-feed, ended, open-line, last-line, joined, lines-of-blocks}
+use Rattle.listing.specs.Stream.{has-feed, first-line, after-feed, ended, open-line, last-line}
+use Rattle.listing.specs.laws.Stream.{lines, joined, lines-of-blocks}
 use Rattle.listing.specs.Placed.{Placed, PlacedOrRefused}
 use Rattle.listing.specs.Held.{Held, HeldRead, TakenFrom, WholeRead, whole-here, well-formed-within}
 use Rattle.listing.specs.declared.Line.{Line}
@@ -27,7 +28,8 @@ use Rattle.listing.proofs.TextLaws.{line-text-at-most}
 use Rattle.listing.proofs.StreamLaws.{ended-at-feed, ended-without-feed, first-line-all, held-nothing, held-is-nothing, held-some, lines-of-blocks-are-lines}
 use Rattle.listing.proofs.WholeLaws.{both, whole-line-rest, whole-line-begins}
 use Rattle.columns.specs.Answer.{malformed-text, answer, answers}
-use Rattle.columns.specs.Advanced.{Answered, LastAnswered, Onward, Advanced, Moved, Reached}
+use Rattle.columns.specs.Advanced.{Answered, LastAnswered, Onward, Advanced, Moved}
+use Rattle.columns.specs.laws.Advanced.{Reached}
 use Rattle.columns.specs.declared.answering.Progress.{Progress}
 
 -- a text that has room is placed, whatever was answered

@@ -54,10 +54,3 @@ pub record BlockAnswered (block buffer : List ℕ) (size : ℕ) (out buffer-afte
   pub same : length buffer-after ≡ length buffer
   pub used-inside : to .used ≤ length out
   pub held : (line : List ℕ) → Held line buffer size → Held (open-line line block) buffer-after (to .size)
-
--- a part of a block is answered: a buffer holds the line that the part leaves open, and with the rest of the block it is
--- the line that the whole block leaves open
-pub record Reached (line block rest buffer : List ℕ) (size : ℕ) : Type 0 where
-  pub line-after : List ℕ
-  pub held : Held line-after buffer size
-  pub left : open-line line block ≡ open-line line-after rest

@@ -1,2 +1,4 @@
 pub mod Answer
 pub mod Advanced
+-- What is proved.
+pub mod laws

@@ -4,3 +4,5 @@ pub mod Text
 pub mod Placed
 pub mod Stream
 pub mod Held
+-- What is proved.
+pub mod laws

@@ -10,16 +10,6 @@ use lib.Dec.{eqb}
 abbrev pub is-feed : ℕ → Bool
 is-feed byte = eqb byte 10
 
--- a byte in front of the first of some lines, which is a line of its own where there is none
-unfoldable pub in-front : ℕ → List (List ℕ) → List (List ℕ)
-in-front byte [] = (byte ∷ []) ∷ []
-in-front byte (line ∷ lines) = (byte ∷ line) ∷ lines
-
--- the lines of a stream
-unfoldable pub lines : List ℕ → List (List ℕ)
-lines [] = []
-lines (byte ∷ stream) = cond (is-feed byte) ([] ∷ lines stream) (in-front byte (lines stream))
-
 -- whether a stream has a line feed
 unfoldable pub has-feed : List ℕ → Bool
 has-feed [] = false
@@ -49,13 +39,3 @@ open-line before (byte ∷ block) = cond (is-feed byte) (open-line [] block) (op
 unfoldable pub last-line : List ℕ → List (List ℕ)
 last-line [] = []
 last-line (byte ∷ line) = (byte ∷ line) ∷ []
-
--- a stream that came in blocks, put together
-unfoldable pub joined : List (List ℕ) → List ℕ
-joined [] = []
-joined (block ∷ blocks) = block ++ joined blocks
-
--- the lines of a stream that comes in blocks, after the bytes of a line that came before
-unfoldable pub lines-of-blocks : List ℕ → List (List ℕ) → List (List ℕ)
-lines-of-blocks before [] = last-line before
-lines-of-blocks before (block ∷ blocks) = ended before block ++ lines-of-blocks (open-line before block) blocks

@@ -1,4 +1,5 @@
-pub mod Tab
 pub mod Row
 pub mod Rows
 pub mod Queue
+-- What is proved.
+pub mod laws

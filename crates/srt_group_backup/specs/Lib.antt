@@ -3,3 +3,5 @@ pub mod Trimming
 pub mod Replay
 pub mod TakeOver
 pub mod OwnSend
+-- What is proved.
+pub mod laws

@@ -6,7 +6,7 @@ ghost use lib.ListN.{length};
 ghost use Rattle.srt_group_model.specs.Tools.{any, place-of};
 ghost use Rattle.srt_group_model.specs.Members.{is-standby};
 ghost use Rattle.srt_group_model.specs.Backup.{stability-timeout, is-stale, demote-stale-backup-carrier};
-ghost use Rattle.srt_group_model.specs.Ranges.{All-fit};
+ghost use Rattle.srt_group_model.specs.Sound.{All-fit};
 ghost use Rattle.srt_connection_queue.specs.Rows.{row-size};
 ghost use Rattle.srt_connection_members.specs.Members.{member-at, members-of, has-row, found-of};
 ghost use Rattle.srt_group_members.specs.Scan.{Became};

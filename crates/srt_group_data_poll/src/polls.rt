@@ -6,7 +6,7 @@ ghost use Rattle.srt_group_model.specs.Lent.{call-poll-data-bounded, written-ou
 ghost use Rattle.srt_protocol.specs.Cells.{output-size};
 ghost use Rattle.srt_group_shown.specs.Tables.{parts, tables};
 ghost use Rattle.srt_group_shown.specs.Ready.{Ready, lending, Performs};
-ghost use Rattle.srt_group_polls.specs.DataPollLaws.{option-of};
+ghost use Rattle.srt_group_polls.specs.DataPoll.{option-of};
 ghost use Rattle.srt_group_data_poll.specs.Polling.{Writable, answer-of};
 use srt_group_model::Core;
 use srt_group_model::Identity;

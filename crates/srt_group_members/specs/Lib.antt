@@ -4,3 +4,5 @@ pub mod Admission
 pub mod Alignment
 pub mod Refresh
 pub mod Turns
+-- What is proved.
+pub mod laws

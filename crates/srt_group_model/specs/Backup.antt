@@ -4,15 +4,15 @@
 use mathlib.Core.Bool.{Bool, true, false, not, _&&_, _||_}
 use mathlib.Core.List.{List, [], _∷_, _++_}
 use mathlib.Core.Option.{Option, none, some}
-use Prim.Native.Nat.{ℕ, zero, suc, _+_, _*_, max, min}
+use Prim.Native.Nat.{ℕ, _+_, _*_, max, min}
 use lib.Dec.{leb, ltb, eqb}
 use lib.ListN.{length, drop}
 use Rattle.srt_protocol.specs.Time.{elapsed}
 use Rattle.srt_protocol.specs.Sequence.{sequence-before, sequence-further}
-use Rattle.srt_group_model.specs.Tools.{if_then_else_, if-some_give_otherwise_, bit, is-set, or-else, is-empty, any, at-place, change}
-use Rattle.srt_group_model.specs.State.{Member, Send, State, next-send-sequence, backup-carrier, with-send, with-members, with-history, with-leg, turned, active-state, standby-state, unstable-state}
+use Rattle.srt_group_model.specs.Tools.{if_then_else_, if-some_give_otherwise_, bit, is-set, or-else, any, at-place, change}
+use Rattle.srt_group_model.specs.State.{Member, Send, State, next-send-sequence, backup-carrier, with-send, with-members, with-leg, turned, active-state, standby-state, unstable-state}
 use Rattle.srt_group_model.specs.Legs.{moment, has-sender, remaining-window-packets, can-send, can-send-with-pacing, time-until-send, oldest-unacked-sequence, send-shared-with-sequence, synchronize-send-sequence}
-use Rattle.srt_group_model.specs.Members.{id-of, find, in-state, is-active, is-standby, first-active, promotion, promote-backup-member, promote-if-none, align-member-sequence}
+use Rattle.srt_group_model.specs.Members.{id-of, find, in-state, is-standby, first-active, promotion, promote-backup-member, promote-if-none, align-member-sequence}
 use Rattle.srt_group_model.specs.Sending.{Sent, own-send, Flow, goes-on, ends-with, _and-then_, mark-send-failure, sequence-for-send, sequence-mismatch, with-send-number}
 use Rattle.srt_group_model.specs.declared.Leg.{Leg}
 use Rattle.srt_group_model.specs.declared.Entry.{Entry}

@@ -2,26 +2,25 @@
 -- does when none refuses. A refused call changes nothing; 22 to 29 come from a body, which leaves what it has done by then.
 use mathlib.Core.Bool.{Bool, true, false, not, _&&_, _||_}
 use mathlib.Core.List.{List, [], _∷_, _++_}
-use mathlib.Core.Option.{Option, none, some}
-use Prim.Native.Nat.{ℕ, zero, suc, _+_, _*_}
+use mathlib.Core.Option.{none, some}
+use Prim.Native.Nat.{ℕ}
 use lib.Dec.{leb, ltb, eqb}
 use lib.ListN.{length}
 use Rattle.srt_protocol.specs.Handshake.{has-group-mask}
 use Rattle.srt_protocol.specs.Cells.{cell-size, cells-of, max-cells, output-size}
-use Rattle.srt_group_model.specs.Tools.{if_then_else_, if-some_give_otherwise_, is-set, is-empty, any, first-such, at-place, change, each}
+use Rattle.srt_group_model.specs.Tools.{if_then_else_, if-some_give_otherwise_, is-set, is-empty, any, first-such, change, each}
 use Rattle.srt_group_model.specs.State.{Member, State, is-backup, next-send-sequence, with-members, with-peer, on-leg, with-queue, turned, pending-state, active-state, standby-state, broken-state}
-use Rattle.srt_group_model.specs.Legs.{Reading, reading-of, goes-back, handed, is-connected, disconnect-leg, can-send, can-send-with-pacing, has-sender, add-reservation, largest-sequence, largest-16, largest-32, largest-64}
+use Rattle.srt_group_model.specs.Legs.{reading-of, goes-back, handed, is-connected, disconnect-leg, can-send, can-send-with-pacing, has-sender, add-reservation, largest-sequence, largest-16, largest-32, largest-64}
 use Rattle.srt_group_model.specs.Members.{has-id, find, is-active, has-active-member, promote-if-none, base-after, peer-after, admit-peer-group, align-member-sequence, found}
-use Rattle.srt_group_model.specs.Run.{Mark, put, Run, start, on-members, set-base, refresh-states}
-use Rattle.srt_group_model.specs.Delivery.{Poll, max-visits}
+use Rattle.srt_group_model.specs.Run.{put, Run, start, set-base, refresh-states}
 use Rattle.srt_group_model.specs.Collecting.{has-pending-data}
-use Rattle.srt_group_model.specs.Polls.{poll-event, DataPoll, poll-data-bounded}
+use Rattle.srt_group_model.specs.Polls.{poll-event, poll-data-bounded}
 use Rattle.srt_group_model.specs.Removal.{remove-member-at, leg-given-back}
 use Rattle.srt_group_model.specs.Sending.{list-size, Flow, ends-with, above-limit, send-broadcast}
 use Rattle.srt_group_model.specs.Backup.{stability-timeout, demote-stale-backup-carrier, trim-by-carrier, send-backup, backup-send-ready, group-time-until-send}
 use Rattle.srt_group_model.specs.Cells.{free-cell}
-use Rattle.srt_group_model.specs.Validity.{above, is-invalid, leg-out-of-range, leg-sequence-too-large, data-out-of-range, max-members, max-queued}
-use Rattle.srt_group_model.specs.Guards.{Answer, no-answer, truth, number, optional, polled, data-polled, leg-back, membership, memberships, Put, Step, refuse, accept, Check, _when_, guard}
+use Rattle.srt_group_model.specs.Validity.{above, is-invalid, leg-out-of-range, leg-sequence-too-large, max-members, max-queued}
+use Rattle.srt_group_model.specs.Guards.{Answer, no-answer, truth, number, optional, polled, data-polled, leg-back, membership, memberships, Step, refuse, accept, _when_, guard}
 use Rattle.srt_group_model.specs.declared.Data.{Data}
 use Rattle.srt_group_model.specs.declared.Event.{Event}
 use Rattle.srt_group_model.specs.declared.Leg.{Leg}

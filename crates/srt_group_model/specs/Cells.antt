@@ -1,6 +1,6 @@
 -- Which cells of the store are in use, and the free cell that a call takes. Document 01, "Receiving": a cell is free as soon
 -- as no queued, held or history payload uses it, and the lowest free number is taken.
-use mathlib.Core.Bool.{Bool, true, false, not}
+use mathlib.Core.Bool.{Bool}
 use mathlib.Core.List.{List, [], _∷_, _++_}
 use mathlib.Core.Option.{Option, none, some}
 use Prim.Native.Nat.{ℕ, zero, suc}

@@ -1,6 +1,6 @@
 -- The give-up test, delivery and the skip: `gap_given_up`, `release_pending_reservation`, `advance_member_receive_prefix`,
 -- `skip_given_up_gap`; document 01, "Delivery moves the base past the whole run" and "Skip".
-use mathlib.Core.Bool.{Bool, true, false, not, _||_}
+use mathlib.Core.Bool.{Bool, false, not, _||_}
 use mathlib.Core.List.{List, [], _∷_}
 use Prim.Native.Nat.{ℕ, _+_, _-_, min}
 use lib.Dec.{leb, eqb}

@@ -1,10 +1,10 @@
 -- What a call leaves, and how its codes come: the first test that is true refuses the call, in the order of the list, and
 -- nothing changes. Document 01, "Codes from the input".
-use mathlib.Core.Bool.{Bool, true, false}
-use mathlib.Core.List.{List, [], _∷_, _++_}
-use mathlib.Core.Option.{Option, none, some}
+use mathlib.Core.Bool.{Bool}
+use mathlib.Core.List.{List, [], _∷_}
+use mathlib.Core.Option.{Option, none}
 use Prim.Native.Nat.{ℕ}
-use Rattle.srt_group_model.specs.Tools.{if_then_else_, if-some_give_otherwise_}
+use Rattle.srt_group_model.specs.Tools.{if_then_else_}
 use Rattle.srt_group_model.specs.State.{State}
 use Rattle.srt_group_model.specs.Run.{Mark}
 use Rattle.srt_group_model.specs.Delivery.{Polled}

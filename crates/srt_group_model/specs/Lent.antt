@@ -1,15 +1,14 @@
 -- The calls with what they are lent: the store, the output and the list of sends. Document 01, "Receiving" and "The stand-in
 -- leg": a payload is put into its cell and its other bytes stay; a delivered payload is written from byte 12 of the output,
 -- the rest stays; the sends fill the list's first rows, the others stay.
-use mathlib.Core.Bool.{Bool}
-use mathlib.Core.List.{List, [], _∷_, _++_}
+use mathlib.Core.List.{List, [], _∷_}
 use mathlib.Core.Option.{Option, none, some}
 use Prim.Native.Nat.{ℕ, _*_}
 use lib.ListN.{length}
 use Rattle.srt_protocol.specs.Cells.{cell-size, head-size, overwritten, cell-bytes}
 use Rattle.srt_group_model.specs.State.{State}
 use Rattle.srt_group_model.specs.Run.{Mark}
-use Rattle.srt_group_model.specs.Delivery.{Polled, nothing, event, packet, max-visits}
+use Rattle.srt_group_model.specs.Delivery.{nothing, event, packet, max-visits}
 use Rattle.srt_group_model.specs.Sending.{Sent}
 use Rattle.srt_group_model.specs.Guards.{Answer, no-answer, truth, number, optional, polled, data-polled, leg-back, membership, memberships, Put, Step}
 use Rattle.srt_group_model.specs.Calls.{add-member, mark-member-broken, remove-member-connection, member, refresh-member-states, disconnect, poll-event-call, poll-data-call, send, can-send-call, can-send-with-pacing-call, time-until-send, backup-stability-timeout-micros, group-id, members-call, mode, peer-group-id, skipped-receive-packets, has-pending-data-call, has-receive-continuation, read-leg, queue-data, queue-event}

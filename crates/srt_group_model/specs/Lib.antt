@@ -16,50 +16,11 @@ pub mod Validity
 pub mod Guards
 pub mod Calls
 pub mod Lent
--- What they compute: the replay listing, listings with the Rust's answers, P1 to P9.
+-- The replay listing.
 pub mod Listing
-pub mod Computed
-pub mod Examples
-pub mod Cases
-pub mod Misreadings
--- Laws that a reader would ask for.
-pub mod Reason
-pub mod FlagLaws
-pub mod CircleLaws
-pub mod Arrivals
-pub mod Refusals
-pub mod Moves
-pub mod Frame
-pub mod Walk
-pub mod BaseLaws
-pub mod CellLaws
-pub mod Queues
-pub mod BrokenLaws
-pub mod HonestLog
-pub mod Places
-pub mod NearestLaw
--- A call keeps validity, rule by rule; Valid has the whole.
-pub mod Ascending
-pub mod Steps
-pub mod CellsKept
-pub mod CellsCalls
-pub mod Fixed
-pub mod CellsMoved
-pub mod Unique
-pub mod Sums
-pub mod SumsRemoval
-pub mod SumsKept
-pub mod Ranges
-pub mod RangesKept
-pub mod Acknowledging
-pub mod RangesCalls
-pub mod Counts
-pub mod Rounds
-pub mod CallLaw
-pub mod Waits
-pub mod EveryCall
-pub mod MemberMoves
-pub mod Valid
+-- Words of the inner functions' contracts.
 pub mod Sound
 -- What a poll gives lies in the store.
 pub mod Given
+-- What is proved.
+pub mod laws

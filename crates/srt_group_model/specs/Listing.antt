@@ -1,9 +1,8 @@
 -- The replay listing over the definitions: document 01, "The replay listing". A line is its eight numbers; what it prints is
 -- six. The lent store has 40 cells; its bytes are not needed, since no column shows a payload.
-use mathlib.Core.Bool.{Bool, true, false, not, _&&_, _||_}
-use mathlib.Core.List.{List, [], _∷_, _++_}
+use mathlib.Core.List.{List, [], _∷_}
 use mathlib.Core.Option.{Option, none, some}
-use Prim.Native.Nat.{ℕ, zero, suc, _+_, _*_}
+use Prim.Native.Nat.{ℕ, zero, suc, _*_}
 use lib.Dec.{eqb}
 use lib.ListN.{getD}
 use Rattle.srt_protocol.specs.Cells.{cell-size, output-size}

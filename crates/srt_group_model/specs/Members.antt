@@ -1,15 +1,14 @@
 -- The members of a group: which are active, who is promoted, admission to the peer group, alignment of send sequences, and
 -- the refresh of the members' states. From `promote_backup_member`, `admit_peer_group`, `align_member_sequence`,
 -- `requalify_unstable_members`, `refresh_pending_states`, `refresh_states`; document 01, "Members and sending".
-use mathlib.Core.Bool.{Bool, true, false, not, _&&_, _||_}
-use mathlib.Core.List.{List, [], _∷_, _++_}
+use mathlib.Core.Bool.{Bool, not, _&&_, _||_}
+use mathlib.Core.List.{List, [], _∷_}
 use mathlib.Core.Option.{Option, none, some}
-use Prim.Native.Nat.{ℕ, zero, suc, _+_}
-use lib.Dec.{leb, ltb, eqb}
+use Prim.Native.Nat.{ℕ, zero, suc}
+use lib.Dec.{ltb, eqb}
 use lib.ListN.{length}
-use Rattle.srt_group_model.specs.Tools.{if_then_else_, if-some_give_otherwise_, or-else, any, all, first-such, place-of, at-place, change, each, flagged, first-given}
-use Rattle.srt_group_model.specs.State.{Member, is-backup, with-leg, on-membership, with-admitted, with-collision, turned}
-use Rattle.srt_group_model.specs.State.{pending-state, active-state, standby-state, unstable-state, broken-state}
+use Rattle.srt_group_model.specs.Tools.{if_then_else_, if-some_give_otherwise_, or-else, any, first-such, place-of, at-place, change, each, flagged, first-given}
+use Rattle.srt_group_model.specs.State.{Member, is-backup, with-leg, on-membership, with-admitted, with-collision, turned, pending-state, active-state, standby-state, unstable-state, broken-state}
 use Rattle.srt_group_model.specs.Legs.{is-connected, is-disconnected, can-send, has-sender, next-sequence-number, peer-initial-sequence, synchronize-send-sequence}
 use Rattle.srt_group_model.specs.declared.Leg.{Leg}
 

@@ -1,6 +1,6 @@
 -- The pending packets and their circular order: which is held, which is nearest, what a run covers, which is farthest.
 -- Document 01, "Nearest held packet", "Receiving" and "Removal".
-use mathlib.Core.Bool.{Bool, true, false, not, _&&_, _||_}
+use mathlib.Core.Bool.{Bool, not}
 use mathlib.Core.List.{List, [], _∷_}
 use mathlib.Core.Option.{Option, none, some}
 use Prim.Native.Nat.{ℕ, _+_}

@@ -1,10 +1,10 @@
 -- The polls: `poll_event`, `poll_data_bounded`.
-use mathlib.Core.Bool.{Bool, true, false, not, _||_}
+use mathlib.Core.Bool.{Bool, true, false, not}
 use mathlib.Core.Option.{Option, none, some}
 use Prim.Native.Nat.{ℕ, zero, suc, min}
 use lib.Dec.{eqb}
 use Rattle.srt_group_model.specs.Tools.{if_then_else_, if-some_give_otherwise_, is-set, is-empty}
-use Rattle.srt_group_model.specs.State.{State, next-receive-sequence, with-continuation}
+use Rattle.srt_group_model.specs.State.{next-receive-sequence, with-continuation}
 use Rattle.srt_group_model.specs.Nearest.{sequence-of, nearest}
 use Rattle.srt_group_model.specs.Run.{Run, set-base, refresh-pending-states, refresh-states}
 use Rattle.srt_group_model.specs.Collecting.{collect-until-held, has-pending-data}

@@ -1,11 +1,10 @@
 -- Removing a member: `remove_member_connection` and `bound_group_owned_pending`; document 01, "Removal".
-use mathlib.Core.Bool.{Bool, true, false, not, _&&_, _||_}
+use mathlib.Core.Bool.{Bool, not}
 use mathlib.Core.List.{List, [], _∷_}
-use mathlib.Core.Option.{Option, none, some}
 use Prim.Native.Nat.{ℕ, zero, suc, _+_, _-_, min, max}
-use lib.Dec.{leb, ltb, eqb}
+use lib.Dec.{leb, eqb}
 use lib.ListN.{length}
-use Rattle.srt_group_model.specs.Tools.{if_then_else_, if-some_give_otherwise_, or-else, such-that, each, without-place}
+use Rattle.srt_group_model.specs.Tools.{if_then_else_, if-some_give_otherwise_, such-that, each, without-place}
 use Rattle.srt_group_model.specs.State.{Member, State, next-receive-sequence, with-receive, with-owned, with-members, with-pending, with-round}
 use Rattle.srt_group_model.specs.Legs.{with-reservation}
 use Rattle.srt_group_model.specs.Members.{id-of}

@@ -1,10 +1,9 @@
 -- Sending: what a send attempts on a leg, and Broadcast. From `sequence_for_send`, `mark_send_failure`, `send_broadcast`;
 -- document 01, "The stand-in leg" and the codes 23 to 26.
-use mathlib.Core.Bool.{Bool, true, false, not, _&&_, _||_}
-use mathlib.Core.List.{List, [], _∷_, _++_}
-use mathlib.Core.Option.{Option, none, some}
-use Prim.Native.Nat.{ℕ, zero, suc, _+_, _*_}
-use lib.Dec.{leb, ltb, eqb}
+use mathlib.Core.Bool.{Bool, true, false, not, _&&_}
+use mathlib.Core.List.{List, [], _++_}
+use Prim.Native.Nat.{ℕ, _*_}
+use lib.Dec.{ltb, eqb}
 use Rattle.srt_protocol.specs.Sequence.{sequence-further}
 use Rattle.srt_group_model.specs.Tools.{if_then_else_, if-some_give_otherwise_, is-empty, any, such-that, at-place, each}
 use Rattle.srt_group_model.specs.State.{Member, Send, State, next-send-sequence, with-send, with-members, with-leg, turned, unstable-state, broken-state}

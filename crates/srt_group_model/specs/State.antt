@@ -1,8 +1,8 @@
 -- The state of a group, as lists and small records of the types in src/lib.rt, and the functions that change one part of
 -- it. Document 01's lent state: the group record, the members with their legs, the held packets, the waiting events.
-use mathlib.Core.Bool.{Bool, true, false}
-use mathlib.Core.List.{List, [], _∷_}
-use mathlib.Core.Option.{Option, none, some}
+use mathlib.Core.Bool.{Bool}
+use mathlib.Core.List.{List}
+use mathlib.Core.Option.{Option}
 use Prim.Native.Nat.{ℕ}
 use Rattle.srt_group_model.specs.Tools.{is-set, bit, flagged}
 use Rattle.srt_group_model.specs.declared.Event.{Event}
@@ -46,13 +46,6 @@ pub record State : Type 0 where
   pub waiting : List Waiting
 
 -- ---- what is read from it
-
--- the mode's number: 0 Broadcast, 1 Backup
-abbrev pub broadcast-mode : ℕ
-broadcast-mode = 0
-
-abbrev pub backup-mode : ℕ
-backup-mode = 1
 
 abbrev pub is-backup : ℕ → Bool
 is-backup = is-set
@@ -179,9 +172,6 @@ with-continuation b s = with-visit record { continuation = bit b; round = s .vis
 
 abbrev pub with-round : ℕ → State → State
 with-round n s = with-visit record { continuation = s .visit .continuation; round = n } s
-
-abbrev pub with-history : List Entry → Send → Send
-with-history h x = record { numbers = x .numbers; history = h }
 
 -- ---- a member and its parts
 

@@ -1,9 +1,8 @@
 -- A choice by a test, a flag of the record, a case on an option, and searches in a list.
-use mathlib.Core.Path.{_≡_, refl, sym, ap, subst, _∙_}
-use mathlib.Core.Bool.{Bool, true, false, not, _&&_, _||_}
-use mathlib.Core.List.{List, [], _∷_, _++_}
+use mathlib.Core.Bool.{Bool, true, false, _&&_, _||_}
+use mathlib.Core.List.{List, [], _∷_}
 use mathlib.Core.Option.{Option, none, some}
-use Prim.Native.Nat.{ℕ, zero, suc, _+_, _≤_, _<_}
+use Prim.Native.Nat.{ℕ, zero, suc, _+_}
 
 -- ---- a choice
 
@@ -97,3 +96,10 @@ module _ {A : Type 0} where
   unfoldable pub total : (A → ℕ) → List A → ℕ
   total f [] = 0
   total f (x ∷ xs) = f x + total f xs
+
+-- ---- a fact of each element of a list
+
+module _ {A : Type 0} where
+  abbrev pub All : (A → Type 0) → List A → Type 0
+  All P [] = Unit {0}
+  All P (x ∷ xs) = P x × All P xs

@@ -1,8 +1,8 @@
 -- When a lent state is refused with 6, rule by rule: document 01, "the lent state breaks a rule". Each test is true of a state
 -- that breaks its rule; the last two are "a field above its range", in the record and in a row of a lent table.
 use mathlib.Core.Bool.{Bool, true, false, not, _&&_, _||_}
-use mathlib.Core.List.{List, [], _∷_, _++_}
-use Prim.Native.Nat.{ℕ, zero, suc, _+_}
+use mathlib.Core.List.{List, [], _∷_}
+use Prim.Native.Nat.{ℕ, _+_}
 use lib.Dec.{leb, ltb, eqb}
 use lib.ListN.{length}
 use Rattle.srt_protocol.specs.Handshake.{has-group-mask}
@@ -18,7 +18,6 @@ use Rattle.srt_group_model.specs.declared.Data.{Data}
 use Rattle.srt_group_model.specs.declared.Event.{Event}
 use Rattle.srt_group_model.specs.declared.Packet.{Packet}
 use Rattle.srt_group_model.specs.declared.Leg.{Leg}
-use Rattle.srt_group_model.specs.declared.Entry.{Entry}
 
 abbrev pub above : ℕ → ℕ → Bool
 above limit n = ltb limit n

@@ -1,5 +1,6 @@
-pub mod RefreshLaws
-pub mod SkipLaws
-pub mod EventPollLaws
-pub mod DataPollLaws
-pub mod PollsUsed
+pub mod Refresh
+pub mod Skip
+pub mod EventPoll
+pub mod DataPoll
+-- What is proved.
+pub mod laws

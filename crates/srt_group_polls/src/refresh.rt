@@ -6,7 +6,7 @@ ghost use lib.ListN.{length};
 ghost use Rattle.srt_group_model.specs.Run.{admit-connected-peer-groups, refresh-pending-states, refresh-states};
 ghost use Rattle.srt_connection_queue.specs.Rows.{row-size};
 ghost use Rattle.srt_group_receiving.specs.Leaves.{every, sends};
-ghost use Rattle.srt_group_polls.specs.RefreshLaws.{Refreshes};
+ghost use Rattle.srt_group_polls.specs.Refresh.{Refreshes};
 use srt_group_members::admission;
 use srt_group_members::refresh;
 use srt_group_model::Core;

@@ -1,24 +1,20 @@
 -- What a step of a poll does to the record's numbers and the lent tables: the state that they show afterwards is the definition's,
 -- over every rest of the state, since receiving reads none of it.
-use mathlib.Core.Path.{_≡_, ap, sym}
+use mathlib.Core.Path.{_≡_}
 use mathlib.Core.List.{List, []}
 use Prim.Native.Nat.{ℕ, _≤_}
-use native.Mathlib.Omega.{arith}
 use lib.ListN.{length}
 use Rattle.srt_group_model.specs.declared.Core.{Core}
 use Rattle.srt_group_model.specs.declared.Entry.{Entry}
 use Rattle.srt_group_model.specs.declared.Sending.{Sending}
-use Rattle.srt_group_model.specs.Tools.{each}
-use Rattle.srt_group_model.specs.State.{Member, State, with-members}
+use Rattle.srt_group_model.specs.State.{State}
 use Rattle.srt_group_model.specs.Run.{Mark, Run}
-use Rattle.srt_group_model.specs.CellsKept.{occurs}
-use Rattle.srt_group_model.specs.RangesKept.{Sending-fit}
 use Rattle.srt_group_model.specs.Sound.{Sound}
 use Rattle.srt_group_model.specs.Validity.{max-waiting, max-members}
-use Rattle.srt_connection_members.specs.Members.{members-size, members-of}
+use Rattle.srt_connection_members.specs.Members.{members-size}
 use Rattle.srt_group_tables.specs.Packets.{pending-size}
 use Rattle.srt_group_tables.specs.Waitings.{waiting-size}
-use Rattle.srt_group_shown.specs.Shown.{Rest, rest, shown}
+use Rattle.srt_group_shown.specs.Shown.{Rest, rest}
 use Rattle.srt_group_shown.specs.Tables.{ReceiveTables, shown-by}
 
 -- ---- a rest of the state, where one must be named
@@ -39,35 +35,6 @@ every others = Unit {0}
 
 abbrev pub sends : Sending → Rest → Type 0
 sends sending others = others .send .numbers ≡ sending
-
--- what is sound stays so with no history, and with other numbers of sending that are in range
-pub sound-with : (core : Core) (others : Rest) (t : ReceiveTables) (sending : Sending) → Sending-fit sending → Sound (shown-by core others t)
-    → Sound (shown-by core (remembering sending []) t)
-unfolding each occurs
-sound-with core others t sending fits h =
-    record {
-      ascending = h .ascending;
-      cells = λ n. omega (arith, h .cells n);
-      fit =
-          record {
-            members = h .fit .members;
-            pending = h .fit .pending;
-            history = tt;
-            remembered = omega arith;
-            waiting = h .fit .waiting;
-            receiving = h .fit .receiving;
-            sending = fits;
-            continuation = h .fit .continuation;
-            peer = h .fit .peer;
-          };
-      sums = record { unique = h .sums .unique; members = h .sums .members; placed = h .sums .placed; own = h .sums .own };
-      round = h .round;
-    }
-
-pub sound-blank : (core : Core) (others : Rest) (t : ReceiveTables) → Sound (shown-by core others t) → Sound (shown-by core blank t)
-sound-blank core others t =
-    sound-with core others t nothing-sent
-    record { numbered = omega arith; next = omega arith; carried = omega arith; carrier = omega arith; gap = omega arith }
 
 -- ---- what a step may rely on
 
@@ -97,11 +64,3 @@ under-way core others t log budget = record { state = shown-by core others t; lo
 pub record At (r : Run) (core : Core) (others : Rest) (t : ReceiveTables) (left : ℕ) : Type 0 where
   pub state : r .state ≡ shown-by core others t
   pub budget : r .budget ≡ left
-
--- ---- laws
-
--- the members of a state that is shown are those of the table
-pub members-shown : (core : Core) (others : Rest) (ms ms′ ps ws : List ℕ) (l : List Member)
-    → members-of (core .counts .members) ms′ ≡ l → with-members l (shown core others ms ps ws) ≡ shown core others ms′ ps ws
-members-shown core others ms ms′ ps ws l is =
-    ap (λ (x : List Member). with-members x (shown core others ms ps ws)) (sym is)

@@ -1,9 +1,9 @@
 pub mod Leaves
-pub mod CollectLaws
-pub mod TurnLaws
-pub mod VisitLaws
-pub mod GatherLaws
-pub mod DeliveryLaws
-pub mod PollLaws
+pub mod Collect
+pub mod Visit
+pub mod Gather
+pub mod Delivery
+pub mod Poll
 pub mod Follows
-pub mod UsedLaws
+-- What is proved.
+pub mod laws

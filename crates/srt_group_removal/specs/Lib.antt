@@ -1,2 +1,4 @@
-pub mod RetireLaws
-pub mod RemovalLaws
+pub mod Retire
+pub mod Removal
+-- What is proved.
+pub mod laws

@@ -1,7 +1,7 @@
 // A member is taken out, and its leg given back.
 ghost use mathlib.Core.Path.{_≡_};
 ghost use Prim.Native.Nat.{_-_, min};
-ghost use Rattle.srt_group_removal.specs.RemovalLaws.{Removable, TakesOut, Removes};
+ghost use Rattle.srt_group_removal.specs.Removal.{Removable, TakesOut, Removes};
 use crate::retirement::bound_group_owned_pending;
 use crate::retirement::retirement_base;
 use srt_group_members::removal::largest_window;

@@ -5,7 +5,7 @@ ghost use Prim.Native.Nat.{ℕ, _-_, _<_};
 ghost use Rattle.srt_group_model.specs.Removal.{bound-group-owned-pending, retirement-base};
 ghost use Rattle.srt_group_tables.specs.Packets.{packet-at};
 ghost use Rattle.srt_group_shown.specs.Shown.{Rest, shown};
-ghost use Rattle.srt_group_removal.specs.RetireLaws.{Held, Retires, Retired};
+ghost use Rattle.srt_group_removal.specs.Retire.{Held, Retires, Retired};
 use srt_connection::legs::less;
 use srt_group_model::Core;
 use srt_group_tables::pending;

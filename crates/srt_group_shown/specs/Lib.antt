@@ -1,3 +1,5 @@
 pub mod Shown
 pub mod Tables
 pub mod Ready
+-- What is proved.
+pub mod laws

@@ -11,7 +11,7 @@ use lib.ListN.{length, getD}
 use Rattle.srt_group_model.specs.Tools.{if_then_else_, any}
 use Rattle.srt_group_model.specs.Cells.{is-data, queued-cells, is-among, lowest-free}
 use Rattle.srt_group_model.specs.Validity.{one-twice}
-use Rattle.srt_group_model.specs.CellsKept.{occurs, room, pending-cells}
+use Rattle.srt_group_model.specs.Sound.{occurs, room, pending-cells}
 use Rattle.srt_group_model.specs.Backup.{max-history}
 use Rattle.srt_protocol.specs.Cells.{max-cells}
 use Rattle.srt_group_model.specs.declared.Counts.{Counts}

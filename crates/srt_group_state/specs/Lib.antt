@@ -1,8 +1,8 @@
 pub mod CellPass
-pub mod CellPassLaws
 pub mod Ids
 pub mod Outside
 pub mod Rules
 pub mod Sums
 pub mod Tested
-pub mod Walks
+-- What is proved.
+pub mod laws

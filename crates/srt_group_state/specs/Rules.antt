@@ -1,15 +1,10 @@
 -- Document 01's rules of a valid state, row by row of the lent tables: the tests that stand inside the model's `any`, named.
-use mathlib.Core.Path.{_≡_, ap, ap₂, _∙_}
-use mathlib.Core.Bool.{Bool, false, _&&_, _||_}
+use mathlib.Core.Bool.{Bool, _&&_, _||_}
 use mathlib.Core.List.{List}
-use Prim.Native.Nat.{ℕ, _^_, _<_}
-use native.Mathlib.Omega.{arith}
-use borrow.Author.Tests.{le-ltb}
 use lib.Dec.{eqb}
 use lib.ListN.{length}
 use Rattle.srt_protocol.specs.Cells.{cell-size}
 use Rattle.srt_group_model.specs.Tools.{if_then_else_, any}
-use Rattle.srt_group_model.specs.Reason.{or-assoc}
 use Rattle.srt_group_model.specs.State.{Member}
 use Rattle.srt_group_model.specs.Backup.{max-history}
 use Rattle.srt_group_model.specs.Legs.{largest-16, largest-32, largest-64}
@@ -73,17 +68,3 @@ entry-breaks-rule e = is-too-large (e .sequence) || entry-out-of-range e
 
 unfoldable pub history-breaks-rule : List Entry → Bool
 history-breaks-rule es = above max-history (length es) || any entry-breaks-rule es
-
--- ---- laws
-
--- a member's three parts, as they are read and tested
-pub member-tested : (m : Member) (x : Membership) (l : Leg) (a b q : Bool) → x ≡ m .membership → a ≡ membership-out-of-range x
-    → l ≡ m .leg → b ≡ leg-breaks-rule l → q ≡ queue-breaks-rule (m .queue) → ((a || b) || q) ≡ member-breaks-rule m
-unfolding member-breaks-rule
-member-tested m x l a b q x-is a-is l-is b-is q-is =
-    or-assoc a b q ∙ ap₂ _||_ (a-is ∙ ap membership-out-of-range x-is) (ap₂ _||_ (b-is ∙ ap leg-breaks-rule l-is) q-is)
-
--- ---- a word is never above 64 bits
-
-pub no-word-above : (n : ℕ) → n < 2 ^ 64 → above largest-64 n ≡ false
-no-word-above n below = le-ltb largest-64 n (omega arith)

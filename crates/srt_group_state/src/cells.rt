@@ -7,7 +7,7 @@ ghost use Prim.Native.Nat.{_*_, _≤_, _<_};
 ghost use lib.ListN.{length};
 ghost use Rattle.srt_group_model.specs.Tools.{at-place};
 ghost use Rattle.srt_group_model.specs.Cells.{queue-cells, queued-cells};
-ghost use Rattle.srt_group_model.specs.CellsKept.{pending-cells};
+ghost use Rattle.srt_group_model.specs.Sound.{pending-cells};
 ghost use Rattle.srt_group_model.specs.Backup.{max-history};
 ghost use Rattle.srt_group_model.specs.Validity.{max-pending};
 ghost use Rattle.srt_protocol.specs.Cells.{max-cells};

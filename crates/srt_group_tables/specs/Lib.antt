@@ -1,5 +1,5 @@
 pub mod Ring
 pub mod Packets
-pub mod PacketIndex
-pub mod PacketLaws
 pub mod Waitings
+-- What is proved.
+pub mod laws

@@ -1,6 +1,6 @@
 -- The pending packets as an index of one word each, with a row of eight words for each cell, and what a search for a sequence
 -- finds. The list of what the first `count` index words show is the model's list of pending packets.
-use mathlib.Core.Path.{_≡_, refl}
+use mathlib.Core.Path.{_≡_}
 use mathlib.Core.Bool.{Bool, not, _&&_}
 use mathlib.Core.List.{List, [], _∷_}
 use mathlib.Core.Option.{Option, none, some}
@@ -102,10 +102,6 @@ in-use count (At i) = i < count
 pub record FoundPacket (words : List ℕ) (count : ℕ) (r : Found) (p : Option Packet) : Type 0 where
   pub within : in-use count r
   pub is : packet-found words r ≡ p
-
--- a packet that the group holds itself
-abbrev pub by-group : Packet → Packet
-by-group p = record { member = p .member; owned = 1; content = p .content }
 
 -- a packet before those of which `best` is the farthest: it counts only if the group holds it itself
 unfoldable pub with-owned-packet : ℕ → Packet → Option Packet → Option Packet

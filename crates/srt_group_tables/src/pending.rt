@@ -11,7 +11,7 @@ ghost use Rattle.word_rows.specs.Tab.{removed};
 ghost use Rattle.srt_protocol.specs.Sequence.{sequence-distance};
 ghost use Rattle.srt_protocol.specs.Cells.{max-cells, overwritten};
 ghost use Rattle.srt_group_model.specs.Cells.{is-among};
-ghost use Rattle.srt_group_model.specs.CellsKept.{pending-cells};
+ghost use Rattle.srt_group_model.specs.Sound.{pending-cells};
 ghost use Rattle.srt_group_model.specs.Nearest.{sequence-of, insert, is-held, nearest, not-covered, farthest};
 ghost use Rattle.srt_group_model.specs.Tools.{each, such-that, total};
 ghost use Rattle.srt_group_model.specs.Removal.{own-packet, is-owned};

@@ -5,15 +5,13 @@ use mathlib.Core.Bool.{Bool, true, false, _&&_}
 use mathlib.Core.List.{List, [], _∷_, _++_}
 use Prim.Native.Nat.{ℕ, _+_}
 use lib.Dec.{eqb}
-use lib.ListN.{length, take, drop}
+use lib.ListN.{take, drop}
 use Rattle.srt_protocol.specs.Cells.{head-size}
 use Rattle.srt_group_model.specs.Tools.{if_then_else_, if-some_give_otherwise_}
 use Rattle.srt_group_model.specs.State.{State}
 use Rattle.srt_group_model.specs.Run.{Mark}
-use Rattle.srt_group_model.specs.Guards.{Step}
 use Rattle.srt_group_model.specs.Calls.{new}
-use Rattle.srt_group_model.specs.Lent.{Lent, Result, Call, call-add-member, call-mark-member-broken, call-remove-member-connection, call-refresh-member-states, call-disconnect, call-poll-event, call-poll-data-bounded, call-send, call-can-send, call-can-send-with-pacing, call-look, call-read-leg, call-queue-data, call-queue-event}
-use Rattle.srt_group_model.specs.Lent.{delivered-by, step-of, perform}
+use Rattle.srt_group_model.specs.Lent.{Lent, Result, Call, call-add-member, call-mark-member-broken, call-remove-member-connection, call-refresh-member-states, call-disconnect, call-poll-event, call-poll-data-bounded, call-send, call-can-send, call-can-send-with-pacing, call-look, call-read-leg, call-queue-data, call-queue-event, delivered-by, perform}
 use Rattle.srt_group_model.specs.declared.Packet.{Packet}
 
 -- ---- one call
@@ -26,11 +24,6 @@ pub record Asked : Type 0 where
 -- what it does
 unfoldable pub do-call : Asked → State → Result
 do-call asked s = perform (asked .call) (asked .lent) s
-
--- the same without the bytes
-abbrev pub step : Asked → State → Step
-step asked s =
-    step-of (length (asked .lent .store)) (length (asked .lent .output)) (length (asked .lent .list)) (asked .call) s
 
 -- the calls that are lent a store: queueing data, the polls and sends
 unfoldable pub takes-store : Call → Bool

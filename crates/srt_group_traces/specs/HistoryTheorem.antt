@@ -2,18 +2,13 @@
 -- the last one left and nobody else writing it. A planner compares each field with the customer's sentence above it. What the
 -- words mean: Calls (a call, what it is lent, what it delivers) and Statement (all else: the first value of the base, schedule,
 -- place, clerk, the premises, a right skip, gateways).
-use mathlib.Core.Path.{_≡_, sym, ap, _∙_}
+use mathlib.Core.Path.{_≡_}
 use mathlib.Core.Logic.{_⊎_}
-use mathlib.Core.List.{List, []}
-use mathlib.Core.Option.{Option, some}
+use mathlib.Core.List.{List}
+use mathlib.Core.Option.{some}
 use Prim.Native.Nat.{ℕ, _<_}
 use Rattle.srt_group_model.specs.Legs.{largest-64}
 use Rattle.srt_group_traces.specs.Statement.{first-base, BaseClaim, Consecutive, told-by, clerk, Fair, SkipsRight, Prefix, Gateway, stands-at, delivers}
-use Rattle.srt_group_traces.specs.Base.{base-claim}
-use Rattle.srt_group_traces.specs.Skips.{skips-claim}
-use Rattle.srt_group_traces.specs.ClerkClaim.{clerk-as-queued}
-use Rattle.srt_group_traces.specs.Bytes.{delivered-is-as-queued, new-alive}
-use Rattle.srt_group_traces.specs.Gateways.{gateways-claim}
 use Rattle.srt_group_traces.specs.Calls.{Asked, Making, made, state-after, log-after, skipped-in, Delivery, deliveries}
 
 pub record HistoryTheorem : Type 0 where
@@ -40,16 +35,3 @@ pub record HistoryTheorem : Type 0 where
   pub gateways : (schedule : List Delivery) (first : ℕ) → Consecutive first schedule → (a b : Gateway schedule first)
       → stands-at schedule first a ≡ stands-at schedule first b
       → Prefix (delivers schedule first a) (delivers schedule first b) ⊎ Prefix (delivers schedule first b) (delivers schedule first a)
-
-pub history-theorem : HistoryTheorem
-history-theorem =
-    record {
-      base = base-claim;
-      schedule =
-          λ schedule first runs g calls fair.
-          clerk-as-queued schedule first runs g calls (fair .from) (fair .below)
-          ∙ ap {B = Option (List Delivery)} some
-          (sym (delivered-is-as-queued calls (made g) (fair .store) [] (new-alive g (fair .store)) (fair .one-store)));
-      skips = λ g calls. skips-claim calls (made g);
-      gateways = gateways-claim;
-    }

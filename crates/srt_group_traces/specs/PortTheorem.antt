@@ -10,7 +10,7 @@ use Rattle.srt_protocol.specs.Sequence.{half, sequence-distance}
 use Rattle.srt_group_model.specs.Legs.{largest-64}
 use Rattle.srt_group_model.specs.State.{next-receive-sequence}
 use Rattle.srt_group_traces.specs.Statement.{Consecutive, clerk, Fair, Prefix}
-use Rattle.srt_group_traces.specs.Port.{Taken, all-shown, calls-of, Performed, shown-deliveries, shown-told, last-shown, first-shown, SkipsShown, Port, port-place, port-delivers, port-base, port-has-clerks-list, port-skips, ports-agree}
+use Rattle.srt_group_traces.specs.Port.{Taken, all-shown, calls-of, Performed, shown-deliveries, shown-told, last-shown, first-shown, SkipsShown, Port, port-place, port-delivers}
 use Rattle.srt_group_traces.specs.Calls.{Making, made, counts-of, skipped-in, Delivery}
 
 pub record PortTheorem : Type 0 where
@@ -33,6 +33,3 @@ pub record PortTheorem : Type 0 where
       → port-place schedule first a ≡ port-place schedule first b
       → Prefix (port-delivers schedule first a) (port-delivers schedule first b)
       ⊎ Prefix (port-delivers schedule first b) (port-delivers schedule first a)
-
-pub port-theorem : PortTheorem
-port-theorem = record { base = port-base; schedule = port-has-clerks-list; skips = port-skips; ports = ports-agree }

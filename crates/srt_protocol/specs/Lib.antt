@@ -4,4 +4,5 @@ pub mod Errors
 pub mod Circle
 pub mod Sequence
 pub mod Cells
-pub mod CellLaws
+-- What is proved.
+pub mod laws

@@ -1,7 +1,7 @@
 -- The circle of 31-bit sequence numbers (draft-sharabayko-srt; document 01, "Order"). Its laws are those of Circle.antt at
 -- this half.
 use mathlib.Core.Bool.{Bool}
-use Prim.Native.Nat.{ℕ, _+_, _^_}
+use Prim.Native.Nat.{ℕ, _^_}
 use Rattle.srt_protocol.specs.Circle.{distance, before, further}
 
 -- half of the sequence space; the space is half + half = 2^31

@@ -5,7 +5,7 @@ ghost use mathlib.Core.Bool.{true, false};
 ghost use Prim.Native.Nat.{_+_, _-_, _*_, _≤_, _<_};
 ghost use lib.ListN.{length};
 ghost use Rattle.srt_group_model.specs.Cells.{is-among};
-ghost use Rattle.srt_group_model.specs.CellsKept.{pending-cells};
+ghost use Rattle.srt_group_model.specs.Sound.{pending-cells};
 ghost use Rattle.srt_group_model.specs.Nearest.{is-held};
 ghost use Rattle.srt_group_model.specs.Validity.{max-pending, ascends};
 ghost use Rattle.srt_group_model.specs.Legs.{largest-sequence};

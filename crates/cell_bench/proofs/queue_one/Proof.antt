@@ -1,5 +1,5 @@
 -- `queue_one` calls `queue_data` on the record that `made` gives.
-use Rattle.cell_bench.specs.Made.{made-ready}
+use Rattle.cell_bench.specs.laws.Made.{made-ready}
 use borrow.Author.Needs.{needs}
 use Rattle.cell_bench.proofs.queue_one.Statement.{statement}
 use Rattle.cell_bench.proofs.queue_one.Tie as tie

@@ -2,7 +2,8 @@
 use Prim.Native.Nat.{_-_, _≤_}
 use native.Mathlib.Omega.{arith}
 use borrow.Author.Needs.{needs}
-use Rattle.cell_set.specs.Sets.{Passed, full-passed}
+use Rattle.cell_set.specs.Sets.{Passed}
+use Rattle.cell_set.specs.laws.Sets.{full-passed}
 use Rattle.cell_set.proofs.first_word.Statement.{statement}
 use Rattle.cell_set.proofs.first_word.Tie as tie
 use Rattle.cell_set.specs.Bits.{set-size}

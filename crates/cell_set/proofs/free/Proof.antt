@@ -1,6 +1,6 @@
 -- `free` meets its contract: the laws `cell-freed` and `nothing-freed`.
 use borrow.Author.Needs.{needs}
-use Rattle.cell_set.specs.Sets.{cell-freed, nothing-freed}
+use Rattle.cell_set.specs.laws.Sets.{cell-freed, nothing-freed}
 use Rattle.cell_set.proofs.free.Statement.{statement}
 use Rattle.cell_set.proofs.free.Tie as tie
 

@@ -1,7 +1,7 @@
 -- `lowest_free` meets its contract: the laws of the first word that is not full.
 use native.Mathlib.Omega.{arith}
 use borrow.Author.Needs.{needs}
-use Rattle.cell_set.specs.Sets.{none-free, ones-inside, found-in-word, beyond-store}
+use Rattle.cell_set.specs.laws.Sets.{none-free, ones-inside, found-in-word, beyond-store}
 use Rattle.cell_set.proofs.lowest_free.Statement.{statement}
 use Rattle.cell_set.proofs.lowest_free.Tie as tie
 

@@ -1,5 +1,5 @@
 -- `mark` meets its contract: the laws `beyond-refused`, `again-refused` and `cell-marked`.
-use Rattle.cell_set.specs.Marks.{beyond-refused, again-refused, cell-marked}
+use Rattle.cell_set.specs.laws.Marks.{beyond-refused, again-refused, cell-marked}
 use borrow.Author.Needs.{needs}
 use Rattle.cell_set.proofs.mark.Statement.{statement}
 use Rattle.cell_set.proofs.mark.Tie as tie

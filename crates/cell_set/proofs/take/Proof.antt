@@ -1,5 +1,5 @@
 -- `take` meets its contract: the law `cell-taken`.
-use Rattle.cell_set.specs.Sets.{cell-taken}
+use Rattle.cell_set.specs.laws.Sets.{cell-taken}
 use borrow.Author.Needs.{needs}
 use Rattle.cell_set.proofs.take.Statement.{statement}
 use Rattle.cell_set.proofs.take.Tie as tie

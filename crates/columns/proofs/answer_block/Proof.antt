@@ -7,7 +7,7 @@ use mathlib.Core.List.{List}
 use denote.Ref.{now}
 use lib.ListN.{length, drop}
 use Rattle.listing.specs.Held.{Held}
-use Rattle.columns.specs.Advanced.{Reached}
+use Rattle.columns.specs.laws.Advanced.{Reached}
 use Rattle.columns.proofs.AnswerLaws.{reached-start, reached-further, reached-end}
 use Rattle.columns.proofs.answer_block.Statement.{statement}
 use Rattle.columns.proofs.answer_block.Tie as tie

@@ -4,7 +4,8 @@ use borrow.Author.Needs.{needs}
 use Rattle.srt_group_model.specs.declared.Receiver.{Receiver}
 use Rattle.srt_group_model.specs.Legs.{advance-receive-sequence}
 use Rattle.srt_group_model.specs.State.{on-leg}
-use Rattle.srt_connection_members.specs.Members.{member-at, changed-by}
+use Rattle.srt_connection_members.specs.Members.{member-at}
+use Rattle.srt_connection_members.specs.laws.Members.{changed-by}
 use Rattle.srt_connection_queue.specs.Rows.{with-receiver}
 use Rattle.srt_connection_members.proofs.advance_receive_sequence_at.Statement.{statement}
 use Rattle.srt_connection_members.proofs.advance_receive_sequence_at.Tie as tie

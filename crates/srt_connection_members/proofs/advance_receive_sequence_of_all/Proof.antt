@@ -5,7 +5,7 @@ use native.Mathlib.Omega.{arith}
 use borrow.Author.Needs.{needs}
 use Rattle.srt_group_model.specs.Legs.{advance-receive-sequence}
 use Rattle.srt_group_model.specs.State.{on-leg}
-use Rattle.srt_connection_members.specs.Members.{Changing, changing-start, changing-on, changing-done}
+use Rattle.srt_connection_members.specs.laws.Members.{Changing, changing-start, changing-on, changing-done}
 use Rattle.srt_connection_members.proofs.advance_receive_sequence_of_all.Statement.{statement}
 use Rattle.srt_connection_members.proofs.advance_receive_sequence_of_all.Tie as tie
 

@@ -1,6 +1,7 @@
 -- `append_member` meets its contract: the law `appended-row`.
 use borrow.Author.Needs.{needs}
-use Rattle.srt_connection_members.specs.Members.{new-member, appended-row}
+use Rattle.srt_connection_members.specs.Members.{new-member}
+use Rattle.srt_connection_members.specs.laws.Members.{appended-row}
 use Rattle.srt_connection_members.proofs.append_member.Statement.{statement}
 use Rattle.srt_connection_members.proofs.append_member.Tie as tie
 

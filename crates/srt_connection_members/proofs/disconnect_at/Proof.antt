@@ -2,7 +2,7 @@
 use mathlib.Core.Path.{ap, _∙_}
 use borrow.Author.Needs.{needs}
 use Rattle.srt_group_model.specs.Legs.{disconnect-leg}
-use Rattle.srt_connection_members.specs.Members.{leg-changed}
+use Rattle.srt_connection_members.specs.laws.Members.{leg-changed}
 use Rattle.srt_connection_members.proofs.disconnect_at.Statement.{statement}
 use Rattle.srt_connection_members.proofs.disconnect_at.Tie as tie
 

@@ -6,7 +6,7 @@ use borrow.Author.Count.{below-more}
 use borrow.Author.Needs.{needs}
 use lib.ListN.{getD}
 use Rattle.srt_connection_queue.specs.Rows.{row-size}
-use Rattle.srt_connection_members.specs.Members.{found, not-found}
+use Rattle.srt_connection_members.specs.laws.Members.{found, not-found}
 use Rattle.srt_connection_members.proofs.find.Statement.{statement}
 use Rattle.srt_connection_members.proofs.find.Tie as tie
 

@@ -4,7 +4,7 @@ use borrow.Author.Needs.{needs}
 use Rattle.srt_group_model.specs.Tools.{at-place}
 use Rattle.srt_group_model.specs.State.{Member}
 use Rattle.srt_connection_queue.specs.Queue.{optional-event}
-use Rattle.srt_connection_members.specs.Members.{lent-member}
+use Rattle.srt_connection_members.specs.laws.Members.{lent-member}
 use Rattle.srt_connection_members.proofs.front_at.Statement.{statement}
 use Rattle.srt_connection_members.proofs.front_at.Tie as tie
 

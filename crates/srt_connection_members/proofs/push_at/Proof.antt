@@ -1,6 +1,6 @@
 -- `push_at` meets its contract: the row that is lent and comes back is changed, and no other.
 use borrow.Author.Needs.{needs}
-use Rattle.srt_connection_members.specs.Members.{lent-member, pushed-row}
+use Rattle.srt_connection_members.specs.laws.Members.{lent-member, pushed-row}
 use Rattle.srt_connection_members.proofs.push_at.Statement.{statement}
 use Rattle.srt_connection_members.proofs.push_at.Tie as tie
 

@@ -1,7 +1,7 @@
 -- `put_leg_at` meets its contract: the row that is lent and comes back is changed, and no other.
 use borrow.Author.Needs.{needs}
 use Rattle.srt_group_model.specs.State.{with-leg}
-use Rattle.srt_connection_members.specs.Members.{lent-member, changed-row}
+use Rattle.srt_connection_members.specs.laws.Members.{lent-member, changed-row}
 use Rattle.srt_connection_members.proofs.put_leg_at.Statement.{statement}
 use Rattle.srt_connection_members.proofs.put_leg_at.Tie as tie
 

@@ -1,6 +1,6 @@
 -- `put_new_member` meets its contract: the law `new-put`.
 use borrow.Author.Needs.{needs}
-use Rattle.srt_connection_members.specs.Members.{new-put}
+use Rattle.srt_connection_members.specs.laws.Members.{new-put}
 use Rattle.srt_connection_members.proofs.put_new_member.Statement.{statement}
 use Rattle.srt_connection_members.proofs.put_new_member.Tie as tie
 

@@ -2,7 +2,7 @@
 use mathlib.Core.Path.{ap, _∙_}
 use borrow.Author.Needs.{needs}
 use Rattle.srt_group_model.specs.Legs.{release-data-reservation}
-use Rattle.srt_connection_members.specs.Members.{leg-changed}
+use Rattle.srt_connection_members.specs.laws.Members.{leg-changed}
 use Rattle.srt_connection_members.proofs.release_data_reservation_at.Statement.{statement}
 use Rattle.srt_connection_members.proofs.release_data_reservation_at.Tie as tie
 

@@ -4,7 +4,7 @@ use Prim.Native.Nat.{_≤_, _-_, _*_}
 use native.Mathlib.Omega.{arith}
 use borrow.Author.Needs.{needs}
 use Rattle.srt_connection_queue.specs.Rows.{row-size}
-use Rattle.srt_connection_members.specs.Members.{Moved, moved-start, moved-on, removed}
+use Rattle.srt_connection_members.specs.laws.Members.{Moved, moved-start, moved-on, removed}
 use Rattle.srt_connection_members.proofs.remove_member.Statement.{statement}
 use Rattle.srt_connection_members.proofs.remove_member.Tie as tie
 

@@ -1,5 +1,5 @@
 -- `sent` keeps to the ring.
-use Rattle.table_bench.specs.Made.{pushed-fits}
+use Rattle.table_bench.specs.laws.Made.{pushed-fits}
 use borrow.Author.Needs.{needs}
 use Rattle.table_bench.proofs.sent.Statement.{statement}
 use Rattle.table_bench.proofs.sent.Tie as tie

@@ -1,5 +1,5 @@
 -- `table_cells` may mark: its flags are fresh.
-use Rattle.srt_group_state.specs.CellPassLaws.{no-marks}
+use Rattle.srt_group_state.specs.laws.CellPassLaws.{no-marks}
 use borrow.Author.Needs.{needs}
 use Rattle.table_bench.proofs.table_cells.Statement.{statement}
 use Rattle.table_bench.proofs.table_cells.Tie as tie

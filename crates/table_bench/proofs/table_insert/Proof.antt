@@ -1,7 +1,7 @@
 -- `table_insert` may call `insert`.
 use borrow.Author.Needs.{needs}
 use denote.Ref.{now}
-use Rattle.table_bench.specs.Made.{insertable-made}
+use Rattle.table_bench.specs.laws.Made.{insertable-made}
 use Rattle.table_bench.proofs.table_insert.Statement.{statement}
 use Rattle.table_bench.proofs.table_insert.Tie as tie
 

@@ -4,7 +4,7 @@ use borrow.Author.Tests.{eq-eqb, ne-eqb, le-leb, lt-leb, not-true, not-false}
 use borrow.Author.Needs.{needs}
 use Rattle.srt_group_model.specs.Tools.{if_then_else_}
 use Rattle.srt_group_model.specs.Legs.{can-send, send-shared-with-sequence}
-use Rattle.srt_connection.specs.Answers.{window-left}
+use Rattle.srt_connection.specs.laws.Answers.{window-left}
 use Rattle.srt_connection.proofs.legs.send_shared_with_sequence.Statement.{statement}
 use Rattle.srt_connection.proofs.legs.send_shared_with_sequence.Tie as tie
 

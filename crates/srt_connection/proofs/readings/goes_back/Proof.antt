@@ -2,7 +2,8 @@
 use borrow.Author.Tests.{ne-eqb}
 use borrow.Author.Needs.{needs}
 use Rattle.srt_group_model.specs.Legs.{goes-back}
-use Rattle.srt_connection.specs.Readings.{acknowledges, or-false}
+use Rattle.srt_connection.specs.Readings.{acknowledges}
+use Rattle.srt_connection.specs.laws.Readings.{or-false}
 use Rattle.srt_connection.proofs.readings.goes_back.Statement.{statement}
 use Rattle.srt_connection.proofs.readings.goes_back.Tie as tie
 

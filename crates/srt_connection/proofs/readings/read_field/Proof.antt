@@ -2,7 +2,7 @@
 use borrow.Author.Needs.{needs}
 use Rattle.srt_group_model.specs.Legs.{readings, reading-of}
 use Rattle.srt_group_model.specs.Tools.{if-some_give_otherwise_, at-place}
-use Rattle.srt_connection.specs.Readings.{unknown-field}
+use Rattle.srt_connection.specs.laws.Readings.{unknown-field}
 use Rattle.srt_group_model.specs.Calls.{read-field}
 use Rattle.srt_connection.proofs.readings.read_field.Statement.{statement}
 use Rattle.srt_connection.proofs.readings.read_field.Tie as tie

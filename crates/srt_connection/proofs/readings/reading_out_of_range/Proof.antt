@@ -5,7 +5,7 @@ use native.Mathlib.Omega.{arith}
 use borrow.Author.Tests.{le-ltb}
 use Rattle.srt_group_model.specs.Legs.{readings, reading-of, largest-64}
 use Rattle.srt_group_model.specs.Tools.{if-some_give_otherwise_, at-place}
-use Rattle.srt_connection.specs.Readings.{unknown-field}
+use Rattle.srt_connection.specs.laws.Readings.{unknown-field}
 use Rattle.srt_group_model.specs.Calls.{reading-out-of-range}
 use Rattle.srt_connection.proofs.readings.reading_out_of_range.Statement.{statement}
 use Rattle.srt_connection.proofs.readings.reading_out_of_range.Tie as tie

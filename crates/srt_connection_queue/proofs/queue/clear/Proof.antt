@@ -1,6 +1,6 @@
 -- `clear` meets its contract: the law `cleared-is`.
 use borrow.Author.Needs.{needs}
-use Rattle.srt_connection_queue.specs.Queue.{cleared-is}
+use Rattle.srt_connection_queue.specs.laws.Queue.{cleared-is}
 use Rattle.srt_connection_queue.proofs.queue.clear.Statement.{statement}
 use Rattle.srt_connection_queue.proofs.queue.clear.Tie as tie
 

@@ -1,7 +1,8 @@
 -- `front` meets its contract: the laws `front-none` and `front-is`.
 use mathlib.Core.Path.{sym, ap}
 use borrow.Author.Needs.{needs}
-use Rattle.srt_connection_queue.specs.Queue.{optional-event, front-none, front-is}
+use Rattle.srt_connection_queue.specs.Queue.{optional-event}
+use Rattle.srt_connection_queue.specs.laws.Queue.{front-none, front-is}
 use Rattle.srt_connection_queue.proofs.queue.front.Statement.{statement}
 use Rattle.srt_connection_queue.proofs.queue.front.Tie as tie
 

@@ -2,7 +2,7 @@
 use mathlib.Core.Path.{sym, _∙_}
 use native.Mathlib.Omega.{arith}
 use borrow.Author.Needs.{needs}
-use Rattle.srt_connection_queue.specs.Queue.{poll-empty, poll-spent, poll-given}
+use Rattle.srt_connection_queue.specs.laws.Queue.{poll-empty, poll-spent, poll-given}
 use Rattle.srt_connection_queue.proofs.queue.poll_event_for_group.Statement.{statement}
 use Rattle.srt_connection_queue.proofs.queue.poll_event_for_group.Tie as tie
 

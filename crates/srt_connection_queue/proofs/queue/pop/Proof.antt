@@ -1,6 +1,6 @@
 -- `pop` meets its contract: the laws `popped-empty` and `popped-is`.
 use borrow.Author.Needs.{needs}
-use Rattle.srt_connection_queue.specs.Queue.{popped-empty, popped-is}
+use Rattle.srt_connection_queue.specs.laws.Queue.{popped-empty, popped-is}
 use Rattle.srt_connection_queue.proofs.queue.pop.Statement.{statement}
 use Rattle.srt_connection_queue.proofs.queue.pop.Tie as tie
 

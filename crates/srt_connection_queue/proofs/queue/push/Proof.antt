@@ -1,7 +1,7 @@
 -- `push` meets its contract: the laws `push-refused` and `push-accepted`.
 use native.Mathlib.Omega.{arith}
 use borrow.Author.Needs.{needs}
-use Rattle.srt_connection_queue.specs.Queue.{push-refused, push-accepted}
+use Rattle.srt_connection_queue.specs.laws.Queue.{push-refused, push-accepted}
 use Rattle.srt_connection_queue.proofs.queue.push.Statement.{statement}
 use Rattle.srt_connection_queue.proofs.queue.push.Tie as tie
 

@@ -1,6 +1,6 @@
 -- `queue_is_empty` meets its contract.
 use borrow.Author.Needs.{needs}
-use Rattle.srt_connection_queue.specs.Queue.{empty-is}
+use Rattle.srt_connection_queue.specs.laws.Queue.{empty-is}
 use Rattle.srt_connection_queue.proofs.queue.queue_is_empty.Statement.{statement}
 use Rattle.srt_connection_queue.proofs.queue.queue_is_empty.Tie as tie
 

@@ -1,6 +1,6 @@
 -- `queue_length` meets its contract.
 use borrow.Author.Needs.{needs}
-use Rattle.srt_connection_queue.specs.Queue.{length-is}
+use Rattle.srt_connection_queue.specs.laws.Queue.{length-is}
 use Rattle.srt_connection_queue.proofs.queue.queue_length.Statement.{statement}
 use Rattle.srt_connection_queue.proofs.queue.queue_length.Tie as tie
 

@@ -2,7 +2,7 @@
 use mathlib.Core.Path.{ap, _∙_}
 use borrow.Author.Needs.{needs}
 use Rattle.srt_connection_queue.specs.Rows.{part-size, event-of}
-use Rattle.word_rows.specs.Rows.{row-part}
+use Rattle.word_rows.specs.laws.Rows.{row-part}
 use Rattle.srt_connection_queue.proofs.rows.event_part.Statement.{statement}
 use Rattle.srt_connection_queue.proofs.rows.event_part.Tie as tie
 

@@ -1,6 +1,6 @@
 -- `leg` meets its contract: the law `leg-read`.
 use borrow.Author.Needs.{needs}
-use Rattle.srt_connection_queue.specs.Rows.{leg-read}
+use Rattle.srt_connection_queue.specs.laws.Rows.{leg-read}
 use Rattle.srt_connection_queue.proofs.rows.leg.Statement.{statement}
 use Rattle.srt_connection_queue.proofs.rows.leg.Tie as tie
 

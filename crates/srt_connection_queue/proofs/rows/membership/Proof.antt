@@ -1,8 +1,9 @@
 -- `membership` meets its contract: the part that is lent is the membership's.
 use mathlib.Core.Path.{ap, _∙_}
 use borrow.Author.Needs.{needs}
-use Rattle.srt_connection_queue.specs.Rows.{part-size, membership-part, membership-of, membership-read}
-use Rattle.word_rows.specs.Rows.{row-part}
+use Rattle.srt_connection_queue.specs.Rows.{part-size, membership-part, membership-of}
+use Rattle.srt_connection_queue.specs.laws.Rows.{membership-read}
+use Rattle.word_rows.specs.laws.Rows.{row-part}
 use Rattle.srt_connection_queue.proofs.rows.membership.Statement.{statement}
 use Rattle.srt_connection_queue.proofs.rows.membership.Tie as tie
 

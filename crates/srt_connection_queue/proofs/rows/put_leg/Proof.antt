@@ -1,6 +1,6 @@
 -- `put_leg` meets its contract: the law `leg-put`.
 use borrow.Author.Needs.{needs}
-use Rattle.srt_connection_queue.specs.Rows.{leg-put}
+use Rattle.srt_connection_queue.specs.laws.Rows.{leg-put}
 use Rattle.srt_connection_queue.proofs.rows.put_leg.Statement.{statement}
 use Rattle.srt_connection_queue.proofs.rows.put_leg.Tie as tie
 

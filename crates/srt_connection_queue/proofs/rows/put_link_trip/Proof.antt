@@ -1,6 +1,6 @@
 -- `put_link_trip` meets its contract: the law `link-trip-put`.
 use borrow.Author.Needs.{needs}
-use Rattle.srt_connection_queue.specs.Rows.{link-trip-put}
+use Rattle.srt_connection_queue.specs.laws.Rows.{link-trip-put}
 use Rattle.srt_connection_queue.proofs.rows.put_link_trip.Statement.{statement}
 use Rattle.srt_connection_queue.proofs.rows.put_link_trip.Tie as tie
 

@@ -1,6 +1,6 @@
 -- `put_membership` meets its contract: the law `membership-put`.
 use borrow.Author.Needs.{needs}
-use Rattle.srt_connection_queue.specs.Rows.{membership-put}
+use Rattle.srt_connection_queue.specs.laws.Rows.{membership-put}
 use Rattle.srt_connection_queue.proofs.rows.put_membership.Statement.{statement}
 use Rattle.srt_connection_queue.proofs.rows.put_membership.Tie as tie
 

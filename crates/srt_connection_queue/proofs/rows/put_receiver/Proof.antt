@@ -1,6 +1,6 @@
 -- `put_receiver` meets its contract: the law `receiver-put`.
 use borrow.Author.Needs.{needs}
-use Rattle.srt_connection_queue.specs.Rows.{receiver-put}
+use Rattle.srt_connection_queue.specs.laws.Rows.{receiver-put}
 use Rattle.word_rows.specs.Rows.{row-at}
 use Rattle.srt_connection_queue.proofs.rows.put_receiver.Statement.{statement}
 use Rattle.srt_connection_queue.proofs.rows.put_receiver.Tie as tie

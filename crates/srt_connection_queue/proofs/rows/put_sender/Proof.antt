@@ -1,6 +1,6 @@
 -- `put_sender` meets its contract: the law `sender-put`.
 use borrow.Author.Needs.{needs}
-use Rattle.srt_connection_queue.specs.Rows.{sender-put}
+use Rattle.srt_connection_queue.specs.laws.Rows.{sender-put}
 use Rattle.srt_connection_queue.proofs.rows.put_sender.Statement.{statement}
 use Rattle.srt_connection_queue.proofs.rows.put_sender.Tie as tie
 

@@ -1,8 +1,9 @@
 -- `receiver` meets its contract: the part that is lent is the receiver's.
 use mathlib.Core.Path.{ap, _∙_}
 use borrow.Author.Needs.{needs}
-use Rattle.srt_connection_queue.specs.Rows.{part-size, receiver-part, receiver-of, receiver-read}
-use Rattle.word_rows.specs.Rows.{row-part}
+use Rattle.srt_connection_queue.specs.Rows.{part-size, receiver-part, receiver-of}
+use Rattle.srt_connection_queue.specs.laws.Rows.{receiver-read}
+use Rattle.word_rows.specs.laws.Rows.{row-part}
 use Rattle.srt_connection_queue.proofs.rows.receiver.Statement.{statement}
 use Rattle.srt_connection_queue.proofs.rows.receiver.Tie as tie
 

@@ -1,8 +1,9 @@
 -- `sender` meets its contract: the part that is lent is the sender's.
 use mathlib.Core.Path.{ap, _∙_}
 use borrow.Author.Needs.{needs}
-use Rattle.srt_connection_queue.specs.Rows.{part-size, sender-part, sender-of, sender-read}
-use Rattle.word_rows.specs.Rows.{row-part}
+use Rattle.srt_connection_queue.specs.Rows.{part-size, sender-part, sender-of}
+use Rattle.srt_connection_queue.specs.laws.Rows.{sender-read}
+use Rattle.word_rows.specs.laws.Rows.{row-part}
 use Rattle.srt_connection_queue.proofs.rows.sender.Statement.{statement}
 use Rattle.srt_connection_queue.proofs.rows.sender.Tie as tie
 

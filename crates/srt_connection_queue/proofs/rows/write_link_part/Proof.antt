@@ -2,7 +2,8 @@
 use native.Mathlib.Omega.{arith}
 use borrow.Author.Needs.{needs}
 use lib.ListN.{length-set}
-use Rattle.srt_connection_queue.specs.Rows.{link-part-words, nine}
+use Rattle.srt_connection_queue.specs.Rows.{link-part-words}
+use Rattle.srt_connection_queue.specs.laws.Rows.{nine}
 use Rattle.srt_connection_queue.proofs.rows.write_link_part.Statement.{statement}
 use Rattle.srt_connection_queue.proofs.rows.write_link_part.Tie as tie
 

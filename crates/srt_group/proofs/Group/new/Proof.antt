@@ -1,5 +1,5 @@
 -- `Group::new` meets its contract.
-use Rattle.srt_group.specs.Made.{shows-new}
+use Rattle.srt_group.specs.laws.Made.{shows-new}
 use Rattle.srt_group.proofs.Group.new.Statement.{statement}
 use Rattle.srt_group.proofs.Group.new.Tie as tie
 

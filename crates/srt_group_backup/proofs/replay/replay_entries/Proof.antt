@@ -3,7 +3,7 @@
 use Prim.Native.Nat.{_≤_, _-_}
 use native.Mathlib.Omega.{arith}
 use Rattle.srt_group_tables.specs.Ring.{entries-of, arrays}
-use Rattle.srt_group_backup.specs.Replay.{Replaying, replaying-start, replaying-on, replay-stopped, replay-done}
+use Rattle.srt_group_backup.specs.laws.Replay.{Replaying, replaying-start, replaying-on, replay-stopped, replay-done}
 use borrow.Author.Needs.{needs}
 use Rattle.srt_group_backup.proofs.replay.replay_entries.Statement.{statement}
 use Rattle.srt_group_backup.proofs.replay.replay_entries.Tie as tie

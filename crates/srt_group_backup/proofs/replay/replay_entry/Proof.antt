@@ -1,5 +1,5 @@
 -- `replay_entry` meets its contract.
-use Rattle.srt_group_backup.specs.Replay.{entry-failed, entry-sent}
+use Rattle.srt_group_backup.specs.laws.Replay.{entry-failed, entry-sent}
 use borrow.Author.Needs.{needs}
 use Rattle.srt_group_backup.proofs.replay.replay_entry.Statement.{statement}
 use Rattle.srt_group_backup.proofs.replay.replay_entry.Tie as tie

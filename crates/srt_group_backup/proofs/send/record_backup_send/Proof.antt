@@ -3,8 +3,8 @@ use Prim.Native.Nat.{_≤_}
 use Rattle.srt_group_model.specs.Backup.{max-history}
 use mathlib.Core.Path.{sym, subst}
 use Rattle.srt_group_tables.specs.declared.history.HistoryRing.{HistoryRing}
-use Rattle.srt_group_tables.specs.Ring.{push-fits}
-use Rattle.srt_group_backup.specs.OwnSend.{send-recorded}
+use Rattle.srt_group_tables.specs.laws.Ring.{push-fits}
+use Rattle.srt_group_backup.specs.laws.OwnSend.{send-recorded}
 use borrow.Author.Needs.{needs}
 use Rattle.srt_group_backup.proofs.send.record_backup_send.Statement.{statement}
 use Rattle.srt_group_backup.proofs.send.record_backup_send.Tie as tie

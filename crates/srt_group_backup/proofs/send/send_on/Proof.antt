@@ -1,5 +1,5 @@
 -- `send_on` meets its contract.
-use Rattle.srt_group_backup.specs.OwnSend.{own-not-sent, own-sent}
+use Rattle.srt_group_backup.specs.laws.OwnSend.{own-not-sent, own-sent}
 use borrow.Author.Needs.{needs}
 use Rattle.srt_group_backup.proofs.send.send_on.Statement.{statement}
 use Rattle.srt_group_backup.proofs.send.send_on.Tie as tie

@@ -3,8 +3,8 @@ use mathlib.Core.Path.{sym, _∙_}
 use native.Mathlib.Omega.{arith}
 use borrow.Author.Tests.{not-true, not-false}
 use Rattle.srt_group_model.specs.Members.{is-active}
-use Rattle.srt_group_members.specs.Scan.{found-row}
-use Rattle.srt_group_backup.specs.Stale.{trip-fits, none-active-none-demoted, no-standby-none-demoted, not-stale-none-demoted, stale-demoted}
+use Rattle.srt_group_members.specs.laws.Scan.{found-row}
+use Rattle.srt_group_backup.specs.laws.Stale.{trip-fits, none-active-none-demoted, no-standby-none-demoted, not-stale-none-demoted, stale-demoted}
 use borrow.Author.Needs.{needs}
 use Rattle.srt_group_backup.proofs.stale.demote_stale_backup_carrier.Statement.{statement}
 use Rattle.srt_group_backup.proofs.stale.demote_stale_backup_carrier.Tie as tie

@@ -1,7 +1,7 @@
 -- `first_standby` meets its contract. The loop's invariant: no member that was passed is a connected Standby.
 use Prim.Native.Nat.{_≤_, _-_}
 use Rattle.srt_group_model.specs.Members.{is-standby}
-use Rattle.srt_group_members.specs.Scan.{Passed, passed-start, passed-on, found-first, found-nowhere}
+use Rattle.srt_group_members.specs.laws.Scan.{Passed, passed-start, passed-on, found-first, found-nowhere}
 use borrow.Author.Needs.{needs}
 use native.Mathlib.Omega.{arith}
 use Rattle.srt_group_backup.proofs.stale.first_standby.Statement.{statement}

@@ -1,7 +1,7 @@
 -- `has_standby` meets its contract: one is there if one is found.
 use mathlib.Core.Path.{sym, _∙_}
 use Rattle.srt_group_model.specs.Members.{is-standby}
-use Rattle.srt_group_members.specs.Scan.{any-at, any-nowhere}
+use Rattle.srt_group_members.specs.laws.Scan.{any-at, any-nowhere}
 use borrow.Author.Needs.{needs}
 use Rattle.srt_group_backup.proofs.stale.has_standby.Statement.{statement}
 use Rattle.srt_group_backup.proofs.stale.has_standby.Tie as tie

@@ -1,6 +1,6 @@
 -- `is_stale` meets its contract: a leg with no sender, or with nothing in flight, is not; else silence decides.
 use borrow.Author.Tests.{not-true, not-false}
-use Rattle.srt_group_backup.specs.Stale.{no-sender-not-stale, no-flight-not-stale, stale-by-silence}
+use Rattle.srt_group_backup.specs.laws.Stale.{no-sender-not-stale, no-flight-not-stale, stale-by-silence}
 use borrow.Author.Needs.{needs}
 use Rattle.srt_group_backup.proofs.stale.is_stale.Statement.{statement}
 use Rattle.srt_group_backup.proofs.stale.is_stale.Tie as tie

@@ -1,6 +1,6 @@
 -- `align_carrier` meets its contract.
 use borrow.Author.Tests.{not-true, not-false}
-use Rattle.srt_group_backup.specs.TakeOver.{not-numbered-not-aligned, carrier-not-aligned, carrier-aligned}
+use Rattle.srt_group_backup.specs.laws.TakeOver.{not-numbered-not-aligned, carrier-not-aligned, carrier-aligned}
 use borrow.Author.Needs.{needs}
 use Rattle.srt_group_backup.proofs.takeover.align_carrier.Statement.{statement}
 use Rattle.srt_group_backup.proofs.takeover.align_carrier.Tie as tie

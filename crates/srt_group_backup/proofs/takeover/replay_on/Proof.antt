@@ -1,5 +1,5 @@
 -- `replay_on` meets its contract.
-use Rattle.srt_group_backup.specs.TakeOver.{no-room-to-replay, replayed-with-room}
+use Rattle.srt_group_backup.specs.laws.TakeOver.{no-room-to-replay, replayed-with-room}
 use borrow.Author.Needs.{needs}
 use Rattle.srt_group_tables.specs.Ring.{arrays}
 use Rattle.srt_group_backup.proofs.takeover.replay_on.Statement.{statement}

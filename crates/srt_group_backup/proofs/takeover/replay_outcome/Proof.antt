@@ -2,7 +2,7 @@
 use mathlib.Core.Path.{ap, sym}
 use mathlib.Core.Bool.{Bool}
 use Rattle.srt_group_model.specs.Tools.{if_then_else_}
-use Rattle.srt_group_model.specs.FlagLaws.{zero-unset, other-set}
+use Rattle.srt_group_model.specs.laws.Flag.{zero-unset, other-set}
 use Rattle.srt_group_backup.proofs.takeover.replay_outcome.Statement.{statement}
 use Rattle.srt_group_backup.proofs.takeover.replay_outcome.Tie as tie
 

@@ -1,7 +1,7 @@
 -- `take_over_backup_flight` meets its contract: each return is one of the three cases of a take-over.
 use native.Mathlib.Omega.{arith}
 use borrow.Author.Tests.{not-true, not-false}
-use Rattle.srt_group_backup.specs.TakeOver.{no-take-over, took-over-nothing, took-over-flight}
+use Rattle.srt_group_backup.specs.laws.TakeOver.{no-take-over, took-over-nothing, took-over-flight}
 use borrow.Author.Needs.{needs}
 use Rattle.srt_group_tables.specs.Ring.{arrays}
 use Rattle.srt_group_backup.proofs.takeover.take_over_backup_flight.Statement.{statement}

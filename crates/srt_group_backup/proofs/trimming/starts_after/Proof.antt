@@ -1,5 +1,5 @@
 -- `starts_after` meets its contract.
-use Rattle.srt_group_backup.specs.Trimming.{none-after, first-after, first-not-after}
+use Rattle.srt_group_backup.specs.laws.Trimming.{none-after, first-after, first-not-after}
 use borrow.Author.Needs.{needs}
 use Rattle.srt_group_backup.proofs.trimming.starts_after.Statement.{statement}
 use Rattle.srt_group_backup.proofs.trimming.starts_after.Tie as tie

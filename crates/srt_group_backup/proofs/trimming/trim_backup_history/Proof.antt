@@ -1,6 +1,6 @@
 -- `trim_backup_history` meets its contract.
 use borrow.Author.Tests.{not-true, not-false}
-use Rattle.srt_group_backup.specs.Trimming.{no-sender-none-trimmed, acknowledged-trimmed}
+use Rattle.srt_group_backup.specs.laws.Trimming.{no-sender-none-trimmed, acknowledged-trimmed}
 use borrow.Author.Needs.{needs}
 use Rattle.srt_group_backup.proofs.trimming.trim_backup_history.Statement.{statement}
 use Rattle.srt_group_backup.proofs.trimming.trim_backup_history.Tie as tie

@@ -1,8 +1,8 @@
 -- `trim_by_carrier` meets its contract.
 use mathlib.Core.Path.{sym, _∙_}
 use native.Mathlib.Omega.{arith}
-use Rattle.srt_connection_members.specs.Members.{found-below}
-use Rattle.srt_group_backup.specs.Trimming.{no-carrier-none-trimmed, carrier-gone-none-trimmed, carrier-trimmed}
+use Rattle.srt_connection_members.specs.laws.Members.{found-below}
+use Rattle.srt_group_backup.specs.laws.Trimming.{no-carrier-none-trimmed, carrier-gone-none-trimmed, carrier-trimmed}
 use borrow.Author.Needs.{needs}
 use Rattle.srt_group_backup.proofs.trimming.trim_by_carrier.Statement.{statement}
 use Rattle.srt_group_backup.proofs.trimming.trim_by_carrier.Tie as tie

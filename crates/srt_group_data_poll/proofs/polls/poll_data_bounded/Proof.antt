@@ -1,7 +1,7 @@
 -- `poll_data_bounded` meets its contract.
 use borrow.Author.Needs.{needs}
 use native.Mathlib.Omega.{arith}
-use Rattle.srt_group_data_poll.specs.Polling.{usable, sending-fits, writable, performed}
+use Rattle.srt_group_data_poll.specs.laws.Polling.{usable, sending-fits, writable, performed}
 use Rattle.srt_group_data_poll.proofs.polls.poll_data_bounded.Statement.{statement}
 use Rattle.srt_group_data_poll.proofs.polls.poll_data_bounded.Tie as tie
 

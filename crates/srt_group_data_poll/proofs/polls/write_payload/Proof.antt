@@ -1,6 +1,6 @@
 -- `write_payload` meets its contract.
 use borrow.Author.Needs.{needs}
-use Rattle.srt_group_data_poll.specs.Polling.{wrote-some, wrote-none}
+use Rattle.srt_group_data_poll.specs.laws.Polling.{wrote-some, wrote-none}
 use Rattle.srt_group_data_poll.proofs.polls.write_payload.Statement.{statement}
 use Rattle.srt_group_data_poll.proofs.polls.write_payload.Tie as tie
 

@@ -2,7 +2,7 @@
 -- rest (`Admitting`).
 use mathlib.Core.Path.{refl}
 use Prim.Native.Nat.{_-_}
-use Rattle.srt_group_members.specs.Admission.{Admitting, admitting-start, admitting-on, admitting-done}
+use Rattle.srt_group_members.specs.laws.Admission.{Admitting, admitting-start, admitting-on, admitting-done}
 use native.Mathlib.Omega.{arith}
 use Rattle.srt_group_members.proofs.admission.admit_connected_peer_groups.Statement.{statement}
 use Rattle.srt_group_members.proofs.admission.admit_connected_peer_groups.Tie as tie

@@ -1,6 +1,6 @@
 -- `admit_peer_group` meets its contract.
 use borrow.Author.Tests.{not-true, not-false}
-use Rattle.srt_group_members.specs.Admission.{admitted-not-arriving, admitted-arriving}
+use Rattle.srt_group_members.specs.laws.Admission.{admitted-not-arriving, admitted-arriving}
 use borrow.Author.Needs.{needs}
 use Rattle.srt_group_members.proofs.admission.admit_peer_group.Statement.{statement}
 use Rattle.srt_group_members.proofs.admission.admit_peer_group.Tie as tie

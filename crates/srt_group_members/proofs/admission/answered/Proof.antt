@@ -1,6 +1,6 @@
 -- `answered` meets its contract: one law for each answer.
 use mathlib.Core.Path.{refl, sym, _∙_}
-use Rattle.srt_group_members.specs.Admission.{answered-based, answered-first, answered-nothing}
+use Rattle.srt_group_members.specs.laws.Admission.{answered-based, answered-first, answered-nothing}
 use borrow.Author.Needs.{needs}
 use Rattle.srt_group_members.proofs.admission.answered.Statement.{statement}
 use Rattle.srt_group_members.proofs.admission.answered.Tie as tie

@@ -1,5 +1,5 @@
 -- `arrives_at` meets its contract: one law for each answer.
-use Rattle.srt_group_members.specs.Admission.{admitted-does-not-arrive, broken-does-not-arrive, arrives-if-connected}
+use Rattle.srt_group_members.specs.laws.Admission.{admitted-does-not-arrive, broken-does-not-arrive, arrives-if-connected}
 use borrow.Author.Needs.{needs}
 use Rattle.srt_group_members.proofs.admission.arrives_at.Statement.{statement}
 use Rattle.srt_group_members.proofs.admission.arrives_at.Tie as tie

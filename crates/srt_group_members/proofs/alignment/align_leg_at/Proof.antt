@@ -1,6 +1,6 @@
 -- `align_leg_at` meets its contract.
 use mathlib.Core.Path.{sym, _∙_}
-use Rattle.srt_group_members.specs.Alignment.{leg-not-aligned, leg-aligned}
+use Rattle.srt_group_members.specs.laws.Alignment.{leg-not-aligned, leg-aligned}
 use borrow.Author.Needs.{needs}
 use Rattle.srt_group_members.proofs.alignment.align_leg_at.Statement.{statement}
 use Rattle.srt_group_members.proofs.alignment.align_leg_at.Tie as tie

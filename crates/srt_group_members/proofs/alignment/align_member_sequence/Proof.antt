@@ -1,6 +1,6 @@
 -- `align_member_sequence` meets its contract: one law for each answer.
 use mathlib.Core.Path.{sym, _∙_}
-use Rattle.srt_group_members.specs.Alignment.{align-past, align-no-source, align-with}
+use Rattle.srt_group_members.specs.laws.Alignment.{align-past, align-no-source, align-with}
 use borrow.Author.Needs.{needs}
 use native.Mathlib.Omega.{arith}
 use Rattle.srt_group_members.proofs.alignment.align_member_sequence.Statement.{statement}

@@ -1,7 +1,8 @@
 -- `alignment_source` meets its contract: one law for each answer.
 use mathlib.Core.Path.{sym, _∙_}
-use Rattle.srt_group_members.specs.Alignment.{is-other-sender, source-numbered, source-none, source-other}
-use Rattle.srt_group_members.specs.Scan.{found-row}
+use Rattle.srt_group_members.specs.Alignment.{is-other-sender}
+use Rattle.srt_group_members.specs.laws.Alignment.{source-numbered, source-none, source-other}
+use Rattle.srt_group_members.specs.laws.Scan.{found-row}
 use borrow.Author.Needs.{needs}
 use native.Mathlib.Omega.{arith}
 use Rattle.srt_group_members.proofs.alignment.alignment_source.Statement.{statement}

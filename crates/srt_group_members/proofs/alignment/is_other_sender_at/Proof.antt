@@ -1,6 +1,6 @@
 -- `is_other_sender_at` meets its contract: one law for each answer.
 use borrow.Author.Tests.{not-true, not-false}
-use Rattle.srt_group_members.specs.Alignment.{same-is-not-other, unconnected-is-no-sender, other-if-started}
+use Rattle.srt_group_members.specs.laws.Alignment.{same-is-not-other, unconnected-is-no-sender, other-if-started}
 use borrow.Author.Needs.{needs}
 use Rattle.srt_group_members.proofs.alignment.is_other_sender_at.Statement.{statement}
 use Rattle.srt_group_members.proofs.alignment.is_other_sender_at.Tie as tie

@@ -1,7 +1,8 @@
 -- `first_with_event` meets its contract. The loop's invariant: no member that was passed has an event.
 use Prim.Native.Nat.{_≤_, _-_}
-use Rattle.srt_group_members.specs.Turns.{has-event, found-from, found-from-nowhere}
-use Rattle.srt_group_members.specs.Scan.{Passed, passed-start, passed-on}
+use Rattle.srt_group_members.specs.Turns.{has-event}
+use Rattle.srt_group_members.specs.laws.Turns.{found-from, found-from-nowhere}
+use Rattle.srt_group_members.specs.laws.Scan.{Passed, passed-start, passed-on}
 use borrow.Author.Needs.{needs}
 use native.Mathlib.Omega.{arith}
 use Rattle.srt_group_members.proofs.collecting.first_with_event.Statement.{statement}

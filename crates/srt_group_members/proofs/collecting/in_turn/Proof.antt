@@ -1,6 +1,6 @@
 -- `in_turn` meets its contract: from the round's place on, then among those before it.
 use mathlib.Core.Path.{sym, _∙_}
-use Rattle.srt_group_members.specs.Turns.{turn-later, turn-again}
+use Rattle.srt_group_members.specs.laws.Turns.{turn-later, turn-again}
 use borrow.Author.Needs.{needs}
 use native.Mathlib.Omega.{arith}
 use Rattle.srt_group_members.proofs.collecting.in_turn.Statement.{statement}

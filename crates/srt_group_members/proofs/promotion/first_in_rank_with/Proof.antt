@@ -1,6 +1,6 @@
 -- `first_in_rank_with` meets its contract: one law for each answer.
 use borrow.Author.Tests.{not-true, not-false}
-use Rattle.srt_group_members.specs.Rank.{first-unless-standby, first-alone, first-still, first-now, row-of-found}
+use Rattle.srt_group_members.specs.laws.Rank.{first-unless-standby, first-alone, first-still, first-now, row-of-found}
 use borrow.Author.Needs.{needs}
 use Rattle.srt_group_members.proofs.promotion.first_in_rank_with.Statement.{statement}
 use Rattle.srt_group_members.proofs.promotion.first_in_rank_with.Tie as tie

@@ -1,5 +1,5 @@
 -- `outranks_at` meets its contract: by the weights, then by the ids.
-use Rattle.srt_group_members.specs.Rank.{outranks-by-weight, outranked-by-weight, outranks-by-id}
+use Rattle.srt_group_members.specs.laws.Rank.{outranks-by-weight, outranked-by-weight, outranks-by-id}
 use Rattle.srt_group_members.proofs.promotion.outranks_at.Statement.{statement}
 use Rattle.srt_group_members.proofs.promotion.outranks_at.Tie as tie
 

@@ -1,6 +1,6 @@
 -- `promote_backup_member` meets its contract: the member that is found turns Active.
 use mathlib.Core.Path.{sym, _∙_}
-use Rattle.srt_group_members.specs.Rank.{promotion-below, promoted, promoted-none}
+use Rattle.srt_group_members.specs.laws.Rank.{promotion-below, promoted, promoted-none}
 use borrow.Author.Needs.{needs}
 use native.Mathlib.Omega.{arith}
 use Rattle.srt_group_members.proofs.promotion.promote_backup_member.Statement.{statement}

@@ -1,6 +1,6 @@
 -- `promote_if_none` meets its contract.
 use borrow.Author.Tests.{not-true, not-false}
-use Rattle.srt_group_members.specs.Rank.{promoted-not-in-backup, promoted-not-needed, promoted-if-none}
+use Rattle.srt_group_members.specs.laws.Rank.{promoted-not-in-backup, promoted-not-needed, promoted-if-none}
 use borrow.Author.Needs.{needs}
 use Rattle.srt_group_members.proofs.promotion.promote_if_none.Statement.{statement}
 use Rattle.srt_group_members.proofs.promotion.promote_if_none.Tie as tie

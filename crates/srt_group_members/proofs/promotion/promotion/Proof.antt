@@ -1,6 +1,6 @@
 -- `promotion` meets its contract. The loop's invariant: `best` is the first in rank of the rows from `left` on.
 use mathlib.Core.Path.{refl}
-use Rattle.srt_group_members.specs.Rank.{Ranking, ranking-start, ranking-on, ranking-done, ranking-row}
+use Rattle.srt_group_members.specs.laws.Rank.{Ranking, ranking-start, ranking-on, ranking-done, ranking-row}
 use borrow.Author.Needs.{needs}
 use native.Mathlib.Omega.{arith}
 use Rattle.srt_group_members.proofs.promotion.promotion.Statement.{statement}

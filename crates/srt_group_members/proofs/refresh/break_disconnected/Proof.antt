@@ -1,8 +1,8 @@
 -- `break_disconnected` meets its contract. The loop's invariant: the rows passed are changed, the others not yet (`Changing`).
 use Prim.Native.Nat.{_≤_, _-_}
 use Rattle.srt_group_model.specs.Members.{break-disconnected}
-use Rattle.srt_connection_members.specs.Members.{Changing, changing-start, changing-on, changing-done}
-use Rattle.srt_group_members.specs.Refresh.{became-each}
+use Rattle.srt_connection_members.specs.laws.Members.{Changing, changing-start, changing-on, changing-done}
+use Rattle.srt_group_members.specs.laws.Refresh.{became-each}
 use borrow.Author.Needs.{needs}
 use native.Mathlib.Omega.{arith}
 use Rattle.srt_group_members.proofs.refresh.break_disconnected.Statement.{statement}

@@ -1,6 +1,6 @@
 -- `break_disconnected_at` meets its contract: one law for each way out.
 use borrow.Author.Tests.{not-true, not-false}
-use Rattle.srt_group_members.specs.Refresh.{broken-already, not-broken, broken-now}
+use Rattle.srt_group_members.specs.laws.Refresh.{broken-already, not-broken, broken-now}
 use borrow.Author.Needs.{needs}
 use Rattle.srt_group_members.proofs.refresh.break_disconnected_at.Statement.{statement}
 use Rattle.srt_group_members.proofs.refresh.break_disconnected_at.Tie as tie

@@ -1,6 +1,6 @@
 -- `requalifies_at` meets its contract.
 use borrow.Author.Tests.{not-true, not-false}
-use Rattle.srt_group_members.specs.Refresh.{stays-unstable, requalifies-if-sending}
+use Rattle.srt_group_members.specs.laws.Refresh.{stays-unstable, requalifies-if-sending}
 use borrow.Author.Needs.{needs}
 use Rattle.srt_group_members.proofs.refresh.requalifies_at.Statement.{statement}
 use Rattle.srt_group_members.proofs.refresh.requalifies_at.Tie as tie

@@ -1,5 +1,5 @@
 -- `requalify_members` meets its contract: members break, requalify, and one may be promoted.
-use Rattle.srt_group_members.specs.Refresh.{requalified}
+use Rattle.srt_group_members.specs.laws.Refresh.{requalified}
 use borrow.Author.Needs.{needs}
 use native.Mathlib.Omega.{arith}
 use Rattle.srt_group_members.proofs.refresh.requalify_members.Statement.{statement}

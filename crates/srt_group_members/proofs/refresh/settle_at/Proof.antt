@@ -1,7 +1,8 @@
 -- `settle_at` meets its contract: the member is left out, or its alignment is refused, or it turns.
 use borrow.Author.Tests.{not-true, not-false}
 use Rattle.srt_group_model.specs.Members.{settle}
-use Rattle.srt_group_members.specs.Refresh.{settles, settled-state, turn-left-out, turn-refused, turn-made}
+use Rattle.srt_group_members.specs.Refresh.{settles, settled-state}
+use Rattle.srt_group_members.specs.laws.Refresh.{turn-left-out, turn-refused, turn-made}
 use borrow.Author.Needs.{needs}
 use native.Mathlib.Omega.{arith}
 use Rattle.srt_group_members.proofs.refresh.settle_at.Statement.{statement}

@@ -1,5 +1,5 @@
 -- `settle_members` meets its contract: the members settle, then one may be promoted.
-use Rattle.srt_group_members.specs.Refresh.{settled}
+use Rattle.srt_group_members.specs.laws.Refresh.{settled}
 use borrow.Author.Needs.{needs}
 use native.Mathlib.Omega.{arith}
 use Rattle.srt_group_members.proofs.refresh.settle_members.Statement.{statement}

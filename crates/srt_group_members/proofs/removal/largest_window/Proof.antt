@@ -4,7 +4,7 @@ use Prim.Native.Nat.{_≤_}
 use lib.ListN.{drop}
 use Rattle.srt_group_model.specs.Removal.{largest-window}
 use Rattle.srt_connection_members.specs.Members.{members-of}
-use Rattle.srt_group_members.specs.Turns.{window-start, window-on, window-done}
+use Rattle.srt_group_members.specs.laws.Turns.{window-start, window-on, window-done}
 use borrow.Author.Needs.{needs}
 use native.Mathlib.Omega.{arith}
 use Rattle.srt_group_members.proofs.removal.largest_window.Statement.{statement}

@@ -5,7 +5,8 @@ use borrow.Author.Tests.{not-true, not-false}
 use lib.ListN.{drop}
 use Rattle.srt_group_model.specs.Tools.{all}
 use Rattle.srt_connection_members.specs.Members.{members-of}
-use Rattle.srt_group_members.specs.Scan.{leg-disconnected, all-on, all-fails, all-done}
+use Rattle.srt_group_members.specs.Scan.{leg-disconnected}
+use Rattle.srt_group_members.specs.laws.Scan.{all-on, all-fails, all-done}
 use borrow.Author.Needs.{needs}
 use native.Mathlib.Omega.{arith}
 use Rattle.srt_group_members.proofs.states.all_disconnected.Statement.{statement}

@@ -1,7 +1,7 @@
 -- `has_active_member` meets its contract: a member is active if one is found.
 use mathlib.Core.Path.{sym, _∙_}
 use Rattle.srt_group_model.specs.Members.{is-active}
-use Rattle.srt_group_members.specs.Scan.{any-at, any-nowhere}
+use Rattle.srt_group_members.specs.laws.Scan.{any-at, any-nowhere}
 use borrow.Author.Needs.{needs}
 use Rattle.srt_group_members.proofs.states.has_active_member.Statement.{statement}
 use Rattle.srt_group_members.proofs.states.has_active_member.Tie as tie

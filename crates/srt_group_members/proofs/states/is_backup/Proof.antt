@@ -1,6 +1,6 @@
 -- `is_backup` meets its contract: a mode is Backup if its number is not 0.
 use mathlib.Core.Path.{sym}
-use Rattle.srt_group_model.specs.FlagLaws.{set-is-not-zero}
+use Rattle.srt_group_model.specs.laws.Flag.{set-is-not-zero}
 use Rattle.srt_group_members.proofs.states.is_backup.Statement.{statement}
 use Rattle.srt_group_members.proofs.states.is_backup.Tie as tie
 

@@ -1,5 +1,5 @@
 -- `base_stays` meets its contract.
-use Rattle.srt_group_polls.specs.SkipLaws.{stays-held, stays-continuing, stays-until-given-up}
+use Rattle.srt_group_polls.specs.laws.Skip.{stays-held, stays-continuing, stays-until-given-up}
 use borrow.Author.Needs.{needs}
 use Rattle.srt_group_polls.proofs.polls.base_stays.Statement.{statement}
 use Rattle.srt_group_polls.proofs.polls.base_stays.Tie as tie

@@ -1,11 +1,11 @@
 -- `deliver_nearest` meets its contract: nothing is held, or the nearest packet sets the base, and is delivered.
 use native.Mathlib.Omega.{arith}
-use Rattle.srt_group_tables.specs.PacketLaws.{at-in-use}
-use Rattle.srt_group_polls.specs.SkipLaws.{deliverable-based, none-to-deliver, delivered-first}
+use Rattle.srt_group_tables.specs.laws.PacketLaws.{at-in-use}
+use Rattle.srt_group_polls.specs.laws.Skip.{deliverable-based, none-to-deliver, delivered-first}
 use borrow.Author.Needs.{needs}
 use mathlib.Core.List.{[]}
-use Rattle.srt_group_polls.specs.PollsUsed.{follows-based}
-use Rattle.srt_group_receiving.specs.Follows.{follows-same, follows-then}
+use Rattle.srt_group_polls.specs.laws.PollsUsed.{follows-based}
+use Rattle.srt_group_receiving.specs.laws.Follows.{follows-same, follows-then}
 use Rattle.srt_group_polls.proofs.polls.deliver_nearest.Statement.{statement}
 use Rattle.srt_group_polls.proofs.polls.deliver_nearest.Tie as tie
 

@@ -1,7 +1,7 @@
 -- `deliver_next` meets its contract: the base is set, or the nearest packet sets it.
-use Rattle.srt_group_polls.specs.SkipLaws.{next-at-base, next-nearest}
+use Rattle.srt_group_polls.specs.laws.Skip.{next-at-base, next-nearest}
 use borrow.Author.Needs.{needs}
-use Rattle.srt_group_receiving.specs.DeliveryLaws.{deliverable}
+use Rattle.srt_group_receiving.specs.laws.Delivery.{deliverable}
 use Rattle.srt_group_polls.proofs.polls.deliver_next.Statement.{statement}
 use Rattle.srt_group_polls.proofs.polls.deliver_next.Tie as tie
 

@@ -1,9 +1,9 @@
 -- `give_next` meets its contract: an event waits, or the next packet is given.
-use Rattle.srt_group_polls.specs.RefreshLaws.{usable-refreshed, rows-there}
-use Rattle.srt_group_polls.specs.EventPollLaws.{event-next, packet-next, still-none-waits}
+use Rattle.srt_group_polls.specs.laws.Refresh.{usable-refreshed, rows-there}
+use Rattle.srt_group_polls.specs.laws.EventPoll.{event-next, packet-next, still-none-waits}
 use borrow.Author.Needs.{needs}
-use Rattle.srt_group_polls.specs.PollsUsed.{follows-given, follows-refreshed}
-use Rattle.srt_group_receiving.specs.Follows.{follows-then}
+use Rattle.srt_group_polls.specs.laws.PollsUsed.{follows-given, follows-refreshed}
+use Rattle.srt_group_receiving.specs.laws.Follows.{follows-then}
 use Rattle.srt_group_polls.proofs.polls.give_next.Statement.{statement}
 use Rattle.srt_group_polls.proofs.polls.give_next.Tie as tie
 

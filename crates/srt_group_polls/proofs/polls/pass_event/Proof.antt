@@ -1,5 +1,5 @@
 -- `pass_event` meets its contract, for each answer of an event poll.
-use Rattle.srt_group_polls.specs.DataPollLaws.{nothing-passed, event-passed, packet-passed}
+use Rattle.srt_group_polls.specs.laws.DataPoll.{nothing-passed, event-passed, packet-passed}
 use borrow.Author.Needs.{needs}
 use Rattle.srt_group_polls.proofs.polls.pass_event.Statement.{statement}
 use Rattle.srt_group_polls.proofs.polls.pass_event.Tie as tie

@@ -1,8 +1,8 @@
 -- `poll_data_bounded` meets its contract: none allowed, more than the most, or as many as are allowed.
 use native.Mathlib.Omega.{arith}
-use Rattle.srt_group_polls.specs.DataPollLaws.{none-allowed, some-allowed}
+use Rattle.srt_group_polls.specs.laws.DataPoll.{none-allowed, some-allowed}
 use borrow.Author.Needs.{needs}
-use Rattle.srt_group_receiving.specs.Follows.{follows-same}
+use Rattle.srt_group_receiving.specs.laws.Follows.{follows-same}
 use Rattle.srt_group_polls.proofs.polls.poll_data_bounded.Statement.{statement}
 use Rattle.srt_group_polls.proofs.polls.poll_data_bounded.Tie as tie
 

@@ -1,9 +1,9 @@
 -- `skip_after` meets its contract: an event waits, the queues ended empty, or not.
-use Rattle.srt_group_receiving.specs.DeliveryLaws.{deliverable}
-use Rattle.srt_group_polls.specs.SkipLaws.{event-first, skipped-if-empty, stays-if-not-empty}
+use Rattle.srt_group_receiving.specs.laws.Delivery.{deliverable}
+use Rattle.srt_group_polls.specs.laws.Skip.{event-first, skipped-if-empty, stays-if-not-empty}
 use borrow.Author.Needs.{needs}
-use Rattle.srt_group_polls.specs.PollsUsed.{follows-given}
-use Rattle.srt_group_model.specs.FlagLaws.{zero-unset, other-set}
+use Rattle.srt_group_polls.specs.laws.PollsUsed.{follows-given}
+use Rattle.srt_group_model.specs.laws.Flag.{zero-unset, other-set}
 use Rattle.srt_group_model.specs.Tools.{is-set}
 use Rattle.srt_group_polls.proofs.polls.skip_after.Statement.{statement}
 use Rattle.srt_group_polls.proofs.polls.skip_after.Tie as tie

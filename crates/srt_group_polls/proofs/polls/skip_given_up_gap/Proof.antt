@@ -1,8 +1,8 @@
 -- `skip_given_up_gap` meets its contract: the base stays, or the queues are collected first.
-use Rattle.srt_group_receiving.specs.DeliveryLaws.{deliverable}
-use Rattle.srt_group_polls.specs.SkipLaws.{gap-stays, gap-passed}
+use Rattle.srt_group_receiving.specs.laws.Delivery.{deliverable}
+use Rattle.srt_group_polls.specs.laws.Skip.{gap-stays, gap-passed}
 use borrow.Author.Needs.{needs}
-use Rattle.srt_group_receiving.specs.Follows.{follows-then}
+use Rattle.srt_group_receiving.specs.laws.Follows.{follows-then}
 use Rattle.srt_group_polls.proofs.polls.skip_given_up_gap.Statement.{statement}
 use Rattle.srt_group_polls.proofs.polls.skip_given_up_gap.Tie as tie
 

@@ -1,11 +1,11 @@
 -- `skip_to_nearest` meets its contract: nothing is held, or the base goes to the nearest packet, which is delivered.
 use native.Mathlib.Omega.{arith}
-use Rattle.srt_group_tables.specs.PacketLaws.{at-in-use}
-use Rattle.srt_group_polls.specs.SkipLaws.{deliverable-skipped, none-to-skip-to, skipped-to}
+use Rattle.srt_group_tables.specs.laws.PacketLaws.{at-in-use}
+use Rattle.srt_group_polls.specs.laws.Skip.{deliverable-skipped, none-to-skip-to, skipped-to}
 use borrow.Author.Needs.{needs}
 use mathlib.Core.List.{[]}
-use Rattle.srt_group_polls.specs.PollsUsed.{follows-skipped}
-use Rattle.srt_group_receiving.specs.Follows.{follows-same, follows-then}
+use Rattle.srt_group_polls.specs.laws.PollsUsed.{follows-skipped}
+use Rattle.srt_group_receiving.specs.laws.Follows.{follows-same, follows-then}
 use Rattle.srt_group_polls.proofs.polls.skip_to_nearest.Statement.{statement}
 use Rattle.srt_group_polls.proofs.polls.skip_to_nearest.Tie as tie
 

@@ -1,5 +1,5 @@
 -- `admit_connected_peer_groups` meets its contract: the members are admitted, then the base and the peer group set.
-use Rattle.srt_group_polls.specs.RefreshLaws.{admits}
+use Rattle.srt_group_polls.specs.laws.Refresh.{admits}
 use borrow.Author.Needs.{needs}
 use Rattle.srt_group_polls.proofs.refresh.admit_connected_peer_groups.Statement.{statement}
 use Rattle.srt_group_polls.proofs.refresh.admit_connected_peer_groups.Tie as tie

@@ -1,5 +1,5 @@
 -- `refresh_pending_states` meets its contract: what is admitted settles.
-use Rattle.srt_group_polls.specs.RefreshLaws.{still-long, settles}
+use Rattle.srt_group_polls.specs.laws.Refresh.{still-long, settles}
 use borrow.Author.Needs.{needs}
 use Rattle.srt_group_polls.proofs.refresh.refresh_pending_states.Statement.{statement}
 use Rattle.srt_group_polls.proofs.refresh.refresh_pending_states.Tie as tie

@@ -1,5 +1,5 @@
 -- `refresh_states` meets its contract: what has settled requalifies.
-use Rattle.srt_group_polls.specs.RefreshLaws.{still-long, requalifies}
+use Rattle.srt_group_polls.specs.laws.Refresh.{still-long, requalifies}
 use borrow.Author.Needs.{needs}
 use Rattle.srt_group_polls.proofs.refresh.refresh_states.Statement.{statement}
 use Rattle.srt_group_polls.proofs.refresh.refresh_states.Tie as tie

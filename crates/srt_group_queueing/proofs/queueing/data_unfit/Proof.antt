@@ -3,7 +3,7 @@ use native.Mathlib.Omega.{arith}
 use borrow.Author.Tests.{le-ltb}
 use Rattle.srt_group_model.specs.Calls.{data-unfit}
 use Rattle.srt_group_model.specs.Legs.{largest-64}
-use Rattle.srt_group_model.specs.Reason.{or-assoc, or-no}
+use Rattle.srt_group_model.specs.laws.Reason.{or-assoc, or-no}
 use Rattle.srt_group_queueing.proofs.queueing.data_unfit.Statement.{statement}
 use Rattle.srt_group_queueing.proofs.queueing.data_unfit.Tie as tie
 

@@ -1,6 +1,6 @@
 -- `enqueue` meets its contract: 31, or the packet in the queue, its count reserved, its payload in the cell, and the cell taken.
 use native.Mathlib.Omega.{arith}
-use Rattle.srt_group_queueing.specs.Queueing.{enqueue-refused, enqueue-accepted, room-left}
+use Rattle.srt_group_queueing.specs.laws.Queueing.{enqueue-refused, enqueue-accepted, room-left}
 use borrow.Author.Needs.{needs}
 use Rattle.srt_group_queueing.proofs.queueing.enqueue.Statement.{statement}
 use Rattle.srt_group_queueing.proofs.queueing.enqueue.Tie as tie

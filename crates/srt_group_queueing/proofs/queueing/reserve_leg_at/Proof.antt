@@ -3,7 +3,7 @@ use mathlib.Core.Path.{ap}
 use Prim.Native.Nat.{_+_}
 use native.Mathlib.Omega.{arith}
 use Rattle.srt_group_model.specs.declared.Receiver.{Receiver}
-use Rattle.srt_connection_members.specs.Members.{receiver-changed}
+use Rattle.srt_connection_members.specs.laws.Members.{receiver-changed}
 use borrow.Author.Needs.{needs}
 use Rattle.srt_group_queueing.proofs.queueing.reserve_leg_at.Statement.{statement}
 use Rattle.srt_group_queueing.proofs.queueing.reserve_leg_at.Tie as tie

@@ -1,6 +1,6 @@
 -- `break_member` meets its contract, case by case.
 use borrow.Author.Tests.{not-true, not-false}
-use Rattle.srt_group_receiving.specs.CollectLaws.{not-broken, broken-alone, broken-promoted}
+use Rattle.srt_group_receiving.specs.laws.Collect.{not-broken, broken-alone, broken-promoted}
 use borrow.Author.Needs.{needs}
 use native.Mathlib.Omega.{arith}
 use Rattle.srt_group_receiving.proofs.collecting.break_member.Statement.{statement}

@@ -1,8 +1,8 @@
 -- `collect_member_event` meets its contract.
-use Rattle.srt_group_receiving.specs.VisitLaws.{collected-data, collected-other}
+use Rattle.srt_group_receiving.specs.laws.Visit.{collected-data, collected-other}
 use borrow.Author.Needs.{needs}
-use Rattle.srt_group_receiving.specs.UsedLaws.{data-freed, event-kept}
-use Rattle.srt_group_receiving.specs.CollectLaws.{receive-of}
+use Rattle.srt_group_receiving.specs.laws.Used.{data-freed, event-kept}
+use Rattle.srt_group_receiving.specs.Collect.{receive-of}
 use Rattle.srt_group_receiving.proofs.collecting.collect_member_event.Statement.{statement}
 use Rattle.srt_group_receiving.proofs.collecting.collect_member_event.Tie as tie
 

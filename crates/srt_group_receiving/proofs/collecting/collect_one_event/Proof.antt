@@ -1,10 +1,10 @@
 -- `collect_one_event` meets its contract.
 use mathlib.Core.Path.{sym, _∙_}
-use Rattle.srt_group_receiving.specs.TurnLaws.{in-turn-inside}
-use Rattle.srt_group_receiving.specs.VisitLaws.{collects-none, collects-one}
+use Rattle.srt_group_receiving.specs.laws.Turn.{in-turn-inside}
+use Rattle.srt_group_receiving.specs.laws.Visit.{collects-none, collects-one}
 use borrow.Author.Needs.{needs}
 use native.Mathlib.Omega.{arith}
-use Rattle.srt_group_receiving.specs.Follows.{follows-same}
+use Rattle.srt_group_receiving.specs.laws.Follows.{follows-same}
 use Rattle.srt_group_receiving.proofs.collecting.collect_one_event.Statement.{statement}
 use Rattle.srt_group_receiving.proofs.collecting.collect_one_event.Tie as tie
 

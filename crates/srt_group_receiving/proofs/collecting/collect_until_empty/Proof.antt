@@ -1,10 +1,11 @@
 -- `collect_until_empty` meets its contract. The loop's invariant: what is left of the visits gives what all of them give (`Emptying`).
-use Rattle.srt_group_receiving.specs.GatherLaws.{Emptying, held-most, emptying-start, emptying-on, emptying-settled, emptying-ended, emptying-spent}
+use Rattle.srt_group_receiving.specs.laws.Gather.{Emptying, held-most, emptying-start, emptying-on, emptying-settled, emptying-ended, emptying-spent}
 use borrow.Author.Needs.{needs}
 use native.Mathlib.Omega.{arith}
-use Rattle.srt_group_receiving.specs.Follows.{Follows, follows-same, follows-then}
-use Rattle.srt_group_receiving.specs.UsedLaws.{follows-continued}
-use Rattle.srt_group_model.specs.FlagLaws.{zero-unset, other-set}
+use Rattle.srt_group_receiving.specs.Follows.{Follows}
+use Rattle.srt_group_receiving.specs.laws.Follows.{follows-same, follows-then}
+use Rattle.srt_group_receiving.specs.laws.Used.{follows-continued}
+use Rattle.srt_group_model.specs.laws.Flag.{zero-unset, other-set}
 use Rattle.srt_group_shown.specs.Tables.{receive-tables}
 use Rattle.srt_group_receiving.proofs.collecting.collect_until_empty.Statement.{statement}
 use Rattle.srt_group_receiving.proofs.collecting.collect_until_empty.Tie as tie

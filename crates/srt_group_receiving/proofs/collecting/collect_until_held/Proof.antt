@@ -1,9 +1,10 @@
 -- `collect_until_held` meets its contract. The loop's invariant: what is left of the visits gives what all of them give (`Holding`).
-use Rattle.srt_group_receiving.specs.GatherLaws.{Holding, holding-start, holding-on, holding-ended, holding-done}
+use Rattle.srt_group_receiving.specs.laws.Gather.{Holding, holding-start, holding-on, holding-ended, holding-done}
 use borrow.Author.Needs.{needs}
 use native.Mathlib.Omega.{arith}
-use Rattle.srt_group_receiving.specs.Follows.{Follows, follows-same, follows-then}
-use Rattle.srt_group_model.specs.FlagLaws.{zero-unset, other-set}
+use Rattle.srt_group_receiving.specs.Follows.{Follows}
+use Rattle.srt_group_receiving.specs.laws.Follows.{follows-same, follows-then}
+use Rattle.srt_group_model.specs.laws.Flag.{zero-unset, other-set}
 use Rattle.srt_group_shown.specs.Tables.{receive-tables}
 use Rattle.srt_group_receiving.proofs.collecting.collect_until_held.Statement.{statement}
 use Rattle.srt_group_receiving.proofs.collecting.collect_until_held.Tie as tie

@@ -1,5 +1,5 @@
 -- `flag` meets its contract.
-use Rattle.srt_group_receiving.specs.GatherLaws.{written-set, written-unset}
+use Rattle.srt_group_receiving.specs.laws.Gather.{written-set, written-unset}
 use Rattle.srt_group_receiving.proofs.collecting.flag.Statement.{statement}
 use Rattle.srt_group_receiving.proofs.collecting.flag.Tie as tie
 

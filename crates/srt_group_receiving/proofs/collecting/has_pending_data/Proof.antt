@@ -1,5 +1,5 @@
 -- `has_pending_data` meets its contract.
-use Rattle.srt_group_receiving.specs.GatherLaws.{pends-held, pends-waiting, pends-continuing}
+use Rattle.srt_group_receiving.specs.laws.Gather.{pends-held, pends-waiting, pends-continuing}
 use Rattle.srt_group_receiving.proofs.collecting.has_pending_data.Statement.{statement}
 use Rattle.srt_group_receiving.proofs.collecting.has_pending_data.Tie as tie
 

@@ -1,5 +1,5 @@
 -- `is_discarded` meets its contract.
-use Rattle.srt_group_receiving.specs.CollectLaws.{discarded-late, discarded-if-held}
+use Rattle.srt_group_receiving.specs.laws.Collect.{discarded-late, discarded-if-held}
 use borrow.Author.Needs.{needs}
 use Rattle.srt_group_receiving.proofs.collecting.is_discarded.Statement.{statement}
 use Rattle.srt_group_receiving.proofs.collecting.is_discarded.Tie as tie

@@ -1,7 +1,7 @@
 -- `is_held` meets its contract: it is held if the search finds it.
 use mathlib.Core.Path.{sym, _∙_}
 use Rattle.srt_group_tables.specs.Packets.{packets}
-use Rattle.srt_group_receiving.specs.CollectLaws.{held-found, held-nowhere}
+use Rattle.srt_group_receiving.specs.laws.Collect.{held-found, held-nowhere}
 use borrow.Author.Needs.{needs}
 use Rattle.srt_group_receiving.proofs.collecting.is_held.Statement.{statement}
 use Rattle.srt_group_receiving.proofs.collecting.is_held.Tie as tie

@@ -1,5 +1,5 @@
 -- `is_late` meets its contract.
-use Rattle.srt_group_receiving.specs.CollectLaws.{late-based, late-unbased}
+use Rattle.srt_group_receiving.specs.laws.Collect.{late-based, late-unbased}
 use borrow.Author.Needs.{needs}
 use Rattle.srt_group_receiving.proofs.collecting.is_late.Statement.{statement}
 use Rattle.srt_group_receiving.proofs.collecting.is_late.Tie as tie

@@ -1,5 +1,5 @@
 -- `is_settled` meets its contract.
-use Rattle.srt_group_receiving.specs.GatherLaws.{settled-asked, settled-or-held}
+use Rattle.srt_group_receiving.specs.laws.Gather.{settled-asked, settled-or-held}
 use borrow.Author.Needs.{needs}
 use Rattle.srt_group_receiving.proofs.collecting.is_settled.Statement.{statement}
 use Rattle.srt_group_receiving.proofs.collecting.is_settled.Tie as tie

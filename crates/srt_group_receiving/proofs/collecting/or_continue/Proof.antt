@@ -1,5 +1,5 @@
 -- `or_continue` meets its contract.
-use Rattle.srt_group_receiving.specs.GatherLaws.{asked-as-well, not-asked}
+use Rattle.srt_group_receiving.specs.laws.Gather.{asked-as-well, not-asked}
 use borrow.Author.Needs.{needs}
 use Rattle.srt_group_receiving.proofs.collecting.or_continue.Statement.{statement}
 use Rattle.srt_group_receiving.proofs.collecting.or_continue.Tie as tie

@@ -1,5 +1,5 @@
 -- `report_event` meets its contract.
-use Rattle.srt_group_receiving.specs.CollectLaws.{reported}
+use Rattle.srt_group_receiving.specs.laws.Collect.{reported}
 use borrow.Author.Needs.{needs}
 use Rattle.srt_group_receiving.proofs.collecting.report_event.Statement.{statement}
 use Rattle.srt_group_receiving.proofs.collecting.report_event.Tie as tie

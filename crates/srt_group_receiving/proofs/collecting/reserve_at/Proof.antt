@@ -3,7 +3,7 @@ use mathlib.Core.Path.{ap}
 use Prim.Native.Nat.{_+_}
 use Rattle.srt_group_model.specs.State.{with-reserved}
 use Rattle.srt_group_model.specs.declared.Membership.{Membership}
-use Rattle.srt_connection_members.specs.Members.{membership-changed}
+use Rattle.srt_connection_members.specs.laws.Members.{membership-changed}
 use borrow.Author.Needs.{needs}
 use native.Mathlib.Omega.{arith}
 use Rattle.srt_group_receiving.proofs.collecting.reserve_at.Statement.{statement}

@@ -1,10 +1,10 @@
 -- `visit_until_held` meets its contract.
-use Rattle.srt_group_receiving.specs.GatherLaws.{held-waits, held-none, held-one}
+use Rattle.srt_group_receiving.specs.laws.Gather.{held-waits, held-none, held-one}
 use borrow.Author.Needs.{needs}
 use native.Mathlib.Omega.{arith}
-use Rattle.srt_group_receiving.specs.Follows.{follows-same}
-use Rattle.srt_group_receiving.specs.UsedLaws.{follows-continued}
-use Rattle.srt_group_model.specs.FlagLaws.{zero-unset, other-set}
+use Rattle.srt_group_receiving.specs.laws.Follows.{follows-same}
+use Rattle.srt_group_receiving.specs.laws.Used.{follows-continued}
+use Rattle.srt_group_model.specs.laws.Flag.{zero-unset, other-set}
 use Rattle.srt_group_receiving.proofs.collecting.visit_until_held.Statement.{statement}
 use Rattle.srt_group_receiving.proofs.collecting.visit_until_held.Tie as tie
 

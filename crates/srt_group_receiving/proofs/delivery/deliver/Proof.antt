@@ -1,9 +1,9 @@
 -- `deliver` meets its contract: the base is not held, or its packet is delivered.
 use mathlib.Core.Path.{sym, _∙_}
 use native.Mathlib.Omega.{arith}
-use Rattle.srt_group_receiving.specs.PollLaws.{held-below, base-not-held, base-delivered}
+use Rattle.srt_group_receiving.specs.laws.Poll.{held-below, base-not-held, base-delivered}
 use borrow.Author.Needs.{needs}
-use Rattle.srt_group_receiving.specs.Follows.{follows-same}
+use Rattle.srt_group_receiving.specs.laws.Follows.{follows-same}
 use Rattle.srt_group_receiving.proofs.delivery.deliver.Statement.{statement}
 use Rattle.srt_group_receiving.proofs.delivery.deliver.Tie as tie
 

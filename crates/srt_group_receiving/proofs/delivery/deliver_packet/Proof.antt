@@ -2,9 +2,9 @@
 use mathlib.Core.Path.{ap}
 use native.Mathlib.Omega.{arith}
 use Rattle.srt_group_model.specs.declared.Core.{Core}
-use Rattle.srt_group_receiving.specs.DeliveryLaws.{delivered-all}
+use Rattle.srt_group_receiving.specs.laws.Delivery.{delivered-all}
 use borrow.Author.Needs.{needs}
-use Rattle.srt_group_receiving.specs.UsedLaws.{follows-delivered}
+use Rattle.srt_group_receiving.specs.laws.Used.{follows-delivered}
 use Rattle.srt_group_receiving.proofs.delivery.deliver_packet.Statement.{statement}
 use Rattle.srt_group_receiving.proofs.delivery.deliver_packet.Tie as tie
 

@@ -1,7 +1,7 @@
 -- `gap_given_up` meets its contract: nothing is held, all legs are gone, or the nearest packet's leg is asked.
 use native.Mathlib.Omega.{arith}
-use Rattle.srt_group_tables.specs.PacketLaws.{at-in-use}
-use Rattle.srt_group_receiving.specs.DeliveryLaws.{nothing-held, all-gone, left-to-the-leg}
+use Rattle.srt_group_tables.specs.laws.PacketLaws.{at-in-use}
+use Rattle.srt_group_receiving.specs.laws.Delivery.{nothing-held, all-gone, left-to-the-leg}
 use borrow.Author.Needs.{needs}
 use Rattle.srt_group_receiving.proofs.delivery.gap_given_up.Statement.{statement}
 use Rattle.srt_group_receiving.proofs.delivery.gap_given_up.Tie as tie

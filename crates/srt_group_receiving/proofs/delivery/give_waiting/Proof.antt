@@ -1,6 +1,6 @@
 -- `give_waiting` meets its contract: none waits, or the first is given.
 use native.Mathlib.Omega.{arith}
-use Rattle.srt_group_receiving.specs.PollLaws.{none-waits, first-waits}
+use Rattle.srt_group_receiving.specs.laws.Poll.{none-waits, first-waits}
 use borrow.Author.Needs.{needs}
 use Rattle.srt_group_receiving.proofs.delivery.give_waiting.Statement.{statement}
 use Rattle.srt_group_receiving.proofs.delivery.give_waiting.Tie as tie

@@ -1,6 +1,6 @@
 -- `leg_given_up` meets its contract: by the deadline, or never.
 use mathlib.Core.Path.{sym, _∙_}
-use Rattle.srt_group_receiving.specs.DeliveryLaws.{given-up-from, never-given-up}
+use Rattle.srt_group_receiving.specs.laws.Delivery.{given-up-from, never-given-up}
 use borrow.Author.Needs.{needs}
 use Rattle.srt_group_receiving.proofs.delivery.leg_given_up.Statement.{statement}
 use Rattle.srt_group_receiving.proofs.delivery.leg_given_up.Tie as tie

@@ -1,8 +1,8 @@
 -- `leg_gives_up` meets its contract: the member's own leg, the first, or none is asked.
 use mathlib.Core.Path.{sym, _∙_}
 use native.Mathlib.Omega.{arith}
-use Rattle.srt_connection_members.specs.Members.{found-below}
-use Rattle.srt_group_receiving.specs.DeliveryLaws.{own-leg-asked, first-leg-asked, no-leg-asked}
+use Rattle.srt_connection_members.specs.laws.Members.{found-below}
+use Rattle.srt_group_receiving.specs.laws.Delivery.{own-leg-asked, first-leg-asked, no-leg-asked}
 use borrow.Author.Needs.{needs}
 use Rattle.srt_group_receiving.proofs.delivery.leg_gives_up.Statement.{statement}
 use Rattle.srt_group_receiving.proofs.delivery.leg_gives_up.Tie as tie

@@ -1,5 +1,5 @@
 -- `release_at` meets its contract: the membership is put with less, then the leg is released.
-use Rattle.srt_group_receiving.specs.DeliveryLaws.{member-released}
+use Rattle.srt_group_receiving.specs.laws.Delivery.{member-released}
 use borrow.Author.Needs.{needs}
 use Rattle.srt_group_receiving.proofs.delivery.release_at.Statement.{statement}
 use Rattle.srt_group_receiving.proofs.delivery.release_at.Tie as tie

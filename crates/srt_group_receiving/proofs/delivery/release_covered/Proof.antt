@@ -4,8 +4,8 @@ use Prim.Native.Nat.{_-_}
 use native.Mathlib.Omega.{arith}
 use Rattle.srt_group_model.specs.declared.Core.{Core}
 use Rattle.srt_group_model.specs.Nearest.{is-covered}
-use Rattle.srt_group_receiving.specs.DeliveryLaws.{Releasing, releasing-start, releasing-on, releasing-done}
-use Rattle.srt_group_receiving.specs.UsedLaws.{Freeing, freeing-start, freeing-on, freeing-done}
+use Rattle.srt_group_receiving.specs.laws.Delivery.{Releasing, releasing-start, releasing-on, releasing-done}
+use Rattle.srt_group_receiving.specs.laws.Used.{Freeing, freeing-start, freeing-on, freeing-done}
 use Rattle.srt_group_receiving.proofs.delivery.release_covered.Statement.{statement}
 use Rattle.srt_group_receiving.proofs.delivery.release_covered.Tie as tie
 

@@ -1,8 +1,8 @@
 -- `release_if_covered` meets its contract: the packet is covered and released, or stays.
 use native.Mathlib.Omega.{arith}
-use Rattle.srt_group_receiving.specs.DeliveryLaws.{covered-released, not-covered-kept}
+use Rattle.srt_group_receiving.specs.laws.Delivery.{covered-released, not-covered-kept}
 use borrow.Author.Needs.{needs}
-use Rattle.srt_group_receiving.specs.UsedLaws.{covered-freed, uncovered-kept}
+use Rattle.srt_group_receiving.specs.laws.Used.{covered-freed, uncovered-kept}
 use Rattle.srt_group_receiving.proofs.delivery.release_if_covered.Statement.{statement}
 use Rattle.srt_group_receiving.proofs.delivery.release_if_covered.Tie as tie
 

@@ -1,8 +1,8 @@
 -- `release_pending_reservation` meets its contract: the group's own sum, the member's, or none.
 use mathlib.Core.Path.{sym, _∙_}
 use native.Mathlib.Omega.{arith}
-use Rattle.srt_connection_members.specs.Members.{found-below}
-use Rattle.srt_group_receiving.specs.DeliveryLaws.{released-own, released-nowhere, released-member}
+use Rattle.srt_connection_members.specs.laws.Members.{found-below}
+use Rattle.srt_group_receiving.specs.laws.Delivery.{released-own, released-nowhere, released-member}
 use borrow.Author.Needs.{needs}
 use Rattle.srt_group_receiving.proofs.delivery.release_pending_reservation.Statement.{statement}
 use Rattle.srt_group_receiving.proofs.delivery.release_pending_reservation.Tie as tie

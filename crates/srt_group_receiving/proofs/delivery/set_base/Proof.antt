@@ -1,5 +1,5 @@
 -- `set_base` meets its contract: the base was set, none is given, or it is set now.
-use Rattle.srt_group_receiving.specs.PollLaws.{base-was-set, base-not-given, base-given}
+use Rattle.srt_group_receiving.specs.laws.Poll.{base-was-set, base-not-given, base-given}
 use Rattle.srt_group_receiving.proofs.delivery.set_base.Statement.{statement}
 use Rattle.srt_group_receiving.proofs.delivery.set_base.Tie as tie
 

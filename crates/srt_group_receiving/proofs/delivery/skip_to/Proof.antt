@@ -1,5 +1,5 @@
 -- `skip_to` meets its contract: the distance is added to the skipped total.
-use Rattle.srt_group_receiving.specs.PollLaws.{skips}
+use Rattle.srt_group_receiving.specs.laws.Poll.{skips}
 use borrow.Author.Needs.{needs}
 use Rattle.srt_group_receiving.proofs.delivery.skip_to.Statement.{statement}
 use Rattle.srt_group_receiving.proofs.delivery.skip_to.Tie as tie

@@ -1,5 +1,5 @@
 -- `remove_member_at` meets its contract: the member taken out, the limit, the base and what is retired are its parts.
-use Rattle.srt_group_removal.specs.RemovalLaws.{taken-held, removed-all}
+use Rattle.srt_group_removal.specs.laws.Removal.{taken-held, removed-all}
 use borrow.Author.Needs.{needs}
 use Rattle.srt_group_removal.proofs.removal.remove_member_at.Statement.{statement}
 use Rattle.srt_group_removal.proofs.removal.remove_member_at.Tie as tie

@@ -2,7 +2,7 @@
 use mathlib.Core.Path.{refl, ap}
 use native.Mathlib.Omega.{arith}
 use Rattle.srt_group_model.specs.declared.Membership.{Membership}
-use Rattle.srt_group_removal.specs.RemovalLaws.{taken-all}
+use Rattle.srt_group_removal.specs.laws.Removal.{taken-all}
 use borrow.Author.Needs.{needs}
 use Rattle.srt_group_removal.proofs.removal.take_out.Statement.{statement}
 use Rattle.srt_group_removal.proofs.removal.take_out.Tie as tie

@@ -1,7 +1,7 @@
 -- `retirement_base` meets its contract: the base, the nearest packet's sequence, or 0 where none is held.
 use native.Mathlib.Omega.{arith}
-use Rattle.srt_group_tables.specs.PacketLaws.{at-in-use}
-use Rattle.srt_group_removal.specs.RetireLaws.{based-there, based-nowhere, based-nearest}
+use Rattle.srt_group_tables.specs.laws.PacketLaws.{at-in-use}
+use Rattle.srt_group_removal.specs.laws.Retire.{based-there, based-nowhere, based-nearest}
 use borrow.Author.Needs.{needs}
 use Rattle.srt_group_removal.proofs.retirement.retirement_base.Statement.{statement}
 use Rattle.srt_group_removal.proofs.retirement.retirement_base.Tie as tie

@@ -2,7 +2,7 @@
 use mathlib.Core.Path.{sym, _∙_}
 use native.Mathlib.Omega.{arith}
 use borrow.Author.Tests.{not-true, not-false}
-use Rattle.srt_group_sending.specs.Broadcast.{not-attempted, attempt-marked, attempt-noted}
+use Rattle.srt_group_sending.specs.laws.Broadcast.{not-attempted, attempt-marked, attempt-noted}
 use borrow.Author.Needs.{needs}
 use Rattle.srt_group_sending.proofs.broadcast.attempt_send_at.Statement.{statement}
 use Rattle.srt_group_sending.proofs.broadcast.attempt_send_at.Tie as tie

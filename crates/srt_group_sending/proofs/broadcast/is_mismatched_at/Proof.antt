@@ -1,6 +1,6 @@
 -- `is_mismatched_at` meets its contract: one law for each answer.
 use borrow.Author.Tests.{not-true, not-false}
-use Rattle.srt_group_sending.specs.Broadcast.{inactive-matches, active-matches}
+use Rattle.srt_group_sending.specs.laws.Broadcast.{inactive-matches, active-matches}
 use borrow.Author.Needs.{needs}
 use Rattle.srt_group_sending.proofs.broadcast.is_mismatched_at.Statement.{statement}
 use Rattle.srt_group_sending.proofs.broadcast.is_mismatched_at.Tie as tie

@@ -1,5 +1,5 @@
 -- `mark_send_failure_at` meets its contract: one law for each way out.
-use Rattle.srt_group_sending.specs.Broadcast.{marked-unstable, marked-broken}
+use Rattle.srt_group_sending.specs.laws.Broadcast.{marked-unstable, marked-broken}
 use borrow.Author.Needs.{needs}
 use Rattle.srt_group_sending.proofs.broadcast.mark_send_failure_at.Statement.{statement}
 use Rattle.srt_group_sending.proofs.broadcast.mark_send_failure_at.Tie as tie

@@ -1,5 +1,5 @@
 -- `sequence_for_send` meets its contract: one law for each answer.
-use Rattle.srt_group_sending.specs.Broadcast.{numbered-number, leg-number}
+use Rattle.srt_group_sending.specs.laws.Broadcast.{numbered-number, leg-number}
 use borrow.Author.Needs.{needs}
 use Rattle.srt_group_sending.proofs.broadcast.sequence_for_send.Statement.{statement}
 use Rattle.srt_group_sending.proofs.broadcast.sequence_for_send.Tie as tie

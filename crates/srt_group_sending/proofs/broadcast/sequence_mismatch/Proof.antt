@@ -1,8 +1,9 @@
 -- `sequence_mismatch` meets its contract. The loop's invariant: no leg that was passed is active and elsewhere.
 use Prim.Native.Nat.{_≤_, _-_}
 use native.Mathlib.Omega.{arith}
-use Rattle.srt_group_members.specs.Scan.{Passed, passed-start, passed-on, found-first, found-nowhere}
-use Rattle.srt_group_sending.specs.Broadcast.{is-mismatched, mismatch-at, mismatch-nowhere}
+use Rattle.srt_group_members.specs.laws.Scan.{Passed, passed-start, passed-on, found-first, found-nowhere}
+use Rattle.srt_group_sending.specs.Broadcast.{is-mismatched}
+use Rattle.srt_group_sending.specs.laws.Broadcast.{mismatch-at, mismatch-nowhere}
 use borrow.Author.Needs.{needs}
 use Rattle.srt_group_sending.proofs.broadcast.sequence_mismatch.Statement.{statement}
 use Rattle.srt_group_sending.proofs.broadcast.sequence_mismatch.Tie as tie

@@ -1,7 +1,7 @@
 -- `write_row` meets its contract: every word of the row is stored.
 use native.Mathlib.Omega.{arith}
 use lib.ListN.{length-set}
-use Rattle.srt_group_tables.specs.PacketIndex.{all-stored}
+use Rattle.srt_group_tables.specs.laws.PacketIndex.{all-stored}
 use Rattle.srt_group_sending.specs.SentList.{sent-words}
 use borrow.Author.Needs.{needs}
 use Rattle.srt_group_sending.proofs.list.write_row.Statement.{statement}

@@ -1,7 +1,7 @@
 -- `write_sent` meets its contract: the part that was lent comes back as the send's row.
-use Rattle.word_rows.specs.Rows.{row-back}
+use Rattle.word_rows.specs.laws.Rows.{row-back}
 use Rattle.srt_group_model.specs.Sending.{sent-row-size}
-use Rattle.srt_group_sending.specs.SentList.{five-words, wrote-one}
+use Rattle.srt_group_sending.specs.laws.SentList.{five-words, wrote-one}
 use borrow.Author.Needs.{needs}
 use Rattle.srt_group_sending.proofs.list.write_sent.Statement.{statement}
 use Rattle.srt_group_sending.proofs.list.write_sent.Tie as tie

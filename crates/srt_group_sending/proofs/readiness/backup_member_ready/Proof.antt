@@ -1,6 +1,6 @@
 -- `backup_member_ready` meets its contract: one law for each answer.
 use borrow.Author.Tests.{not-true, not-false}
-use Rattle.srt_group_sending.specs.BackupReadiness.{cannot-send-yet, has-no-sender, ready-if-takes-over}
+use Rattle.srt_group_sending.specs.laws.BackupReadiness.{cannot-send-yet, has-no-sender, ready-if-takes-over}
 use borrow.Author.Needs.{needs}
 use Rattle.srt_group_sending.proofs.readiness.backup_member_ready.Statement.{statement}
 use Rattle.srt_group_sending.proofs.readiness.backup_member_ready.Tie as tie

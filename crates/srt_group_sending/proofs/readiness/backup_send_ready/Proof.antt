@@ -2,9 +2,9 @@
 use mathlib.Core.Path.{sym, _∙_}
 use native.Mathlib.Omega.{arith}
 use Rattle.srt_group_model.specs.Members.{is-active}
-use Rattle.srt_group_members.specs.Scan.{found-row}
-use Rattle.srt_group_members.specs.Rank.{promotion-below}
-use Rattle.srt_group_sending.specs.BackupReadiness.{no-active-not-ready, first-decides, nobody-to-promote, promoted-decides}
+use Rattle.srt_group_members.specs.laws.Scan.{found-row}
+use Rattle.srt_group_members.specs.laws.Rank.{promotion-below}
+use Rattle.srt_group_sending.specs.laws.BackupReadiness.{no-active-not-ready, first-decides, nobody-to-promote, promoted-decides}
 use borrow.Author.Needs.{needs}
 use Rattle.srt_group_sending.proofs.readiness.backup_send_ready.Statement.{statement}
 use Rattle.srt_group_sending.proofs.readiness.backup_send_ready.Tie as tie

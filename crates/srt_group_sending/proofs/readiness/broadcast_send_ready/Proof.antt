@@ -1,7 +1,7 @@
 -- `broadcast_send_ready` meets its contract. The loop's invariant: no leg that was passed can send.
 use Prim.Native.Nat.{_≤_, _-_}
 use native.Mathlib.Omega.{arith}
-use Rattle.srt_group_members.specs.Scan.{Passed, passed-start, passed-on, found-first, found-nowhere, any-at, any-nowhere}
+use Rattle.srt_group_members.specs.laws.Scan.{Passed, passed-start, passed-on, found-first, found-nowhere, any-at, any-nowhere}
 use Rattle.srt_group_sending.specs.Readiness.{sends-now, pacing-in}
 use borrow.Author.Needs.{needs}
 use Rattle.srt_group_sending.proofs.readiness.broadcast_send_ready.Statement.{statement}

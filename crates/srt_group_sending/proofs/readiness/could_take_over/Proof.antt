@@ -1,6 +1,6 @@
 -- `could_take_over` meets its contract: one law for each answer.
 use borrow.Author.Tests.{not-true, not-false}
-use Rattle.srt_group_sending.specs.BackupReadiness.{gap-refuses, window-refuses, stands-decides}
+use Rattle.srt_group_sending.specs.laws.BackupReadiness.{gap-refuses, window-refuses, stands-decides}
 use borrow.Author.Needs.{needs}
 use Rattle.srt_group_sending.proofs.readiness.could_take_over.Statement.{statement}
 use Rattle.srt_group_sending.proofs.readiness.could_take_over.Tie as tie

@@ -1,5 +1,5 @@
 -- `front_sequence` meets its contract.
-use Rattle.srt_group_sending.specs.BackupReadiness.{front-missing, front-there}
+use Rattle.srt_group_sending.specs.laws.BackupReadiness.{front-missing, front-there}
 use borrow.Author.Needs.{needs}
 use Rattle.srt_group_sending.proofs.readiness.front_sequence.Statement.{statement}
 use Rattle.srt_group_sending.proofs.readiness.front_sequence.Tie as tie

@@ -1,6 +1,6 @@
 -- `gap_allows` meets its contract: one law for each answer.
 use borrow.Author.Tests.{not-true, not-false}
-use Rattle.srt_group_sending.specs.BackupReadiness.{allows-without, allows-none, allows-whole}
+use Rattle.srt_group_sending.specs.laws.BackupReadiness.{allows-without, allows-none, allows-whole}
 use Rattle.srt_group_sending.proofs.readiness.gap_allows.Statement.{statement}
 use Rattle.srt_group_sending.proofs.readiness.gap_allows.Tie as tie
 

@@ -1,6 +1,6 @@
 -- `least_wait_with` meets its contract: one law for each answer.
 use borrow.Author.Tests.{not-true, not-false}
-use Rattle.srt_group_sending.specs.Readiness.{least-without, least-alone, least-now, least-before}
+use Rattle.srt_group_sending.specs.laws.Readiness.{least-without, least-alone, least-now, least-before}
 use borrow.Author.Needs.{needs}
 use Rattle.srt_group_sending.proofs.readiness.least_wait_with.Statement.{statement}
 use Rattle.srt_group_sending.proofs.readiness.least_wait_with.Tie as tie

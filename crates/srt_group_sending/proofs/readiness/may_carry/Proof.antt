@@ -1,5 +1,5 @@
 -- `may_carry` meets its contract.
-use Rattle.srt_group_sending.specs.Readiness.{active-carries, standby-carries}
+use Rattle.srt_group_sending.specs.laws.Readiness.{active-carries, standby-carries}
 use Rattle.srt_group_sending.proofs.readiness.may_carry.Statement.{statement}
 use Rattle.srt_group_sending.proofs.readiness.may_carry.Tie as tie
 

@@ -1,5 +1,5 @@
 -- `replay_length` meets its contract.
-use Rattle.srt_group_sending.specs.BackupReadiness.{replays-all, replays-none}
+use Rattle.srt_group_sending.specs.laws.BackupReadiness.{replays-all, replays-none}
 use Rattle.srt_group_sending.proofs.readiness.replay_length.Statement.{statement}
 use Rattle.srt_group_sending.proofs.readiness.replay_length.Tie as tie
 

@@ -1,6 +1,6 @@
 -- `replay_sequence` meets its contract: one law for each answer.
 use borrow.Author.Tests.{not-true, not-false}
-use Rattle.srt_group_sending.specs.BackupReadiness.{no-replay, nothing-to-replay, replay-from}
+use Rattle.srt_group_sending.specs.laws.BackupReadiness.{no-replay, nothing-to-replay, replay-from}
 use borrow.Author.Needs.{needs}
 use Rattle.srt_group_sending.proofs.readiness.replay_sequence.Statement.{statement}
 use Rattle.srt_group_sending.proofs.readiness.replay_sequence.Tie as tie

@@ -1,5 +1,5 @@
 -- `send_number` meets its contract.
-use Rattle.srt_group_sending.specs.BackupReadiness.{number-there, number-missing}
+use Rattle.srt_group_sending.specs.laws.BackupReadiness.{number-there, number-missing}
 use Rattle.srt_group_sending.proofs.readiness.send_number.Statement.{statement}
 use Rattle.srt_group_sending.proofs.readiness.send_number.Tie as tie
 

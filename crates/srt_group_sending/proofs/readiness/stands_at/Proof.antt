@@ -1,5 +1,5 @@
 -- `stands_at` meets its contract: one law for each answer.
-use Rattle.srt_group_sending.specs.BackupReadiness.{stands-anywhere, stands-there, stands-elsewhere}
+use Rattle.srt_group_sending.specs.laws.BackupReadiness.{stands-anywhere, stands-there, stands-elsewhere}
 use borrow.Author.Needs.{needs}
 use Rattle.srt_group_sending.proofs.readiness.stands_at.Statement.{statement}
 use Rattle.srt_group_sending.proofs.readiness.stands_at.Tie as tie

@@ -1,5 +1,5 @@
 -- `takes_over` meets its contract.
-use Rattle.srt_group_sending.specs.BackupReadiness.{no-carrier, other-carrier}
+use Rattle.srt_group_sending.specs.laws.BackupReadiness.{no-carrier, other-carrier}
 use Rattle.srt_group_sending.proofs.readiness.takes_over.Statement.{statement}
 use Rattle.srt_group_sending.proofs.readiness.takes_over.Tie as tie
 

@@ -5,7 +5,7 @@ use native.Mathlib.Omega.{arith}
 use borrow.Author.Count.{below-more}
 use borrow.Author.Needs.{needs}
 use lib.ListN.{getD}
-use Rattle.srt_group_state.specs.CellPassLaws.{lowest-found, none-free}
+use Rattle.srt_group_state.specs.laws.CellPassLaws.{lowest-found, none-free}
 use Rattle.srt_group_state.proofs.cells.lowest_free.Statement.{statement}
 use Rattle.srt_group_state.proofs.cells.lowest_free.Tie as tie
 

@@ -1,6 +1,6 @@
 -- `mark_event` meets its contract: an event that is not data has no cell.
 use borrow.Author.Needs.{needs}
-use Rattle.srt_group_state.specs.CellPassLaws.{no-data-passed, data-marked}
+use Rattle.srt_group_state.specs.laws.CellPassLaws.{no-data-passed, data-marked}
 use Rattle.srt_group_state.proofs.cells.mark_event.Statement.{statement}
 use Rattle.srt_group_state.proofs.cells.mark_event.Tie as tie
 

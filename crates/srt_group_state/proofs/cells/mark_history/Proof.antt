@@ -5,7 +5,7 @@ use native.Mathlib.Omega.{arith}
 use lib.ListN.{getD}
 use Rattle.srt_group_model.specs.Backup.{max-history}
 use Rattle.srt_group_tables.specs.Ring.{word-cell}
-use Rattle.srt_group_state.specs.CellPassLaws.{Marking, sent-are, word-names, marking-start, marking-on, marking-stopped, marking-done}
+use Rattle.srt_group_state.specs.laws.CellPassLaws.{Marking, sent-are, word-names, marking-start, marking-on, marking-stopped, marking-done}
 use borrow.Author.Needs.{needs}
 use Rattle.srt_group_state.proofs.cells.mark_history.Statement.{statement}
 use Rattle.srt_group_state.proofs.cells.mark_history.Tie as tie

@@ -5,7 +5,7 @@ use native.Mathlib.Omega.{arith}
 use borrow.Author.Needs.{needs}
 use Rattle.srt_group_model.specs.Cells.{queue-cells}
 use Rattle.srt_connection_members.specs.Members.{member-at}
-use Rattle.srt_group_state.specs.CellPassLaws.{Marking, queues-are, marking-start, marking-on, marking-stopped, marking-done}
+use Rattle.srt_group_state.specs.laws.CellPassLaws.{Marking, queues-are, marking-start, marking-on, marking-stopped, marking-done}
 use Rattle.srt_group_state.proofs.cells.mark_members.Statement.{statement}
 use Rattle.srt_group_state.proofs.cells.mark_members.Tie as tie
 

@@ -4,7 +4,7 @@ use Prim.Native.Nat.{_-_}
 use native.Mathlib.Omega.{arith}
 use borrow.Author.Needs.{needs}
 use Rattle.srt_group_tables.specs.Packets.{packet-at}
-use Rattle.srt_group_state.specs.CellPassLaws.{Marking, pending-are, cell-names, marking-start, marking-on, marking-stopped, marking-done}
+use Rattle.srt_group_state.specs.laws.CellPassLaws.{Marking, pending-are, cell-names, marking-start, marking-on, marking-stopped, marking-done}
 use Rattle.srt_group_state.proofs.cells.mark_pending.Statement.{statement}
 use Rattle.srt_group_state.proofs.cells.mark_pending.Tie as tie
 

@@ -4,7 +4,7 @@ use native.Mathlib.Omega.{arith}
 use borrow.Author.Needs.{needs}
 use lib.ListN.{length}
 use Rattle.srt_connection_queue.specs.Rows.{member-of}
-use Rattle.srt_group_state.specs.CellPassLaws.{Marking, queue-names, queue-is, event-names, marking-start, marking-on, marking-stopped, marking-done}
+use Rattle.srt_group_state.specs.laws.CellPassLaws.{Marking, queue-names, queue-is, event-names, marking-start, marking-on, marking-stopped, marking-done}
 use Rattle.srt_group_state.proofs.cells.mark_queue.Statement.{statement}
 use Rattle.srt_group_state.proofs.cells.mark_queue.Tie as tie
 

@@ -1,6 +1,6 @@
 -- `id_is_before` meets its contract. The loop's invariant: no member from `left` up to this one has its id.
 use native.Mathlib.Omega.{arith}
-use Rattle.srt_group_state.specs.Ids.{Later, later-start, later-one, later-none, before-there}
+use Rattle.srt_group_state.specs.laws.Ids.{Later, later-start, later-one, later-none, before-there}
 use borrow.Author.Needs.{needs}
 use Rattle.srt_group_state.proofs.ids.id_is_before.Statement.{statement}
 use Rattle.srt_group_state.proofs.ids.id_is_before.Tie as tie

@@ -1,7 +1,8 @@
 -- `id_twice` meets its contract. The loop's invariant: the ids before `index` are distinct.
 use Prim.Native.Nat.{_-_}
 use native.Mathlib.Omega.{arith}
-use Rattle.srt_group_state.specs.Ids.{Apart, id-at, apart-start, apart-one, apart-all, twice-here}
+use Rattle.srt_group_state.specs.Ids.{id-at}
+use Rattle.srt_group_state.specs.laws.Ids.{Apart, apart-start, apart-one, apart-all, twice-here}
 use borrow.Author.Needs.{needs}
 use Rattle.srt_group_state.proofs.ids.id_twice.Statement.{statement}
 use Rattle.srt_group_state.proofs.ids.id_twice.Tie as tie

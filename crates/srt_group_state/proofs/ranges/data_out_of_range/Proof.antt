@@ -1,8 +1,8 @@
 -- `data_out_of_range` meets its contract: a word is never above 64 bits.
 use native.Mathlib.Omega.{arith}
 use Rattle.srt_group_model.specs.Validity.{data-out-of-range}
-use Rattle.srt_group_model.specs.Reason.{or-assoc}
-use Rattle.srt_group_state.specs.Rules.{no-word-above}
+use Rattle.srt_group_model.specs.laws.Reason.{or-assoc}
+use Rattle.srt_group_state.specs.laws.Rules.{no-word-above}
 use Rattle.srt_group_state.proofs.ranges.data_out_of_range.Statement.{statement}
 use Rattle.srt_group_state.proofs.ranges.data_out_of_range.Tie as tie
 

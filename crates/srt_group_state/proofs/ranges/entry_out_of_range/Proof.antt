@@ -1,8 +1,9 @@
 -- `entry_out_of_range` meets its contract: a word is never above 64 bits.
 use native.Mathlib.Omega.{arith}
 use borrow.Author.Needs.{needs}
-use Rattle.srt_group_model.specs.Reason.{or-no}
-use Rattle.srt_group_state.specs.Rules.{entry-out-of-range, no-word-above}
+use Rattle.srt_group_model.specs.laws.Reason.{or-no}
+use Rattle.srt_group_state.specs.Rules.{entry-out-of-range}
+use Rattle.srt_group_state.specs.laws.Rules.{no-word-above}
 use Rattle.srt_group_state.proofs.ranges.entry_out_of_range.Statement.{statement}
 use Rattle.srt_group_state.proofs.ranges.entry_out_of_range.Tie as tie
 

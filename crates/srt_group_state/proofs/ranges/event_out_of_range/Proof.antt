@@ -1,7 +1,7 @@
 -- `event_out_of_range` meets its contract.
 use borrow.Author.Needs.{needs}
 use Rattle.srt_group_model.specs.Validity.{event-out-of-range}
-use Rattle.srt_group_model.specs.Reason.{or-assoc}
+use Rattle.srt_group_model.specs.laws.Reason.{or-assoc}
 use Rattle.srt_group_state.proofs.ranges.event_out_of_range.Statement.{statement}
 use Rattle.srt_group_state.proofs.ranges.event_out_of_range.Tie as tie
 

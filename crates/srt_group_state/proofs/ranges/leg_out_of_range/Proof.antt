@@ -2,8 +2,9 @@
 use native.Mathlib.Omega.{arith}
 use borrow.Author.Needs.{needs}
 use Rattle.srt_group_model.specs.Validity.{leg-out-of-range}
-use Rattle.srt_group_model.specs.Reason.{or-assoc}
-use Rattle.srt_group_state.specs.Rules.{flight-out-of-range, no-word-above}
+use Rattle.srt_group_model.specs.laws.Reason.{or-assoc}
+use Rattle.srt_group_state.specs.Rules.{flight-out-of-range}
+use Rattle.srt_group_state.specs.laws.Rules.{no-word-above}
 use Rattle.srt_group_state.proofs.ranges.leg_out_of_range.Statement.{statement}
 use Rattle.srt_group_state.proofs.ranges.leg_out_of_range.Tie as tie
 

@@ -1,6 +1,6 @@
 -- `leg_sequence_too_large` meets its contract.
 use Rattle.srt_group_model.specs.Validity.{leg-sequence-too-large}
-use Rattle.srt_group_model.specs.Reason.{or-assoc}
+use Rattle.srt_group_model.specs.laws.Reason.{or-assoc}
 use Rattle.srt_group_state.proofs.ranges.leg_sequence_too_large.Statement.{statement}
 use Rattle.srt_group_state.proofs.ranges.leg_sequence_too_large.Tie as tie
 

@@ -1,6 +1,6 @@
 -- `packet_out_of_range` meets its contract.
 use borrow.Author.Needs.{needs}
-use Rattle.srt_group_model.specs.Reason.{or-assoc}
+use Rattle.srt_group_model.specs.laws.Reason.{or-assoc}
 use Rattle.srt_group_state.specs.Rules.{packet-out-of-range}
 use Rattle.srt_group_state.proofs.ranges.packet_out_of_range.Statement.{statement}
 use Rattle.srt_group_state.proofs.ranges.packet_out_of_range.Tie as tie

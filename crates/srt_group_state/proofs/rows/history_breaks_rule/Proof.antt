@@ -4,7 +4,7 @@ use Prim.Native.Nat.{_-_}
 use native.Mathlib.Omega.{arith}
 use Rattle.srt_group_tables.specs.Ring.{arrays, entry-at}
 use Rattle.srt_group_state.specs.Rules.{entry-breaks-rule}
-use Rattle.srt_group_state.specs.Walks.{Passed, passed-start, passed-one, passed-all, stops-there, history-too-long, history-walked}
+use Rattle.srt_group_state.specs.laws.Walks.{Passed, passed-start, passed-one, passed-all, stops-there, history-too-long, history-walked}
 use borrow.Author.Needs.{needs}
 use Rattle.srt_group_state.proofs.rows.history_breaks_rule.Statement.{statement}
 use Rattle.srt_group_state.proofs.rows.history_breaks_rule.Tie as tie

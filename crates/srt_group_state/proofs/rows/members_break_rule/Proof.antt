@@ -2,9 +2,10 @@
 use Prim.Native.Nat.{_-_}
 use native.Mathlib.Omega.{arith}
 use borrow.Author.Needs.{needs}
-use Rattle.srt_connection_members.specs.Members.{member-at, members-of, lent-member}
+use Rattle.srt_connection_members.specs.Members.{member-at, members-of}
+use Rattle.srt_connection_members.specs.laws.Members.{lent-member}
 use Rattle.srt_group_state.specs.Rules.{member-breaks-rule}
-use Rattle.srt_group_state.specs.Walks.{Passed, passed-start, passed-one, passed-all, stops-there}
+use Rattle.srt_group_state.specs.laws.Walks.{Passed, passed-start, passed-one, passed-all, stops-there}
 use Rattle.srt_group_state.proofs.rows.members_break_rule.Statement.{statement}
 use Rattle.srt_group_state.proofs.rows.members_break_rule.Tie as tie
 

@@ -4,7 +4,7 @@ use native.Mathlib.Omega.{arith}
 use borrow.Author.Needs.{needs}
 use Rattle.srt_group_tables.specs.Packets.{packet-at}
 use Rattle.srt_group_state.specs.Rules.{packet-breaks-rule}
-use Rattle.srt_group_state.specs.Walks.{Passed, passed-start, passed-one, passed-all, stops-there}
+use Rattle.srt_group_state.specs.laws.Walks.{Passed, passed-start, passed-one, passed-all, stops-there}
 use Rattle.srt_group_state.proofs.rows.packets_break_rule.Statement.{statement}
 use Rattle.srt_group_state.proofs.rows.packets_break_rule.Tie as tie
 

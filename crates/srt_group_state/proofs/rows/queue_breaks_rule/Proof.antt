@@ -3,7 +3,7 @@ use Prim.Native.Nat.{_-_}
 use native.Mathlib.Omega.{arith}
 use borrow.Author.Needs.{needs}
 use Rattle.srt_group_state.specs.Rules.{event-breaks-rule}
-use Rattle.srt_group_state.specs.Walks.{Passed, passed-start, passed-one, passed-all, stops-there, queued, queue-too-long, queue-walked}
+use Rattle.srt_group_state.specs.laws.Walks.{Passed, passed-start, passed-one, passed-all, stops-there, queued, queue-too-long, queue-walked}
 use Rattle.srt_group_state.proofs.rows.queue_breaks_rule.Statement.{statement}
 use Rattle.srt_group_state.proofs.rows.queue_breaks_rule.Tie as tie
 

@@ -4,7 +4,7 @@ use native.Mathlib.Omega.{arith}
 use borrow.Author.Needs.{needs}
 use Rattle.srt_group_tables.specs.Waitings.{waiting-at}
 use Rattle.srt_group_state.specs.Rules.{waiting-out-of-range}
-use Rattle.srt_group_state.specs.Walks.{Passed, passed-start, passed-one, passed-all, stops-there}
+use Rattle.srt_group_state.specs.laws.Walks.{Passed, passed-start, passed-one, passed-all, stops-there}
 use Rattle.srt_group_state.proofs.rows.waiting_breaks_rule.Statement.{statement}
 use Rattle.srt_group_state.proofs.rows.waiting_breaks_rule.Tie as tie
 

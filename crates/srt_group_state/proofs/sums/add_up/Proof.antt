@@ -2,7 +2,8 @@
 use mathlib.Core.Path.{sym, _∙_}
 use Prim.Native.Nat.{_-_, _≤_}
 use native.Mathlib.Omega.{arith}
-use Rattle.srt_group_state.specs.Sums.{Adding, adding-start, place-inside, sum-fits, added-one, nowhere-there, added-all}
+use Rattle.srt_group_state.specs.Sums.{Adding}
+use Rattle.srt_group_state.specs.laws.Sums.{adding-start, place-inside, sum-fits, added-one, nowhere-there, added-all}
 use borrow.Author.Needs.{needs}
 use Rattle.srt_group_state.proofs.sums.add_up.Statement.{statement}
 use Rattle.srt_group_state.proofs.sums.add_up.Tie as tie

@@ -2,7 +2,8 @@
 use mathlib.Core.Path.{sym}
 use borrow.Author.Tests.{eq-eqb, ne-eqb}
 use Rattle.srt_group_model.specs.Cells.{is-data}
-use Rattle.srt_group_state.specs.Sums.{event-count, counted-yes, counted-no}
+use Rattle.srt_group_state.specs.Sums.{event-count}
+use Rattle.srt_group_state.specs.laws.Sums.{counted-yes, counted-no}
 use Rattle.srt_group_state.proofs.sums.data_count.Statement.{statement}
 use Rattle.srt_group_state.proofs.sums.data_count.Tie as tie
 

@@ -1,6 +1,6 @@
 -- `member_differs` meets its contract.
 use Rattle.srt_connection_queue.specs.Rows.{member-of}
-use Rattle.srt_group_state.specs.Sums.{queue-good, differs-tested}
+use Rattle.srt_group_state.specs.laws.Sums.{queue-good, differs-tested}
 use borrow.Author.Needs.{needs}
 use Rattle.srt_group_state.proofs.sums.member_differs.Statement.{statement}
 use Rattle.srt_group_state.proofs.sums.member_differs.Tie as tie

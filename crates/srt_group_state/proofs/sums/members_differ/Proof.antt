@@ -2,10 +2,11 @@
 use mathlib.Core.Path.{refl, ap, _∙_}
 use Prim.Native.Nat.{_-_}
 use native.Mathlib.Omega.{arith}
-use Rattle.srt_connection_members.specs.Members.{lent-member}
+use Rattle.srt_connection_members.specs.laws.Members.{lent-member}
 use Rattle.srt_group_state.specs.Rules.{member-breaks-rule}
-use Rattle.srt_group_state.specs.Walks.{Passed, passed-start, passed-one, passed-all, stops-there}
-use Rattle.srt_group_state.specs.Sums.{differs, member-differs, index-of, sums-differ, member-good}
+use Rattle.srt_group_state.specs.laws.Walks.{Passed, passed-start, passed-one, passed-all, stops-there}
+use Rattle.srt_group_state.specs.Sums.{differs, member-differs, index-of, sums-differ}
+use Rattle.srt_group_state.specs.laws.Sums.{member-good}
 use borrow.Author.Needs.{needs}
 use Rattle.srt_group_state.proofs.sums.members_differ.Statement.{statement}
 use Rattle.srt_group_state.proofs.sums.members_differ.Tie as tie

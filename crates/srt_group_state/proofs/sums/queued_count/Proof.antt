@@ -1,7 +1,7 @@
 -- `queued_count` meets its contract. The loop's invariant: `sum` is that of the events before `at`.
 use Prim.Native.Nat.{_-_}
 use native.Mathlib.Omega.{arith}
-use Rattle.srt_group_state.specs.Sums.{Queued, queued-start, queued-fits, queued-one, queued-all, queue-short, queued-count-small}
+use Rattle.srt_group_state.specs.laws.Sums.{Queued, queued-start, queued-fits, queued-one, queued-all, queue-short, queued-count-small}
 use borrow.Author.Needs.{needs}
 use Rattle.srt_group_state.proofs.sums.queued_count.Statement.{statement}
 use Rattle.srt_group_state.proofs.sums.queued_count.Tie as tie

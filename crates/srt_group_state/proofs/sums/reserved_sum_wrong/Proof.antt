@@ -2,7 +2,7 @@
 use mathlib.Core.Path.{refl}
 use native.Mathlib.Omega.{arith}
 use Rattle.srt_group_model.specs.Tools.{any}
-use Rattle.srt_group_state.specs.Sums.{sums-small, wrong-nowhere, wrong-own, wrong-members}
+use Rattle.srt_group_state.specs.laws.Sums.{sums-small, wrong-nowhere, wrong-own, wrong-members}
 use borrow.Author.Needs.{needs}
 use Rattle.srt_group_state.proofs.sums.reserved_sum_wrong.Statement.{statement}
 use Rattle.srt_group_state.proofs.sums.reserved_sum_wrong.Tie as tie

@@ -1,7 +1,7 @@
 -- `sum_place` meets its contract.
 use mathlib.Core.Path.{sym, _∙_}
 use borrow.Author.Tests.{eq-eqb, ne-eqb}
-use Rattle.srt_group_state.specs.Sums.{place-own, place-held}
+use Rattle.srt_group_state.specs.laws.Sums.{place-own, place-held}
 use borrow.Author.Needs.{needs}
 use Rattle.srt_group_state.proofs.sums.sum_place.Statement.{statement}
 use Rattle.srt_group_state.proofs.sums.sum_place.Tie as tie

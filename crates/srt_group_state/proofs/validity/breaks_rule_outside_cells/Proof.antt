@@ -1,6 +1,6 @@
 -- `breaks_rule_outside_cells` meets its contract.
 use borrow.Author.Needs.{needs}
-use Rattle.srt_group_state.specs.Outside.{outside-by-tables, outside-by-history}
+use Rattle.srt_group_state.specs.laws.Outside.{outside-by-tables, outside-by-history}
 use Rattle.srt_group_state.proofs.validity.breaks_rule_outside_cells.Statement.{statement}
 use Rattle.srt_group_state.proofs.validity.breaks_rule_outside_cells.Tie as tie
 

@@ -1,5 +1,5 @@
 -- `count_above_limit` meets its contract.
-use Rattle.srt_group_model.specs.Reason.{or-assoc}
+use Rattle.srt_group_model.specs.laws.Reason.{or-assoc}
 use Rattle.srt_group_state.specs.Outside.{counts-above-limit}
 use Rattle.srt_group_state.proofs.validity.count_above_limit.Statement.{statement}
 use Rattle.srt_group_state.proofs.validity.count_above_limit.Tie as tie

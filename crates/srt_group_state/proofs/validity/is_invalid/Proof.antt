@@ -3,7 +3,7 @@ use mathlib.Core.Path.{sym, _∙_}
 use native.Mathlib.Omega.{arith}
 use borrow.Author.Needs.{needs}
 use Rattle.srt_group_tables.specs.Ring.{arrays}
-use Rattle.srt_group_state.specs.Tested.{tested-broken, tested-marked, within, ring-fits}
+use Rattle.srt_group_state.specs.laws.Tested.{tested-broken, tested-marked, within, ring-fits}
 use Rattle.srt_group_state.proofs.validity.is_invalid.Statement.{statement}
 use Rattle.srt_group_state.proofs.validity.is_invalid.Tie as tie
 

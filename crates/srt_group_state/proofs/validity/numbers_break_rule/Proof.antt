@@ -1,6 +1,6 @@
 -- `numbers_break_rule` meets its contract.
 use borrow.Author.Needs.{needs}
-use Rattle.srt_group_state.specs.Outside.{numbers-tested}
+use Rattle.srt_group_state.specs.laws.Outside.{numbers-tested}
 use Rattle.srt_group_state.proofs.validity.numbers_break_rule.Statement.{statement}
 use Rattle.srt_group_state.proofs.validity.numbers_break_rule.Tie as tie
 

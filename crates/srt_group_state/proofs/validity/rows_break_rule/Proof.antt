@@ -1,5 +1,5 @@
 -- `rows_break_rule` meets its contract.
-use Rattle.srt_group_state.specs.Outside.{rows-tested}
+use Rattle.srt_group_state.specs.laws.Outside.{rows-tested}
 use borrow.Author.Needs.{needs}
 use Rattle.srt_group_state.proofs.validity.rows_break_rule.Statement.{statement}
 use Rattle.srt_group_state.proofs.validity.rows_break_rule.Tie as tie

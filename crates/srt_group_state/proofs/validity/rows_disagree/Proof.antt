@@ -1,7 +1,7 @@
 -- `rows_disagree` meets its contract.
 use mathlib.Core.Path.{sym, _∙_}
 use native.Mathlib.Omega.{arith}
-use Rattle.srt_group_state.specs.Outside.{members-good, packets-good, disagree-by-id, disagree-else}
+use Rattle.srt_group_state.specs.laws.Outside.{members-good, packets-good, disagree-by-id, disagree-else}
 use borrow.Author.Needs.{needs}
 use Rattle.srt_group_state.proofs.validity.rows_disagree.Statement.{statement}
 use Rattle.srt_group_state.proofs.validity.rows_disagree.Tie as tie

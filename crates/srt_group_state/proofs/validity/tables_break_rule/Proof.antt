@@ -1,6 +1,6 @@
 -- `tables_break_rule` meets its contract.
 use mathlib.Core.Path.{sym, _∙_}
-use Rattle.srt_group_state.specs.Outside.{counts-within, tables-by-core, tables-by-rows, tables-else, tables-are}
+use Rattle.srt_group_state.specs.laws.Outside.{counts-within, tables-by-core, tables-by-rows, tables-else, tables-are}
 use borrow.Author.Needs.{needs}
 use Rattle.srt_group_state.proofs.validity.tables_break_rule.Statement.{statement}
 use Rattle.srt_group_state.proofs.validity.tables_break_rule.Tie as tie

@@ -1,6 +1,6 @@
 -- `words_out_of_range` meets its contract.
 use Rattle.srt_group_model.specs.Tools.{any}
-use Rattle.srt_group_model.specs.Reason.{or-assoc, or-no}
+use Rattle.srt_group_model.specs.laws.Reason.{or-assoc, or-no}
 use Rattle.srt_group_state.specs.Outside.{words-out-of-range}
 use Rattle.srt_group_state.proofs.validity.words_out_of_range.Statement.{statement}
 use Rattle.srt_group_state.proofs.validity.words_out_of_range.Tie as tie

@@ -4,7 +4,7 @@ use Prim.Native.Nat.{ℕ}
 use native.Mathlib.Omega.{arith}
 use borrow.Author.Tests.{not-true, not-false}
 use Rattle.srt_protocol.specs.Sequence.{sequence-before}
-use Rattle.srt_group_tables.specs.Ring.{Trimming, trimmed-one, trimmed-there, trimmed-all}
+use Rattle.srt_group_tables.specs.laws.Ring.{Trimming, trimmed-one, trimmed-there, trimmed-all}
 use borrow.Author.Needs.{needs}
 use Rattle.srt_group_tables.proofs.history.drop_before.Statement.{statement}
 use Rattle.srt_group_tables.proofs.history.drop_before.Tie as tie

@@ -1,5 +1,6 @@
 -- `entry_at` meets its contract: the law `entry-shown`.
-use Rattle.srt_group_tables.specs.Ring.{arrays, entry-shown}
+use Rattle.srt_group_tables.specs.Ring.{arrays}
+use Rattle.srt_group_tables.specs.laws.Ring.{entry-shown}
 use borrow.Author.Needs.{needs}
 use Rattle.srt_group_tables.proofs.history.entry_at.Statement.{statement}
 use Rattle.srt_group_tables.proofs.history.entry_at.Tie as tie

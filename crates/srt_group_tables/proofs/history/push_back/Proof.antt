@@ -1,7 +1,7 @@
 -- `push_back` meets its contract, with room and without.
 use mathlib.Core.Path.{sym}
 use native.Mathlib.Omega.{arith}
-use Rattle.srt_group_tables.specs.Ring.{push-with-room, push-of-full}
+use Rattle.srt_group_tables.specs.laws.Ring.{push-with-room, push-of-full}
 use borrow.Author.Needs.{needs}
 use Rattle.srt_group_tables.proofs.history.push_back.Statement.{statement}
 use Rattle.srt_group_tables.proofs.history.push_back.Tie as tie

@@ -1,6 +1,6 @@
 -- `cell_at` meets its contract: the index word tells the cell.
 use native.Mathlib.Omega.{arith}
-use Rattle.srt_group_tables.specs.PacketIndex.{index-cell}
+use Rattle.srt_group_tables.specs.laws.PacketIndex.{index-cell}
 use borrow.Author.Needs.{needs}
 use Rattle.srt_group_tables.proofs.pending.cell_at.Statement.{statement}
 use Rattle.srt_group_tables.proofs.pending.cell_at.Tie as tie

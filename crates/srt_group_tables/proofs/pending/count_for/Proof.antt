@@ -1,5 +1,5 @@
 -- `count_for` meets its contract: one law for each answer.
-use Rattle.srt_group_tables.specs.PacketLaws.{count-for-is, count-for-owned, count-for-other}
+use Rattle.srt_group_tables.specs.laws.PacketLaws.{count-for-is, count-for-owned, count-for-other}
 use borrow.Author.Needs.{needs}
 use Rattle.srt_group_tables.proofs.pending.count_for.Statement.{statement}
 use Rattle.srt_group_tables.proofs.pending.count_for.Tie as tie

@@ -1,5 +1,5 @@
 -- `count_owned` meets its contract: one law for each answer.
-use Rattle.srt_group_tables.specs.PacketLaws.{count-owned-is, count-owned-not}
+use Rattle.srt_group_tables.specs.laws.PacketLaws.{count-owned-is, count-owned-not}
 use borrow.Author.Needs.{needs}
 use Rattle.srt_group_tables.proofs.pending.count_owned.Statement.{statement}
 use Rattle.srt_group_tables.proofs.pending.count_owned.Tie as tie

@@ -3,7 +3,7 @@ use mathlib.Core.Path.{sym, ap, _∙_}
 use native.Mathlib.Omega.{arith}
 use borrow.Author.Tests.{not-true, not-false}
 use Rattle.srt_protocol.specs.Sequence.{sequence-distance}
-use Rattle.srt_group_tables.specs.PacketLaws.{at-in-use, farther-not-owned, farther-first, farther-here, farther-there}
+use Rattle.srt_group_tables.specs.laws.PacketLaws.{at-in-use, farther-not-owned, farther-first, farther-here, farther-there}
 use borrow.Author.Needs.{needs}
 use Rattle.srt_group_tables.proofs.pending.farther.Statement.{statement}
 use Rattle.srt_group_tables.proofs.pending.farther.Tie as tie

@@ -1,7 +1,7 @@
 -- `farthest_owned` meets its contract. The loop's invariant: `best` is the farthest of the rows from `left` on.
 use mathlib.Core.Path.{refl}
 use native.Mathlib.Omega.{arith}
-use Rattle.srt_group_tables.specs.PacketLaws.{Looking, looking-start, looked-one, looked-all}
+use Rattle.srt_group_tables.specs.laws.PacketLaws.{Looking, looking-start, looked-one, looked-all}
 use borrow.Author.Needs.{needs}
 use Rattle.srt_group_tables.proofs.pending.farthest_owned.Statement.{statement}
 use Rattle.srt_group_tables.proofs.pending.farthest_owned.Tie as tie

@@ -1,7 +1,7 @@
 -- `find` meets its contract: what stands at the sequence's place tells whether it is held.
 use mathlib.Core.Path.{sym, _∙_}
 use native.Mathlib.Omega.{arith}
-use Rattle.srt_group_tables.specs.PacketLaws.{find-there, find-other, find-past}
+use Rattle.srt_group_tables.specs.laws.PacketLaws.{find-there, find-other, find-past}
 use borrow.Author.Needs.{needs}
 use Rattle.srt_group_tables.proofs.pending.find.Statement.{statement}
 use Rattle.srt_group_tables.proofs.pending.find.Tie as tie

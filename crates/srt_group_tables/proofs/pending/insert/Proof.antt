@@ -4,8 +4,8 @@ use Prim.Native.Nat.{_+_, _*_}
 use lib.ListN.{length}
 use Rattle.srt_protocol.specs.Cells.{max-cells}
 use native.Mathlib.Omega.{arith}
-use Rattle.srt_group_tables.specs.PacketIndex.{opened-enough}
-use Rattle.srt_group_tables.specs.PacketLaws.{packet-inserted}
+use Rattle.srt_group_tables.specs.laws.PacketIndex.{opened-enough}
+use Rattle.srt_group_tables.specs.laws.PacketLaws.{packet-inserted}
 use borrow.Author.Needs.{needs}
 use Rattle.srt_group_tables.proofs.pending.insert.Statement.{statement}
 use Rattle.srt_group_tables.proofs.pending.insert.Tie as tie

@@ -1,7 +1,7 @@
 -- `is_ascending` meets its contract. The loop's invariant: the packets before `next` ascend.
 use Prim.Native.Nat.{_-_}
 use native.Mathlib.Omega.{arith}
-use Rattle.srt_group_tables.specs.PacketLaws.{Ascending, ascending-start, ascending-one, ascending-all, ascending-not}
+use Rattle.srt_group_tables.specs.laws.PacketLaws.{Ascending, ascending-start, ascending-one, ascending-all, ascending-not}
 use Rattle.srt_group_tables.proofs.pending.is_ascending.Statement.{statement}
 use Rattle.srt_group_tables.proofs.pending.is_ascending.Tie as tie
 

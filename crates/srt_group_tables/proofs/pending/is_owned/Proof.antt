@@ -3,7 +3,7 @@ use mathlib.Core.Path.{ap}
 use Prim.Native.Nat.{ℕ}
 use lib.Dec.{eqb}
 use native.Mathlib.Omega.{arith}
-use Rattle.srt_group_tables.specs.PacketIndex.{owned-word}
+use Rattle.srt_group_tables.specs.laws.PacketIndex.{owned-word}
 use borrow.Author.Needs.{needs}
 use Rattle.srt_group_tables.proofs.pending.is_owned.Statement.{statement}
 use Rattle.srt_group_tables.proofs.pending.is_owned.Tie as tie

@@ -3,8 +3,8 @@ use mathlib.Core.Path.{sym, ap}
 use Prim.Native.Nat.{ℕ, _+_}
 use native.Mathlib.Omega.{arith}
 use Rattle.srt_protocol.specs.Sequence.{half}
-use Rattle.srt_group_tables.specs.PacketIndex.{sequence-small}
-use Rattle.srt_group_tables.specs.PacketLaws.{nearest-none, nearest-wraps, nearest-lowest}
+use Rattle.srt_group_tables.specs.laws.PacketIndex.{sequence-small}
+use Rattle.srt_group_tables.specs.laws.PacketLaws.{nearest-none, nearest-wraps, nearest-lowest}
 use borrow.Author.Needs.{needs}
 use Rattle.srt_group_tables.proofs.pending.nearest.Statement.{statement}
 use Rattle.srt_group_tables.proofs.pending.nearest.Tie as tie

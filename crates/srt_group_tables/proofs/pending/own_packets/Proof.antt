@@ -2,7 +2,7 @@
 -- own, and each packet is as it was or has.
 use Prim.Native.Nat.{_-_}
 use native.Mathlib.Omega.{arith}
-use Rattle.srt_group_tables.specs.PacketLaws.{Owning, owning-start, owned-one, owned-not, owned-all}
+use Rattle.srt_group_tables.specs.laws.PacketLaws.{Owning, owning-start, owned-one, owned-not, owned-all}
 use borrow.Author.Needs.{needs}
 use Rattle.srt_group_tables.proofs.pending.own_packets.Statement.{statement}
 use Rattle.srt_group_tables.proofs.pending.own_packets.Tie as tie

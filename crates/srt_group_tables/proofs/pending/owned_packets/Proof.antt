@@ -2,7 +2,7 @@
 use mathlib.Core.Path.{refl}
 use native.Mathlib.Omega.{arith}
 use Rattle.srt_group_model.specs.Removal.{is-owned}
-use Rattle.srt_group_tables.specs.PacketLaws.{Summing, summing-start, sum-fits, summed-one, summed-all}
+use Rattle.srt_group_tables.specs.laws.PacketLaws.{Summing, summing-start, sum-fits, summed-one, summed-all}
 use borrow.Author.Needs.{needs}
 use Rattle.srt_group_tables.proofs.pending.owned_packets.Statement.{statement}
 use Rattle.srt_group_tables.proofs.pending.owned_packets.Tie as tie

@@ -1,7 +1,7 @@
 -- `packet` meets its contract: the part that is lent is the row of the packet's cell.
 use mathlib.Core.Path.{_∙_}
 use native.Mathlib.Omega.{arith}
-use Rattle.srt_group_tables.specs.PacketIndex.{packet-part}
+use Rattle.srt_group_tables.specs.laws.PacketIndex.{packet-part}
 use borrow.Author.Needs.{needs}
 use Rattle.srt_group_tables.proofs.pending.packet.Statement.{statement}
 use Rattle.srt_group_tables.proofs.pending.packet.Tie as tie

@@ -1,7 +1,7 @@
 -- `place` meets its contract. The loop's invariant: the place is between `low` and `high`.
 use Prim.Native.Nat.{_-_}
 use native.Mathlib.Omega.{arith}
-use Rattle.srt_group_tables.specs.PacketLaws.{Between, between-above, between-below}
+use Rattle.srt_group_tables.specs.laws.PacketLaws.{Between, between-above, between-below}
 use Rattle.srt_group_tables.proofs.pending.place.Statement.{statement}
 use Rattle.srt_group_tables.proofs.pending.place.Tie as tie
 

@@ -1,7 +1,7 @@
 -- `put_row` meets its contract: the part that was lent comes back as the packet's row.
 use native.Mathlib.Omega.{arith}
-use Rattle.word_rows.specs.Rows.{row-back}
-use Rattle.srt_group_tables.specs.PacketIndex.{eight-words}
+use Rattle.word_rows.specs.laws.Rows.{row-back}
+use Rattle.srt_group_tables.specs.laws.PacketIndex.{eight-words}
 use borrow.Author.Needs.{needs}
 use Rattle.srt_group_tables.proofs.pending.put_row.Statement.{statement}
 use Rattle.srt_group_tables.proofs.pending.put_row.Tie as tie

@@ -1,6 +1,6 @@
 -- `remove` meets its contract: the index words behind the place move down by one.
 use native.Mathlib.Omega.{arith}
-use Rattle.srt_group_tables.specs.PacketLaws.{packet-removed}
+use Rattle.srt_group_tables.specs.laws.PacketLaws.{packet-removed}
 use borrow.Author.Needs.{needs}
 use Rattle.srt_group_tables.proofs.pending.remove.Statement.{statement}
 use Rattle.srt_group_tables.proofs.pending.remove.Tie as tie

@@ -5,7 +5,7 @@ use Prim.Native.Nat.{_-_}
 use native.Mathlib.Omega.{arith}
 use Rattle.srt_group_model.specs.declared.Packet.{Packet}
 use Rattle.srt_group_model.specs.Nearest.{is-covered}
-use Rattle.srt_group_tables.specs.PacketLaws.{Keeping, keeping-start, kept-not, kept-one, kept-all, covered-packet}
+use Rattle.srt_group_tables.specs.laws.PacketLaws.{Keeping, keeping-start, kept-not, kept-one, kept-all, covered-packet}
 use Rattle.srt_group_tables.proofs.pending.remove_covered.Statement.{statement}
 use Rattle.srt_group_tables.proofs.pending.remove_covered.Tie as tie
 

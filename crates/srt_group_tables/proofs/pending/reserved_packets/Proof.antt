@@ -3,7 +3,7 @@ use mathlib.Core.Path.{refl}
 use native.Mathlib.Omega.{arith}
 use Rattle.srt_group_model.specs.Validity.{held-count}
 use Rattle.srt_group_tables.specs.Packets.{is-held-for}
-use Rattle.srt_group_tables.specs.PacketLaws.{Summing, summing-start, sum-fits, summed-one, summed-all}
+use Rattle.srt_group_tables.specs.laws.PacketLaws.{Summing, summing-start, sum-fits, summed-one, summed-all}
 use borrow.Author.Needs.{needs}
 use Rattle.srt_group_tables.proofs.pending.reserved_packets.Statement.{statement}
 use Rattle.srt_group_tables.proofs.pending.reserved_packets.Tie as tie

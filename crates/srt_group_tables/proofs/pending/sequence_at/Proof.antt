@@ -1,5 +1,5 @@
 -- `sequence_at` meets its contract: the index word tells the sequence.
-use Rattle.srt_group_tables.specs.PacketIndex.{index-sequence}
+use Rattle.srt_group_tables.specs.laws.PacketIndex.{index-sequence}
 use borrow.Author.Needs.{needs}
 use Rattle.srt_group_tables.proofs.pending.sequence_at.Statement.{statement}
 use Rattle.srt_group_tables.proofs.pending.sequence_at.Tie as tie

@@ -2,7 +2,7 @@
 use native.Mathlib.Omega.{arith}
 use lib.ListN.{length-set}
 use Rattle.srt_group_tables.specs.Packets.{row-words}
-use Rattle.srt_group_tables.specs.PacketIndex.{all-stored}
+use Rattle.srt_group_tables.specs.laws.PacketIndex.{all-stored}
 use borrow.Author.Needs.{needs}
 use Rattle.srt_group_tables.proofs.pending.write_row.Statement.{statement}
 use Rattle.srt_group_tables.proofs.pending.write_row.Tie as tie

@@ -1,6 +1,6 @@
 -- `pop_front` meets its contract: the rows behind the first move down by one.
 use native.Mathlib.Omega.{arith}
-use Rattle.srt_group_tables.specs.Waitings.{waiting-popped}
+use Rattle.srt_group_tables.specs.laws.Waitings.{waiting-popped}
 use borrow.Author.Needs.{needs}
 use Rattle.srt_group_tables.proofs.waiting.pop_front.Statement.{statement}
 use Rattle.srt_group_tables.proofs.waiting.pop_front.Tie as tie

@@ -4,8 +4,9 @@ use mathlib.Core.List.{List, [], _∷_, _++_}
 use Prim.Native.Nat.{ℕ, _+_}
 use native.Mathlib.Omega.{arith}
 use lib.ListN.{length}
-use Rattle.word_rows.specs.Rows.{row-back}
-use Rattle.srt_group_tables.specs.Waitings.{waiting-words, waitings, HoldsWaiting, three-words, waiting-pushed}
+use Rattle.word_rows.specs.laws.Rows.{row-back}
+use Rattle.srt_group_tables.specs.Waitings.{waiting-words, waitings, HoldsWaiting}
+use Rattle.srt_group_tables.specs.laws.Waitings.{three-words, waiting-pushed}
 use borrow.Author.Needs.{needs}
 use Rattle.srt_group_tables.proofs.waiting.push_back.Statement.{statement}
 use Rattle.srt_group_tables.proofs.waiting.push_back.Tie as tie

@@ -1,6 +1,6 @@
 -- `waiting_event` meets its contract: the part that is lent is the row.
 use mathlib.Core.Path.{ap, _∙_}
-use Rattle.word_rows.specs.Rows.{row-part}
+use Rattle.word_rows.specs.laws.Rows.{row-part}
 use Rattle.srt_group_tables.specs.Waitings.{waiting-of, waiting-at}
 use borrow.Author.Needs.{needs}
 use Rattle.srt_group_tables.proofs.waiting.waiting_event.Statement.{statement}

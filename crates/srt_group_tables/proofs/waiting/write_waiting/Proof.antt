@@ -1,7 +1,7 @@
 -- `write_waiting` meets its contract: every word of the row is stored.
 use native.Mathlib.Omega.{arith}
 use Rattle.srt_group_tables.specs.Waitings.{waiting-words}
-use Rattle.srt_group_tables.specs.PacketIndex.{all-stored}
+use Rattle.srt_group_tables.specs.laws.PacketIndex.{all-stored}
 use borrow.Author.Needs.{needs}
 use Rattle.srt_group_tables.proofs.waiting.write_waiting.Statement.{statement}
 use Rattle.srt_group_tables.proofs.waiting.write_waiting.Tie as tie

@@ -2,7 +2,7 @@
 use mathlib.Core.Path.{sym}
 use native.Mathlib.Omega.{arith}
 use borrow.Author.Needs.{needs}
-use Rattle.srt_protocol.specs.CellLaws.{cell-short, cell-beyond, cell-too-small, cell-accepted}
+use Rattle.srt_protocol.specs.laws.CellLaws.{cell-short, cell-beyond, cell-too-small, cell-accepted}
 use Rattle.srt_protocol.proofs.received_payload.check_cell.Statement.{statement}
 use Rattle.srt_protocol.proofs.received_payload.check_cell.Tie as tie
 

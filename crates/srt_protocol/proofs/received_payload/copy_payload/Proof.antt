@@ -6,7 +6,7 @@ use borrow.Author.Needs.{needs}
 use Prim.Native.Nat.{_*_}
 use lib.ListN.{length}
 use Rattle.srt_protocol.specs.Cells.{cell-size, head-size}
-use Rattle.srt_protocol.specs.CellLaws.{cell-within, output-short, output-enough}
+use Rattle.srt_protocol.specs.laws.CellLaws.{cell-within, output-short, output-enough}
 use Rattle.srt_protocol.proofs.Parts.{range-copied}
 use Rattle.srt_protocol.proofs.received_payload.copy_payload.Statement.{statement}
 use Rattle.srt_protocol.proofs.received_payload.copy_payload.Tie as tie

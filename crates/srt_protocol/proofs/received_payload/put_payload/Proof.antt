@@ -5,7 +5,7 @@ use Prim.Native.Nat.{_*_}
 use native.Mathlib.Omega.{arith}
 use borrow.Author.Needs.{needs}
 use Rattle.srt_protocol.specs.Cells.{cell-size}
-use Rattle.srt_protocol.specs.CellLaws.{cell-within}
+use Rattle.srt_protocol.specs.laws.CellLaws.{cell-within}
 use Rattle.srt_protocol.proofs.Parts.{part-copied}
 use Rattle.srt_protocol.proofs.received_payload.put_payload.Statement.{statement}
 use Rattle.srt_protocol.proofs.received_payload.put_payload.Tie as tie

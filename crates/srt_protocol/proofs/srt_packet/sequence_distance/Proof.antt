@@ -1,7 +1,7 @@
 -- `sequence_distance` meets its contract: the law `distance-wrapped`, at half of 2^31.
 use borrow.Author.Needs.{needs}
 use lib.Dec.{lit<}
-use Rattle.srt_protocol.specs.Circle.{distance-wrapped}
+use Rattle.srt_protocol.specs.laws.Circle.{distance-wrapped}
 use Rattle.srt_protocol.specs.Sequence.{half}
 use Rattle.srt_protocol.proofs.srt_packet.sequence_distance.Statement.{statement}
 use Rattle.srt_protocol.proofs.srt_packet.sequence_distance.Tie as tie

@@ -1,6 +1,7 @@
 -- `word_distance` meets its contract: the distance to a number is that to its place on the circle.
 use borrow.Author.Needs.{needs}
-use Rattle.srt_protocol.specs.Circle.{distance, distance-to-mod}
+use Rattle.srt_protocol.specs.Circle.{distance}
+use Rattle.srt_protocol.specs.laws.Circle.{distance-to-mod}
 use Rattle.srt_protocol.specs.Sequence.{half}
 use Rattle.srt_protocol.proofs.srt_packet.word_distance.Statement.{statement}
 use Rattle.srt_protocol.proofs.srt_packet.word_distance.Tie as tie

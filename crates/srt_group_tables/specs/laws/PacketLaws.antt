@@ -1,0 +1,819 @@
+-- Laws of the pending packets: a search that halves, a packet put into its place and one taken out, the nearest and the
+-- farthest, sums of counts.
+use mathlib.Core.Path.{_≡_, refl, ap, sym, subst, _∙_}
+use mathlib.Core.Bool.{Bool, true, false, not, _||_}
+use mathlib.Core.List.{List, [], _∷_, _++_, append-nil, append-assoc}
+use mathlib.Core.Option.{none, some}
+use mathlib.Core.Logic.{⊎-elim}
+use Prim.Native.Nat.{ℕ, zero, suc, _+_, _*_, _-_, _^_, _≤_, _<_}
+use native.Mathlib.Nat.{eq-or-lt-of-le, zero-add}
+use native.Mathlib.Numerals.{add-one}
+use native.Mathlib.Decide.{decLt, ℕ-discrete}
+use native.Mathlib.Omega.{arith}
+use lib.ListN.{length, drop, getD, set, length-set, drop-of-length-le}
+use lib.Seq.{drop-cons}
+use lib.Dec.{ltb, leb, eqb}
+use borrow.Author.Tests.{lt-ltb, le-ltb, le-leb, lt-leb, eq-eqb, ne-eqb, ltb-true}
+use Rattle.word_rows.specs.Tab.{tab, removed}
+use Rattle.word_rows.specs.laws.Tab.{tab-at, tab-same, tab-none, tab-push, tab-insert, tab-remove, tab-length, inserted}
+use Rattle.word_rows.specs.Rows.{Opened, Closed}
+use Rattle.srt_protocol.specs.Sequence.{half, sequence-distance}
+use Rattle.srt_protocol.specs.Cells.{max-cells}
+use Rattle.srt_group_model.specs.declared.Packet.{Packet}
+use Rattle.srt_group_model.specs.laws.Reason.{and-left, and-right}
+use Rattle.srt_group_model.specs.Tools.{if_then_else_, if-some_give_otherwise_, or-else, any, place-of, such-that, each, total}
+use Rattle.srt_group_model.specs.Cells.{is-among}
+use Rattle.srt_group_model.specs.Sound.{pending-cells}
+use Rattle.srt_group_model.specs.Nearest.{sequence-of, has-sequence, is-held, insert, lowest, nearest, is-covered, farther, farthest}
+use Rattle.srt_group_model.specs.Removal.{own-packet, is-owned}
+use Rattle.srt_group_model.specs.Validity.{max-pending, ascends}
+use Rattle.srt_group_tables.specs.declared.pending.Found.{Found}
+use Rattle.srt_group_tables.specs.declared.pending.Found.the-variants.{At, Nothing}
+use Rattle.srt_group_tables.specs.Packets.{pending-size, packet-row-size, index-rows, packet-at, packets, Placed, Holds, found, place-found, packet-found, in-use, FoundPacket, with-owned-packet, count-if, is-held-for, CountsFit}
+use Rattle.srt_group_tables.specs.laws.Packets.{by-group}
+use Rattle.srt_group_tables.specs.laws.PacketIndex.{cell-of, indexed-there, indexed-elsewhere, index-lent, index-back, back-length, closed-low, closed-high, opened-low, opened-high, put-in, put-length, put-there, put-elsewhere, member-word, same-member, owned-same-cell, owned-other-cell}
+
+pub drop-zero : (l : List Packet) → drop 0 l ≡ l
+drop-zero [] = refl
+drop-zero (p ∷ l) = refl
+
+pub each-tab : {A B : Type 0} (f : A → B) (n : ℕ) (g : ℕ → A) → each f (tab n g) ≡ tab n (λ i. f (g i))
+unfolding each tab
+each-tab f zero g = refl
+each-tab f (suc n) g = cc (each-tab f n (λ i. g (suc i)))
+
+-- ---- ascending packets
+
+-- each sequence is below the next
+module _ (f : ℕ → Packet) where
+  next-below : (n : ℕ) → ascends (tab (suc (suc n)) f) ≡ true → sequence-of (f 0) < sequence-of (f 1)
+  unfolding ascends tab
+  next-below n up = ltb-true _ _ (and-left (ltb (sequence-of (f 0)) (sequence-of (f 1))) (ascends (tab (suc n) (λ i. f (suc i)))) up)
+
+  rest-ascends : (n : ℕ) → ascends (tab (suc (suc n)) f) ≡ true → ascends (tab (suc n) (λ i. f (suc i))) ≡ true
+  unfolding ascends tab
+  rest-ascends n up = and-right (ltb (sequence-of (f 0)) (sequence-of (f 1))) (ascends (tab (suc n) (λ i. f (suc i)))) up
+
+-- so of two places the higher has the higher sequence
+pub ascends-up : (n : ℕ) (f : ℕ → Packet) → ascends (tab n f) ≡ true → (i j : ℕ) → i < j → j < n
+    → sequence-of (f i) < sequence-of (f j)
+ascends-up zero f up i j less below = absurd (omega arith)
+ascends-up (suc zero) f up i j less below = absurd (omega arith)
+ascends-up (suc (suc n)) f up zero zero less below = absurd (omega arith)
+ascends-up (suc (suc n)) f up zero (suc zero) less below = next-below f n up
+ascends-up (suc (suc n)) f up zero (suc (suc j)) less below =
+    omega (
+      arith,
+      next-below f n up,
+      ascends-up (suc n) (λ k. f (suc k)) (rest-ascends f n up) zero (suc j) (omega arith) (omega arith),
+    )
+ascends-up (suc (suc n)) f up (suc i) zero less below = absurd (omega arith)
+ascends-up (suc (suc n)) f up (suc i) (suc j) less below =
+    ascends-up (suc n) (λ k. f (suc k)) (rest-ascends f n up) i j (omega arith) (omega arith)
+
+pub ascends-le : (n : ℕ) (f : ℕ → Packet) → ascends (tab n f) ≡ true → (i j : ℕ) → i ≤ j → j < n
+    → sequence-of (f i) ≤ sequence-of (f j)
+ascends-le n f up i j less below =
+    ⊎-elim (λ same. rw same (omega arith)) (λ more. omega (arith, ascends-up n f up i j more below)) (eq-or-lt-of-le less)
+
+-- ---- a search that halves: the place is between `low` and `high`
+
+pub record Between (words : List ℕ) (count sequence low high : ℕ) : Type 0 where
+  pub ordered : low ≤ high
+  pub within : high ≤ count
+  pub below : (k : ℕ) → k < low → sequence-of (packet-at words k) < sequence
+  pub above : (k : ℕ) → high ≤ k → k < count → sequence ≤ sequence-of (packet-at words k)
+
+module _ (words : List ℕ) (count sequence : ℕ) (up : ascends (packets count words) ≡ true) where
+  pub between-above : {low high : ℕ} → Between words count sequence low high → (middle : ℕ) → middle < high
+      → sequence-of (packet-at words middle) < sequence → Between words count sequence (middle + 1) high
+  between-above here middle inside less =
+      record {
+        ordered = omega arith;
+        within = here .within;
+        below =
+            λ k lower.
+            omega (arith, ascends-le count (packet-at words) up k middle (omega arith) (omega (arith, here .within)));
+        above = here .above;
+      }
+
+  pub between-below : {low high : ℕ} → Between words count sequence low high → (middle : ℕ) → low ≤ middle → middle < high
+      → sequence ≤ sequence-of (packet-at words middle) → Between words count sequence low middle
+  between-below here middle inside upper less =
+      record {
+        ordered = inside;
+        within = omega (arith, here .within);
+        below = here .below;
+        above =
+            λ k higher inside-count.
+            omega (arith, ascends-le count (packet-at words) up middle k higher inside-count);
+      }
+
+-- ---- whether a sequence is held, by what stands at its place
+
+place-there : (n : ℕ) (f : ℕ → Packet) (sequence place : ℕ) → place < n → ((k : ℕ) → k < place → sequence-of (f k) < sequence)
+    → sequence-of (f place) ≡ sequence → place-of (has-sequence sequence) (tab n f) ≡ some place
+unfolding place-of tab if_then_else_ if-some_give_otherwise_
+place-there zero f sequence place inside below is = absurd (omega arith)
+place-there (suc n) f sequence zero inside below is = rw (eq-eqb (sequence-of (f 0)) sequence is)
+place-there (suc n) f sequence (suc place) inside below is =
+    rw (
+      ne-eqb (sequence-of (f 0)) sequence (λ same. omega (arith, below 0 (omega arith))),
+      place-there n (λ i. f (suc i)) sequence place (omega arith) (λ k lower. below (suc k) (omega arith)) is,
+    )
+
+place-nowhere : (n : ℕ) (f : ℕ → Packet) (sequence : ℕ) → ((k : ℕ) → k < n → sequence-of (f k) ≡ sequence → ⊥)
+    → place-of (has-sequence sequence) (tab n f) ≡ none
+unfolding place-of tab if_then_else_ if-some_give_otherwise_
+place-nowhere zero f sequence never = refl
+place-nowhere (suc n) f sequence never =
+    rw (
+      ne-eqb (sequence-of (f 0)) sequence (never 0 (omega arith)),
+      place-nowhere n (λ i. f (suc i)) sequence (λ k lower. never (suc k) (omega arith)),
+    )
+
+module _ (words : List ℕ) (count sequence place : ℕ) (at : Placed words count sequence place) where
+  pub find-there : place < count → sequence-of (packet-at words place) ≡ sequence → place-found sequence (packets count words) ≡ At place
+  find-there inside is =
+      ap found
+      (place-there count (packet-at words) sequence place inside (at .below) is)
+
+  pub find-past : count ≤ place → place-found sequence (packets count words) ≡ Nothing
+  find-past past =
+      ap found
+      (place-nowhere count (packet-at words) sequence (λ k inside is. omega (arith, at .below k (omega arith))))
+
+  pub find-other : ascends (packets count words) ≡ true → place < count → (sequence-of (packet-at words place) ≡ sequence → ⊥)
+      → place-found sequence (packets count words) ≡ Nothing
+  find-other up inside other = ap found (place-nowhere count (packet-at words) sequence never)
+    where
+      never : (k : ℕ) → k < count → sequence-of (packet-at words k) ≡ sequence → ⊥
+      never k inside-k is = go (decLt k place) (decLt place k)
+        where
+          go : Dec (k < place) → Dec (place < k) → ⊥
+          go (yes lower) h = omega (arith, at .below k lower)
+          go (no l) (yes higher) =
+              omega (arith, at .above place (omega arith) inside, ascends-up count (packet-at words) up place k higher inside-k)
+          go (no l) (no h) = other (ap (λ (i : ℕ). sequence-of (packet-at words i)) (omega arith) ∙ is)
+
+-- ---- a packet put into its place
+
+none-passes : {A : Type 0} (test : A → Bool) (n : ℕ) (f : ℕ → A) → any test (tab n f) ≡ false → (k : ℕ) → k < n
+    → test (f k) ≡ true → ⊥
+unfolding tab any
+none-passes test zero f none-of k inside passes = omega arith
+none-passes test (suc n) f none-of zero inside passes = not-first (test (f 0)) (any test (tab n (λ i. f (suc i)))) none-of passes
+  where
+    not-first : (a b : Bool) → (a || b) ≡ false → a ≡ true → ⊥
+    not-first true b neither first = let different : _≡_ {A = ℕ} 0 1 = cc in omega arith
+    not-first false b neither first = let different : _≡_ {A = ℕ} 0 1 = cc in omega arith
+none-passes test (suc n) f none-of (suc k) inside passes =
+    none-passes test n (λ i. f (suc i)) (or-right (test (f 0)) (any test (tab n (λ i. f (suc i)))) none-of) k (omega arith) passes
+  where
+    or-right : (a b : Bool) → (a || b) ≡ false → b ≡ false
+    or-right true b e = let different : _≡_ {A = ℕ} 0 1 = cc in absurd (omega arith)
+    or-right false b e = e
+
+never-held : (n : ℕ) (f : ℕ → Packet) (sequence : ℕ) → is-held sequence (tab n f) ≡ false → (k : ℕ) → k < n
+    → sequence-of (f k) ≡ sequence → ⊥
+never-held n f sequence absent k inside is =
+    none-passes (has-sequence sequence) n f absent k inside (eq-eqb (sequence-of (f k)) sequence is)
+
+cell-unused : (n : ℕ) (f : ℕ → Packet) (cell : ℕ) → is-among cell (pending-cells (tab n f)) ≡ false → (k : ℕ) → k < n
+    → cell-of (f k) ≡ cell → ⊥
+cell-unused n f cell absent k inside is =
+    none-passes (λ (c : ℕ). eqb c cell) n (λ i. cell-of (f i)) (ap (is-among cell) (sym (each-tab cell-of n f)) ∙ absent) k inside
+    (eq-eqb (cell-of (f k)) cell is)
+
+insert-there : (n : ℕ) (f : ℕ → Packet) (p : Packet) (place : ℕ) → place ≤ n
+    → ((k : ℕ) → k < place → sequence-of (f k) < sequence-of p) → (place < n → sequence-of p < sequence-of (f place))
+    → insert p (tab n f) ≡ inserted place p (tab n f)
+unfolding insert inserted tab if_then_else_
+insert-there zero f p zero within below here = refl
+insert-there zero f p (suc place) within below here = absurd (omega arith)
+insert-there (suc n) f p zero within below here = rw (lt-ltb (sequence-of p) (sequence-of (f 0)) (here (omega arith)))
+insert-there (suc n) f p (suc place) within below here =
+    rw (le-ltb (sequence-of p) (sequence-of (f 0)) (omega (arith, below 0 (omega arith))))
+    (ap (λ (rest : List Packet). f 0 ∷ rest)
+    (insert-there n (λ i. f (suc i)) p place (omega arith) (λ k lower. below (suc k) (omega arith)) (λ inside. here (omega arith))))
+
+pub packet-inserted : (words index : List ℕ) (count place : ℕ) (p : Packet) → (enough : pending-size ≤ length words) → count < max-pending
+    → Placed words count (sequence-of p) place → Opened 1 (index-lent words) place count index
+    → ascends (packets count words) ≡ true → is-held (sequence-of p) (packets count words) ≡ false → cell-of p < max-cells
+    → is-among (cell-of p) (pending-cells (packets count words)) ≡ false
+    → Holds (length words) (put-in (index-back words index) place p) (count + 1) (insert p (packets count words))
+packet-inserted words index count place p enough room at gap up absent small unused =
+    record {
+      length-kept = put-length opened place p opened-enough low small ∙ opened-long;
+      is =
+          ap (λ (n : ℕ). packets n (put-in opened place p)) (add-one count)
+          ∙ tab-insert count place p (packet-at words) (packet-at (put-in opened place p)) (at .within) lower-packets
+          (put-there opened place p opened-enough low small) upper-packets
+          ∙ sym (insert-there count (packet-at words) p place (at .within) (at .below) strictly);
+    }
+  where
+    opened : List ℕ
+    opened = index-back words index
+
+    opened-long : length opened ≡ length words
+    opened-long = back-length words enough index (gap .long)
+
+    opened-enough : pending-size ≤ length opened
+    opened-enough = omega (arith, opened-long)
+
+    low : place < max-pending
+    low = omega (arith, at .within)
+
+    cell-free : (i j : ℕ) → i < count → packet-at opened j ≡ packet-at words i → cell-of (packet-at opened j) ≡ cell-of p → ⊥
+    cell-free i j inside same is =
+        cell-unused count (packet-at words) (cell-of p) unused i inside (ap cell-of (sym same) ∙ is)
+
+    lower-packets : (i : ℕ) → i < place → packet-at (put-in opened place p) i ≡ packet-at words i
+    lower-packets i lower =
+        let inside : i < count = omega (arith, at .within) in
+        let same : packet-at opened i ≡ packet-at words i = opened-low words index count place enough room gap i lower inside in
+        put-elsewhere opened place p opened-enough low small i (omega arith) (λ q. omega arith) (cell-free i i inside same) ∙ same
+
+    upper-packets : (i : ℕ) → place ≤ i → i < count → packet-at (put-in opened place p) (suc i) ≡ packet-at words i
+    upper-packets i higher inside =
+        let same : packet-at opened (suc i) ≡ packet-at words i =
+        ap (packet-at opened) (sym (add-one i)) ∙ opened-high words index count place enough room gap i higher inside in
+        put-elsewhere opened place p opened-enough low small (suc i) (omega arith) (λ q. omega arith) (cell-free i (suc i) inside same) ∙ same
+
+    strictly : place < count → sequence-of p < sequence-of (packet-at words place)
+    strictly inside =
+        ⊎-elim (λ same. absurd (never-held count (packet-at words) (sequence-of p) absent place inside (sym same)))
+        (λ more. more) (eq-or-lt-of-le (at .above place (omega arith) inside))
+
+-- ---- a packet taken out of its place
+
+pub packet-removed : (words index : List ℕ) (count place : ℕ) → pending-size ≤ length words → place < count → count ≤ max-pending
+    → Closed 1 (index-lent words) place count index
+    → Holds (length words) (index-back words index) (count - 1) (removed place (packets count words))
+packet-removed words index count place enough inside most gap =
+    record {
+      length-kept = back-length words enough index (gap .long);
+      is =
+          tab-remove (count - 1) place (packet-at words) (packet-at (index-back words index)) (omega arith)
+          (λ i lower. closed-low words index count place enough most gap i lower (omega arith))
+          (λ i higher below.
+          closed-high words index count place enough most gap i higher (omega arith) ∙ ap (packet-at words) (add-one i))
+          ∙ ap (λ (n : ℕ). removed place (packets n words)) one-less;
+    }
+  where
+    one-less : suc (count - 1) ≡ count
+    one-less = omega arith
+
+-- ---- the lowest, and the nearest
+
+ascends-rest : (n : ℕ) (f : ℕ → Packet) → ascends (tab (suc n) f) ≡ true → ascends (tab n (λ i. f (suc i))) ≡ true
+unfolding ascends tab
+ascends-rest zero f up = refl
+ascends-rest (suc n) f up = rest-ascends f n up
+
+-- the first of ascending packets is the lowest
+lowest-first : (n : ℕ) (f : ℕ → Packet) → ascends (tab (suc n) f) ≡ true → lowest (tab (suc n) f) ≡ some (f 0)
+unfolding lowest tab if_then_else_ if-some_give_otherwise_
+lowest-first zero f up = refl
+lowest-first (suc n) f up =
+    rw (
+      lowest-first n (λ i. f (suc i)) (ascends-rest (suc n) f up),
+      le-leb (sequence-of (f 0)) (sequence-of (f 1)) (omega (arith, next-below f n up)),
+    )
+
+lowest-from : (n : ℕ) (f : ℕ → Packet) (place : ℕ) → ascends (tab n f) ≡ true → place < n
+    → lowest (drop place (tab n f)) ≡ some (f place)
+unfolding tab
+lowest-from zero f place up inside = absurd (omega arith)
+lowest-from (suc n) f zero up inside = lowest-first n f up
+lowest-from (suc n) f (suc place) up inside =
+    lowest-from n (λ i. f (suc i)) place (ascends-rest n f up) (omega arith)
+
+-- those at or above a sequence are those from its place on
+such-that-from : (n : ℕ) (f : ℕ → Packet) (sequence place : ℕ) → ((k : ℕ) → k < place → k < n → sequence-of (f k) < sequence)
+    → ((k : ℕ) → place ≤ k → k < n → sequence ≤ sequence-of (f k))
+    → such-that (λ p. leb sequence (sequence-of p)) (tab n f) ≡ drop place (tab n f)
+unfolding such-that tab if_then_else_
+such-that-from zero f sequence zero below above = refl
+such-that-from zero f sequence (suc place) below above = refl
+such-that-from (suc n) f sequence zero below above =
+    rw (le-leb sequence (sequence-of (f 0)) (above 0 (omega arith) (omega arith)))
+    (ap (λ (rest : List Packet). f 0 ∷ rest)
+    (such-that-from n (λ i. f (suc i)) sequence zero (λ k lower inside. absurd (omega arith))
+    (λ k higher inside. above (suc k) (omega arith) (omega arith))))
+such-that-from (suc n) f sequence (suc place) below above =
+    rw (lt-leb sequence (sequence-of (f 0)) (below 0 (omega arith) (omega arith)))
+    (such-that-from n (λ i. f (suc i)) sequence place (λ k lower inside. below (suc k) (omega arith) (omega arith))
+    (λ k higher inside. above (suc k) (omega arith) (omega arith)))
+
+-- `from` is half the space above the first packet's sequence, and `place` the place of `from`
+module _ (words : List ℕ) (count from place : ℕ) (some-held : 0 < count) (up : ascends (packets count words) ≡ true)
+    (half-above : from ≡ sequence-of (packet-at words 0) + half) (at : Placed words count from place) where
+  lowest-is : lowest (packets count words) ≡ some (packet-at words 0)
+  lowest-is = ap lowest (sym (drop-zero (packets count words))) ∙ lowest-from count (packet-at words) 0 up some-held
+
+  far : such-that (λ p. leb (sequence-of (packet-at words 0) + half) (sequence-of p)) (packets count words)
+      ≡ drop place (packets count words)
+  far =
+      ap (λ (n : ℕ). such-that (λ p. leb n (sequence-of p)) (packets count words)) (sym half-above)
+      ∙ such-that-from count (packet-at words) from place (λ k lower inside. at .below k lower) (at .above)
+
+  pub nearest-wraps : place < count → nearest (packets count words) ≡ some (packet-at words place)
+  unfolding nearest or-else if-some_give_otherwise_
+  nearest-wraps inside = rw (lowest-is, far, lowest-from count (packet-at words) place up inside)
+
+  pub nearest-lowest : count ≤ place → nearest (packets count words) ≡ some (packet-at words 0)
+  unfolding nearest or-else if-some_give_otherwise_ lowest
+  nearest-lowest past =
+      rw (lowest-is, far, drop-of-length-le (packets count words) {i = place} (omega (arith, tab-length count (packet-at words))))
+
+pub nearest-none : (words : List ℕ) (count : ℕ) → count ≡ 0 → nearest (packets count words) ≡ none
+unfolding nearest lowest if-some_give_otherwise_
+nearest-none words count nothing = ap nearest (tab-none count (packet-at words) nothing)
+
+-- ---- those that pass a test are kept: the packets before `at` were looked at, and `kept` of them passed
+
+pub record Keeping (test : Packet → Bool) (count : ℕ) (before words : List ℕ) (kept at : ℕ) : Type 0 where
+  pub ordered : kept ≤ at
+  pub within : at ≤ count
+  pub long : length words ≡ length before
+  pub is : packets kept words ++ such-that test (drop at (packets count before)) ≡ such-that test (packets count before)
+  pub rest : (k : ℕ) → at ≤ k → k < count → packet-at words k ≡ packet-at before k
+
+module _ (test : Packet → Bool) where
+  such-that-yes : (p : Packet) (ps : List Packet) → test p ≡ true → such-that test (p ∷ ps) ≡ p ∷ such-that test ps
+  unfolding such-that if_then_else_
+  such-that-yes p ps passes = rw passes
+
+  such-that-no : (p : Packet) (ps : List Packet) → test p ≡ false → such-that test (p ∷ ps) ≡ such-that test ps
+  unfolding such-that if_then_else_
+  such-that-no p ps fails = rw fails
+
+  pub keeping-start : (count : ℕ) (before : List ℕ) → Keeping test count before before 0 0
+  unfolding tab
+  keeping-start count before =
+      record {
+        ordered = omega arith;
+        within = omega arith;
+        long = refl;
+        is = ap (such-that test) (drop-zero (packets count before));
+        rest = λ k above inside. refl;
+      }
+
+  module _ (count : ℕ) (before words : List ℕ) (kept at : ℕ) (here : Keeping test count before words kept at) where
+    next : at < count → drop at (packets count before) ≡ packet-at before at ∷ drop (at + 1) (packets count before)
+    next inside =
+        drop-cons (packets count before) at (packet-at before at) (omega (arith, tab-length count (packet-at before)))
+        ∙ ap (λ (p : Packet). p ∷ drop (suc at) (packets count before))
+        (tab-at count (packet-at before) at (packet-at before at) inside)
+        ∙ ap (λ (n : ℕ). packet-at before at ∷ drop n (packets count before)) (sym (add-one at))
+
+    pub kept-not : at < count → test (packet-at words at) ≡ false → Keeping test count before words kept (at + 1)
+    kept-not inside fails =
+        record {
+          ordered = omega (arith, here .ordered);
+          within = omega arith;
+          long = here .long;
+          is =
+              sym
+              (ap (λ (l : List Packet). packets kept words ++ such-that test l) (next inside)
+              ∙ ap (λ (l : List Packet). packets kept words ++ l)
+              (such-that-no (packet-at before at) (drop (at + 1) (packets count before))
+              (ap test (sym (here .rest at (omega arith) inside)) ∙ fails)))
+              ∙ here .is;
+          rest = λ k above below. here .rest k (omega arith) below;
+        }
+
+    pub kept-one : at < count → count ≤ max-pending → pending-size ≤ length before → test (packet-at words at) ≡ true
+        → Keeping test count before (set words kept (getD words at 0)) (kept + 1) (at + 1)
+    kept-one inside most enough passes =
+        record {
+          ordered = omega (arith, here .ordered);
+          within = omega arith;
+          long = length-set words kept (getD words at 0) ∙ here .long;
+          is =
+              ap (λ (l : List Packet). l ++ such-that test (drop (at + 1) (packets count before))) one-more
+              ∙ append-assoc (packets kept words) (packet-at words at ∷ []) (such-that test (drop (at + 1) (packets count before)))
+              ∙ ap (λ (l : List Packet). packets kept words ++ l) (sym this)
+              ∙ here .is;
+          rest =
+              λ k above below.
+              indexed-elsewhere words kept (getD words at 0) low k (λ same. omega (arith, here .ordered))
+              ∙ here .rest k (omega arith) below;
+        }
+      where
+        low : kept < max-pending
+        low = omega (arith, here .ordered)
+
+        one-more : packets (kept + 1) (set words kept (getD words at 0)) ≡ packets kept words ++ (packet-at words at ∷ [])
+        one-more =
+            ap (λ (n : ℕ). packets n (set words kept (getD words at 0))) (add-one kept)
+            ∙ tab-push kept (packet-at words) (packet-at (set words kept (getD words at 0))) (packet-at words at)
+            (λ i below. indexed-elsewhere words kept (getD words at 0) low i (λ same. omega arith))
+            (indexed-there words kept (getD words at 0) low at (omega (arith, low, here .long)) refl)
+
+        same-packet : packet-at words at ≡ packet-at before at
+        same-packet = here .rest at (omega arith) inside
+
+        this : such-that test (drop at (packets count before))
+            ≡ packet-at words at ∷ such-that test (drop (at + 1) (packets count before))
+        this =
+            ap (such-that test) (next inside)
+            ∙ such-that-yes (packet-at before at) (drop (at + 1) (packets count before)) (ap test (sym same-packet) ∙ passes)
+            ∙ ap (λ (p : Packet). p ∷ such-that test (drop (at + 1) (packets count before))) (sym same-packet)
+
+    pub kept-all : count ≤ at → Holds (length before) words kept (such-that test (packets count before))
+    unfolding such-that
+    kept-all past =
+        record {
+          length-kept = here .long;
+          is =
+              sym (append-nil (packets kept words))
+              ∙ ap (λ (l : List Packet). packets kept words ++ such-that test l)
+              (sym (drop-of-length-le (packets count before) {i = at} (omega (arith, tab-length count (packet-at before)))))
+              ∙ here .is;
+        }
+
+-- the test of a packet's sequence is the test of the packet
+pub covered-packet : (words : List ℕ) (at first run sequence : ℕ) (tested answer : Bool) → sequence ≡ sequence-of (packet-at words at)
+    → tested ≡ ltb (sequence-distance first sequence) run → tested ≡ answer
+    → not (is-covered first run (packet-at words at)) ≡ not answer
+covered-packet words at first run sequence tested answer sequence-is is answered =
+    ap not (ap (λ (n : ℕ). ltb (sequence-distance first n) run) (sym sequence-is) ∙ sym is ∙ answered)
+
+-- ---- whether packets ascend: each of the first `next` sequences is below the one after it
+
+ascends-all : (n : ℕ) (f : ℕ → Packet) → ((k : ℕ) → suc k < n → sequence-of (f k) < sequence-of (f (suc k))) → ascends (tab n f) ≡ true
+unfolding ascends tab
+ascends-all zero f up = refl
+ascends-all (suc zero) f up = refl
+ascends-all (suc (suc n)) f up =
+    rw (
+      lt-ltb (sequence-of (f 0)) (sequence-of (f 1)) (up 0 (omega arith)),
+      ascends-all (suc n) (λ i. f (suc i)) (λ k inside. up (suc k) (omega arith)),
+    )
+
+-- the packets before `next` ascend
+pub record Ascending (words : List ℕ) (next : ℕ) : Type 0 where
+  pub some : 1 ≤ next
+  pub up : (k : ℕ) → 0 < k → k < next → sequence-of (packet-at words (k - 1)) < sequence-of (packet-at words k)
+
+pub ascending-start : (words : List ℕ) → Ascending words 1
+ascending-start words = record { some = omega arith; up = λ k positive below. absurd (omega arith) }
+
+module _ (words : List ℕ) (count next : ℕ) (here : Ascending words next) where
+  pub ascending-one : sequence-of (packet-at words (next - 1)) < sequence-of (packet-at words next) → Ascending words (next + 1)
+  ascending-one less = record { some = omega arith; up = λ k positive below. go k (decLt k next) positive below }
+    where
+      go : (k : ℕ) → Dec (k < next) → 0 < k → k < next + 1 → sequence-of (packet-at words (k - 1)) < sequence-of (packet-at words k)
+      go k (yes lower) positive below = here .up k positive lower
+      go k (no not-lower) positive below = let here-is : k ≡ next = omega arith in rw here-is less
+
+  pub ascending-all : count ≤ next → true ≡ ascends (packets count words)
+  ascending-all past = sym (ascends-all count (packet-at words) below-next)
+    where
+      below-next : (k : ℕ) → suc k < count → sequence-of (packet-at words k) < sequence-of (packet-at words (suc k))
+      below-next k inside =
+          let back : suc k - 1 ≡ k = omega arith in
+          rw back at (here .up (suc k) (omega arith) (omega arith))
+
+  pub ascending-not : next < count → sequence-of (packet-at words next) ≤ sequence-of (packet-at words (next - 1))
+      → false ≡ ascends (packets count words)
+  ascending-not inside down = by-test (ascends (packets count words)) refl
+    where
+      by-test : (b : Bool) → ascends (packets count words) ≡ b → false ≡ b
+      by-test false e = refl
+      by-test true e =
+          absurd
+          (omega (
+            arith,
+            here .some,
+            ascends-up count (packet-at words) e (next - 1) next (omega (arith, here .some)) inside,
+          ))
+
+-- ---- packets that become the group's own: those before `at` have. A packet from there on may have too, if it shares its row
+
+-- with one before; owning it once more then changes nothing
+
+pub record Owning (id count : ℕ) (before words : List ℕ) (at : ℕ) : Type 0 where
+  pub within : at ≤ count
+  pub long : length words ≡ length before
+  pub done : (k : ℕ) → k < at → packet-at words k ≡ own-packet id (packet-at before k)
+  pub alike : (k : ℕ) → k < count → own-packet id (packet-at words k) ≡ own-packet id (packet-at before k)
+
+own-yes : (id : ℕ) (p : Packet) → p .member ≡ id → own-packet id p ≡ by-group p
+unfolding own-packet if_then_else_
+own-yes id p is = rw (eq-eqb (p .member) id is)
+
+own-no : (id : ℕ) (p : Packet) → (p .member ≡ id → ⊥) → own-packet id p ≡ p
+unfolding own-packet if_then_else_
+own-no id p other = rw (ne-eqb (p .member) id other)
+
+own-twice : (id : ℕ) (p : Packet) → own-packet id (own-packet id p) ≡ own-packet id p
+unfolding own-packet if_then_else_
+own-twice id p = by-test (eqb (p .member) id) refl
+  where
+    by-test : (b : Bool) → eqb (p .member) id ≡ b → own-packet id (own-packet id p) ≡ own-packet id p
+    by-test true e = rw (e, e)
+    by-test false e = rw (e, e)
+
+pub owning-start : (id count : ℕ) (before : List ℕ) → Owning id count before before 0
+owning-start id count before =
+    record { within = omega arith; long = refl; done = λ k lower. absurd (omega arith); alike = λ k inside. refl }
+
+module _ (id count : ℕ) (before words : List ℕ) (at start : ℕ) (here : Owning id count before words at) (inside : at < count)
+    (start-is : start ≡ (index-rows + cell-of (packet-at words at)) * packet-row-size) where
+  pub owned-one : count ≤ max-pending → pending-size ≤ length before → getD words (start + 5) 0 ≡ id
+      → Owning id count before (set words (start + 6) 1) (at + 1)
+  owned-one most enough mine =
+      record {
+        within = omega arith;
+        long = length-set words (start + 6) 1 ∙ here .long;
+        done = λ k lower. done k (decLt k at) lower;
+        alike = alike;
+      }
+    where
+      after : List ℕ
+      after = set words (start + 6) 1
+
+      long-enough : pending-size ≤ length words
+      long-enough = omega (arith, here .long)
+
+      -- the row is that of every packet with its cell, and they are all the member's
+      owned : (k : ℕ) → k < max-pending → cell-of (packet-at words k) ≡ cell-of (packet-at words at)
+          → packet-at after k ≡ own-packet id (packet-at words k)
+      owned k low same =
+          owned-same-cell words at start start-is long-enough k low same
+          ∙ sym
+          (own-yes id (packet-at words k)
+          (same-member words at start start-is long-enough k same ∙ sym (member-word words at start start-is) ∙ mine))
+
+      alike : (k : ℕ) → k < count → own-packet id (packet-at after k) ≡ own-packet id (packet-at before k)
+      alike k within = by-cell (ℕ-discrete (cell-of (packet-at words k)) (cell-of (packet-at words at)))
+        where
+          by-cell : Dec (cell-of (packet-at words k) ≡ cell-of (packet-at words at))
+              → own-packet id (packet-at after k) ≡ own-packet id (packet-at before k)
+          by-cell (yes same) =
+              ap (own-packet id) (owned k (omega arith) same) ∙ own-twice id (packet-at words k) ∙ here .alike k within
+          by-cell (no other) =
+              ap (own-packet id) (owned-other-cell words at start start-is long-enough k (omega arith) other) ∙ here .alike k within
+
+      done : (k : ℕ) → Dec (k < at) → k < at + 1 → packet-at after k ≡ own-packet id (packet-at before k)
+      done k (no not-lower) upto =
+          let here-is : k ≡ at = omega arith in
+          owned k (omega arith) (ap (λ (i : ℕ). cell-of (packet-at words i)) here-is) ∙ here .alike k (omega arith)
+      done k (yes lower) upto = by-cell (ℕ-discrete (cell-of (packet-at words k)) (cell-of (packet-at words at)))
+        where
+          by-cell : Dec (cell-of (packet-at words k) ≡ cell-of (packet-at words at)) → packet-at after k ≡ own-packet id (packet-at before k)
+          by-cell (yes same) = owned k (omega arith) same ∙ here .alike k (omega arith)
+          by-cell (no other) =
+              owned-other-cell words at start start-is long-enough k (omega arith) other ∙ here .done k lower
+
+  pub owned-not : (getD words (start + 5) 0 ≡ id → ⊥) → Owning id count before words (at + 1)
+  owned-not other =
+      record {
+        within = omega arith;
+        long = here .long;
+        done = λ k lower. done k (decLt k at) lower;
+        alike = here .alike;
+      }
+    where
+      done : (k : ℕ) → Dec (k < at) → k < at + 1 → packet-at words k ≡ own-packet id (packet-at before k)
+      done k (yes lower) upto = here .done k lower
+      done k (no not-lower) upto =
+          let here-is : k ≡ at = omega arith in
+          rw here-is
+          (sym (own-no id (packet-at words at) (λ mine. other (member-word words at start start-is ∙ mine)))
+          ∙ here .alike at inside)
+
+pub owned-all : (id count : ℕ) (before words : List ℕ) (at : ℕ) → Owning id count before words at → count ≤ at
+    → Holds (length before) words count (each (own-packet id) (packets count before))
+owned-all id count before words at here past =
+    record {
+      length-kept = here .long;
+      is =
+          tab-same count (λ i. own-packet id (packet-at before i)) (packet-at words) (λ i inside. here .done i (omega arith))
+          ∙ sym (each-tab (own-packet id) count (packet-at before));
+    }
+
+-- ---- the farthest of the group's own
+
+-- a place that was found is in use
+pub at-in-use : (count : ℕ) (best : Found) (place : ℕ) → in-use count best → best ≡ At place → place < count
+at-in-use count best place used is = subst (in-use count) is used
+
+module _ (words : List ℕ) (count base at : ℕ) (inside : at < count) where
+  pub farther-not-owned : (best : Found) → in-use count best → is-owned (packet-at words at) ≡ false
+      → FoundPacket words count best (with-owned-packet base (packet-at words at) (packet-found words best))
+  unfolding with-owned-packet if_then_else_
+  farther-not-owned best used other =
+      record {
+        within = used;
+        is = sym (rw other);
+      }
+
+  module _ (mine : is-owned (packet-at words at) ≡ true) where
+    pub farther-first : (best : Found) → best ≡ Nothing
+        → FoundPacket words count (At at) (with-owned-packet base (packet-at words at) (packet-found words best))
+    unfolding with-owned-packet if_then_else_ if-some_give_otherwise_
+    farther-first best none-yet =
+        record {
+          within = inside;
+          is = sym (rw (mine, none-yet));
+        }
+
+    module _ (best : Found) (place : ℕ) (is-at : best ≡ At place) (here there : ℕ)
+        (here-is : here ≡ sequence-distance base (sequence-of (packet-at words at)))
+        (there-is : there ≡ sequence-distance base (sequence-of (packet-at words place))) where
+      chosen : with-owned-packet base (packet-at words at) (packet-found words best)
+          ≡ some (farther base (packet-at words at) (packet-at words place))
+      unfolding with-owned-packet if_then_else_ if-some_give_otherwise_
+      chosen = rw (mine, is-at)
+
+      pub farther-here : there < here
+          → FoundPacket words count (At at) (with-owned-packet base (packet-at words at) (packet-found words best))
+      unfolding farther if_then_else_
+      farther-here less =
+          record { within = inside; is = sym (chosen ∙ ap some (rw (← there-is, ← here-is, lt-ltb there here less))) }
+
+      pub farther-there : here ≤ there → in-use count best
+          → FoundPacket words count (At place) (with-owned-packet base (packet-at words at) (packet-found words best))
+      unfolding farther if_then_else_
+      farther-there less used =
+          record {
+            within = at-in-use count best place used is-at;
+            is = sym (chosen ∙ ap some (rw (← there-is, ← here-is, le-ltb there here less)));
+          }
+
+-- the packets from `left` on were looked at
+pub record Looking (words : List ℕ) (count base left : ℕ) (best : Found) : Type 0 where
+  pub within : left ≤ count
+  pub found-so-far : FoundPacket words count best (farthest base (such-that is-owned (drop left (packets count words))))
+
+farthest-more : (base : ℕ) (p : Packet) (ps : List Packet)
+    → farthest base (such-that is-owned (p ∷ ps)) ≡ with-owned-packet base p (farthest base (such-that is-owned ps))
+unfolding farthest such-that with-owned-packet if_then_else_ if-some_give_otherwise_
+farthest-more base p ps = by-test (is-owned p)
+  where
+    by-test : (b : Bool)
+        → farthest base (if b then p ∷ such-that is-owned ps else such-that is-owned ps)
+        ≡ (if b then (if-some farthest base (such-that is-owned ps) give (λ q. some (farther base p q)) otherwise some p)
+        else farthest base (such-that is-owned ps))
+    by-test true = refl
+    by-test false = refl
+
+module _ (words : List ℕ) (count base left : ℕ) (best : Found) (here : Looking words count base left best) where
+  pub looked-one : (at : ℕ) (next : Found) → at ≡ left - 1 → 0 < left
+      → FoundPacket words count next (with-owned-packet base (packet-at words at) (packet-found words best))
+      → Looking words count base at next
+  looked-one at next is some-left step =
+      record {
+        within = omega (arith, here .within);
+        found-so-far =
+            record {
+              within = step .within;
+              is =
+                  step .is
+                  ∙ ap (with-owned-packet base (packet-at words at)) (here .found-so-far .is)
+                  ∙ sym (farthest-more base (packet-at words at) (drop left (packets count words)))
+                  ∙ ap (λ (l : List Packet). farthest base (such-that is-owned l)) (sym from-at);
+            };
+      }
+    where
+      inside : at < count
+      inside = omega (arith, here .within)
+
+      next-is : suc at ≡ left
+      next-is = omega arith
+
+      from-at : drop at (packets count words) ≡ packet-at words at ∷ drop left (packets count words)
+      from-at =
+          drop-cons (packets count words) at (packet-at words at) (omega (arith, inside, tab-length count (packet-at words)))
+          ∙ ap (λ (p : Packet). p ∷ drop (suc at) (packets count words)) (tab-at count (packet-at words) at (packet-at words at) inside)
+          ∙ ap (λ (n : ℕ). packet-at words at ∷ drop n (packets count words)) next-is
+
+  pub looked-all : left ≡ 0 → FoundPacket words count best (farthest base (such-that is-owned (packets count words)))
+  looked-all none-left =
+      record {
+        within = here .found-so-far .within;
+        is =
+            here .found-so-far .is
+            ∙ ap (λ (l : List Packet). farthest base (such-that is-owned l))
+            (ap (λ (n : ℕ). drop n (packets count words)) none-left ∙ drop-zero (packets count words));
+      }
+
+pub looking-start : (words : List ℕ) (count base : ℕ) → Looking words count base count Nothing
+unfolding farthest such-that
+looking-start words count base =
+    record {
+      within = omega arith;
+      found-so-far =
+          record {
+            within = tt;
+            is =
+                ap (λ (l : List Packet). farthest base (such-that is-owned l))
+                (sym (drop-of-length-le (packets count words) {i = count} (omega (arith, tab-length count (packet-at words)))));
+          };
+    }
+
+-- ---- sums of counts, from the last packet on
+
+pub record Summing (test : Packet → Bool) (count : ℕ) (words : List ℕ) (left sum : ℕ) : Type 0 where
+  pub within : left ≤ count
+  pub small : sum ≤ 65535 * (count - left)
+  pub is : sum ≡ total (λ p. p .content .count) (such-that test (drop left (packets count words)))
+
+count-if-small : (test : Packet → Bool) (p : Packet) → p .content .count ≤ 65535 → count-if test p ≤ 65535
+unfolding count-if if_then_else_
+count-if-small test p small = by-test (test p)
+  where
+    by-test : (b : Bool) → (if b then p .content .count else 0) ≤ 65535
+    by-test true = small
+    by-test false = omega arith
+
+total-more : (test : Packet → Bool) (p : Packet) (ps : List Packet)
+    → total (λ p. p .content .count) (such-that test (p ∷ ps)) ≡ count-if test p + total (λ p. p .content .count) (such-that test ps)
+unfolding total such-that count-if if_then_else_
+total-more test p ps = by-test (test p)
+  where
+    by-test : (b : Bool) → total (λ p. p .content .count) (if b then p ∷ such-that test ps else such-that test ps)
+        ≡ (if b then p .content .count else 0) + total (λ p. p .content .count) (such-that test ps)
+    by-test true = refl
+    by-test false = sym (zero-add (total (λ p. p .content .count) (such-that test ps)))
+
+pub summing-start : (test : Packet → Bool) (count : ℕ) (words : List ℕ) → Summing test count words count 0
+unfolding total such-that
+summing-start test count words =
+    record {
+      within = omega arith;
+      small = omega arith;
+      is =
+          ap (λ (l : List Packet). total (λ p. p .content .count) (such-that test l))
+          (sym (drop-of-length-le (packets count words) {i = count} (omega (arith, tab-length count (packet-at words)))));
+    }
+
+module _ (test : Packet → Bool) (count : ℕ) (words : List ℕ) (left sum : ℕ) (here : Summing test count words left sum)
+    (fit : CountsFit count words) where
+  -- the sum stays far below 2^64
+  pub sum-fits : count ≤ max-pending → (p : Packet) (at n : ℕ) → at ≡ left - 1 → 0 < left → p ≡ packet-at words at → n ≡ count-if test p
+      → sum + n < 2 ^ 64
+  sum-fits most p at n at-is some-left p-is n-is =
+      omega (
+        arith,
+        here .small,
+        here .within,
+        count-if-small test p (subst (λ (q : Packet). q .content .count ≤ 65535) (sym p-is) (fit .fit at (omega (arith, here .within)))),
+      )
+
+  pub summed-one : (p : Packet) (at n : ℕ) → at ≡ left - 1 → 0 < left → p ≡ packet-at words at → n ≡ count-if test p
+      → Summing test count words at (sum + n)
+  summed-one p at n at-is some-left p-is n-is =
+      record {
+        within = omega (arith, here .within);
+        small = omega (arith, here .small, here .within, count-small);
+        is = sum-is ∙ sym (ap (λ (l : List Packet). total (λ p. p .content .count) (such-that test l)) from-at ∙ total-more test (packet-at words at) (drop left (packets count words)));
+      }
+    where
+      inside : at < count
+      inside = omega (arith, here .within)
+
+      next-is : suc at ≡ left
+      next-is = omega arith
+
+      count-small : count-if test p ≤ 65535
+      count-small = count-if-small test p (subst (λ (q : Packet). q .content .count ≤ 65535) (sym p-is) (fit .fit at inside))
+
+      from-at : drop at (packets count words) ≡ packet-at words at ∷ drop left (packets count words)
+      from-at =
+          drop-cons (packets count words) at (packet-at words at) (omega (arith, inside, tab-length count (packet-at words)))
+          ∙ ap (λ (p : Packet). p ∷ drop (suc at) (packets count words)) (tab-at count (packet-at words) at (packet-at words at) inside)
+          ∙ ap (λ (n : ℕ). packet-at words at ∷ drop n (packets count words)) next-is
+
+      sum-is : sum + n ≡ count-if test (packet-at words at) + total (λ p. p .content .count) (such-that test (drop left (packets count words)))
+      sum-is = omega (arith, here .is, n-is ∙ ap (count-if test) p-is)
+
+  pub summed-all : left ≡ 0 → sum ≡ total (λ p. p .content .count) (such-that test (packets count words))
+  summed-all none-left =
+      here .is
+      ∙ ap (λ (l : List Packet). total (λ p. p .content .count) (such-that test l))
+      (ap (λ (n : ℕ). drop n (packets count words)) none-left ∙ drop-zero (packets count words))
+
+pub count-for-is : (id : ℕ) (p : Packet) → p .member ≡ id → (p .owned ≡ 1 → ⊥) → p .content .count ≡ count-if (is-held-for id) p
+unfolding count-if if_then_else_
+count-for-is id p mine other = sym (rw (eq-eqb (p .member) id mine, ne-eqb (p .owned) 1 other))
+
+pub count-for-owned : (id : ℕ) (p : Packet) → p .member ≡ id → p .owned ≡ 1 → 0 ≡ count-if (is-held-for id) p
+unfolding count-if if_then_else_
+count-for-owned id p mine own = sym (rw (eq-eqb (p .member) id mine, eq-eqb (p .owned) 1 own))
+
+pub count-for-other : (id : ℕ) (p : Packet) → (p .member ≡ id → ⊥) → 0 ≡ count-if (is-held-for id) p
+unfolding count-if if_then_else_
+count-for-other id p other = sym (rw (ne-eqb (p .member) id other))
+
+pub count-owned-is : (p : Packet) → p .owned ≡ 1 → p .content .count ≡ count-if is-owned p
+unfolding count-if if_then_else_
+count-owned-is p own = sym (rw (eq-eqb (p .owned) 1 own))
+
+pub count-owned-not : (p : Packet) → (p .owned ≡ 1 → ⊥) → 0 ≡ count-if is-owned p
+unfolding count-if if_then_else_
+count-owned-not p other = sym (rw (ne-eqb (p .owned) 1 other))
