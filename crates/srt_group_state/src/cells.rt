@@ -181,7 +181,8 @@ pub fn mark_cells(
     requires { ⌜ (pending-size ≤ length (now pending)) × (counts .pending ≤ max-pending) ⌝ }
     requires { ⌜ (ring .length ≤ max-history) × (length (now history) ≡ max-history) ⌝ }
     requires { ⌜ (cells ≤ max-cells) × Represents (now flags) [] ⌝ }
-    ensures { λ r. ⌜ Marked cells (named-cells counts (now (members .entry)) (now (pending .entry)) (sent-cells ring (now (history .entry)))) r (now (flags .exit)) ⌝ }
+    ensures { λ r. ⌜ Marked cells
+        (named-cells counts (now (members .entry)) (now (pending .entry)) (sent-cells ring (now (history .entry)))) r (now (flags .exit)) ⌝ }
 {
     if !mark_tables(flags, cells, counts, members, pending) {
         return false;

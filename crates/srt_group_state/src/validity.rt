@@ -4,12 +4,14 @@ ghost use mathlib.Core.Bool.{false, not};
 ghost use mathlib.Core.List.{[]};
 ghost use Prim.Native.Nat.{_≤_};
 ghost use lib.ListN.{length};
+ghost use Rattle.srt_group_model.specs.Tools.{any};
 ghost use Rattle.srt_protocol.specs.Handshake.{has-group-mask};
 ghost use Rattle.srt_protocol.specs.Cells.{max-cells};
-ghost use Rattle.srt_connection_members.specs.Members.{members-size};
+ghost use Rattle.srt_connection_members.specs.Members.{members-of, members-size};
 ghost use Rattle.srt_group_tables.specs.Ring.{Long, arrays};
-ghost use Rattle.srt_group_tables.specs.Packets.{pending-size};
+ghost use Rattle.srt_group_tables.specs.Packets.{packets, pending-size};
 ghost use Rattle.srt_group_tables.specs.Waitings.{waiting-size};
+ghost use Rattle.srt_group_state.specs.Rules.{member-breaks-rule, packet-breaks-rule};
 ghost use Rattle.srt_group_state.specs.CellPass.{Represents};
 ghost use Rattle.srt_group_shown.specs.Shown.{rest, shown};
 ghost use Rattle.srt_group_shown.specs.Tables.{parts, tables, state-of};
@@ -92,10 +94,11 @@ fn rows_break_rule(core: Core, members: &[u64], pending: &[u64], waiting: &[u64]
 }
 
 // What rows say of each other: ids, the order of the packets, sums. No row by itself breaks a rule, so the sums stay in range.
-fn rows_disagree(core: Core, members: &[u64], pending: &[u64], waiting: &[u64]) -> bool
+fn rows_disagree(core: Core, members: &[u64], pending: &[u64]) -> bool
     requires { ⌜ (members-size ≤ length (now members)) × (pending-size ≤ length (now pending)) ⌝ }
     requires { ⌜ CountsWithin core ⌝ }
-    requires { ⌜ rows-break-rule core (now members) (now pending) (now waiting) ≡ false ⌝ }
+    requires { ⌜ (any member-breaks-rule (members-of (core .counts .members) (now members)) ≡ false)
+        × (any packet-breaks-rule (packets (core .counts .pending) (now pending)) ≡ false) ⌝ }
     ensures { λ r. ⌜ r ≡ rows-disagree core (now (members .entry)) (now (pending .entry)) ⌝ }
 {
     let count = core.counts.members;
@@ -125,7 +128,7 @@ pub fn tables_break_rule(
     if rows_break_rule(core, members, pending, waiting) {
         return true;
     }
-    rows_disagree(core, members, pending, waiting)
+    rows_disagree(core, members, pending)
 }
 
 // Every rule that needs no cell.

@@ -94,7 +94,8 @@ pub fn entry_at(ring: HistoryRing, history: &[u64], sources: &[u64], index: usiz
 pub fn store(ring: HistoryRing, history: &mut [u64], sources: &mut [u64], entry: Entry)
     requires { ⌜ (ring .length ≤ max-history) × Long (arrays (now history) (now sources)) ⌝ }
     requires { ⌜ Packs (entry .sequence) (entry .cell) (entry .length) ⌝ }
-    ensures { λ _. ⌜ arrays (now (history .exit)) (now (sources .exit)) ≡ with-entry (next-place ring) entry (arrays (now (history .entry)) (now (sources .entry))) ⌝ }
+    ensures { λ _. ⌜ arrays (now (history .exit)) (now (sources .exit))
+        ≡ with-entry (next-place ring) entry (arrays (now (history .entry)) (now (sources .entry))) ⌝ }
 {
     let at = place(ring, ring.length);
     history[at] = entry_word(entry.sequence, entry.cell, entry.length);

@@ -125,7 +125,8 @@ pub fn packet(pending: &[u64], at: usize) -> Packet
 // A packet's row is written at its cell.
 fn put_row(pending: &mut [u64], packet: Packet)
     requires { ⌜ (pending-size ≤ length (now pending)) × (packet .content .cell < max-cells) ⌝ }
-    ensures { λ _. ⌜ now (pending .exit) ≡ overwritten ((index-rows + packet .content .cell) * packet-row-size) (row-words packet) (now (pending .entry)) ⌝ }
+    ensures { λ _. ⌜ now (pending .exit) ≡ overwritten
+        ((index-rows + packet .content .cell) * packet-row-size) (row-words packet) (now (pending .entry)) ⌝ }
 {
     let start = row_start(packet.content.cell as usize);
     write_row(&mut pending[start..start + ROW_WORDS], packet);
@@ -217,7 +218,8 @@ fn is_covered(first: u64, run: u64, sequence: u64) -> bool
 // The packets that start inside a run are taken out, in one pass. Answers how many are left.
 pub fn remove_covered(pending: &mut [u64], count: usize, first: u64, run: u64) -> usize
     requires { ⌜ (pending-size ≤ length (now pending)) × (count ≤ max-pending) ⌝ }
-    ensures { λ r. ⌜ (r ≤ count) × Holds (length (now (pending .entry))) (now (pending .exit)) r (not-covered first run (packets count (now (pending .entry)))) ⌝ }
+    ensures { λ r. ⌜ (r ≤ count) × Holds (length (now (pending .entry))) (now (pending .exit)) r
+        (not-covered first run (packets count (now (pending .entry)))) ⌝ }
 {
     let mut kept: usize = 0;
     let mut at: usize = 0;
@@ -252,7 +254,8 @@ pub fn is_ascending(pending: &[u64], count: usize) -> bool
 // The packets of a member become the group's own.
 pub fn own_packets(pending: &mut [u64], count: usize, member: u64)
     requires { ⌜ (pending-size ≤ length (now pending)) × (count ≤ max-pending) ⌝ }
-    ensures { λ _. ⌜ Holds (length (now (pending .entry))) (now (pending .exit)) count (each (own-packet member) (packets count (now (pending .entry)))) ⌝ }
+    ensures { λ _. ⌜ Holds (length (now (pending .entry))) (now (pending .exit)) count
+        (each (own-packet member) (packets count (now (pending .entry)))) ⌝ }
 {
     let mut at: usize = 0;
     while at < count {
@@ -279,7 +282,8 @@ fn is_owned(pending: &[u64], at: usize) -> bool
 fn farther(pending: &[u64], count: usize, base: u64, at: usize, best: Found) -> Found
     requires { ⌜ (pending-size ≤ length (now pending)) × (count ≤ max-pending) × (at < count) ⌝ }
     requires { ⌜ in-use count best ⌝ }
-    ensures { λ r. ⌜ FoundPacket (now (pending .entry)) count r (with-owned-packet base (packet-at (now (pending .entry)) at) (packet-found (now (pending .entry)) best)) ⌝ }
+    ensures { λ r. ⌜ FoundPacket (now (pending .entry)) count r
+        (with-owned-packet base (packet-at (now (pending .entry)) at) (packet-found (now (pending .entry)) best)) ⌝ }
 {
     if !is_owned(pending, at) {
         return best;

@@ -49,7 +49,8 @@ pub fn waiting_event(waiting: &[u64], at: usize) -> Waiting
 // An event behind the last.
 pub fn push_back(waiting: &mut [u64], count: usize, event: Waiting)
     requires { ⌜ (waiting-size ≤ length (now waiting)) × (count < max-waiting) ⌝ }
-    ensures { λ _. ⌜ HoldsWaiting (length (now (waiting .entry))) (now (waiting .exit)) (count + 1) (waitings count (now (waiting .entry)) ++ (event ∷ [])) ⌝ }
+    ensures { λ _. ⌜ HoldsWaiting (length (now (waiting .entry))) (now (waiting .exit)) (count + 1)
+        (waitings count (now (waiting .entry)) ++ (event ∷ [])) ⌝ }
 {
     let start = count * WAITING_WORDS;
     write_waiting(&mut waiting[start..start + WAITING_WORDS], event);

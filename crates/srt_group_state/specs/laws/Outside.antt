@@ -363,6 +363,7 @@ module _ (c : Core) (members pending waiting : List ℕ) where
         or-left (any packet-breaks-rule (packets (c .counts .pending) pending)) _
         (or-right (any member-breaks-rule (members-of (c .counts .members) members)) _ good)
 
+module _ (c : Core) (members pending : List ℕ) where
   module _ (id : Bool) (id-is : id ≡ one-twice (each id-of (members-of (c .counts .members) members))) where
     pub disagree-by-id : id ≡ true → true ≡ rows-disagree c members pending
     unfolding rows-disagree
@@ -381,6 +382,7 @@ module _ (c : Core) (members pending waiting : List ℕ) where
         || sums-wrong (members-of (c .counts .members) members) (packets (c .counts .pending) pending) (c .owned)))
         (sym once ∙ id-is)
 
+module _ (c : Core) (members pending waiting : List ℕ) where
   module _ (identity : Identity) (sending : Sending) (core : Bool) (core-is : core ≡ numbers-break-rule identity c sending) where
     pub tables-by-core : core ≡ true → true ≡ tables-break-rule identity c sending members pending waiting
     unfolding tables-break-rule

@@ -1,8 +1,8 @@
 -- `rows_disagree` meets its contract.
 use mathlib.Core.Path.{sym, _∙_}
 use native.Mathlib.Omega.{arith}
-use Rattle.srt_group_state.specs.laws.Outside.{members-good, packets-good, disagree-by-id, disagree-else}
 use borrow.Author.Needs.{needs}
+use Rattle.srt_group_state.specs.laws.Outside.{disagree-by-id, disagree-else}
 use Rattle.srt_group_state.proofs.validity.rows_disagree.Statement.{statement}
 use Rattle.srt_group_state.proofs.validity.rows_disagree.Tie as tie
 
@@ -10,27 +10,25 @@ id-twice-requires : tie.Need-id-twice-requires
 id-twice-requires c κs = search needs
 
 returns : tie.Need-returns
-returns c = disagree-by-id (c .before .before .before .before .before .args .core) (c .before .before .before .before .before .args .members .now) (c .before .before .before .before .before .args .pending .now) (c .before .before .before .before .before .args .waiting .now) _ (c .before .id-twice .ensures) (c .if1 .taken)
+returns c =
+    let a = c .before .before .before .before .args in
+    disagree-by-id (a .core) (a .members .now) (a .pending .now) _ (c .before .id-twice .ensures) (c .if1 .taken)
 
 is-ascending-requires : tie.Need-is-ascending-requires
 is-ascending-requires c κs = search needs
 
 reserved-sum-wrong-requires : tie.Need-reserved-sum-wrong-requires
-reserved-sum-wrong-requires c κs = (
-  (omega (arith, c .before .before .before .before .before .before .pre .0 .0, c .before .before .before .before .before .before .pre .1 .0 .members), c .before .before .before .before .before .before .pre .1 .0 .members),
-  (
-    (c .before .before .before .before .before .before .pre .0 .1, c .before .before .before .before .before .before .pre .1 .0 .pending),
-    (
-      sym (c .before .before .id-twice .ensures) ∙ c .before .if1 .left,
-      (members-good (c .before .before .before .before .before .before .args .core) (c .before .before .before .before .before .before .args .members .now) (c .before .before .before .before .before .before .args .pending .now) (c .before .before .before .before .before .before .args .waiting .now) (c .before .before .before .before .before .before .pre .1 .1), packets-good (c .before .before .before .before .before .before .args .core) (c .before .before .before .before .before .before .args .members .now) (c .before .before .before .before .before .before .args .pending .now) (c .before .before .before .before .before .before .args .waiting .now) (c .before .before .before .before .before .before .pre .1 .1)),
-    ),
-  ),
-)
+reserved-sum-wrong-requires c κs =
+    let pre = c .before .before .before .before .before .pre in (
+      (omega (arith, pre .0 .0, pre .1 .0 .members), pre .1 .0 .members),
+      ((pre .0 .1, pre .1 .0 .pending), (sym (c .before .before .id-twice .ensures) ∙ c .before .if1 .left, pre .1 .1)),
+    )
 
 returns-2 : tie.Need-returns-2
 returns-2 c =
-    disagree-else (c .before .before .before .before .before .before .before .args .core) (c .before .before .before .before .before .before .before .args .members .now) (c .before .before .before .before .before .before .before .args .pending .now) (c .before .before .before .before .before .before .before .args .waiting .now) _ (c .before .before .before .id-twice .ensures) _ _ (c .before .before .if1 .left) (c .before .is-ascending .ensures)
-    (c .reserved-sum-wrong .ensures)
+    let a = c .before .before .before .before .before .before .args in
+    disagree-else (a .core) (a .members .now) (a .pending .now) _ (c .before .before .before .id-twice .ensures) _ _ (c .before .before .if1 .left)
+    (c .before .is-ascending .ensures) (c .reserved-sum-wrong .ensures)
 
 pub rows-disagree-spec : {M : Type 1} → statement M
 rows-disagree-spec =

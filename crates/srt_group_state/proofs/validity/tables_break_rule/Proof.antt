@@ -1,6 +1,6 @@
 -- `tables_break_rule` meets its contract.
 use mathlib.Core.Path.{sym, _∙_}
-use Rattle.srt_group_state.specs.laws.Outside.{counts-within, tables-by-core, tables-by-rows, tables-else, tables-are}
+use Rattle.srt_group_state.specs.laws.Outside.{counts-within, members-good, packets-good, tables-by-core, tables-by-rows, tables-else, tables-are}
 use borrow.Author.Needs.{needs}
 use Rattle.srt_group_state.proofs.validity.tables_break_rule.Statement.{statement}
 use Rattle.srt_group_state.proofs.validity.tables_break_rule.Tie as tie
@@ -29,11 +29,15 @@ returns-2 c =
 rows-disagree-requires : tie.Need-rows-disagree-requires
 rows-disagree-requires c κs =
     let a = c .before .before .before .before .before .before .before .args in
-    let pre = c .before .before .before .before .before .before .before .pre in (
+    let pre = c .before .before .before .before .before .before .before .pre in
+    let good = sym (c .before .rows-break-rule .ensures) ∙ c .if2 .left in (
       (pre .0, pre .1 .0),
       (
         counts-within (a .identity) (a .core) (a .sending) (sym (c .before .before .before .numbers-break-rule .ensures) ∙ c .before .before .if1 .left),
-        sym (c .before .rows-break-rule .ensures) ∙ c .if2 .left,
+        (
+          members-good (a .core) (a .members .now) (a .pending .now) (a .waiting .now) good,
+          packets-good (a .core) (a .members .now) (a .pending .now) (a .waiting .now) good,
+        ),
       ),
     )
 
