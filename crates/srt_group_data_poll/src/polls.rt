@@ -69,5 +69,10 @@ pub fn poll_data_bounded(
     );
     let gave = polled.gave;
     write_payload(store, output, gave);
-    polled
+    let after = polled.core;
+    DataPoll {
+        gave,
+        continuation: polled.continuation,
+        core: after,
+    }
 }

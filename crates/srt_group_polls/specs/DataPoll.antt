@@ -14,13 +14,13 @@ use Rattle.srt_group_model.specs.Polls.{pass-events}
 use Rattle.srt_group_model.specs.Polls as model-polls
 use Rattle.srt_group_shown.specs.Shown.{Rest, shown}
 use Rattle.srt_group_shown.specs.Tables.{ReceiveTables}
-use Rattle.srt_group_receiving.specs.declared.delivery.Poll.{Poll}
+use Rattle.srt_group_delivery.specs.declared.delivery.Poll.{Poll}
 use Rattle.srt_group_polls.specs.declared.polls.OptionalPacket.{OptionalPacket}
 use Rattle.srt_group_polls.specs.declared.polls.OptionalPacket.the-variants.{Some, None}
 use Rattle.srt_group_polls.specs.declared.polls.DataPoll.{DataPoll}
 use Rattle.srt_group_polls.specs.declared.polls.Passed.{Passed}
-use Rattle.srt_group_receiving.specs.Leaves.{Usable, under-way}
-use Rattle.srt_group_receiving.specs.Poll.{polled-of}
+use Rattle.srt_group_collecting.specs.Leaves.{Usable, under-way}
+use Rattle.srt_group_delivery.specs.Poll.{polled-of}
 
 -- ---- what a data poll gives
 

@@ -1,5 +1,4 @@
 pub mod Refresh
-pub mod Skip
 pub mod EventPoll
 pub mod DataPoll
 -- What is proved.

@@ -7,7 +7,7 @@ use Rattle.srt_group_model.specs.declared.Core.{Core}
 use Rattle.srt_group_model.specs.Run.{Mark, Run}
 use Rattle.srt_group_shown.specs.Shown.{Rest}
 use Rattle.srt_group_shown.specs.Tables.{receive-tables}
-use Rattle.srt_group_receiving.specs.Leaves.{under-way, At}
+use Rattle.srt_group_collecting.specs.Leaves.{under-way, At}
 
 -- ---- what a refresh needs and leaves
 

@@ -1,6 +1,5 @@
 -- What is proved. A reader who trusts the checker need not read it.
 pub mod Refresh
-pub mod Skip
 pub mod EventPoll
 pub mod DataPoll
 pub mod PollsUsed

@@ -5,13 +5,13 @@ ghost use Prim.Native.Nat.{_*_, _≤_};
 ghost use lib.ListN.{length};
 ghost use Rattle.srt_group_model.specs.Run.{admit-connected-peer-groups, refresh-pending-states, refresh-states};
 ghost use Rattle.srt_connection_queue.specs.Rows.{row-size};
-ghost use Rattle.srt_group_receiving.specs.Leaves.{every, sends};
+ghost use Rattle.srt_group_collecting.specs.Leaves.{every, sends};
 ghost use Rattle.srt_group_polls.specs.Refresh.{Refreshes};
+use srt_group_delivery::delivery::set_base;
 use srt_group_members::admission;
 use srt_group_members::refresh;
 use srt_group_model::Core;
 use srt_group_model::Sending;
-use srt_group_receiving::delivery::set_base;
 
 // Members whose handshake completed are admitted; the first of them may set the base, and bind the group to its peer group.
 fn admit_connected_peer_groups(core: Core, members: &mut [u64]) -> Core

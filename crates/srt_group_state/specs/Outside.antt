@@ -16,8 +16,8 @@ use Rattle.srt_group_model.specs.declared.Sending.{Sending}
 use Rattle.srt_connection_members.specs.Members.{members-of}
 use Rattle.srt_group_tables.specs.Packets.{packets}
 use Rattle.srt_group_tables.specs.Waitings.{waitings}
-use Rattle.srt_group_state.specs.Rules.{waiting-out-of-range, member-breaks-rule, packet-breaks-rule}
-use Rattle.srt_group_state.specs.Sums.{sums-wrong}
+use Rattle.srt_group_rules.specs.Rules.{waiting-out-of-range, member-breaks-rule, packet-breaks-rule}
+use Rattle.srt_group_rules.specs.Sums.{sums-wrong}
 
 -- ---- definitions
 

@@ -37,9 +37,9 @@ use Rattle.cell_set.specs.Shows.{Shows}
 use Rattle.srt_group_shown.specs.Tables.{Parts, parts, Tables, ReceiveTables, receive-tables, rest-of, state-of, Long}
 use Rattle.srt_group_shown.specs.Ready.{Ready, lending, Performs}
 use Rattle.srt_group_shown.specs.laws.Ready.{one-cell, performs-accepted}
-use Rattle.srt_group_receiving.specs.Leaves.{Usable, sends}
-use Rattle.srt_group_receiving.specs.laws.Leaves.{sound-blank}
-use Rattle.srt_group_receiving.specs.Follows.{Follows}
+use Rattle.srt_group_collecting.specs.Leaves.{Usable, sends}
+use Rattle.srt_group_collecting.specs.laws.Leaves.{sound-blank}
+use Rattle.srt_group_collecting.specs.Follows.{Follows}
 use Rattle.srt_group_polls.specs.declared.polls.OptionalPacket.{OptionalPacket}
 use Rattle.srt_group_polls.specs.declared.polls.OptionalPacket.the-variants.{Some, None}
 use Rattle.srt_group_polls.specs.declared.polls.DataPoll.{DataPoll}

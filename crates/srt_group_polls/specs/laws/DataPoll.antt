@@ -21,15 +21,15 @@ use Rattle.srt_group_model.specs.Polls.{poll-event, pass-events, poll-until-dat
 use Rattle.srt_group_model.specs.Polls as model-polls
 use Rattle.srt_group_shown.specs.Shown.{Rest, shown}
 use Rattle.srt_group_shown.specs.Tables.{ReceiveTables, receive-tables}
-use Rattle.srt_group_receiving.specs.declared.delivery.Poll.{Poll}
-use Rattle.srt_group_receiving.specs.declared.delivery.Polled.the-variants.{Nothing, Event as AnEvent, Packet as APacket}
+use Rattle.srt_group_delivery.specs.declared.delivery.Poll.{Poll}
+use Rattle.srt_group_delivery.specs.declared.delivery.Polled.the-variants.{Nothing, Event as AnEvent, Packet as APacket}
 use Rattle.srt_group_polls.specs.declared.polls.OptionalPacket.the-variants.{Some, None}
 use Rattle.srt_group_polls.specs.declared.polls.DataPoll.{DataPoll}
 use Rattle.srt_group_polls.specs.declared.polls.Passed.{Passed}
-use Rattle.srt_group_receiving.specs.Leaves.{Usable, under-way}
-use Rattle.srt_group_receiving.specs.Gather.{Shows}
-use Rattle.srt_group_receiving.specs.Poll.{polled-of}
-use Rattle.srt_group_polls.specs.Skip.{PollsFrom}
+use Rattle.srt_group_collecting.specs.Leaves.{Usable, under-way}
+use Rattle.srt_group_collecting.specs.Gather.{Shows}
+use Rattle.srt_group_delivery.specs.Poll.{polled-of}
+use Rattle.srt_group_skip.specs.Skip.{PollsFrom}
 use Rattle.srt_group_polls.specs.DataPoll.{option-of, GivesData, PollsData, spent-at, Passes}
 
 -- ---- an event is passed over

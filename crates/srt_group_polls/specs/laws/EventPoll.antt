@@ -22,17 +22,17 @@ use Rattle.srt_group_model.specs.laws.Sound.{sound-law}
 use Rattle.srt_group_tables.specs.Waitings.{waiting-at}
 use Rattle.srt_group_shown.specs.Shown.{Rest, shown}
 use Rattle.srt_group_shown.specs.Tables.{receive-tables}
-use Rattle.srt_group_receiving.specs.declared.collecting.Gathered.{Gathered}
-use Rattle.srt_group_receiving.specs.declared.delivery.Poll.{Poll}
-use Rattle.srt_group_receiving.specs.Leaves.{every, sends, Usable, under-way, At}
-use Rattle.srt_group_receiving.specs.Visit.{continued}
-use Rattle.srt_group_receiving.specs.Gather.{Gathers}
-use Rattle.srt_group_receiving.specs.laws.Gather.{tab-full, tab-spent, run-is, usable-continued}
-use Rattle.srt_group_receiving.specs.Poll.{Polls}
+use Rattle.srt_group_collecting.specs.declared.collecting.Gathered.{Gathered}
+use Rattle.srt_group_delivery.specs.declared.delivery.Poll.{Poll}
+use Rattle.srt_group_collecting.specs.Leaves.{every, sends, Usable, under-way, At}
+use Rattle.srt_group_collecting.specs.Visit.{continued}
+use Rattle.srt_group_collecting.specs.Gather.{Gathers}
+use Rattle.srt_group_collecting.specs.laws.Gather.{tab-full, tab-spent, run-is, usable-continued}
+use Rattle.srt_group_delivery.specs.Poll.{Polls}
 use Rattle.srt_group_polls.specs.Refresh.{Refreshes}
 use Rattle.srt_group_polls.specs.laws.Refresh.{usable-refreshed-pending}
-use Rattle.srt_group_polls.specs.Skip.{GivesState, PollsFrom}
-use Rattle.srt_group_polls.specs.laws.Skip.{polled-among, polled-as}
+use Rattle.srt_group_skip.specs.Skip.{GivesState, PollsFrom}
+use Rattle.srt_group_skip.specs.laws.Skip.{polled-among, polled-as}
 use Rattle.srt_group_polls.specs.EventPoll.{give-next}
 
 -- ---- a poll that goes on from where another step stands

@@ -22,9 +22,9 @@ use Rattle.srt_group_members.specs.Admission.{Admitted, base-in}
 use Rattle.srt_group_members.specs.Scan.{Became}
 use Rattle.srt_group_shown.specs.Shown.{Rest, shown}
 use Rattle.srt_group_shown.specs.Tables.{receive-tables}
-use Rattle.srt_group_receiving.specs.Leaves.{remembering, every, sends, Usable, under-way, At}
-use Rattle.srt_group_receiving.specs.laws.Leaves.{sound-with, sound-blank, members-shown}
-use Rattle.srt_group_receiving.specs.Poll.{Bases}
+use Rattle.srt_group_collecting.specs.Leaves.{remembering, every, sends, Usable, under-way, At}
+use Rattle.srt_group_collecting.specs.laws.Leaves.{sound-with, sound-blank, members-shown}
+use Rattle.srt_group_delivery.specs.Poll.{Bases}
 use Rattle.srt_group_polls.specs.Refresh.{Refreshes}
 
 -- ---- what a refresh needs and leaves

@@ -28,10 +28,10 @@ use Rattle.srt_group_tables.specs.Packets.{packets}
 use Rattle.srt_group_tables.specs.Waitings.{waitings}
 use Rattle.word_rows.specs.laws.Tab.{tab-length}
 use Rattle.srt_group_shown.specs.Shown.{rest, shown}
-use Rattle.srt_group_state.specs.Rules.{event-sequence-too-large, membership-out-of-range, packet-out-of-range, entry-out-of-range, waiting-out-of-range, event-breaks-rule, queue-breaks-rule, leg-breaks-rule, member-breaks-rule, packet-breaks-rule, entry-breaks-rule, history-breaks-rule}
-use Rattle.srt_group_state.specs.laws.Walks.{any-or, none-there}
-use Rattle.srt_group_state.specs.Sums.{sums-wrong}
-use Rattle.srt_group_state.specs.laws.Sums.{sums-wrong-is}
+use Rattle.srt_group_rules.specs.Rules.{event-sequence-too-large, membership-out-of-range, packet-out-of-range, entry-out-of-range, waiting-out-of-range, event-breaks-rule, queue-breaks-rule, leg-breaks-rule, member-breaks-rule, packet-breaks-rule, entry-breaks-rule, history-breaks-rule}
+use Rattle.srt_group_rules.specs.laws.Walks.{any-or, none-there}
+use Rattle.srt_group_rules.specs.Sums.{sums-wrong}
+use Rattle.srt_group_rules.specs.laws.Sums.{sums-wrong-is}
 use Rattle.srt_group_state.specs.Outside.{rules-outside-cells, breaks-rule-outside-cells, counts-above-limit, words-out-of-range, numbers-break-rule, CountsWithin, rows-break-rule, rows-disagree}
 
 -- ---- definitions

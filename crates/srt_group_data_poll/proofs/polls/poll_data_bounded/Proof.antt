@@ -9,8 +9,7 @@ poll-data-bounded-requires : tie.Need-poll-data-bounded-requires
 poll-data-bounded-requires c κs = (usable (c .before .before .before .before .before .before .before .before .before .before .before .before .pre .0), (sending-fits (c .before .before .before .before .before .before .before .before .before .before .before .before .pre .0), c .before .before .before .before .before .before .before .before .before .before .before .before .pre .0 .shows .cells .long))
 
 write-payload-requires : tie.Need-write-payload-requires
-write-payload-requires c κs =
-    writable _ _ _ _ _ _ (c .before .before .before .before .before .before .before .before .before .poll-data-bounded .ensures .0) (c .before .before .before .before .before .before .before .before .before .before .before .before .before .before .before .before .before .before .before .before .before .before .pre .0) (c .before .before .before .before .before .before .before .before .before .before .before .before .before .before .before .before .before .before .before .before .before .before .pre .1)
+write-payload-requires c κs = search (needs, writable)
 
 same-length : tie.Need-same-length
 same-length c = search needs
@@ -29,9 +28,9 @@ same-length-5 c = search needs
 
 returns : tie.Need-returns
 returns c =
-    performed _ _ _ _ _ _ (c .before .before .before .before .before .before .before .before .before .before .before .before .poll-data-bounded .ensures .0) (c .before .before .before .before .before .before .before .before .before .before .before .before .before .before .before .before .before .before .before .before .before .before .before .before .before .args .store .now) (c .before .before .before .before .before .before .before .before .before .before .before .before .before .before .before .before .before .before .before .before .before .before .before .before .before .args .output .now) _ (c .before .before .before .before .before .before .before .before .before .before .before .before .before .before .before .before .before .before .before .before .before .before .before .before .before .pre .0) (c .before .before .before .before .before .before .before .before .before .before .before .before .before .before .before .before .before .before .before .before .before .before .before .before .before .pre .1)
-    _ _ (omega (arith, c .before .before .before .before .before .before .before .before .before .before .before .before .before .before .before .before .before .before .before .before .before .before .before .before .before .good .1 .1 .1 .1 .1 .1 .1 .1 .1 .1 .1 .1 .0))
-    (c .before .before .before .before .before .before .before .before .before .before .before .before .poll-data-bounded .ensures .1) (c .before .before .write-payload .ensures)
+    performed _ _ _ _ _ _ (c .before .before .before .before .before .before .before .before .before .before .before .before .before .poll-data-bounded .ensures .0) (c .before .before .before .before .before .before .before .before .before .before .before .before .before .before .before .before .before .before .before .before .before .before .before .before .before .before .args .store .now) (c .before .before .before .before .before .before .before .before .before .before .before .before .before .before .before .before .before .before .before .before .before .before .before .before .before .before .args .output .now) _ (c .before .before .before .before .before .before .before .before .before .before .before .before .before .before .before .before .before .before .before .before .before .before .before .before .before .before .pre .0) (c .before .before .before .before .before .before .before .before .before .before .before .before .before .before .before .before .before .before .before .before .before .before .before .before .before .before .pre .1)
+    _ _ (omega (arith, c .before .before .before .before .before .before .before .before .before .before .before .before .before .before .before .before .before .before .before .before .before .before .before .before .before .before .good .1 .1 .1 .1 .1 .1 .1 .1 .1 .1 .1 .1 .0))
+    (c .before .before .before .before .before .before .before .before .before .before .before .before .before .poll-data-bounded .ensures .1) (c .before .before .before .write-payload .ensures)
 
 pub poll-data-bounded-spec : {M : Type 1} → statement M
 poll-data-bounded-spec =

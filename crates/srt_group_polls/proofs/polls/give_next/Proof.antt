@@ -2,8 +2,9 @@
 use Rattle.srt_group_polls.specs.laws.Refresh.{usable-refreshed, rows-there}
 use Rattle.srt_group_polls.specs.laws.EventPoll.{event-next, packet-next, still-none-waits}
 use borrow.Author.Needs.{needs}
-use Rattle.srt_group_polls.specs.laws.PollsUsed.{follows-given, follows-refreshed}
-use Rattle.srt_group_receiving.specs.laws.Follows.{follows-then}
+use Rattle.srt_group_skip.specs.laws.SkipUsed.{follows-given}
+use Rattle.srt_group_polls.specs.laws.PollsUsed.{follows-refreshed}
+use Rattle.srt_group_collecting.specs.laws.Follows.{follows-then}
 use Rattle.srt_group_polls.proofs.polls.give_next.Statement.{statement}
 use Rattle.srt_group_polls.proofs.polls.give_next.Tie as tie
 

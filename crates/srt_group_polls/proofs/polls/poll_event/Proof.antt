@@ -2,7 +2,7 @@
 use native.Mathlib.Omega.{arith}
 use Rattle.srt_group_polls.specs.laws.EventPoll.{usable-begun, polls-event}
 use Rattle.srt_group_polls.specs.laws.PollsUsed.{follows-begun}
-use Rattle.srt_group_receiving.specs.laws.Follows.{follows-then}
+use Rattle.srt_group_collecting.specs.laws.Follows.{follows-then}
 use Rattle.srt_group_polls.specs.laws.Refresh.{rows-there}
 use Rattle.srt_group_polls.proofs.polls.poll_event.Statement.{statement}
 use Rattle.srt_group_polls.proofs.polls.poll_event.Tie as tie

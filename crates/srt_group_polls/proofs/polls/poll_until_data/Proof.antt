@@ -3,11 +3,11 @@ use native.Mathlib.Omega.{arith}
 use Rattle.srt_group_polls.specs.laws.DataPoll.{Passing, passing-start, passing-on, passing-ended, passing-spent}
 use borrow.Author.Needs.{needs}
 use Rattle.srt_group_polls.specs.laws.PollsUsed.{follows-passed}
-use Rattle.srt_group_receiving.specs.Follows.{Follows}
-use Rattle.srt_group_receiving.specs.laws.Follows.{follows-same, follows-then}
+use Rattle.srt_group_collecting.specs.Follows.{Follows}
+use Rattle.srt_group_collecting.specs.laws.Follows.{follows-same, follows-then}
 use Rattle.srt_group_model.specs.laws.Flag.{zero-unset, other-set}
 use Rattle.srt_group_shown.specs.Tables.{receive-tables}
-use Rattle.srt_group_receiving.specs.Leaves.{sends}
+use Rattle.srt_group_collecting.specs.Leaves.{sends}
 use Rattle.srt_group_polls.proofs.polls.poll_until_data.Statement.{statement}
 use Rattle.srt_group_polls.proofs.polls.poll_until_data.Tie as tie
 

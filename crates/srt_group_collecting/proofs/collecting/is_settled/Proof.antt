@@ -1,0 +1,22 @@
+-- `is_settled` meets its contract.
+use Rattle.srt_group_collecting.specs.laws.Gather.{settled-asked, settled-or-held}
+use borrow.Author.Needs.{needs}
+use Rattle.srt_group_collecting.proofs.collecting.is_settled.Statement.{statement}
+use Rattle.srt_group_collecting.proofs.collecting.is_settled.Tie as tie
+
+returns : tie.Need-returns
+returns c = settled-asked (c .before .before .before .args .core .visit .continuation) _ (c .if1 .taken)
+
+is-held-requires : tie.Need-is-held-requires
+is-held-requires c κs = search needs
+
+returns-2 : tie.Need-returns-2
+returns-2 c = settled-or-held (c .before .before .before .before .args .core .visit .continuation) _ (c .before .if1 .left) (c .is-held .ensures)
+
+pub is-settled-spec : {M : Type 1} → statement M
+is-settled-spec =
+    tie.close
+    (tie.spec
+    returns
+    is-held-requires
+    returns-2)

@@ -1,0 +1,57 @@
+-- `deliver` meets its contract: the base is not held, or its packet is delivered.
+use mathlib.Core.Path.{sym, _∙_}
+use native.Mathlib.Omega.{arith}
+use Rattle.srt_group_delivery.specs.laws.Poll.{held-below, base-not-held, base-delivered}
+use borrow.Author.Needs.{needs}
+use Rattle.srt_group_collecting.specs.laws.Follows.{follows-same}
+use Rattle.srt_group_delivery.proofs.delivery.deliver.Statement.{statement}
+use Rattle.srt_group_delivery.proofs.delivery.deliver.Tie as tie
+
+find-requires : tie.Need-find-requires
+find-requires c κs = search needs
+
+enum-known-found : tie.Need-enum-known-found
+enum-known-found c = search needs
+
+enum-told : tie.Need-enum-told
+enum-told c = search needs
+
+same-length : tie.Need-same-length
+same-length c = search needs
+
+returns : tie.Need-returns
+returns c = (λ ws. base-not-held _ _ _ _ ws (sym (c .enum-told .given .1) ∙ c .before .before .find .ensures), follows-same _ _ _ _ (c .before .before .before .before .before .before .before .pre .1))
+
+packet-requires : tie.Need-packet-requires
+packet-requires c κs = (c .before .before .before .before .before .before .before .before .before .pre .0 .pending-long, omega (arith, c .before .before .before .before .before .before .before .before .before .pre .0 .held-few, held-below _ _ _ _ (sym (c .before .before .found .given .1) ∙ c .before .before .before .before .find .ensures)))
+
+deliver-packet-requires : tie.Need-deliver-packet-requires
+deliver-packet-requires c κs = search needs
+
+same-length-2 : tie.Need-same-length-2
+same-length-2 c = search needs
+
+same-length-3 : tie.Need-same-length-3
+same-length-3 c = search needs
+
+same-length-4 : tie.Need-same-length-4
+same-length-4 c = search needs
+
+returns-2 : tie.Need-returns-2
+returns-2 c = (λ ws. base-delivered _ _ _ _ ws _ _ _ _ (sym (c .before .before .before .before .before .before .before .before .before .before .before .before .before .found .given .1) ∙ c .before .before .before .before .before .before .before .before .before .before .before .before .before .before .before .find .ensures) (c .before .before .before .before .before .before .before .before .before .before .packet .ensures) (c .before .before .before .before .before .before .deliver-packet .ensures .0), c .before .before .before .before .before .before .deliver-packet .ensures .1)
+
+pub deliver-spec : {M : Type 1} → statement M
+deliver-spec =
+    tie.close
+    (tie.spec
+    find-requires
+    enum-known-found
+    enum-told
+    same-length
+    returns
+    packet-requires
+    deliver-packet-requires
+    same-length-2
+    same-length-3
+    same-length-4
+    returns-2)

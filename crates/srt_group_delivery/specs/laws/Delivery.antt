@@ -1,0 +1,317 @@
+-- What is proved of the definitions in specs/Delivery.antt, with what the proofs need.
+use mathlib.Core.Path.{_≡_, refl, ap, ap₂, sym, subst, _∙_}
+use mathlib.Core.Bool.{Bool, true, false}
+use mathlib.Core.List.{List, [], _∷_}
+use mathlib.Core.Option.{Option, none, some}
+use native.Mathlib.Numerals.{add-one}
+use Prim.Native.Nat.{ℕ, suc, _+_, _-_, _≤_, _<_}
+use borrow.Author.Tests.{lt-ltb, le-ltb, eq-eqb, ne-eqb}
+use lib.Dec.{leb}
+use lib.ListN.{length, drop}
+use Rattle.srt_protocol.specs.Sequence.{sequence-distance, sequence-further}
+use Rattle.srt_protocol.specs.declared.time.Timestamp.{Timestamp}
+use Rattle.word_rows.specs.Tab.{tab}
+use Rattle.srt_group_model.specs.declared.Core.{Core}
+use Rattle.srt_group_model.specs.declared.Leg.{Leg}
+use Rattle.srt_group_model.specs.declared.Membership.{Membership}
+use Rattle.srt_group_model.specs.declared.Packet.{Packet}
+use Rattle.srt_group_model.specs.Tools.{if_then_else_, if-some_give_otherwise_, or-else, all, first-such, such-that, place-of, at-place}
+use Rattle.srt_group_model.specs.State.{Member, State, with-members, with-receive, with-base, with-pending, on-leg, with-reserved}
+use Rattle.srt_group_model.specs.Legs.{is-disconnected, gives-up-at, release-data-reservation, advance-receive-sequence}
+use Rattle.srt_group_model.specs.Members.{has-id, find}
+use Rattle.srt_group_model.specs.Nearest.{sequence-of, nearest, covered, not-covered}
+use Rattle.srt_group_model.specs.Delivery.{leg-gives-up, gap-given-up, release-pending-reservation, release-all, advance-legs, pass-run, deliver-packet}
+use Rattle.srt_connection_members.specs.Members.{member-at, members-of, found-of, Changed, ChangedAll}
+use Rattle.srt_connection_members.specs.laws.Members.{members-place, found-some, found-none, found-below, changed-twice, membership-changed}
+use Rattle.srt_connection_queue.specs.Rows.{with-membership}
+use Rattle.srt_connection.specs.Answers.{deadline-of}
+use Rattle.srt_connection.specs.declared.legs.Deadline.the-variants.{At as AtMoment, Never}
+use Rattle.srt_group_members.specs.laws.Scan.{tab-next, tab-ended}
+use Rattle.srt_connection_members.specs.declared.Found.the-variants.{At, Nothing}
+use Rattle.srt_group_tables.specs.Packets.{packet-at, packets, Holds, FoundPacket}
+use Rattle.srt_group_tables.specs.laws.PacketLaws.{drop-zero}
+use Rattle.srt_group_tables.specs.declared.pending.Found.{Found}
+use Rattle.srt_group_tables.specs.declared.pending.Found.the-variants.{At as PendingAt, Nothing as NothingPending}
+use Rattle.srt_group_shown.specs.Shown.{Rest, shown}
+use Rattle.srt_group_shown.specs.Tables.{receive-tables}
+use Rattle.srt_group_collecting.specs.Leaves.{blank, Usable}
+use Rattle.srt_group_shown.specs.laws.Shown.{held-few}
+use Rattle.srt_group_delivery.specs.Delivery.{Deliverable, leg-given-up, release-member, with-owned-sum, Released, Delivered}
+
+-- ---- what delivery may rely on
+
+pub deliverable : (core : Core) (ms ps ws : List ℕ) → Usable core (receive-tables ms ps ws) → Deliverable core ms ps
+deliverable core ms ps ws h =
+    record {
+      members-long = h .members-long;
+      pending-long = h .pending-long;
+      members-few = h .members-few;
+      held-few = held-few core blank ms ps ws (h .sound);
+      ascending = h .sound .ascending;
+    }
+
+-- ---- the give-up test
+
+deadline-some : (o : Option ℕ) (moment : Timestamp) → AtMoment moment ≡ deadline-of o → o ≡ some (moment .0)
+deadline-some none moment e = cc e
+deadline-some (some n) moment e =
+    let same : moment ≡ record { 0 = n } = cc e in
+    ap (λ (m : Timestamp). some (m .0)) (sym same)
+
+deadline-none : (o : Option ℕ) → Never ≡ deadline-of o → o ≡ none
+deadline-none none e = refl
+deadline-none (some n) e = cc e
+
+module _ (time source : ℕ) (l : Leg) where
+  pub given-up-from : (moment : Timestamp) → AtMoment moment ≡ deadline-of (gives-up-at source l) → leb (moment .0) time ≡ leg-given-up time source l
+  unfolding if-some_give_otherwise_
+  given-up-from moment e = rw (deadline-some (gives-up-at source l) moment e)
+
+  pub never-given-up : Never ≡ deadline-of (gives-up-at source l) → false ≡ leg-given-up time source l
+  unfolding if-some_give_otherwise_
+  never-given-up e = rw (deadline-none (gives-up-at source l) e)
+
+-- the first that passes a test, by its place
+pub first-place : {A : Type 0} (test : A → Bool) (l : List A)
+    → first-such test l ≡ (if-some place-of test l give (λ i. at-place i l) otherwise none)
+unfolding first-such place-of at-place if_then_else_ if-some_give_otherwise_
+first-place test [] = refl
+first-place {A} test (x ∷ xs) = go (test x) (place-of test xs) (first-place test xs)
+  where
+    go : (b : Bool) (o : Option ℕ) → first-such test xs ≡ (if-some o give (λ i. at-place i xs) otherwise none)
+        → (if b then some x else first-such test xs)
+        ≡ (if-some (if b then some 0 else (if-some o give (λ i. some (suc i)) otherwise none)) give (λ i. at-place i (x ∷ xs)) otherwise none)
+    go true o e = refl
+    go false none e = e
+    go false (some i) e = e
+
+module _ (time n : ℕ) (t : List ℕ) (p : Packet) where
+  first-none : Nothing ≡ found-of (find (p .member) (members-of n t)) → first-such (has-id (p .member)) (members-of n t) ≡ none
+  unfolding if-some_give_otherwise_
+  first-none e = rw (first-place (has-id (p .member)) (members-of n t), found-none (find (p .member) (members-of n t)) e)
+
+  first-some : (i : ℕ) → At i ≡ found-of (find (p .member) (members-of n t))
+      → first-such (has-id (p .member)) (members-of n t) ≡ some (member-at t i)
+  unfolding if-some_give_otherwise_
+  first-some i e =
+      rw (first-place (has-id (p .member)) (members-of n t), found-some (find (p .member) (members-of n t)) i e)
+      (members-place n t i (found-below n (p .member) i t e))
+
+  pub own-leg-asked : {b : Bool} {l : Leg} (i : ℕ) → At i ≡ found-of (find (p .member) (members-of n t)) → l ≡ member-at t i .leg
+      → b ≡ leg-given-up time (p .content .source .0) l → b ≡ leg-gives-up time p (members-of n t)
+  unfolding leg-gives-up or-else if-some_give_otherwise_
+  own-leg-asked i e is asked = rw (first-some i e, ← is) asked
+
+  pub first-leg-asked : {b : Bool} {l : Leg} → Nothing ≡ found-of (find (p .member) (members-of n t)) → 0 < n → l ≡ member-at t 0 .leg
+      → b ≡ leg-given-up time (p .content .source .0) l → b ≡ leg-gives-up time p (members-of n t)
+  unfolding leg-gives-up or-else if-some_give_otherwise_
+  first-leg-asked e some-member is asked = rw (first-none e, members-place n t 0 some-member, ← is) asked
+
+  pub no-leg-asked : n ≡ 0 → false ≡ leg-gives-up time p (members-of n t)
+  unfolding leg-gives-up or-else if-some_give_otherwise_ members-of tab first-such at-place
+  no-leg-asked e = rw e
+
+-- a packet is asked for only if one is held; then all legs are asked, and then the nearest packet's
+module _ (time : ℕ) (core : Core) (ms ps : List ℕ) (r : Found)
+    (near : FoundPacket ps (core .counts .pending) r (nearest (packets (core .counts .pending) ps))) (others : Rest) (ws : List ℕ) where
+  pub nothing-held : r ≡ NothingPending → false ≡ gap-given-up time (shown core others ms ps ws)
+  unfolding gap-given-up if-some_give_otherwise_
+  nothing-held e = rw (sym (near .is), e)
+
+  module _ (i : ℕ) (e : r ≡ PendingAt i) where
+    pub all-gone : {b : Bool} → b ≡ all (λ m. is-disconnected (m .leg)) (members-of (core .counts .members) ms) → b ≡ true
+        → true ≡ gap-given-up time (shown core others ms ps ws)
+    unfolding gap-given-up if-some_give_otherwise_
+    all-gone is gone = rw (sym (near .is), e, sym is, gone)
+
+    pub left-to-the-leg : {a b : Bool} {p : Packet} → a ≡ all (λ m. is-disconnected (m .leg)) (members-of (core .counts .members) ms) → a ≡ false
+        → p ≡ packet-at ps i → b ≡ leg-gives-up time p (members-of (core .counts .members) ms) → b ≡ gap-given-up time (shown core others ms ps ws)
+    unfolding gap-given-up if-some_give_otherwise_
+    left-to-the-leg is not-all here asked = rw (sym (near .is), e, sym is, not-all, sym here) asked
+
+-- ---- a reservation is released
+
+pub released-none : (core : Core) (ms : List ℕ) → Released [] core ms core ms
+unfolding release-all
+released-none core ms = record { rest = refl; long = refl; state = λ others ps ws. refl }
+
+module _ (core : Core) (ms : List ℕ) (p : Packet) where
+  pub released-own : {sum : ℕ} → p .owned ≡ 1 → sum ≡ core .owned - p .content .count
+      → Released (p ∷ []) core ms (with-owned-sum sum core) ms
+  unfolding release-all release-pending-reservation if_then_else_
+  released-own own is = record { rest = refl; long = refl; state = λ others ps ws. rw (eq-eqb (p .owned) 1 own, is) }
+
+  pub released-nowhere : (p .owned ≡ 1 → ⊥) → Nothing ≡ found-of (find (p .member) (members-of (core .counts .members) ms))
+      → Released (p ∷ []) core ms core ms
+  unfolding release-all release-pending-reservation if_then_else_ if-some_give_otherwise_
+  released-nowhere own gone =
+      record {
+        rest = refl;
+        long = refl;
+        state = λ others ps ws. rw (ne-eqb (p .owned) 1 own, found-none (find (p .member) (members-of (core .counts .members) ms)) gone);
+      }
+
+  pub released-member : (i : ℕ) (ms′ : List ℕ) → (p .owned ≡ 1 → ⊥)
+      → At i ≡ found-of (find (p .member) (members-of (core .counts .members) ms)) → Changed i (release-member (p .content .count)) ms ms′
+      → Released (p ∷ []) core ms core ms′
+  unfolding release-all release-pending-reservation if_then_else_ if-some_give_otherwise_
+  released-member i ms′ own there changed =
+      record {
+        rest = refl;
+        long = changed .long;
+        state =
+            λ others ps ws.
+            rw (ne-eqb (p .owned) 1 own, found-some (find (p .member) (members-of (core .counts .members) ms)) i there)
+            (ap (λ (x : List Member). with-members x (shown core others ms ps ws)) (sym (changed .members (core .counts .members))));
+      }
+
+-- the member at a row: its sum was put, then its leg released
+pub member-released : {m : Membership} {reserved : ℕ} (i count : ℕ) (t u v : List ℕ) → m ≡ member-at t i .membership
+    → reserved ≡ m .reserved - count → Changed i (with-membership (with-reserved reserved m)) t u
+    → Changed i (on-leg (release-data-reservation count)) u v → Changed i (release-member count) t v
+member-released {m} i count t u v is less put released =
+    changed-twice i t u v
+    (membership-changed (λ x. with-reserved (x .reserved - count) x) put
+    (ap (λ (n : ℕ). with-reserved n m) less ∙ ap (λ (x : Membership). with-reserved (x .reserved - count) x) is))
+    released
+
+-- ---- what a run covers is released, packet by packet
+
+one-more-released : (b : Bool) (p : Packet) (l : List Packet) (s : State)
+    → release-all (if b then p ∷ l else l) s ≡ release-all l (release-all (if b then p ∷ [] else []) s)
+unfolding release-all if_then_else_
+one-more-released true p l s = refl
+one-more-released false p l s = refl
+
+-- the packets before `at` are released, and releasing what is left gives what releasing all gives
+pub record Releasing (test : Packet → Bool) (count at : ℕ) (pending : List ℕ) (core : Core) (ms : List ℕ) (after : Core) (ms′ : List ℕ) : Type 0 where
+  pub rest : after ≡ with-owned-sum (after .owned) core
+  pub long : length ms′ ≡ length ms
+  pub state : (others : Rest) (ps ws : List ℕ)
+      → release-all (such-that test (drop at (packets count pending))) (shown after others ms′ ps ws)
+      ≡ release-all (such-that test (packets count pending)) (shown core others ms ps ws)
+
+module _ (test : Packet → Bool) (count : ℕ) (pending : List ℕ) (core : Core) (ms : List ℕ) where
+  pub releasing-start : Releasing test count 0 pending core ms core ms
+  releasing-start =
+      record {
+        rest = refl;
+        long = refl;
+        state =
+            λ others ps ws.
+            ap (λ (l : List Packet). release-all (such-that test l) (shown core others ms ps ws)) (drop-zero (packets count pending));
+      }
+
+  pub releasing-on : (at : ℕ) (here next : Core) (ms₁ ms₂ : List ℕ) → at < count → Releasing test count at pending core ms here ms₁
+      → Released (such-that test (packet-at pending at ∷ [])) here ms₁ next ms₂ → Releasing test count (at + 1) pending core ms next ms₂
+  unfolding such-that
+  releasing-on at here next ms₁ ms₂ below so-far one =
+      record {
+        rest = one .rest ∙ ap (with-owned-sum (next .owned)) (so-far .rest);
+        long = one .long ∙ so-far .long;
+        state =
+            λ others ps ws.
+            sym (ap (release-all (such-that test (drop (at + 1) (packets count pending)))) (one .state others ps ws))
+            ∙ sym
+            (one-more-released (test (packet-at pending at)) (packet-at pending at) (such-that test (drop (at + 1) (packets count pending)))
+            (shown here others ms₁ ps ws))
+            ∙ sym (ap (λ (l : List Packet). release-all (such-that test l) (shown here others ms₁ ps ws)) (left-next at below))
+            ∙ so-far .state others ps ws;
+      }
+    where
+      left-next : (k : ℕ) → k < count → drop k (packets count pending) ≡ packet-at pending k ∷ drop (k + 1) (packets count pending)
+      left-next k h =
+          tab-next k count (packet-at pending) h
+          ∙ ap (λ (j : ℕ). packet-at pending k ∷ drop j (packets count pending)) (sym (add-one k))
+
+  pub releasing-done : (at : ℕ) (after : Core) (ms′ : List ℕ) → count ≤ at → Releasing test count at pending core ms after ms′
+      → Released (such-that test (packets count pending)) core ms after ms′
+  unfolding release-all such-that
+  releasing-done at after ms′ past all-done =
+      record {
+        rest = all-done .rest;
+        long = all-done .long;
+        state =
+            λ others ps ws.
+            sym (all-done .state others ps ws)
+            ∙ ap (λ (l : List Packet). release-all (such-that test l) (shown after others ms′ ps ws))
+            (tab-ended at count (packet-at pending) past);
+      }
+
+-- the packet at a place is covered, or not
+module _ (core : Core) (ms : List ℕ) (p : Packet) (base run : ℕ) where
+  pub covered-released : {distance sequence : ℕ} {q : Packet} (after : Core) (ms′ : List ℕ) → sequence ≡ sequence-of p
+      → distance ≡ sequence-distance base sequence → distance < run → q ≡ p → Released (q ∷ []) core ms after ms′
+      → Released (covered base run (p ∷ [])) core ms after ms′
+  unfolding such-that if_then_else_
+  covered-released after ms′ is far inside same released =
+      rw (lt-ltb (sequence-distance base (sequence-of p)) run (subst (λ (d : ℕ). d < run) (far ∙ ap (sequence-distance base) is) inside))
+      (subst (λ (x : Packet). Released (x ∷ []) core ms after ms′) same released)
+
+  pub not-covered-kept : {distance sequence : ℕ} → sequence ≡ sequence-of p → distance ≡ sequence-distance base sequence → run ≤ distance
+      → Released (covered base run (p ∷ [])) core ms core ms
+  unfolding such-that if_then_else_
+  not-covered-kept is far outside =
+      rw (le-ltb (sequence-distance base (sequence-of p)) run (subst (λ (d : ℕ). run ≤ d) (far ∙ ap (sequence-distance base) is) outside))
+      (released-none core ms)
+
+-- ---- a packet is delivered
+
+-- so many are held, and the base is set
+abbrev pub passed : (held base : ℕ) → Core → Core
+passed held base c =
+    record {
+      counts = record { members = c .counts .members; pending = held; waiting = c .counts .waiting };
+      mode = c .mode;
+      peer = c .peer;
+      receiving = record { based = 1; base = base; skipped = c .receiving .skipped };
+      visit = c .visit;
+      owned = c .owned;
+    }
+
+module _ (base : ℕ) (p : Packet) (core : Core) (ms ps : List ℕ) where
+  abbrev run : ℕ
+  run = p .content .count
+
+  -- the parts of a delivery, over the record after the release: `next` is the base's new number
+  pub record Parts (next : ℕ) (between : Core) (ms₁ ms₂ : List ℕ) (left : ℕ) (ps′ : List ℕ) : Type 0 where
+    pub released : Released (covered base run (packets (core .counts .pending) ps)) core ms between ms₁
+    pub advanced : ChangedAll (between .counts .members) (on-leg (advance-receive-sequence next)) ms₁ ms₂
+    pub removed : Holds (length ps) ps′ left (not-covered base run (packets (between .counts .pending) ps))
+
+  delivered-by : (owned : ℕ) (ms₁ ms₂ : List ℕ) (left : ℕ) (ps′ : List ℕ)
+      → Parts (sequence-further base run) (with-owned-sum owned core) ms₁ ms₂ left ps′
+      → Delivered base p core ms ps (passed left (sequence-further base run) (with-owned-sum owned core)) ms₂ ps′
+  unfolding deliver-packet advance-legs pass-run
+  delivered-by owned ms₁ ms₂ left ps′ parts =
+      record {
+        waiting-same = refl;
+        leaves =
+            λ ws.
+            record {
+              members-long = parts .advanced .long ∙ parts .released .long;
+              pending-long = parts .removed .length-kept;
+              waiting-long = refl;
+              members-same = refl;
+              state =
+                  λ others.
+                  ap
+                  (λ (s : State).
+                  with-receive (pass-run base p (shown core others ms ps ws .receive)) (advance-legs (sequence-further base run) s))
+                  (parts .released .state others ps ws)
+                  ∙ ap₂
+                  (λ (l : List Packet) (x : List Member).
+                  with-receive (with-base (sequence-further base run) (with-pending l (shown core others ms ps ws .receive)))
+                  (with-members x (shown (with-owned-sum owned core) others ms₁ ps ws)))
+                  (sym (parts .removed .is)) (sym (parts .advanced .members));
+            };
+      }
+
+  pub delivered-all : (next : ℕ) (between : Core) (ms₁ ms₂ : List ℕ) (left : ℕ) (ps′ : List ℕ) → next ≡ sequence-further base run
+      → Parts next between ms₁ ms₂ left ps′ → Delivered base p core ms ps (passed left next between) ms₂ ps′
+  delivered-all next between ms₁ ms₂ left ps′ is parts =
+      subst (λ (n : ℕ). Parts n between ms₁ ms₂ left ps′ → Delivered base p core ms ps (passed left n between) ms₂ ps′) (sym is)
+      (subst
+      (λ (c : Core). Parts (sequence-further base run) c ms₁ ms₂ left ps′ → Delivered base p core ms ps (passed left (sequence-further base run) c) ms₂ ps′)
+      (sym (parts .released .rest)) (delivered-by (between .owned) ms₁ ms₂ left ps′))
+      parts

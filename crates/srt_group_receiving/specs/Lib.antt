@@ -1,9 +1,0 @@
-pub mod Leaves
-pub mod Collect
-pub mod Visit
-pub mod Gather
-pub mod Delivery
-pub mod Poll
-pub mod Follows
--- What is proved.
-pub mod laws

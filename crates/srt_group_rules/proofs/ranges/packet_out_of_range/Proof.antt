@@ -1,0 +1,16 @@
+-- `packet_out_of_range` meets its contract.
+use borrow.Author.Needs.{needs}
+use Rattle.srt_group_model.specs.laws.Reason.{or-assoc}
+use Rattle.srt_group_rules.specs.Rules.{packet-out-of-range}
+use Rattle.srt_group_rules.proofs.ranges.packet_out_of_range.Statement.{statement}
+use Rattle.srt_group_rules.proofs.ranges.packet_out_of_range.Tie as tie
+
+data-out-of-range-requires : tie.Need-data-out-of-range-requires
+data-out-of-range-requires c κs = search needs
+
+returns : tie.Need-returns
+unfolding packet-out-of-range
+returns c = simp (c .data-out-of-range .ensures, or-assoc)
+
+pub packet-out-of-range-spec : {M : Type 1} → statement M
+packet-out-of-range-spec = tie.close (tie.spec data-out-of-range-requires returns)

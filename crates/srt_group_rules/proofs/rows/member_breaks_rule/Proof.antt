@@ -1,0 +1,41 @@
+-- `member_breaks_rule` meets its contract.
+use borrow.Author.Needs.{needs}
+use Rattle.srt_connection_queue.specs.Rows.{member-of}
+use Rattle.srt_group_rules.specs.laws.Rules.{member-tested}
+use Rattle.srt_group_rules.proofs.rows.member_breaks_rule.Statement.{statement}
+use Rattle.srt_group_rules.proofs.rows.member_breaks_rule.Tie as tie
+
+membership-requires : tie.Need-membership-requires
+membership-requires c κs = search needs
+
+membership-out-of-range-requires : tie.Need-membership-out-of-range-requires
+membership-out-of-range-requires c κs = search needs
+
+leg-requires : tie.Need-leg-requires
+leg-requires c κs = search needs
+
+leg-breaks-rule-requires : tie.Need-leg-breaks-rule-requires
+leg-breaks-rule-requires c κs = search needs
+
+queue-breaks-rule-requires : tie.Need-queue-breaks-rule-requires
+queue-breaks-rule-requires c κs = search needs
+
+returns : tie.Need-returns
+returns c =
+    member-tested (member-of (c .before .before .before .before .before .before .args .row .now)) _ _ _ _ _
+    (c .before .before .before .before .membership .ensures)
+    (c .before .before .before .membership-out-of-range .ensures)
+    (c .before .before .leg .ensures)
+    (c .before .leg-breaks-rule .ensures)
+    (c .queue-breaks-rule .ensures)
+
+pub member-breaks-rule-spec : {M : Type 1} → statement M
+member-breaks-rule-spec =
+    tie.close
+    (tie.spec
+    membership-requires
+    membership-out-of-range-requires
+    leg-requires
+    leg-breaks-rule-requires
+    queue-breaks-rule-requires
+    returns)

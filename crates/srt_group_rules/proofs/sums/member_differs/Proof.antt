@@ -1,0 +1,28 @@
+-- `member_differs` meets its contract.
+use Rattle.srt_connection_queue.specs.Rows.{member-of}
+use Rattle.srt_group_rules.specs.laws.Sums.{queue-good, differs-tested}
+use borrow.Author.Needs.{needs}
+use Rattle.srt_group_rules.proofs.sums.member_differs.Statement.{statement}
+use Rattle.srt_group_rules.proofs.sums.member_differs.Tie as tie
+
+queued-count-requires : tie.Need-queued-count-requires
+queued-count-requires c κs = (search needs, queue-good (member-of (c .before .args .row .now)) (c .before .pre .1))
+
+membership-requires : tie.Need-membership-requires
+membership-requires c κs = search needs
+
+receiver-requires : tie.Need-receiver-requires
+receiver-requires c κs = search needs
+
+add-both : tie.Need-add-both
+add-both c = search needs
+
+returns : tie.Need-returns
+returns c =
+    differs-tested _ (member-of (c .before .before .before .before .before .before .args .row .now)) _ _ _ (c .before .before .before .membership .ensures) (c .before .before .receiver .ensures)
+    (c .before .before .before .before .queued-count .ensures .0)
+
+pub member-differs-spec : {M : Type 1} → statement M
+member-differs-spec =
+    tie.close
+    (tie.spec queued-count-requires membership-requires receiver-requires add-both returns)

@@ -1,0 +1,5 @@
+pub mod Ids
+pub mod Rules
+pub mod Sums
+-- What is proved.
+pub mod laws

@@ -1,0 +1,140 @@
+-- What is proved of the definitions in specs/Ids.antt, with what the proofs need.
+use mathlib.Core.Path.{_≡_, refl, ap, sym, _∙_}
+use mathlib.Core.Bool.{Bool, true, false, _||_}
+use mathlib.Core.List.{List, [], _∷_}
+use mathlib.Core.Option.{Option, none, some}
+use Prim.Native.Nat.{ℕ, zero, suc, _+_, _-_, _*_, _≤_, _<_}
+use native.Mathlib.Decide.{decLt}
+use native.Mathlib.Omega.{arith}
+use borrow.Author.Tests.{eq-eqb, ne-eqb, eqb-true, eqb-false}
+use lib.Dec.{eqb}
+use lib.ListN.{getD}
+use Rattle.srt_group_model.specs.Tools.{if_then_else_, if-some_give_otherwise_, any, each, place-of}
+use Rattle.srt_group_model.specs.laws.Reason.{not-both, or-yes-left, or-yes-right, or-cases, none-some}
+use Rattle.srt_group_model.specs.Members.{id-of, has-id}
+use Rattle.srt_group_model.specs.Cells.{is-among}
+use Rattle.srt_group_model.specs.Validity.{one-twice}
+use Rattle.srt_connection_queue.specs.Rows.{row-size}
+use Rattle.srt_connection_members.specs.Members.{member-at, members-of}
+use Rattle.srt_connection_members.specs.laws.Members.{id-word}
+use Rattle.word_rows.specs.Tab.{tab}
+use Rattle.srt_group_tables.specs.laws.PacketLaws.{each-tab}
+use Rattle.srt_group_rules.specs.laws.Walks.{any-there, any-nowhere, none-there}
+use Rattle.srt_group_rules.specs.Ids.{id-at}
+
+-- ---- a search that finds nothing, and a row that passes
+
+module _ {A : Type 0} (test : A → Bool) where
+  pub place-none : (l : List A) → place-of test l ≡ none → any test l ≡ false
+  unfolding place-of any if_then_else_ if-some_give_otherwise_
+  place-none [] found = refl
+  place-none (x ∷ xs) found = go (test x) (place-of test xs) (λ e. place-none xs e) found
+    where
+      go : (b : Bool) (o : Option ℕ) → (o ≡ none → any test xs ≡ false)
+          → (if b then some 0 else (if-some o give (λ k. some (suc k)) otherwise none)) ≡ none → b || any test xs ≡ false
+      go true o rest e = none-some (sym e)
+      go false none rest e = rest refl
+      go false (some j) rest e = none-some (sym e)
+
+  pub any-place : {C : Type 0} (n : ℕ) (f : ℕ → A) → any test (tab n f) ≡ true → ((i : ℕ) → i < n → test (f i) ≡ true → C) → C
+  unfolding any tab
+  any-place zero f found there = not-both found refl
+  any-place (suc n) f found there =
+      or-cases (test (f 0)) _ found (λ e. there 0 (omega arith) e)
+      (λ e. any-place n (λ k. f (suc k)) e (λ i below it. there (suc i) (omega arith) it))
+
+-- ---- distinct numbers, place by place
+
+pub record Apart (ids : ℕ → ℕ) (n : ℕ) : Type 0 where
+  pub apart : (i j : ℕ) → i < j → j < n → ids i ≡ ids j → ⊥
+
+pub apart-once : (n : ℕ) (ids : ℕ → ℕ) → Apart ids n → one-twice (tab n ids) ≡ false
+unfolding one-twice tab
+apart-once zero ids h = refl
+apart-once (suc n) ids h =
+    cc (
+      any-nowhere (λ m. eqb m (ids 0)) n (λ i. ids (suc i))
+          (λ i below. ne-eqb (ids (suc i)) (ids 0) (λ e. h .apart 0 (suc i) (omega arith) (omega arith) (sym e))),
+      apart-once n (λ i. ids (suc i))
+          record { apart = λ i j less below e. h .apart (suc i) (suc j) (omega arith) (omega arith) e },
+    )
+
+pub twice-there : (n : ℕ) (ids : ℕ → ℕ) (i j : ℕ) → i < j → j < n → ids i ≡ ids j → one-twice (tab n ids) ≡ true
+unfolding one-twice tab
+twice-there zero ids i j less below same = absurd (omega arith)
+twice-there (suc n) ids i zero less below same = absurd (omega arith)
+twice-there (suc n) ids zero (suc j) less below same =
+    or-yes-left _ _ (any-there (λ m. eqb m (ids 0)) n (λ i. ids (suc i)) j (omega arith) (eq-eqb (ids (suc j)) (ids 0) (sym same)))
+twice-there (suc n) ids (suc i) (suc j) less below same =
+    or-yes-right (is-among (ids 0) (tab n (λ i. ids (suc i)))) _
+    (twice-there n (λ i. ids (suc i)) i j (omega arith) (omega arith) same)
+
+pub once-apart : (n : ℕ) (ids : ℕ → ℕ) → one-twice (tab n ids) ≡ false → Apart ids n
+once-apart n ids once = record { apart = λ i j less below same. not-both (twice-there n ids i j less below same) once }
+
+-- ---- the ids of a table's members
+
+pub ids-of : (n : ℕ) (t : List ℕ) → each id-of (members-of n t) ≡ tab n (id-at t)
+unfolding members-of
+ids-of n t = each-tab id-of n (member-at t)
+
+module _ (t : List ℕ) (index : ℕ) where
+  -- where the walk back over the members before this one stands: none from `left` on has its id
+  pub record Later (left : ℕ) : Type 0 where
+    pub within : left ≤ index
+    pub differ : (k : ℕ) → left ≤ k → k < index → getD t (k * row-size) 0 ≡ getD t (index * row-size) 0 → ⊥
+
+  pub later-start : Later index
+  later-start = record { within = omega arith; differ = λ k above below. absurd (omega arith) }
+
+  pub later-one : (left : ℕ) → Later left → 0 < left → (getD t ((left - 1) * row-size) 0 ≡ getD t (index * row-size) 0 → ⊥) → Later (left - 1)
+  later-one left here some-left other =
+      record { within = omega (arith, here .within); differ = λ k above below. one-more k above below (decLt k left) }
+    where
+      one-more : (k : ℕ) → left - 1 ≤ k → k < index → Dec (k < left) → getD t (k * row-size) 0 ≡ getD t (index * row-size) 0 → ⊥
+      one-more k above below (yes lower) =
+          let last : k ≡ left - 1 = omega arith in λ same. other (ap (λ (j : ℕ). getD t (j * row-size) 0) (sym last) ∙ same)
+      one-more k above below (no higher) = here .differ k (omega arith) below
+
+  pub later-none : (left : ℕ) → Later left → left ≡ 0 → false ≡ any (has-id (id-at t index)) (members-of index t)
+  unfolding members-of
+  later-none left here none-left =
+      sym
+      (any-nowhere (has-id (id-at t index)) index (member-at t)
+      (λ k below. ne-eqb (id-at t k) (id-at t index) (λ same. here .differ k (omega arith) below (id-word t k ∙ same ∙ sym (id-word t index)))))
+
+  pub before-there : (left : ℕ) → Later left → 0 < left → getD t ((left - 1) * row-size) 0 ≡ getD t (index * row-size) 0
+      → true ≡ any (has-id (id-at t index)) (members-of index t)
+  unfolding members-of
+  before-there left here some-left same =
+      sym
+      (any-there (has-id (id-at t index)) index (member-at t) (left - 1) (omega (arith, here .within))
+      (eq-eqb (id-at t (left - 1)) (id-at t index) (sym (id-word t (left - 1)) ∙ same ∙ id-word t index)))
+
+  module _ (answer : Bool) (tested : answer ≡ any (has-id (id-at t index)) (members-of index t)) where
+    pub apart-one : answer ≡ false → Apart (id-at t) index → Apart (id-at t) (index + 1)
+    unfolding members-of
+    apart-one first here = record { apart = λ i j less below same. one-more i j less (decLt j index) same below }
+      where
+        one-more : (i j : ℕ) → i < j → Dec (j < index) → id-at t i ≡ id-at t j → j < index + 1 → ⊥
+        one-more i j less (yes lower) same below = here .apart i j less lower same
+        one-more i j less (no other) same below =
+            let last : j ≡ index = omega arith in
+            eqb-false (id-at t i) (id-at t index)
+            (none-there (has-id (id-at t index)) index (member-at t) (sym tested ∙ first) i (omega arith))
+            (same ∙ ap (id-at t) last)
+
+    pub twice-here : (n : ℕ) → index < n → answer ≡ true → true ≡ one-twice (each id-of (members-of n t))
+    unfolding members-of
+    twice-here n inside again =
+        any-place (has-id (id-at t index)) index (member-at t) (sym tested ∙ again)
+        (λ i below it. sym (ap one-twice (ids-of n t) ∙ twice-there n (id-at t) i index below inside (eqb-true (id-at t i) (id-at t index) it)))
+
+pub apart-start : (t : List ℕ) → Apart (id-at t) 0
+apart-start t = record { apart = λ i j less below same. omega arith }
+
+pub apart-all : (t : List ℕ) (index n : ℕ) → Apart (id-at t) index → n ≤ index → false ≡ one-twice (each id-of (members-of n t))
+apart-all t index n here all =
+    sym
+    (ap one-twice (ids-of n t)
+    ∙ apart-once n (id-at t) record { apart = λ i j less below same. here .apart i j less (omega arith) same })

@@ -1,0 +1,3 @@
+pub mod Skip
+-- What is proved.
+pub mod laws
