@@ -107,6 +107,11 @@ record-backup-send m e x = trim-backup-history (m .leg) (append-history (id-of m
 
 -- ---- the take-over
 
+-- A step on the member at a place, as it is by now. A search in these members gave the place, and a take-over removes no
+-- member: no state comes to the refusal (laws/Frame, `searched-place-taken`). It is 24, as with no active member.
+abbrev pub with-member-at : ℕ → (Member → State → Flow) → State → Flow
+with-member-at i step s = if-some at-place i (s .members) give (λ m. step m s) otherwise ends-with 24 s
+
 -- another member carried the last send
 unfoldable pub takes-over : ℕ → Send → Bool
 takes-over id x = if-some backup-carrier x give (λ carrier. not (eqb carrier id)) otherwise false
@@ -168,10 +173,9 @@ align-carrier i s =
 -- The member at a place is made ready to carry the next send: the flight of the carrier before it, as far as it is not
 -- acknowledged, is replayed at the same sequences.
 unfoldable pub take-over-backup-flight : (time place : ℕ) → State → Flow
-take-over-backup-flight time i s =
-    if-some at-place i (s .members)
-    give
-    (λ m.
+take-over-backup-flight time i =
+    with-member-at i
+    (λ m s.
     if takes-over (id-of m) (s .send)
     then
     (let trimmed = trim-by-carrier s in
@@ -179,16 +183,14 @@ take-over-backup-flight time i s =
     give (λ first. replay-flight time i m first trimmed)
     otherwise align-carrier i trimmed)
     else align-carrier i s)
-    otherwise goes-on s
 
 -- ---- one send
 
 -- the call's own payload on the member at a place, recorded in the history under the cell; a failure ends as `failed` says
 unfoldable pub send-own : (time size cell sequence place : ℕ) → (Member → State → Flow) → State → Flow
-send-own time size cell sequence i failed s =
-    if-some at-place i (s .members)
-    give
-    (λ m.
+send-own time size cell sequence i failed =
+    with-member-at i
+    (λ m s.
     if-some send-shared-with-sequence time size sequence (m .leg)
     give
     (λ l.
@@ -200,7 +202,6 @@ send-own time size cell sequence i failed s =
       code = 0;
     })
     otherwise failed m s)
-    otherwise goes-on s
 
 -- After a failed send the leg is marked and another promoted: 27 if none is active, 28 or 22 in its take-over, 29 if it fails.
 unfoldable pub send-after-promotion : (time size cell sequence place : ℕ) → Member → State → Flow
@@ -214,15 +215,13 @@ send-after-promotion time size cell sequence i failed s =
     otherwise ends-with 27 promoted
 
 unfoldable pub send-at-place : (time size cell place : ℕ) → State → Flow
-send-at-place time size cell i s =
-    if-some at-place i (s .members)
-    give
-    (λ m.
+send-at-place time size cell i =
+    with-member-at i
+    (λ m s.
     let sequence = sequence-for-send (s .send) (m ∷ []) in
     if sequence-mismatch sequence (m ∷ [])
     then ends-with 25 s
     else send-own time size cell sequence i (send-after-promotion time size cell sequence i) s)
-    otherwise goes-on s
 
 unfoldable pub send-backup : (time size cell : ℕ) → State → Flow
 send-backup time size cell s =

@@ -7,7 +7,7 @@ use lib.Dec.{leb, ltb, eqb}
 use Rattle.srt_protocol.specs.Time.{later, elapsed}
 use Rattle.srt_protocol.specs.Sequence.{sequence-distance, sequence-further}
 use Rattle.srt_protocol.specs.declared.time.Timestamp.{Timestamp}
-use Rattle.srt_group_model.specs.Tools.{if_then_else_, at-place, flagged}
+use Rattle.srt_group_model.specs.Tools.{if_then_else_, first-such, flagged}
 use Rattle.srt_group_model.specs.declared.Link.{Link}
 use Rattle.srt_group_model.specs.declared.Sender.{Sender}
 use Rattle.srt_group_model.specs.declared.Receiver.{Receiver}
@@ -154,8 +154,9 @@ handed l = on-sender (with-started (if eqb (l .link .state) handshaking then 0 e
 
 -- ---- readings: document 01, "Fields of 3"
 
--- the largest number that a field takes, and what reading that number does
+-- a field by its number: the largest number that it takes, and what reading that number does
 pub record Reading : Type 0 where
+  pub field : ℕ
   pub largest : ℕ
   pub put : ℕ → Leg → Leg
 
@@ -179,10 +180,13 @@ read-state n l = on-sender (with-started (if eqb n connected then 1 else l .send
 abbrev pub acknowledge : ℕ → Leg → Leg
 acknowledge n l = on-sender (with-flight (sequence-distance n (l .sender .next))) l
 
+-- 1 state, 2 window, 3 receive window, 4 latency, 5 acknowledged up to, 6 srtt, 7 rttvar, 8 last heard, 9 pace time, 10 peer group,
+-- 11 payload limit, 12 oldest send time
 unfoldable pub readings : List Reading
 readings =
-    record { largest = 2; put = read-state }
+    record { field = 1; largest = 2; put = read-state }
     ∷ record {
+      field = 2;
       largest = largest-16;
       put =
           λ n.
@@ -190,6 +194,7 @@ readings =
           (λ x. record { started = x .started; next = x .next; flight = x .flight; window = n; oldest = x .oldest; pace = x .pace });
     }
     ∷ record {
+      field = 3;
       largest = largest-16;
       put =
           λ n.
@@ -197,31 +202,32 @@ readings =
           (λ x. record { first = x .first; window = n; latency = x .latency; reserved = x .reserved; advanced = x .advanced });
     }
     ∷ record {
+      field = 4;
       largest = largest-64;
       put =
           λ n.
           on-receiver
           (λ x. record { first = x .first; window = x .window; latency = n; reserved = x .reserved; advanced = x .advanced });
     }
-    ∷ record { largest = largest-sequence; put = acknowledge }
-    ∷ record { largest = largest-32; put = λ n. on-trip (λ x. record { srtt = n; rttvar = x .rttvar; heard = x .heard }) }
-    ∷ record { largest = largest-32; put = λ n. on-trip (λ x. record { srtt = x .srtt; rttvar = n; heard = x .heard }) }
-    ∷ record { largest = largest-64; put = λ n. on-trip (λ x. record { srtt = x .srtt; rttvar = x .rttvar; heard = moment n }) }
+    ∷ record { field = 5; largest = largest-sequence; put = acknowledge }
+    ∷ record { field = 6; largest = largest-32; put = λ n. on-trip (λ x. record { srtt = n; rttvar = x .rttvar; heard = x .heard }) }
+    ∷ record { field = 7; largest = largest-32; put = λ n. on-trip (λ x. record { srtt = x .srtt; rttvar = n; heard = x .heard }) }
+    ∷ record { field = 8; largest = largest-64; put = λ n. on-trip (λ x. record { srtt = x .srtt; rttvar = x .rttvar; heard = moment n }) }
     ∷ record {
+      field = 9;
       largest = largest-64;
       put =
           λ n.
           on-sender
           (λ x. record { started = x .started; next = x .next; flight = x .flight; window = x .window; oldest = x .oldest; pace = moment n });
     }
-    ∷ record { largest = largest-32; put = λ n. on-link (λ x. record { state = x .state; peer = n; limit = x .limit }) }
-    ∷ record { largest = largest-16; put = λ n. on-link (λ x. record { state = x .state; peer = x .peer; limit = n }) }
-    ∷ record { largest = largest-64; put = λ n. on-sender (with-oldest n) } ∷ []
+    ∷ record { field = 10; largest = largest-32; put = λ n. on-link (λ x. record { state = x .state; peer = n; limit = x .limit }) }
+    ∷ record { field = 11; largest = largest-16; put = λ n. on-link (λ x. record { state = x .state; peer = x .peer; limit = n }) }
+    ∷ record { field = 12; largest = largest-64; put = λ n. on-sender (with-oldest n) } ∷ []
 
--- field 1 is the first row
+-- the row of that number
 unfoldable pub reading-of : ℕ → Option Reading
-reading-of zero = none
-reading-of (suc field) = at-place field readings
+reading-of field = first-such (λ reading. eqb (reading .field) field) readings
 
 -- 32: the leg's state goes back, or an acknowledgement is not from the oldest unacknowledged up to next
 unfoldable pub goes-back : (field number : ℕ) → Leg → Bool

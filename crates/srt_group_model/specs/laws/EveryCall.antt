@@ -22,7 +22,7 @@ use Rattle.srt_group_model.specs.Collecting.{retain-group-packet, report
 use Rattle.srt_group_model.specs.Delivery.{Polled, nothing, event, packet, Poll, deliver, give-waiting, skip-after, max-visits, skip-given-up-gap}
 use Rattle.srt_group_model.specs.Polls.{deliver-next, poll-event, DataPoll, pass-events, poll-until-data, poll-data-bounded}
 use Rattle.srt_group_model.specs.Removal.{retire, bound-group-owned-pending, take-out, remove-member-at}
-use Rattle.srt_group_model.specs.Sending.{Flow, goes-on, ends-with, _and-then_, mark-send-failure, attempt-send, send-broadcast, with-send-number}
+use Rattle.srt_group_model.specs.Sending.{Flow, ends-with, _and-then_, mark-send-failure, attempt-send, send-broadcast, with-send-number}
 use Rattle.srt_group_model.specs.Backup.{demote-stale-backup-carrier, trim-by-carrier, append-history, record-backup-send, Replayed, replay-entries, put-leg, replay-on, replay-flight, align-carrier, take-over-backup-flight, send-own, send-after-promotion, send-at-place, send-backup}
 use Rattle.srt_group_model.specs.Validity.{above, max-members, max-waiting, leg-out-of-range}
 use Rattle.srt_group_model.specs.Guards.{Step, Check, guard}
@@ -527,9 +527,6 @@ module _ (c : Call) (cells : ℕ) (P : Option ℕ → State → List Mark → Ty
     fails-with : (code : ℕ) (s : State) → eqb code 0 ≡ false → P (some cell) s log → Ended (ends-with code s)
     fails-with code s e h = record { done = λ g. not-both g e; failed = λ g. h }
 
-    goes-by : (s : State) → P (some cell) s log → Ended (goes-on s)
-    goes-by s h = record { done = λ g. law .lets-go s cell (law .puts s cell payload h); failed = λ g. not-both refl g }
-
     then-ends : (x : Flow) (f : State → Flow) → P (some cell) (x .state) log → (P (some cell) (x .state) log → Ended (f (x .state))) → Ended (x and-then f)
     unfolding _and-then_
     then-ends x f h k =
@@ -554,7 +551,7 @@ module _ (c : Call) (cells : ℕ) (P : Option ℕ → State → List Mark → Ty
           failed = λ z. not-both refl z;
         })
         (λ k. g m at))
-        (λ at. goes-by s h)
+        (λ at. fails-with 24 s refl h)
 
     sends-after-promotion : (sequence i : ℕ) (failed : Member) (s : State) → Active-at i s → P (some cell) s log
         → Ended (send-after-promotion time (length payload) cell sequence i failed s)
@@ -575,7 +572,7 @@ module _ (c : Call) (cells : ℕ) (P : Option ℕ → State → List Mark → Ty
         (λ m at.
         if-elim Ended _ _ _ (λ e. fails-with 25 s refl h)
         (λ e. sends-own _ i _ s (λ n there. sends-after-promotion _ i n s active h) h))
-        (λ at. goes-by s h)
+        (λ at. fails-with 24 s refl h)
 
     sends-backup : (s : State) → P (some cell) s log → Ended (send-backup time (length payload) cell s)
     unfolding send-backup

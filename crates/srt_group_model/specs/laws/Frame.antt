@@ -10,7 +10,7 @@ use borrow.Author.Tests.{eqb-true}
 use lib.Dec.{eqb}
 use lib.ListN.{length}
 use Rattle.srt_group_model.specs.Tools.{if_then_else_, if-some_give_otherwise_, at-place, change, each, place-of}
-use Rattle.srt_group_model.specs.laws.Reason.{if-elim, if-some-elim, not-both, and-left, none-some, some-inj, Each-to, each-to-same, each-to-then, each-to-each, each-to-change, each-to-map, each-to-at, each-to-before}
+use Rattle.srt_group_model.specs.laws.Reason.{if-elim, if-some-elim, not-both, and-left, none-some, some-inj, Each-to, each-to-same, each-to-then, each-to-each, each-to-change, each-to-map, each-to-at, each-to-none, each-to-before}
 use Rattle.srt_group_model.specs.State.{Member, Send, State, turned, with-leg, with-members, with-send, pending-state, active-state, standby-state, unstable-state, broken-state}
 use Rattle.srt_group_model.specs.Legs.{connected, send-shared-with-sequence, synchronize-send-sequence}
 use Rattle.srt_group_model.specs.Members.{id-of, in-state, is-active, is-standby, Placed, first-in-rank, promotion, promote-backup-member, promote-if-none, admit-peer-group, align-leg, align-member-sequence, steps-from, turn-aligned, settle, requalify, settle-members, break-disconnected, requalify-members, found}
@@ -545,6 +545,24 @@ take-over-active i s t h active n at =
     (λ m before kept.
     ap₂ (λ (x : Membership) (y : Link). eqb (x .state) active-state && eqb (y .state) connected) (kept .membership) (kept .link)
     ∙ active m before)
+
+-- A place that a search gave has a member, and has one after a take-over: so `with-member-at` refuses in no Backup send.
+place-taken : (test : Member → Bool) (ms : List Member) (i : ℕ) → place-of test ms ≡ some i → at-place i ms ≡ none → ⊥
+unfolding place-of at-place
+place-taken test [] i = λ e. none-some e
+place-taken test (x ∷ ms) i =
+    if-elim (λ (o : Option ℕ). o ≡ some i → at-place i (x ∷ ms) ≡ none → ⊥) _ _ _
+    (λ t e at. none-some (sym at ∙ ap (λ (k : ℕ). at-place k (x ∷ ms)) (sym (some-inj e))))
+    (λ t.
+    if-some-elim (λ (o : Option ℕ). o ≡ some i → at-place i (x ∷ ms) ≡ none → ⊥) _ _ _
+    (λ k g e at. place-taken test ms k g (ap (λ (j : ℕ). at-place j (x ∷ ms)) (some-inj e) ∙ at))
+    (λ g e. none-some e))
+
+pub searched-place-taken : (test : Member → Bool) (time i : ℕ) (s : State) → place-of test (s .members) ≡ some i
+    → (at-place i (s .members) ≡ none → ⊥) × (at-place i (take-over-backup-flight time i s .state .members) ≡ none → ⊥)
+searched-place-taken test time i s searched =
+    let before = place-taken test (s .members) i searched in
+    (before, λ at. before (each-to-none Kept (s .members) _ (take-over-framed time i s .members) i at))
 
 and-then-framed : (s : State) (x : Flow) (f : State → Flow) → Flows s x → Flows (x .state) (f (x .state)) → Flows s (x and-then f)
 unfolding _and-then_

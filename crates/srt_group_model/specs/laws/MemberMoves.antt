@@ -8,7 +8,7 @@ use Prim.Native.Nat.{ℕ, zero, suc}
 use lib.Dec.{eqb}
 use Rattle.srt_protocol.specs.Sequence.{sequence-further}
 use Rattle.srt_group_model.specs.Tools.{at-place, change, All}
-use Rattle.srt_group_model.specs.laws.Reason.{if-elim, if-some-elim, none-some, some-inj, Each-to, each-to-same, each-to-then, each-to-each, each-to-change}
+use Rattle.srt_group_model.specs.laws.Reason.{if-elim, if-some-elim, none-some, some-inj, first-such-of, Each-to, each-to-same, each-to-then, each-to-each, each-to-change}
 use Rattle.srt_group_model.specs.State.{Member, State, on-leg, broken-state}
 use Rattle.srt_group_model.specs.Legs.{Reading, readings, reading-of, advance-receive-sequence}
 use Rattle.srt_group_model.specs.Members.{id-of, in-state}
@@ -32,17 +32,9 @@ unfolding readings Leaves-both
 readings-leave =
     (λ n l. (refl, refl), (λ n l. (refl, refl), (λ n l. (refl, refl), (λ n l. (refl, refl), (λ n l. (refl, refl), (λ n l. (refl, refl), (λ n l. (refl, refl), (λ n l. (refl, refl), (λ n l. (refl, refl), (λ n l. (refl, refl), (λ n l. (refl, refl), (λ n l. (refl, refl), tt))))))))))))
 
-at-reading : (i : ℕ) (r : Reading) (rs : List Reading) → at-place i rs ≡ some r → All Leaves-both rs → Leaves-both r
-unfolding at-place
-at-reading zero r [] at h = none-some at
-at-reading (suc i) r [] at h = none-some at
-at-reading zero r (x ∷ rs) at h = subst Leaves-both (some-inj at) (h .0)
-at-reading (suc i) r (x ∷ rs) at h = at-reading i r rs at (h .1)
-
 reading-leaves : (field : ℕ) (r : Reading) → reading-of field ≡ some r → Leaves-both r
 unfolding reading-of
-reading-leaves zero r e = none-some e
-reading-leaves (suc field) r e = at-reading field r readings e readings-leave
+reading-leaves field r e = first-such-of Leaves-both _ readings r e readings-leave .0
 
 read-leaves : (field n : ℕ) (l : Leg) → (read-field field n l .receiver .reserved ≡ l .receiver .reserved) × (read-field field n l .receiver .first ≡ l .receiver .first)
 unfolding read-field Leaves-both

@@ -2,19 +2,19 @@
 use mathlib.Core.Path.{_≡_, refl, sym, ap, ap₂, subst, _∙_}
 use mathlib.Core.Bool.{Bool, true, false, not, _&&_, _||_}
 use mathlib.Core.List.{List, [], _∷_}
-use mathlib.Core.Option.{some}
+use mathlib.Core.Option.{Option, none, some}
 use Prim.Native.Nat.{ℕ, zero, suc, _+_, _≤_, _<_}
 use native.Mathlib.Omega.{arith}
-use borrow.Author.Tests.{eq-eqb, ltb-false, le-ltb, leb-true, leb-false, not-false}
+use borrow.Author.Tests.{eqb-true, eq-eqb, ltb-false, le-ltb, leb-true, leb-false, not-false}
 use lib.Dec.{leb, eqb}
 use lib.ListN.{length, length-append, drop}
 use Rattle.srt_protocol.specs.Sequence.{sequence-distance, sequence-further}
 use Rattle.srt_protocol.specs.Cells.{cell-size}
 use Rattle.srt_group_model.specs.Tools.{if_then_else_, if-some_give_otherwise_, at-place, change, each, without-place, All}
 use Rattle.srt_group_model.specs.laws.Flag.{bit-most}
-use Rattle.srt_group_model.specs.laws.Reason.{if-elim, by-test, not-both, none-some, some-inj, and-left, and-right, or-left, or-right, all-append}
+use Rattle.srt_group_model.specs.laws.Reason.{if-elim, by-test, not-both, none-some, some-inj, and-left, and-right, or-left, or-right, first-such-of, all-append}
 use Rattle.srt_group_model.specs.State.{Member, Send, State, next-send-sequence, with-receive, with-send, with-members, on-leg}
-use Rattle.srt_group_model.specs.Legs.{readings, reading-of, goes-back, read-state, acknowledge, handed, disconnect-leg, add-reservation, has-sender, is-connected, oldest-unacked-sequence, largest-sequence, largest-16, largest-32, largest-64}
+use Rattle.srt_group_model.specs.Legs.{Reading, readings, reading-of, goes-back, read-state, acknowledge, handed, disconnect-leg, add-reservation, has-sender, is-connected, oldest-unacked-sequence, largest-sequence, largest-16, largest-32, largest-64}
 use Rattle.srt_group_model.specs.Members.{id-of}
 use Rattle.srt_group_model.specs.Nearest.{sequence-of, nearest}
 use Rattle.srt_group_model.specs.Delivery.{skip-to}
@@ -65,22 +65,60 @@ acknowledge-fit n l b g h =
     in
     record { state = h .state; peer = h .peer; limit = h .limit; started = h .started; flight = omega (arith, less, h .flight); no-flight = λ e. not-both sends e; window = h .window; oldest = h .oldest; pace = h .pace; receive-window = h .receive-window; latency = h .latency; srtt = h .srtt; rttvar = h .rttvar; heard = h .heard; connects = h .connects; next = h .next; advanced = h .advanced; first = h .first }
 
+-- what a row of the table reads keeps a leg in its ranges
+Reads-fit : Reading → Type 0
+Reads-fit r = (n : ℕ) (l : Leg) → above (r .largest) n ≡ false → goes-back (r .field) n l ≡ false → Leg-fit l → Leg-fit (r .put n l)
+
+readings-fit : All Reads-fit readings
+unfolding readings Reads-fit
+readings-fit = (
+  (λ n l b g h. state-read-fit n l (ltb-false 2 n b) h),
+  (
+    (λ n l b g h. record { state = h .state; peer = h .peer; limit = h .limit; started = h .started; flight = h .flight; no-flight = h .no-flight; window = ltb-false largest-16 n b; oldest = h .oldest; pace = h .pace; receive-window = h .receive-window; latency = h .latency; srtt = h .srtt; rttvar = h .rttvar; heard = h .heard; connects = h .connects; next = h .next; advanced = h .advanced; first = h .first }),
+    (
+      (λ n l b g h. record { state = h .state; peer = h .peer; limit = h .limit; started = h .started; flight = h .flight; no-flight = h .no-flight; window = h .window; oldest = h .oldest; pace = h .pace; receive-window = ltb-false largest-16 n b; latency = h .latency; srtt = h .srtt; rttvar = h .rttvar; heard = h .heard; connects = h .connects; next = h .next; advanced = h .advanced; first = h .first }),
+      (
+        (λ n l b g h. record { state = h .state; peer = h .peer; limit = h .limit; started = h .started; flight = h .flight; no-flight = h .no-flight; window = h .window; oldest = h .oldest; pace = h .pace; receive-window = h .receive-window; latency = ltb-false largest-64 n b; srtt = h .srtt; rttvar = h .rttvar; heard = h .heard; connects = h .connects; next = h .next; advanced = h .advanced; first = h .first }),
+        (
+          (λ n l b g h. acknowledge-fit n l (ltb-false largest-sequence n b) g h),
+          (
+            (λ n l b g h. record { state = h .state; peer = h .peer; limit = h .limit; started = h .started; flight = h .flight; no-flight = h .no-flight; window = h .window; oldest = h .oldest; pace = h .pace; receive-window = h .receive-window; latency = h .latency; srtt = ltb-false largest-32 n b; rttvar = h .rttvar; heard = h .heard; connects = h .connects; next = h .next; advanced = h .advanced; first = h .first }),
+            (
+              (λ n l b g h. record { state = h .state; peer = h .peer; limit = h .limit; started = h .started; flight = h .flight; no-flight = h .no-flight; window = h .window; oldest = h .oldest; pace = h .pace; receive-window = h .receive-window; latency = h .latency; srtt = h .srtt; rttvar = ltb-false largest-32 n b; heard = h .heard; connects = h .connects; next = h .next; advanced = h .advanced; first = h .first }),
+              (
+                (λ n l b g h. record { state = h .state; peer = h .peer; limit = h .limit; started = h .started; flight = h .flight; no-flight = h .no-flight; window = h .window; oldest = h .oldest; pace = h .pace; receive-window = h .receive-window; latency = h .latency; srtt = h .srtt; rttvar = h .rttvar; heard = ltb-false largest-64 n b; connects = h .connects; next = h .next; advanced = h .advanced; first = h .first }),
+                (
+                  (λ n l b g h. record { state = h .state; peer = h .peer; limit = h .limit; started = h .started; flight = h .flight; no-flight = h .no-flight; window = h .window; oldest = h .oldest; pace = ltb-false largest-64 n b; receive-window = h .receive-window; latency = h .latency; srtt = h .srtt; rttvar = h .rttvar; heard = h .heard; connects = h .connects; next = h .next; advanced = h .advanced; first = h .first }),
+                  (
+                    (λ n l b g h. record { state = h .state; peer = ltb-false largest-32 n b; limit = h .limit; started = h .started; flight = h .flight; no-flight = h .no-flight; window = h .window; oldest = h .oldest; pace = h .pace; receive-window = h .receive-window; latency = h .latency; srtt = h .srtt; rttvar = h .rttvar; heard = h .heard; connects = h .connects; next = h .next; advanced = h .advanced; first = h .first }),
+                    (
+                      (λ n l b g h. record { state = h .state; peer = h .peer; limit = ltb-false largest-16 n b; started = h .started; flight = h .flight; no-flight = h .no-flight; window = h .window; oldest = h .oldest; pace = h .pace; receive-window = h .receive-window; latency = h .latency; srtt = h .srtt; rttvar = h .rttvar; heard = h .heard; connects = h .connects; next = h .next; advanced = h .advanced; first = h .first }),
+                      (
+                        (λ n l b g h. record { state = h .state; peer = h .peer; limit = h .limit; started = h .started; flight = h .flight; no-flight = h .no-flight; window = h .window; oldest = ltb-false largest-64 n b; pace = h .pace; receive-window = h .receive-window; latency = h .latency; srtt = h .srtt; rttvar = h .rttvar; heard = h .heard; connects = h .connects; next = h .next; advanced = h .advanced; first = h .first }),
+                        tt,
+                      ),
+                    ),
+                  ),
+                ),
+              ),
+            ),
+          ),
+        ),
+      ),
+    ),
+  ),
+)
+
 read-fit : (field n : ℕ) (l : Leg) → reading-out-of-range field n ≡ false → goes-back field n l ≡ false → Leg-fit l → Leg-fit (read-field field n l)
-unfolding reading-out-of-range read-field reading-of readings at-place if-some_give_otherwise_
-read-fit zero n l b g h = h
-read-fit (suc zero) n l b g h = state-read-fit n l (ltb-false 2 n b) h
-read-fit (suc (suc zero)) n l b g h = record { state = h .state; peer = h .peer; limit = h .limit; started = h .started; flight = h .flight; no-flight = h .no-flight; window = ltb-false largest-16 n b; oldest = h .oldest; pace = h .pace; receive-window = h .receive-window; latency = h .latency; srtt = h .srtt; rttvar = h .rttvar; heard = h .heard; connects = h .connects; next = h .next; advanced = h .advanced; first = h .first }
-read-fit (suc (suc (suc zero))) n l b g h = record { state = h .state; peer = h .peer; limit = h .limit; started = h .started; flight = h .flight; no-flight = h .no-flight; window = h .window; oldest = h .oldest; pace = h .pace; receive-window = ltb-false largest-16 n b; latency = h .latency; srtt = h .srtt; rttvar = h .rttvar; heard = h .heard; connects = h .connects; next = h .next; advanced = h .advanced; first = h .first }
-read-fit (suc (suc (suc (suc zero)))) n l b g h = record { state = h .state; peer = h .peer; limit = h .limit; started = h .started; flight = h .flight; no-flight = h .no-flight; window = h .window; oldest = h .oldest; pace = h .pace; receive-window = h .receive-window; latency = ltb-false largest-64 n b; srtt = h .srtt; rttvar = h .rttvar; heard = h .heard; connects = h .connects; next = h .next; advanced = h .advanced; first = h .first }
-read-fit (suc (suc (suc (suc (suc zero))))) n l b g h = acknowledge-fit n l (ltb-false largest-sequence n b) g h
-read-fit (suc (suc (suc (suc (suc (suc zero)))))) n l b g h = record { state = h .state; peer = h .peer; limit = h .limit; started = h .started; flight = h .flight; no-flight = h .no-flight; window = h .window; oldest = h .oldest; pace = h .pace; receive-window = h .receive-window; latency = h .latency; srtt = ltb-false largest-32 n b; rttvar = h .rttvar; heard = h .heard; connects = h .connects; next = h .next; advanced = h .advanced; first = h .first }
-read-fit (suc (suc (suc (suc (suc (suc (suc zero))))))) n l b g h = record { state = h .state; peer = h .peer; limit = h .limit; started = h .started; flight = h .flight; no-flight = h .no-flight; window = h .window; oldest = h .oldest; pace = h .pace; receive-window = h .receive-window; latency = h .latency; srtt = h .srtt; rttvar = ltb-false largest-32 n b; heard = h .heard; connects = h .connects; next = h .next; advanced = h .advanced; first = h .first }
-read-fit (suc (suc (suc (suc (suc (suc (suc (suc zero)))))))) n l b g h = record { state = h .state; peer = h .peer; limit = h .limit; started = h .started; flight = h .flight; no-flight = h .no-flight; window = h .window; oldest = h .oldest; pace = h .pace; receive-window = h .receive-window; latency = h .latency; srtt = h .srtt; rttvar = h .rttvar; heard = ltb-false largest-64 n b; connects = h .connects; next = h .next; advanced = h .advanced; first = h .first }
-read-fit (suc (suc (suc (suc (suc (suc (suc (suc (suc zero))))))))) n l b g h = record { state = h .state; peer = h .peer; limit = h .limit; started = h .started; flight = h .flight; no-flight = h .no-flight; window = h .window; oldest = h .oldest; pace = ltb-false largest-64 n b; receive-window = h .receive-window; latency = h .latency; srtt = h .srtt; rttvar = h .rttvar; heard = h .heard; connects = h .connects; next = h .next; advanced = h .advanced; first = h .first }
-read-fit (suc (suc (suc (suc (suc (suc (suc (suc (suc (suc zero)))))))))) n l b g h = record { state = h .state; peer = ltb-false largest-32 n b; limit = h .limit; started = h .started; flight = h .flight; no-flight = h .no-flight; window = h .window; oldest = h .oldest; pace = h .pace; receive-window = h .receive-window; latency = h .latency; srtt = h .srtt; rttvar = h .rttvar; heard = h .heard; connects = h .connects; next = h .next; advanced = h .advanced; first = h .first }
-read-fit (suc (suc (suc (suc (suc (suc (suc (suc (suc (suc (suc zero))))))))))) n l b g h = record { state = h .state; peer = h .peer; limit = ltb-false largest-16 n b; started = h .started; flight = h .flight; no-flight = h .no-flight; window = h .window; oldest = h .oldest; pace = h .pace; receive-window = h .receive-window; latency = h .latency; srtt = h .srtt; rttvar = h .rttvar; heard = h .heard; connects = h .connects; next = h .next; advanced = h .advanced; first = h .first }
-read-fit (suc (suc (suc (suc (suc (suc (suc (suc (suc (suc (suc (suc zero)))))))))))) n l b g h = record { state = h .state; peer = h .peer; limit = h .limit; started = h .started; flight = h .flight; no-flight = h .no-flight; window = h .window; oldest = ltb-false largest-64 n b; pace = h .pace; receive-window = h .receive-window; latency = h .latency; srtt = h .srtt; rttvar = h .rttvar; heard = h .heard; connects = h .connects; next = h .next; advanced = h .advanced; first = h .first }
-read-fit (suc (suc (suc (suc (suc (suc (suc (suc (suc (suc (suc (suc (suc field))))))))))))) n l b g h = h
+unfolding reading-out-of-range read-field reading-of if-some_give_otherwise_ Reads-fit
+read-fit field n l b g h = go (reading-of field) refl b
+  where
+    go : (o : Option Reading) → reading-of field ≡ o → (if-some o give (λ r. above (r .largest) n) otherwise true) ≡ false
+        → Leg-fit (if-some o give (λ r. r .put n l) otherwise l)
+    go none e b = h
+    go (some r) e b =
+        let row = first-such-of Reads-fit _ readings r e readings-fit in
+        row .0 n l b (subst (λ (k : ℕ). goes-back k n l ≡ false) (sym (eqb-true (r .field) field (row .1))) g) h
 
 -- ---- the history
 

@@ -5,7 +5,7 @@ use mathlib.Core.List.{List, [], _∷_, _++_}
 use mathlib.Core.Option.{Option, none, some}
 use Prim.Native.Nat.{ℕ, zero, suc}
 use lib.Dec.{T}
-use Rattle.srt_group_model.specs.Tools.{if_then_else_, if-some_give_otherwise_, at-place, change, each}
+use Rattle.srt_group_model.specs.Tools.{if_then_else_, if-some_give_otherwise_, first-such, at-place, change, each}
 use Rattle.srt_group_model.specs.Tools.{All}
 
 -- ---- a choice
@@ -94,6 +94,14 @@ module _ {A : Type 0} where
   all-map P Q f [] h = tt
   all-map P Q f (x ∷ xs) h = (f x (h .0), all-map P Q f xs (h .1))
 
+  -- the first that passes a test is one of them, and passes it
+  pub first-such-of : (P : A → Type 0) (test : A → Bool) (l : List A) (a : A) → first-such test l ≡ some a → All P l → P a × (test a ≡ true)
+  unfolding first-such
+  first-such-of P test [] a e h = none-some e
+  first-such-of P test (x ∷ xs) a e h =
+      if-elim (λ (o : Option A). o ≡ some a → P a × (test a ≡ true)) (test x) _ _
+      (λ t g. subst (λ (b : A). P b × (test b ≡ true)) (some-inj g) (h .0, t)) (λ t g. first-such-of P test xs a g (h .1)) e
+
   pub all-append : (P : A → Type 0) (l m : List A) → All P l → All P m → All P (l ++ m)
   all-append P [] m h k = k
   all-append P (x ∷ xs) m h k = (h .0, all-append P xs m (h .1) k)
@@ -152,6 +160,13 @@ module _ {A : Type 0} where
   each-to-at R (x ∷ xs) [] h i a b e g = absurd h
   each-to-at R (x ∷ xs) (y ∷ ys) h zero a b e g = subst (λ (z : A). R z b) (some-inj e) (subst (R x) (some-inj g) (h .0))
   each-to-at R (x ∷ xs) (y ∷ ys) h (suc i) a b e g = each-to-at R xs ys (h .1) i a b e g
+
+  pub each-to-none : (R : A → A → Type 0) (l m : List A) → Each-to R l m → (i : ℕ) → at-place i m ≡ none → at-place i l ≡ none
+  unfolding at-place
+  each-to-none R [] m h i e = refl
+  each-to-none R (x ∷ xs) [] h i e = absurd h
+  each-to-none R (x ∷ xs) (y ∷ ys) h zero e = none-some (sym e)
+  each-to-none R (x ∷ xs) (y ∷ ys) h (suc i) e = each-to-none R xs ys (h .1) i e
 
   pub each-to-before : (R : A → A → Type 0) {B : Type 0} (l m : List A) → Each-to R l m → (i : ℕ) (b : A) → at-place i m ≡ some b → ((a : A) → at-place i l ≡ some a → R a b → B) → B
   unfolding at-place

@@ -28,7 +28,7 @@ use Rattle.srt_group_model.specs.declared.Event.{Event}
 use Rattle.srt_group_model.specs.declared.Packet.{Packet}
 use Rattle.srt_group_model.specs.declared.Leg.{Leg}
 use Rattle.srt_group_model.specs.laws.Reason.{if-elim, if-some-elim, all-append, or-left, or-right, not-both}
-use Rattle.srt_group_traces.specs.laws.Cases.{and-with-true, and-true-left, Each, each-at, all-change, all-such-that, all-without-place, each-at-place, ge-of}
+use Rattle.srt_group_traces.specs.laws.Cases.{and-with-true, and-true-left, Each, each-at, all-change, all-such-that, all-without-place, each-first-such, ge-of}
 use Rattle.srt_group_traces.specs.laws.Sides.{Side, side, sides, all-sides, all-members, each-leaves, carried-sides, Leaves, leaves-all, framed-leaves}
 use Rattle.srt_group_model.specs.laws.Frame.{all-then, all-kept-carried, kept-framed, admit-all-carried, promote-if-none-carried, align-kept, demote-carried, trim-framed, broadcast-framed, backup-framed}
 use Rattle.srt_group_traces.specs.laws.Law.{OfContent, ElsewhereThan, owned-by-group, EventOk, SideOk, CallLaw, PutLaw}
@@ -74,8 +74,7 @@ readings-leave = (
 
 reading-of-leaves : (field : ℕ) → Each ReadingLeaves (reading-of field)
 unfolding reading-of
-reading-of-leaves zero = tt
-reading-of-leaves (suc field) = each-at-place ReadingLeaves field readings readings-leave
+reading-of-leaves field = each-first-such ReadingLeaves _ readings readings-leave
 
 read-field-leaves : (field n : ℕ) (m : Member) → side (on-leg (read-field field n) m) ≡ side m
 unfolding read-field ReadingLeaves
