@@ -19,7 +19,7 @@ use Rattle.srt_group_model.specs.Removal.{remove-member-at, leg-given-ba
 use Rattle.srt_group_model.specs.Sending.{list-size, Flow, ends-with, above-limit, send-broadcast}
 use Rattle.srt_group_model.specs.Backup.{stability-timeout, demote-stale-backup-carrier, trim-by-carrier, send-backup, backup-send-ready, group-time-until-send}
 use Rattle.srt_group_model.specs.Cells.{free-cell}
-use Rattle.srt_group_model.specs.Validity.{above, is-invalid, leg-out-of-range, leg-sequence-too-large, max-members, max-queued}
+use Rattle.srt_group_model.specs.Validity.{above, _at-most_, any-above, data-words, is-invalid, leg-out-of-range, leg-sequence-too-large, max-members, max-queued}
 use Rattle.srt_group_model.specs.Guards.{Answer, no-answer, truth, number, optional, polled, data-polled, leg-back, membership, memberships, Step, refuse, accept, _when_, guard}
 use Rattle.srt_group_model.specs.declared.Data.{Data}
 use Rattle.srt_group_model.specs.declared.Event.{Event}
@@ -366,11 +366,8 @@ queue-data-body id cell d payload s =
 -- 2: an id or a field of the packet out of range. Its cell and length are the call's to fill in, and are not read.
 unfoldable pub data-unfit : ℕ → Data → Bool
 data-unfit id d =
-    above largest-32 id
-    || (above largest-sequence (d .sequence)
-    || (eqb (d .count) 0
-    || (above largest-16 (d .count)
-    || (above largest-32 (d .message) || (above largest-32 (d .timestamp) || above largest-64 (d .source .0))))))
+    eqb (d .count) 0
+    || any-above ((id at-most largest-32) ∷ (d .sequence at-most largest-sequence) ∷ data-words d)
 
 unfoldable pub queue-data : (store id : ℕ) → Data → List ℕ → State → Step
 queue-data store id d payload s =

@@ -2,7 +2,7 @@
 use mathlib.Core.Bool.{Bool, not, _&&_, _||_}
 use mathlib.Core.List.{List, [], _∷_}
 use mathlib.Core.Option.{Option, none, some}
-use Prim.Native.Nat.{ℕ, zero, suc, _+_, _-_, _^_}
+use Prim.Native.Nat.{ℕ, _+_, _-_, _^_}
 use lib.Dec.{leb, ltb, eqb}
 use Rattle.srt_protocol.specs.Time.{later, elapsed}
 use Rattle.srt_protocol.specs.Sequence.{sequence-distance, sequence-further}

@@ -18,6 +18,7 @@ use Rattle.srt_group_model.specs.declared.Data.{Data}
 use Rattle.srt_group_model.specs.declared.Event.{Event}
 use Rattle.srt_group_model.specs.declared.Packet.{Packet}
 use Rattle.srt_group_model.specs.declared.Leg.{Leg}
+use Rattle.srt_group_model.specs.declared.Membership.{Membership}
 
 abbrev pub above : ℕ → ℕ → Bool
 above limit n = ltb limit n
@@ -122,7 +123,7 @@ reserved-sum-wrong s =
     || (any (is-unreserved (s .members)) (s .receive .pending)
     || not (eqb (s .owned) (total (λ p. p .content .count) (such-that is-owned (s .receive .pending)))))
 
--- ---- a word of the record above its range
+-- ---- a word above its range
 
 -- a word, and the largest that it may be
 pub record Ranged : Type 0 where
@@ -132,6 +133,11 @@ pub record Ranged : Type 0 where
 infix 20 _at-most_
 abbrev pub _at-most_ : ℕ → ℕ → Ranged
 value at-most largest = record { value = value; largest = largest }
+
+unfoldable pub any-above : List Ranged → Bool
+any-above words = any (λ word. above (word .largest) (word .value)) words
+
+-- ---- a word of the record above its range
 
 -- An id is 32 bits, a flag 0 or 1, the mode 0 or 1. The base and the next send number are among the sequences; what counts
 -- rows is among the counts or the sums; any word is a length of the store, a skipped total.
@@ -143,47 +149,47 @@ record-words s =
     ∷ (s .send .numbers .gap at-most 1) ∷ (s .visit .continuation at-most 1) ∷ []
 
 unfoldable pub record-out-of-range : State → Bool
-record-out-of-range s = any (λ x. above (x .largest) (x .value)) (record-words s)
+record-out-of-range s = any-above (record-words s)
 
 -- ---- a field of a row above its range
 
+-- what a packet is handed over with, but its sequence, which is among the sequences; its cell and its length come with the payload
+unfoldable pub data-words : Data → List Ranged
+data-words d =
+    (d .count at-most largest-16) ∷ (d .message at-most largest-32) ∷ (d .timestamp at-most largest-32)
+    ∷ (d .source .0 at-most largest-64) ∷ []
+
+-- a packet counts for one or more
 unfoldable pub data-out-of-range : Data → Bool
-data-out-of-range d =
-    eqb (d .count) 0
-    || (above largest-16 (d .count)
-    || (above largest-32 (d .message)
-    || (above largest-32 (d .timestamp) || (above largest-64 (d .source .0) || above cell-size (d .length)))))
+data-out-of-range d = eqb (d .count) 0 || any-above ((d .length at-most cell-size) ∷ data-words d)
 
 unfoldable pub event-out-of-range : Event → Bool
 event-out-of-range e =
     above 3 (e .kind) || (above largest-32 (e .reason) || (is-data e && data-out-of-range (e .content)))
 
--- a flight is 0 without a sender, and a connected leg has one
+-- a flight is 0 without a sender
+unfoldable pub leg-words : Leg → List Ranged
+leg-words l =
+    (l .link .state at-most 2) ∷ (l .link .peer at-most largest-32) ∷ (l .link .limit at-most largest-16)
+    ∷ (l .sender .started at-most 1) ∷ (l .sender .flight at-most (if has-sender l then largest-16 else 0))
+    ∷ (l .sender .window at-most largest-16) ∷ (l .sender .oldest .0 at-most largest-64)
+    ∷ (l .sender .pace .0 at-most largest-64) ∷ (l .receiver .window at-most largest-16)
+    ∷ (l .receiver .latency at-most largest-64) ∷ (l .trip .srtt at-most largest-32) ∷ (l .trip .rttvar at-most largest-32)
+    ∷ (l .trip .heard .0 at-most largest-64) ∷ []
+
+-- a connected leg has a sender
 unfoldable pub leg-out-of-range : Leg → Bool
-leg-out-of-range l =
-    above 2 (l .link .state)
-    || (above largest-32 (l .link .peer)
-    || (above largest-16 (l .link .limit)
-    || (above 1 (l .sender .started)
-    || (above (if has-sender l then largest-16 else 0) (l .sender .flight)
-    || (above largest-16 (l .sender .window)
-    || (above largest-64 (l .sender .oldest .0)
-    || (above largest-64 (l .sender .pace .0)
-    || (above largest-16 (l .receiver .window)
-    || (above largest-64 (l .receiver .latency)
-    || (above largest-32 (l .trip .srtt)
-    || (above largest-32 (l .trip .rttvar)
-    || (above largest-64 (l .trip .heard .0) || (is-connected l && not (has-sender l))))))))))))))
+leg-out-of-range l = any-above (leg-words l) || (is-connected l && not (has-sender l))
+
+-- a member without its leg and its queue; its reserved sum is among the sums
+unfoldable pub membership-words : Membership → List Ranged
+membership-words x =
+    (x .id at-most largest-32) ∷ (x .weight at-most largest-16) ∷ (x .state at-most 4) ∷ (x .admitted at-most 1)
+    ∷ (x .collision .expected at-most largest-32) ∷ (x .collision .actual at-most largest-32) ∷ []
 
 unfoldable pub member-out-of-range : Member → Bool
 member-out-of-range m =
-    above largest-32 (id-of m)
-    || (above largest-16 (m .membership .weight)
-    || (above 4 (m .membership .state)
-    || (above 1 (m .membership .admitted)
-    || (above largest-32 (m .membership .collision .expected)
-    || (above largest-32 (m .membership .collision .actual)
-    || (leg-out-of-range (m .leg) || any event-out-of-range (m .queue)))))))
+    any-above (membership-words (m .membership)) || (leg-out-of-range (m .leg) || any event-out-of-range (m .queue))
 
 unfoldable pub field-out-of-range : State → Bool
 field-out-of-range s =

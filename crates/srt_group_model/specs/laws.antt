@@ -33,6 +33,7 @@ pub mod Unique
 pub mod Sums
 pub mod SumsRemoval
 pub mod SumsKept
+pub mod InRange
 pub mod Ranges
 pub mod RangesKept
 pub mod Acknowledging

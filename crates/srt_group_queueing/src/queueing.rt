@@ -39,9 +39,9 @@ use srt_protocol::received_payload::put_payload;
 fn data_unfit(id: u64, content: Data) -> bool
     ensures { λ r. ⌜ r ≡ data-unfit id content ⌝ }
 {
-    (LARGEST_32 < id)
+    (content.count == 0)
+        | (LARGEST_32 < id)
         | (LARGEST_SEQUENCE < content.sequence)
-        | (content.count == 0)
         | (LARGEST_16 < content.count)
         | (LARGEST_32 < content.message)
         | (LARGEST_32 < content.timestamp)

@@ -9,7 +9,7 @@ use Rattle.srt_group_model.specs.State.{Member}
 use Rattle.srt_group_model.specs.Backup.{max-history}
 use Rattle.srt_group_model.specs.Legs.{largest-16, largest-32, largest-64}
 use Rattle.srt_group_model.specs.Cells.{is-data}
-use Rattle.srt_group_model.specs.Validity.{above, max-queued, is-too-large, leg-sequence-too-large, data-out-of-range, event-out-of-range, leg-out-of-range}
+use Rattle.srt_group_model.specs.Validity.{above, any-above, membership-words, max-queued, is-too-large, leg-sequence-too-large, data-out-of-range, event-out-of-range, leg-out-of-range}
 use Rattle.srt_group_model.specs.declared.Event.{Event}
 use Rattle.srt_group_model.specs.declared.Leg.{Leg}
 use Rattle.srt_group_model.specs.declared.Membership.{Membership}
@@ -29,12 +29,7 @@ flight-out-of-range x = above (if eqb (x .started) 1 then largest-16 else 0) (x 
 
 -- a member without its leg and its queue
 unfoldable pub membership-out-of-range : Membership → Bool
-membership-out-of-range x =
-    above largest-32 (x .id)
-    || (above largest-16 (x .weight)
-    || (above 4 (x .state)
-    || (above 1 (x .admitted)
-    || (above largest-32 (x .collision .expected) || above largest-32 (x .collision .actual)))))
+membership-out-of-range x = any-above (membership-words x)
 
 unfoldable pub packet-out-of-range : Packet → Bool
 packet-out-of-range p = above largest-32 (p .member) || (above 1 (p .owned) || data-out-of-range (p .content))

@@ -49,10 +49,10 @@ pub fn data_out_of_range(content: Data) -> bool
     ensures { λ r. ⌜ r ≡ data-out-of-range content ⌝ }
 {
     (content.count == 0)
+        | (LONGEST_PAYLOAD < content.length)
         | (LARGEST_16 < content.count)
         | (LARGEST_32 < content.message)
         | (LARGEST_32 < content.timestamp)
-        | (LONGEST_PAYLOAD < content.length)
 }
 
 pub fn event_out_of_range(event: Event) -> bool

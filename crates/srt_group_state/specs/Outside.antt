@@ -9,7 +9,7 @@ use Rattle.srt_group_model.specs.Tools.{any, each}
 use Rattle.srt_group_model.specs.State.{State}
 use Rattle.srt_group_model.specs.Legs.{largest-32}
 use Rattle.srt_group_model.specs.Members.{id-of}
-use Rattle.srt_group_model.specs.Validity.{Ranged, _at-most_, record-out-of-range, above, is-blank, max-members, max-pending, max-waiting, count-above-limit, is-too-large, sequence-too-large, one-twice, id-twice, ascends, held-sequence-twice, reserved-sum-wrong, field-out-of-range}
+use Rattle.srt_group_model.specs.Validity.{Ranged, _at-most_, any-above, record-out-of-range, above, is-blank, max-members, max-pending, max-waiting, count-above-limit, is-too-large, sequence-too-large, one-twice, id-twice, ascends, held-sequence-twice, reserved-sum-wrong, field-out-of-range}
 use Rattle.srt_group_model.specs.declared.Core.{Core}
 use Rattle.srt_group_model.specs.declared.Identity.{Identity}
 use Rattle.srt_group_model.specs.declared.Sending.{Sending}
@@ -47,7 +47,7 @@ words identity c sending =
     ∷ (c .visit .continuation at-most 1) ∷ []
 
 unfoldable pub words-out-of-range : Identity → Core → Sending → Bool
-words-out-of-range identity c sending = any (λ x. above (x .largest) (x .value)) (words identity c sending)
+words-out-of-range identity c sending = any-above (words identity c sending)
 
 unfoldable pub numbers-break-rule : Identity → Core → Sending → Bool
 numbers-break-rule identity c sending =

@@ -1,18 +1,16 @@
 -- The packet that a poll gives was held when it was delivered. So in a poll of a valid state its cell lies in the store, and its
 -- payload in the cell. A walk beside Steps, for what is given.
 use mathlib.Core.Path.{_≡_, subst}
-use mathlib.Core.Bool.{Bool, true, false, _||_}
+use mathlib.Core.Bool.{Bool, true, false}
 use mathlib.Core.List.{List, [], _∷_}
 use mathlib.Core.Option.{Option, some}
 use Prim.Native.Nat.{ℕ, zero, suc, _≤_, min}
 use native.Mathlib.Omega.{arith}
-use borrow.Author.Tests.{ltb-false}
 use lib.Dec.{eqb}
 use Rattle.srt_protocol.specs.Cells.{cell-size}
 use Rattle.srt_group_model.specs.Tools.{if_then_else_, first-such, each, All}
 use Rattle.srt_group_model.specs.laws.Reason.{if-elim, if-some-elim, some-inj, none-some, or-right}
 use Rattle.srt_group_model.specs.State.{State, with-receive, with-base}
-use Rattle.srt_group_model.specs.Legs.{largest-16, largest-32, largest-64}
 use Rattle.srt_group_model.specs.Nearest.{sequence-of, has-sequence, held-at}
 use Rattle.srt_group_model.specs.Run.{Run, start, set-base}
 use Rattle.srt_group_model.specs.Delivery.{Polled, nothing, event, packet, Poll, deliver, give-waiting, skip-after, skip-given-up-gap, max-visits}
@@ -21,7 +19,8 @@ use Rattle.srt_group_model.specs.Cells.{used-cells}
 use Rattle.srt_group_model.specs.Sound.{Within, room, occurs, pending-cells, Packet-fit, Fit}
 use Rattle.srt_group_model.specs.laws.CellsKept.{room-inside, one-same, apart-of-rules, uses-used}
 use Rattle.srt_group_model.specs.laws.CellsCalls.{within-law}
-use Rattle.srt_group_model.specs.Validity.{above, cell-twice, cell-beyond-store, data-out-of-range, is-invalid}
+use Rattle.srt_group_model.specs.Validity.{cell-twice, cell-beyond-store, data-out-of-range, is-invalid}
+use Rattle.srt_group_model.specs.laws.InRange.{in-range-of}
 use Rattle.srt_group_model.specs.laws.RangesCalls.{fit-law}
 use Rattle.srt_group_model.specs.laws.Valid.{valid-of}
 use Rattle.srt_group_model.specs.laws.Steps.{State-law, refresh-has, refresh-pending-has, until-held-has, until-empty-has, poll-event-has}
@@ -116,16 +115,9 @@ first-there test [] p e fit = none-some e
 first-there test (q ∷ qs) p e fit =
     there-first (test q) q p qs (first-such test qs) e (fit .0) (λ is. first-there test qs p is (fit .1))
 
-last-of-six : (a b c d e f : Bool) → (a || (b || (c || (d || (e || f))))) ≡ false → f ≡ false
-last-of-six a b c d e f h =
-    or-right e f
-    (or-right d (e || f) (or-right c (d || (e || f)) (or-right b (c || (d || (e || f))) (or-right a (b || (c || (d || (e || f)))) h))))
-
 size-small : (d : Data) → data-out-of-range d ≡ false → d .length ≤ cell-size
 unfolding data-out-of-range
-size-small d h =
-    ltb-false cell-size (d .length)
-    (last-of-six (eqb (d .count) 0) (above largest-16 (d .count)) (above largest-32 (d .message)) (above largest-32 (d .timestamp)) (above largest-64 (d .source .0)) (above cell-size (d .length)) h)
+size-small d h = in-range-of _ (or-right (eqb (d .count) 0) _ h) .0
 
 module _ (cells : ℕ) where
   abbrev Lying : State → Type 0

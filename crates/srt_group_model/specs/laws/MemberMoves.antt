@@ -4,11 +4,11 @@ use mathlib.Core.Path.{_≡_, refl, sym, ap, subst, _∙_}
 use mathlib.Core.Bool.{true}
 use mathlib.Core.List.{List, [], _∷_}
 use mathlib.Core.Option.{some}
-use Prim.Native.Nat.{ℕ, zero, suc}
+use Prim.Native.Nat.{ℕ}
 use lib.Dec.{eqb}
 use Rattle.srt_protocol.specs.Sequence.{sequence-further}
 use Rattle.srt_group_model.specs.Tools.{at-place, change, All}
-use Rattle.srt_group_model.specs.laws.Reason.{if-elim, if-some-elim, none-some, some-inj, first-such-of, Each-to, each-to-same, each-to-then, each-to-each, each-to-change}
+use Rattle.srt_group_model.specs.laws.Reason.{if-elim, if-some-elim, some-inj, first-such-of, Each-to, each-to-same, each-to-then, each-to-each, each-to-change}
 use Rattle.srt_group_model.specs.State.{Member, State, on-leg, broken-state}
 use Rattle.srt_group_model.specs.Legs.{Reading, readings, reading-of, advance-receive-sequence}
 use Rattle.srt_group_model.specs.Members.{id-of, in-state}

@@ -12,7 +12,7 @@ use Rattle.srt_protocol.specs.Sequence.{sequence-distance, sequence-further}
 use Rattle.srt_protocol.specs.Cells.{cell-size}
 use Rattle.srt_group_model.specs.Tools.{if_then_else_, if-some_give_otherwise_, at-place, change, each, without-place, All}
 use Rattle.srt_group_model.specs.laws.Flag.{bit-most}
-use Rattle.srt_group_model.specs.laws.Reason.{if-elim, by-test, not-both, none-some, some-inj, and-left, and-right, or-left, or-right, first-such-of, all-append}
+use Rattle.srt_group_model.specs.laws.Reason.{if-elim, by-test, not-both, none-some, some-inj, and-left, and-right, or-left, or-right, no-either, first-such-of, all-append}
 use Rattle.srt_group_model.specs.State.{Member, Send, State, next-send-sequence, with-receive, with-send, with-members, on-leg}
 use Rattle.srt_group_model.specs.Legs.{Reading, readings, reading-of, goes-back, read-state, acknowledge, handed, disconnect-leg, add-reservation, has-sender, is-connected, oldest-unacked-sequence, largest-sequence, largest-16, largest-32, largest-64}
 use Rattle.srt_group_model.specs.Members.{id-of}
@@ -20,9 +20,10 @@ use Rattle.srt_group_model.specs.Nearest.{sequence-of, nearest}
 use Rattle.srt_group_model.specs.Delivery.{skip-to}
 use Rattle.srt_group_model.specs.Removal.{own-packet, retire, take-out}
 use Rattle.srt_group_model.specs.Backup.{max-history, drop-before, trim-backup-history, append-history}
-use Rattle.srt_group_model.specs.Validity.{above, is-too-large, max-queued, data-out-of-range, event-out-of-range, leg-out-of-range, leg-sequence-too-large}
+use Rattle.srt_group_model.specs.Validity.{above, any-above, data-words, leg-words, is-too-large, max-queued, data-out-of-range, event-out-of-range, leg-out-of-range, leg-sequence-too-large}
 use Rattle.srt_group_model.specs.Calls.{queue-full, enqueue, data-event, data-unfit, no-data, reading-out-of-range, read-field, state-at-addition, new-member}
 use Rattle.srt_group_model.specs.Lent.{Lent, Call, perform}
+use Rattle.srt_group_model.specs.laws.InRange.{in-range-of, of-in-range}
 use Rattle.srt_group_model.specs.laws.Sums.{all-such-that, inserted-all}
 use Rattle.srt_group_model.specs.laws.Queues.{pop, packet-of}
 use Rattle.srt_group_model.specs.laws.Steps.{State-law, state-law-of}
@@ -237,21 +238,12 @@ reserve-fit n m h =
     record { leg = record { state = l .state; peer = l .peer; limit = l .limit; started = l .started; flight = l .flight; no-flight = l .no-flight; window = l .window; oldest = l .oldest; pace = l .pace; receive-window = l .receive-window; latency = l .latency; srtt = l .srtt; rttvar = l .rttvar; heard = l .heard; connects = l .connects; next = l .next; advanced = l .advanced; first = l .first }; id = h .id; weight = h .weight; state = h .state; admitted = h .admitted; expected = h .expected; actual = h .actual; queue = h .queue; short = h .short }
 
 data-event-fit : (id cell size : ℕ) (d : Data) → data-unfit id d ≡ false → size ≤ cell-size → Event-fit (data-event cell size d)
-unfolding data-unfit event-out-of-range data-out-of-range
+unfolding data-unfit event-out-of-range data-out-of-range data-words
 data-event-fit id cell size d h z =
-    let a = or-right (above largest-32 id) _ h in
-    let b = or-right (above largest-sequence (d .sequence)) _ a in
-    let c = or-right (eqb (d .count) 0) _ b in
-    let e = or-right (above largest-16 (d .count)) _ c in
-    let f = or-right (above largest-32 (d .message)) _ e in
+    let words = in-range-of _ (or-right (eqb (d .count) 0) _ h) in
     record {
-      fields =
-          ap₂ (λ (x y : Bool). x || y) (or-left (eqb (d .count) 0) _ b)
-          (ap₂ (λ (x y : Bool). x || y) (or-left (above largest-16 (d .count)) _ c)
-          (ap₂ (λ (x y : Bool). x || y) (or-left (above largest-32 (d .message)) _ e)
-          (ap₂ (λ (x y : Bool). x || y) (or-left (above largest-32 (d .timestamp)) _ f)
-          (ap₂ (λ (x y : Bool). x || y) (or-right (above largest-32 (d .timestamp)) _ f) (le-ltb cell-size size z)))));
-      sequence = or-left (above largest-sequence (d .sequence)) _ a;
+      fields = no-either _ _ (or-left (eqb (d .count) 0) _ h) (of-in-range _ (z, words .1 .1));
+      sequence = le-ltb largest-sequence (d .sequence) (words .1 .0);
     }
 
 event-event-fit : (kind reason : ℕ) → eqb kind 0 ≡ false → above 3 kind ≡ false → above largest-32 reason ≡ false → Event-fit record { kind = kind; reason = reason; content = no-data }
@@ -266,20 +258,20 @@ event-event-fit kind reason a b c =
 
 -- ---- a leg's range as the rules test it
 
-flight-most : (b : Bool) (n : ℕ) → above (if b then largest-16 else 0) n ≡ false → n ≤ largest-16
+flight-most : (b : Bool) (n : ℕ) → n ≤ (if b then largest-16 else 0) → n ≤ largest-16
 unfolding if_then_else_
-flight-most true n h = ltb-false largest-16 n h
-flight-most false n h = omega (arith, ltb-false 0 n h)
+flight-most true n h = h
+flight-most false n h = omega (arith, h)
 
-flight-none : (b : Bool) (n : ℕ) → above (if b then largest-16 else 0) n ≡ false → b ≡ false → n ≡ 0
+flight-none : (b : Bool) (n : ℕ) → n ≤ (if b then largest-16 else 0) → b ≡ false → n ≡ 0
 unfolding if_then_else_
 flight-none true n h e = not-both refl e
-flight-none false n h e = omega (arith, ltb-false 0 n h)
+flight-none false n h e = omega (arith, h)
 
-flight-rule : (b : Bool) (n : ℕ) → n ≤ largest-16 → (b ≡ false → n ≡ 0) → above (if b then largest-16 else 0) n ≡ false
+flight-bound : (b : Bool) (n : ℕ) → n ≤ largest-16 → (b ≡ false → n ≡ 0) → n ≤ (if b then largest-16 else 0)
 unfolding if_then_else_
-flight-rule true n h k = le-ltb largest-16 n h
-flight-rule false n h k = le-ltb 0 n (omega (arith, k refl))
+flight-bound true n h k = h
+flight-bound false n h k = omega (arith, k refl)
 
 connect-rule : (a b : Bool) → (a && not b) ≡ false → a ≡ true → b ≡ true
 connect-rule true true h e = refl
@@ -292,64 +284,35 @@ rule-connect true false h = not-both (h refl) refl
 rule-connect false b h = refl
 
 pub leg-of-rules : (l : Leg) → leg-out-of-range l ≡ false → leg-sequence-too-large l ≡ false → Leg-fit l
-unfolding leg-out-of-range leg-sequence-too-large
+unfolding leg-out-of-range leg-words leg-sequence-too-large
 leg-of-rules l h k =
-    let r0 = h in
-    let r1 = or-right (above 2 (l .link .state)) _ r0 in
-    let r2 = or-right (above largest-32 (l .link .peer)) _ r1 in
-    let r3 = or-right (above largest-16 (l .link .limit)) _ r2 in
-    let r4 = or-right (above 1 (l .sender .started)) _ r3 in
-    let r5 = or-right (above (if has-sender l then largest-16 else 0) (l .sender .flight)) _ r4 in
-    let r6 = or-right (above largest-16 (l .sender .window)) _ r5 in
-    let r7 = or-right (above largest-64 (l .sender .oldest .0)) _ r6 in
-    let r8 = or-right (above largest-64 (l .sender .pace .0)) _ r7 in
-    let r9 = or-right (above largest-16 (l .receiver .window)) _ r8 in
-    let r10 = or-right (above largest-64 (l .receiver .latency)) _ r9 in
-    let r11 = or-right (above largest-32 (l .trip .srtt)) _ r10 in
-    let r12 = or-right (above largest-32 (l .trip .rttvar)) _ r11 in
-    let r13 = or-right (above largest-64 (l .trip .heard .0)) _ r12 in
+    let w = in-range-of (leg-words l) (or-left (any-above (leg-words l)) _ h) in
     let first-rest = or-right (is-too-large (l .sender .next)) _ k in
     record {
-      state = ltb-false 2 (l .link .state) (or-left (above 2 (l .link .state)) _ r0);
-      peer = ltb-false largest-32 (l .link .peer) (or-left (above largest-32 (l .link .peer)) _ r1);
-      limit = ltb-false largest-16 (l .link .limit) (or-left (above largest-16 (l .link .limit)) _ r2);
-      started = ltb-false 1 (l .sender .started) (or-left (above 1 (l .sender .started)) _ r3);
-      flight = flight-most (has-sender l) (l .sender .flight) (or-left (above (if has-sender l then largest-16 else 0) (l .sender .flight)) _ r4);
-      no-flight = flight-none (has-sender l) (l .sender .flight) (or-left (above (if has-sender l then largest-16 else 0) (l .sender .flight)) _ r4);
-      window = ltb-false largest-16 (l .sender .window) (or-left (above largest-16 (l .sender .window)) _ r5);
-      oldest = ltb-false largest-64 (l .sender .oldest .0) (or-left (above largest-64 (l .sender .oldest .0)) _ r6);
-      pace = ltb-false largest-64 (l .sender .pace .0) (or-left (above largest-64 (l .sender .pace .0)) _ r7);
-      receive-window = ltb-false largest-16 (l .receiver .window) (or-left (above largest-16 (l .receiver .window)) _ r8);
-      latency = ltb-false largest-64 (l .receiver .latency) (or-left (above largest-64 (l .receiver .latency)) _ r9);
-      srtt = ltb-false largest-32 (l .trip .srtt) (or-left (above largest-32 (l .trip .srtt)) _ r10);
-      rttvar = ltb-false largest-32 (l .trip .rttvar) (or-left (above largest-32 (l .trip .rttvar)) _ r11);
-      heard = ltb-false largest-64 (l .trip .heard .0) (or-left (above largest-64 (l .trip .heard .0)) _ r12);
-      connects = connect-rule (is-connected l) (has-sender l) r13;
+      state = w .0;
+      peer = w .1 .0;
+      limit = w .1 .1 .0;
+      started = w .1 .1 .1 .0;
+      flight = flight-most (has-sender l) (l .sender .flight) (w .1 .1 .1 .1 .0);
+      no-flight = flight-none (has-sender l) (l .sender .flight) (w .1 .1 .1 .1 .0);
+      window = w .1 .1 .1 .1 .1 .0;
+      oldest = w .1 .1 .1 .1 .1 .1 .0;
+      pace = w .1 .1 .1 .1 .1 .1 .1 .0;
+      receive-window = w .1 .1 .1 .1 .1 .1 .1 .1 .0;
+      latency = w .1 .1 .1 .1 .1 .1 .1 .1 .1 .0;
+      srtt = w .1 .1 .1 .1 .1 .1 .1 .1 .1 .1 .0;
+      rttvar = w .1 .1 .1 .1 .1 .1 .1 .1 .1 .1 .1 .0;
+      heard = w .1 .1 .1 .1 .1 .1 .1 .1 .1 .1 .1 .1 .0;
+      connects = connect-rule (is-connected l) (has-sender l) (or-right (any-above (leg-words l)) _ h);
       next = ltb-false largest-sequence (l .sender .next) (or-left (is-too-large (l .sender .next)) _ k);
       advanced = ltb-false largest-sequence (l .receiver .advanced) (or-left (is-too-large (l .receiver .advanced)) _ first-rest);
       first = or-right (is-too-large (l .receiver .advanced)) _ first-rest;
     }
 
-pub no-either : (a b : Bool) → a ≡ false → b ≡ false → a || b ≡ false
-no-either a b e f = ap₂ (λ (x y : Bool). x || y) e f
-
 pub rules-of-leg : (l : Leg) → Leg-fit l → (leg-out-of-range l ≡ false) × (leg-sequence-too-large l ≡ false)
-unfolding leg-out-of-range leg-sequence-too-large
+unfolding leg-out-of-range leg-words leg-sequence-too-large
 rules-of-leg l h = (
-  no-either _ _ (le-ltb 2 (l .link .state) (h .state))
-      (no-either _ _ (le-ltb largest-32 (l .link .peer) (h .peer))
-      (no-either _ _ (le-ltb largest-16 (l .link .limit) (h .limit))
-      (no-either _ _ (le-ltb 1 (l .sender .started) (h .started))
-      (no-either _ _ (flight-rule (has-sender l) (l .sender .flight) (h .flight) (h .no-flight))
-      (no-either _ _ (le-ltb largest-16 (l .sender .window) (h .window))
-      (no-either _ _ (le-ltb largest-64 (l .sender .oldest .0) (h .oldest))
-      (no-either _ _ (le-ltb largest-64 (l .sender .pace .0) (h .pace))
-      (no-either _ _ (le-ltb largest-16 (l .receiver .window) (h .receive-window))
-      (no-either _ _ (le-ltb largest-64 (l .receiver .latency) (h .latency))
-      (no-either _ _ (le-ltb largest-32 (l .trip .srtt) (h .srtt))
-      (no-either _ _ (le-ltb largest-32 (l .trip .rttvar) (h .rttvar))
-      (no-either _ _ (le-ltb largest-64 (l .trip .heard .0) (h .heard))
-      (rule-connect (is-connected l) (has-sender l) (h .connects)))))))))))))),
+  no-either _ _ (of-in-range (leg-words l) (h .state, (h .peer, (h .limit, (h .started, (flight-bound (has-sender l) (l .sender .flight) (h .flight) (h .no-flight), (h .window, (h .oldest, (h .pace, (h .receive-window, (h .latency, (h .srtt, (h .rttvar, (h .heard, tt)))))))))))))) (rule-connect (is-connected l) (has-sender l) (h .connects)),
   no-either _ _ (le-ltb largest-sequence (l .sender .next) (h .next))
       (no-either _ _ (le-ltb largest-sequence (l .receiver .advanced) (h .advanced)) (h .first)),
 )

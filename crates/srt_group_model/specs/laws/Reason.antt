@@ -1,5 +1,5 @@
 -- Ways to go through a choice, an option and a list in a proof.
-use mathlib.Core.Path.{_≡_, refl, sym, ap, subst, _∙_}
+use mathlib.Core.Path.{_≡_, refl, sym, ap, ap₂, subst, _∙_}
 use mathlib.Core.Bool.{Bool, true, false, _&&_, _||_}
 use mathlib.Core.List.{List, [], _∷_, _++_}
 use mathlib.Core.Option.{Option, none, some}
@@ -46,6 +46,9 @@ or-left false b e = refl
 pub or-right : (a b : Bool) → a || b ≡ false → b ≡ false
 or-right true b e = not-both {t = true} refl e
 or-right false b e = e
+
+pub no-either : (a b : Bool) → a ≡ false → b ≡ false → a || b ≡ false
+no-either a b e f = ap₂ (λ (x y : Bool). x || y) e f
 
 pub or-assoc : (a b c : Bool) → ((a || b) || c) ≡ (a || (b || c))
 or-assoc true b c = refl

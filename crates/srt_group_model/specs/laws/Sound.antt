@@ -11,14 +11,14 @@ use lib.Dec.{ltb, eqb}
 use lib.ListN.{length}
 use Rattle.srt_protocol.specs.Cells.{max-cells}
 use Rattle.srt_group_model.specs.Tools.{if_then_else_, such-that, at-place, each, total, All}
-use Rattle.srt_group_model.specs.laws.Reason.{if-elim, by-test, not-both, none-some, some-inj, or-left, or-right}
+use Rattle.srt_group_model.specs.laws.Reason.{if-elim, by-test, not-both, none-some, some-inj, or-right}
 use Rattle.srt_group_model.specs.State.{Member, State, with-send}
 use Rattle.srt_group_model.specs.laws.State.{with-history}
 use Rattle.srt_group_model.specs.Legs.{largest-sequence, largest-16, largest-32}
 use Rattle.srt_group_model.specs.Members.{id-of}
 use Rattle.srt_group_model.specs.Collecting.{front}
 use Rattle.srt_group_model.specs.Cells.{is-data, is-among, used-cells}
-use Rattle.srt_group_model.specs.Validity.{above, ascends, data-out-of-range, event-out-of-range, held-sequence-twice, id-twice, cell-twice, cell-beyond-store, is-invalid, queued-count, max-queued, max-pending}
+use Rattle.srt_group_model.specs.Validity.{above, ascends, data-words, data-out-of-range, event-out-of-range, held-sequence-twice, id-twice, cell-twice, cell-beyond-store, is-invalid, queued-count, max-queued, max-pending}
 use Rattle.srt_group_model.specs.laws.Steps.{State-law}
 use Rattle.srt_group_model.specs.Sound.{Within, room, one, occurs, pending-cells, In-round, Event-fit, Member-fit, Packet-fit, Fit, Summed, held-for, for-member}
 use Rattle.srt_group_model.specs.laws.CellsKept.{room-inside, room-most, one-same, present, popped-data, apart-of-rules, uses-used}
@@ -26,6 +26,7 @@ use Rattle.srt_group_model.specs.laws.CellsCalls.{within-law}
 use Rattle.srt_group_model.specs.laws.Counts.{apart-few, pending-length}
 use Rattle.srt_group_model.specs.laws.Rounds.{round-law}
 use Rattle.srt_group_model.specs.laws.RangesKept.{front-fit}
+use Rattle.srt_group_model.specs.laws.InRange.{in-range-of}
 use Rattle.srt_group_model.specs.laws.RangesCalls.{fit-law}
 use Rattle.srt_group_model.specs.laws.SumsRemoval.{Right}
 use Rattle.srt_group_model.specs.laws.SumsKept.{sums-of-rule, right-law}
@@ -150,8 +151,8 @@ right-of true b t e = e
 right-of false b t e = not-both t refl
 
 pub count-fits : (d : Data) → data-out-of-range d ≡ false → d .count ≤ largest-16
-unfolding data-out-of-range
-count-fits d h = ltb-false largest-16 (d .count) (or-left (above largest-16 (d .count)) _ (or-right (eqb (d .count) 0) _ h))
+unfolding data-out-of-range data-words
+count-fits d h = in-range-of _ (or-right (eqb (d .count) 0) _ h) .1 .0
 
 -- the counts of packets held for a member: at most 65,535 each
 held-for-most : (id : ℕ) (ps : List Packet) → All Packet-fit ps → held-for id ps ≤ largest-16 * length ps

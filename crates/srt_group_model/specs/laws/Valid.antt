@@ -11,12 +11,11 @@ use lib.ListN.{length}
 use Rattle.srt_protocol.specs.Handshake.{has-group-mask}
 use Rattle.srt_protocol.specs.Cells.{cell-size, cells-of, max-cells}
 use Rattle.srt_group_model.specs.Tools.{if_then_else_, any, such-that, each, total, All}
-use Rattle.srt_group_model.specs.laws.Reason.{by-test, or-left, or-right, all-map}
+use Rattle.srt_group_model.specs.laws.Reason.{by-test, or-left, or-right, no-either, all-map}
 use Rattle.srt_group_model.specs.State.{Member, State}
-use Rattle.srt_group_model.specs.Legs.{largest-sequence, largest-16, largest-32, largest-64}
-use Rattle.srt_group_model.specs.Members.{id-of}
+use Rattle.srt_group_model.specs.Legs.{largest-sequence, largest-32, largest-64}
 use Rattle.srt_group_model.specs.Cells.{is-data, queued-cells, used-cells}
-use Rattle.srt_group_model.specs.Validity.{above, is-too-large, is-blank, max-members, max-pending, max-waiting, count-above-limit, leg-sequence-too-large, sequence-too-large, one-twice, id-twice, ascends, held-sequence-twice, cell-twice, cell-beyond-store, reserved-sum-wrong, data-out-of-range, event-out-of-range, leg-out-of-range, member-out-of-range, Ranged, record-words, record-out-of-range, field-out-of-range, broken-rules, is-invalid, max-queued}
+use Rattle.srt_group_model.specs.Validity.{above, is-too-large, is-blank, max-members, max-pending, max-waiting, count-above-limit, leg-sequence-too-large, sequence-too-large, one-twice, id-twice, ascends, held-sequence-twice, cell-twice, cell-beyond-store, reserved-sum-wrong, data-out-of-range, event-out-of-range, leg-out-of-range, member-out-of-range, any-above, membership-words, record-words, record-out-of-range, field-out-of-range, broken-rules, is-invalid, max-queued}
 use Rattle.srt_group_model.specs.Lent.{Lent, Call, perform}
 use Rattle.srt_group_model.specs.laws.Fixed.{identity-kept}
 use Rattle.srt_group_model.specs.laws.Unique.{names-kept}
@@ -25,7 +24,8 @@ use Rattle.srt_group_model.specs.laws.CellsKept.{apart-of-rules}
 use Rattle.srt_group_model.specs.laws.CellsCalls.{cells-kept}
 use Rattle.srt_group_model.specs.laws.SumsKept.{none-of, of-none, sums-of-rule, rule-of-sums, sums-kept}
 use Rattle.srt_group_model.specs.Sound.{Event-fit, Member-fit, Packet-fit, Entry-fit, Waiting-fit, Fit, In-round}
-use Rattle.srt_group_model.specs.laws.RangesCalls.{leg-of-rules, rules-of-leg, no-either, fit-kept}
+use Rattle.srt_group_model.specs.laws.InRange.{in-range-of, of-in-range}
+use Rattle.srt_group_model.specs.laws.RangesCalls.{leg-of-rules, rules-of-leg, fit-kept}
 use Rattle.srt_group_model.specs.laws.Counts.{pending-few, waiting-kept}
 use Rattle.srt_group_model.specs.laws.Rounds.{round-kept}
 use Rattle.srt_group_model.specs.Calls.{new, new-code}
@@ -95,37 +95,28 @@ events-fit (e ∷ q) h k = (
 )
 
 member-of-rules : (m : Member) → member-out-of-range m ≡ false → (leg-sequence-too-large (m .leg) || any too-large-data (m .queue)) ≡ false → above max-queued (length (m .queue)) ≡ false → Member-fit m
-unfolding member-out-of-range
+unfolding member-out-of-range membership-words
 member-of-rules m h k n =
-    let r0 = h in
-    let r1 = or-right (above largest-32 (id-of m)) _ r0 in
-    let r2 = or-right (above largest-16 (m .membership .weight)) _ r1 in
-    let r3 = or-right (above 4 (m .membership .state)) _ r2 in
-    let r4 = or-right (above 1 (m .membership .admitted)) _ r3 in
-    let r5 = or-right (above largest-32 (m .membership .collision .expected)) _ r4 in
-    let r6 = or-right (above largest-32 (m .membership .collision .actual)) _ r5 in
+    let w = in-range-of (membership-words (m .membership)) (or-left (any-above (membership-words (m .membership))) _ h) in
+    let rest = or-right (any-above (membership-words (m .membership))) _ h in
     record {
-      leg = leg-of-rules (m .leg) (or-left (leg-out-of-range (m .leg)) _ r6) (or-left (leg-sequence-too-large (m .leg)) _ k);
-      id = ltb-false largest-32 (id-of m) (or-left (above largest-32 (id-of m)) _ r0);
-      weight = ltb-false largest-16 (m .membership .weight) (or-left (above largest-16 (m .membership .weight)) _ r1);
-      state = ltb-false 4 (m .membership .state) (or-left (above 4 (m .membership .state)) _ r2);
-      admitted = ltb-false 1 (m .membership .admitted) (or-left (above 1 (m .membership .admitted)) _ r3);
-      expected = ltb-false largest-32 (m .membership .collision .expected) (or-left (above largest-32 (m .membership .collision .expected)) _ r4);
-      actual = ltb-false largest-32 (m .membership .collision .actual) (or-left (above largest-32 (m .membership .collision .actual)) _ r5);
-      queue = events-fit (m .queue) (or-right (leg-out-of-range (m .leg)) _ r6) (or-right (leg-sequence-too-large (m .leg)) _ k);
+      leg = leg-of-rules (m .leg) (or-left (leg-out-of-range (m .leg)) _ rest) (or-left (leg-sequence-too-large (m .leg)) _ k);
+      id = w .0;
+      weight = w .1 .0;
+      state = w .1 .1 .0;
+      admitted = w .1 .1 .1 .0;
+      expected = w .1 .1 .1 .1 .0;
+      actual = w .1 .1 .1 .1 .1 .0;
+      queue = events-fit (m .queue) (or-right (leg-out-of-range (m .leg)) _ rest) (or-right (leg-sequence-too-large (m .leg)) _ k);
       short = ltb-false max-queued (length (m .queue)) n;
     }
 
 rules-of-member : (m : Member) → Member-fit m → member-out-of-range m ≡ false
-unfolding member-out-of-range
+unfolding member-out-of-range membership-words
 rules-of-member m h =
-    no-either _ _ (le-ltb largest-32 (id-of m) (h .id))
-    (no-either _ _ (le-ltb largest-16 (m .membership .weight) (h .weight))
-    (no-either _ _ (le-ltb 4 (m .membership .state) (h .state))
-    (no-either _ _ (le-ltb 1 (m .membership .admitted) (h .admitted))
-    (no-either _ _ (le-ltb largest-32 (m .membership .collision .expected) (h .expected))
-    (no-either _ _ (le-ltb largest-32 (m .membership .collision .actual) (h .actual))
-    (no-either _ _ (rules-of-leg (m .leg) (h .leg) .0) (of-none event-out-of-range (m .queue) (all-map Event-fit _ (λ e k. k .fields) (m .queue) (h .queue)))))))))
+    no-either _ _
+    (of-in-range (membership-words (m .membership)) (h .id, (h .weight, (h .state, (h .admitted, (h .expected, (h .actual, tt)))))))
+    (no-either _ _ (rules-of-leg (m .leg) (h .leg) .0) (of-none event-out-of-range (m .queue) (all-map Event-fit _ (λ e k. k .fields) (m .queue) (h .queue))))
 
 sequences-of-member : (m : Member) → Member-fit m → (leg-sequence-too-large (m .leg) || any too-large-data (m .queue)) ≡ false
 unfolding too-large-data
@@ -246,12 +237,6 @@ of-counted s h =
 
 -- ---- the words of the record
 
-abbrev pub In-range : Ranged → Type 0
-In-range x = x .value ≤ x .largest
-
-above-range : Ranged → Bool
-above-range x = above (x .largest) (x .value)
-
 -- each word of the record, in the order of `record-words`
 pub record Words-fit (s : State) : Type 0 where
   pub id : s .identity .id ≤ largest-32
@@ -264,16 +249,8 @@ pub record Words-fit (s : State) : Type 0 where
   pub gap : s .send .numbers .gap ≤ 1
   pub continuation : s .visit .continuation ≤ 1
 
-in-range-of : (xs : List Ranged) → any above-range xs ≡ false → All In-range xs
-unfolding above-range
-in-range-of xs h = all-map _ In-range (λ x k. ltb-false (x .largest) (x .value) k) xs (none-of above-range xs h)
-
-of-in-range : (xs : List Ranged) → All In-range xs → any above-range xs ≡ false
-unfolding above-range
-of-in-range xs h = of-none above-range xs (all-map In-range _ (λ x k. le-ltb (x .largest) (x .value) k) xs h)
-
 pub words-of : (s : State) → record-out-of-range s ≡ false → Words-fit s
-unfolding record-out-of-range record-words above-range
+unfolding record-out-of-range record-words
 words-of s h =
     let w = in-range-of (record-words s) h in
     record {
@@ -289,7 +266,7 @@ words-of s h =
     }
 
 pub of-words : (s : State) → Words-fit s → record-out-of-range s ≡ false
-unfolding record-out-of-range record-words above-range
+unfolding record-out-of-range record-words
 of-words s h =
     of-in-range (record-words s)
     (h .id, (h .mode, (h .peer, (h .based, (h .numbered, (h .carried, (h .carrier, (h .gap, (h .continuation, tt)))))))))
@@ -427,7 +404,7 @@ valid-kept c lent s invalid =
 
 -- a group that was just made is valid
 pub new-valid : (id length cells mode : ℕ) → new-code id mode ≡ 0 → is-invalid cells (new id mode length) ≡ false
-unfolding new is-invalid broken-rules any is-blank count-above-limit sequence-too-large id-twice one-twice held-sequence-twice ascends cell-twice cell-beyond-store used-cells queued-cells each reserved-sum-wrong such-that total record-out-of-range record-words field-out-of-range new-code if_then_else_
+unfolding new is-invalid broken-rules any is-blank count-above-limit sequence-too-large id-twice one-twice held-sequence-twice ascends cell-twice cell-beyond-store used-cells queued-cells each reserved-sum-wrong such-that total record-out-of-range any-above record-words field-out-of-range new-code if_then_else_
 new-valid id length cells mode h = accepted (above largest-32 id) (above 1 mode) (has-group-mask id) h
   where
     accepted : (a b mask : Bool) → _≡_ {A = ℕ} (if a || b then 2 else (if mask then 0 else 1)) 0 → (not mask || ((a || (b || false)) || false)) ≡ false

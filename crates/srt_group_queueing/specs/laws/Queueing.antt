@@ -5,7 +5,7 @@ use mathlib.Core.List.{List, [], _∷_}
 use mathlib.Core.Option.{Option, none, some}
 use Prim.Native.Nat.{ℕ, _+_, _*_, _^_, _≤_, _<_}
 use native.Mathlib.Omega.{arith}
-use borrow.Author.Tests.{lt-ltb, le-ltb, ltb-false}
+use borrow.Author.Tests.{lt-ltb, le-ltb}
 use lib.Dec.{eqb}
 use lib.ListN.{length}
 use Rattle.srt_protocol.specs.declared.error.Error.{Error}
@@ -16,13 +16,14 @@ use Rattle.srt_protocol.specs.Errors.{error-number, outcome-number, refuse-if, 
 use Rattle.srt_protocol.specs.Cells.{cell-size, cells-of, overwritten, Put}
 use Rattle.srt_protocol.specs.laws.CellLaws.{overwritten-length, cell-accepted}
 use Rattle.srt_group_model.specs.Tools.{if-some_give_otherwise_, any, place-of, at-place, change}
-use Rattle.srt_group_model.specs.laws.Reason.{if-elim, if-some-elim, by-test, none-some, or-left, or-right, or-yes-right}
+use Rattle.srt_group_model.specs.laws.Reason.{if-elim, if-some-elim, by-test, none-some, or-right, or-yes-right}
 use Rattle.srt_group_model.specs.State.{Member, State, with-members, on-leg}
-use Rattle.srt_group_model.specs.Legs.{add-reservation, largest-sequence, largest-16, largest-32}
+use Rattle.srt_group_model.specs.Legs.{add-reservation, largest-16}
 use Rattle.srt_group_model.specs.Members.{has-id, find}
 use Rattle.srt_group_model.specs.Cells.{free-cell}
-use Rattle.srt_group_model.specs.Validity.{above, is-invalid}
+use Rattle.srt_group_model.specs.Validity.{above, data-words, is-invalid}
 use Rattle.srt_group_model.specs.Guards.{no-answer, Step, Check, _when_, guard}
+use Rattle.srt_group_model.specs.laws.InRange.{in-range-of}
 use Rattle.srt_group_model.specs.laws.Refusals.{guard-stops, guard-goes-on}
 use Rattle.srt_group_model.specs.laws.Places.{change-nothing, first-such-is-found}
 use Rattle.srt_group_model.specs.laws.Valid.{valid-of, counted-of}
@@ -253,7 +254,7 @@ module _ (id : ℕ) (d : Data) (payload : List ℕ) (p : Parts) (t : Tables) (st
               (first-such-is-found (has-id id) (s .members) ∙ ap (λ (o : Option ℕ). if-some o give (λ k. at-place k (s .members)) otherwise none) found-there ∙ place)
 
           pub enqueueable : Enqueueable i cell d (length payload) (t .members) (length store) (length used)
-          unfolding data-unfit
+          unfolding data-unfit data-words
           enqueueable =
               record {
                 there = omega (arith, rows-there, below);
@@ -271,9 +272,7 @@ module _ (id : ℕ) (d : Data) (payload : List ℕ) (p : Parts) (t : Tables) (st
             where
               count-fits : d .count ≤ largest-16
               count-fits =
-                  ltb-false largest-16 (d .count)
-                  (or-left (above largest-16 (d .count)) _
-                  (or-right (eqb (d .count) 0) _ (or-right (above largest-sequence (d .sequence)) _ (or-right (above largest-32 id) _ fit))))
+                  in-range-of _ (or-right (eqb (d .count) 0) _ fit) .1 .1 .0
 
           module _ (o : Outcome) (members′ store′ used′ : List ℕ) (done : Enqueues i cell d payload (t .members) store used o members′ store′ used′) where
             abbrev t′ : Tables

@@ -15,13 +15,13 @@ use lib.ListN.{length, getD, set, length-set}
 use lib.Seq.{getD-set-same, getD-set-other}
 use Rattle.srt_group_model.specs.Tools.{if_then_else_, any, such-that, each, total}
 use Rattle.srt_group_model.specs.laws.Reason.{by-test, if-elim, not-both, or-left, or-right, or-yes-left, or-yes-right}
+use Rattle.srt_group_model.specs.laws.Sound.{count-fits}
 use Rattle.srt_group_model.specs.State.{Member, State}
 use Rattle.srt_group_model.specs.Legs.{largest-16, largest-32}
 use Rattle.srt_group_model.specs.Members.{id-of, has-id, find}
 use Rattle.srt_group_model.specs.Removal.{is-owned}
 use Rattle.srt_group_model.specs.Cells.{is-data}
 use Rattle.srt_group_model.specs.Validity.{max-pending, max-members, above, max-queued, is-too-large, one-twice, held-count, queued-count, member-sum-wrong, is-unreserved, reserved-sum-wrong, data-out-of-range, event-out-of-range}
-use Rattle.srt_group_model.specs.declared.Data.{Data}
 use Rattle.srt_group_model.specs.declared.Event.{Event}
 use Rattle.srt_group_model.specs.declared.Membership.{Membership}
 use Rattle.srt_group_model.specs.declared.Packet.{Packet}
@@ -100,22 +100,17 @@ module _ {A : Type 0} (test : A → Bool) (count : A → ℕ) where
 
 -- ---- counts that a packet or an event can have, from the rows' tests
 
-data-small : (d : Data) → data-out-of-range d ≡ false → d .count ≤ largest-16
-unfolding data-out-of-range
-data-small d h =
-    ltb-false largest-16 (d .count) (or-left (above largest-16 (d .count)) _ (or-right (eqb (d .count) 0) _ h))
-
 pub packet-small : (p : Packet) → packet-breaks-rule p ≡ false → packet-count p ≤ largest-16
 unfolding packet-breaks-rule packet-out-of-range
 packet-small p h =
-    data-small (p .content)
+    count-fits (p .content)
     (or-right (above 1 (p .owned)) _
     (or-right (above largest-32 (p .member)) _ (or-right (is-too-large (p .content .sequence)) _ h)))
 
 pub event-small : (e : Event) → event-breaks-rule e ≡ false → is-data e ≡ true → event-count e ≤ largest-16
 unfolding event-breaks-rule event-out-of-range
 event-small e h it =
-    data-small (e .content)
+    count-fits (e .content)
     (subst (λ (b : Bool). b && data-out-of-range (e .content) ≡ false) it
     (or-right (above largest-32 (e .reason)) _ (or-right (above 3 (e .kind)) _ (or-right (event-sequence-too-large e) _ h))))
 

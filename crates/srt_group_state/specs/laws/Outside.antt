@@ -9,13 +9,12 @@ use lib.Dec.{leb, ltb}
 use lib.ListN.{length}
 use Rattle.srt_protocol.specs.Handshake.{has-group-mask}
 use Rattle.srt_group_model.specs.Tools.{any, each}
-use Rattle.srt_group_model.specs.laws.Reason.{or-left, or-right, or-yes-left, or-yes-right, all-map, or-assoc, or-no}
+use Rattle.srt_group_model.specs.laws.Reason.{or-left, or-right, no-either, or-yes-left, or-yes-right, all-map, or-assoc, or-no}
 use Rattle.srt_group_model.specs.State.{Member, State}
 use Rattle.srt_group_model.specs.Members.{id-of}
 use Rattle.srt_group_model.specs.Backup.{max-history}
 use Rattle.srt_group_model.specs.Validity.{record-words, record-out-of-range, above, is-blank, max-members, max-queued, max-pending, max-waiting, count-above-limit, is-too-large, leg-sequence-too-large, sequence-too-large, one-twice, id-twice, ascends, held-sequence-twice, cell-twice, cell-beyond-store, reserved-sum-wrong, event-out-of-range, leg-out-of-range, member-out-of-range, field-out-of-range, broken-rules, is-invalid}
 use Rattle.srt_group_model.specs.laws.SumsKept.{none-of, of-none}
-use Rattle.srt_group_model.specs.laws.RangesCalls.{no-either}
 use Rattle.srt_group_model.specs.laws.Valid.{long-queue, Counted, round-of-rule}
 use Rattle.srt_group_model.specs.declared.Core.{Core}
 use Rattle.srt_group_model.specs.declared.Identity.{Identity}
@@ -186,7 +185,7 @@ record MemberUnbroken (m : Member) : Type 0 where
 member-fields : (m : Member)
     → member-out-of-range m ≡ (membership-out-of-range (m .membership) || (leg-out-of-range (m .leg) || any event-out-of-range (m .queue)))
 unfolding member-out-of-range membership-out-of-range
-member-fields m = simp or-assoc
+member-fields m = refl
 
 queue-events : (m : Member) → any event-breaks-rule (m .queue) ≡ (any event-sequence-too-large (m .queue) || any event-out-of-range (m .queue))
 unfolding event-breaks-rule

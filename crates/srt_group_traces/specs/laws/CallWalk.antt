@@ -20,6 +20,7 @@ use Rattle.srt_group_model.specs.Removal.{own-packet, is-owned, retire, bound-g
 use Rattle.srt_group_model.specs.Sending.{Flow}
 use Rattle.srt_group_model.specs.Backup.{demote-stale-backup-carrier, trim-by-carrier}
 use Rattle.srt_group_model.specs.Validity.{above, is-too-large, leg-sequence-too-large, leg-out-of-range}
+use Rattle.srt_group_model.specs.laws.InRange.{in-range-of}
 use Rattle.srt_group_model.specs.laws.Refusals.{guard-passed, look-elim}
 use Rattle.srt_group_model.specs.Guards.{Step, Answer, no-answer, refuse, accept}
 use Rattle.srt_group_model.specs.Calls.{new-member, add-body, add-member, change-member, mark-member-broken, remove-body, remove-member-connection, refresh-member-states, disconnect, event-poll-body, poll-event-call, data-poll-body, poll-data-call, left-by-send, send-flow, send-body, send, no-free-cell, taken-cell, can-send-body, can-send-call, can-send-with-pacing-body, can-send-with-pacing-call, read-field, read-leg, enqueue, data-unfit, queue-data-body, queue-data, queue-event}
@@ -47,6 +48,10 @@ Fits n = n < half + half
 pub sequence-fits-of : (n : ℕ) → is-too-large n ≡ false → Fits n
 unfolding half
 sequence-fits-of n e = omega (arith, ge-of largest-sequence n e)
+
+queued-sequence-fits : (id : ℕ) (d : Data) → data-unfit id d ≡ false → Fits (d .sequence)
+unfolding data-unfit half
+queued-sequence-fits id d h = omega (arith, in-range-of _ (or-right (eqb (d .count) 0) _ h) .1 .0)
 
 -- ---- readings leave the queue and the first sequence
 
@@ -423,7 +428,7 @@ module _ (P : Data → Type 0) (F : ℕ → Type 0) (I : Receive → List Mark �
 
   module _ (fitting : (d : Data) → Fits (d .sequence) → P d) where
     pub queue-data-kept : Puts → (store id : ℕ) (d : Data) (payload : List ℕ) → Kept P F I (queue-data store id d payload s)
-    unfolding queue-data queue-data-body data-unfit
+    unfolding queue-data queue-data-body
     queue-data-kept on-put store id d payload =
         guard-passed (Kept P F I) _ s _ refused
         (λ c.
@@ -433,7 +438,7 @@ module _ (P : Data → Type 0) (F : ℕ → Type 0) (I : Receive → List Mark �
               (λ m h.
               enqueue-ok P F _ m
               (λ e. fitting _
-              (sequence-fits-of (d .sequence) (or-left (is-too-large (d .sequence)) _ (or-right (above _ id) _ (c .1 .1 .0))))) h)
+              (queued-sequence-fits id d (c .1 .1 .0))) h)
               ok;
           kept =
               subst (λ (x : Receive). I x (put (taken-cell (cells-of store) s) payload ∷ [])) (sym (change-member-receive s id _))

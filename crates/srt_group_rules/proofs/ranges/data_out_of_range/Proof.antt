@@ -1,16 +1,18 @@
 -- `data_out_of_range` meets its contract: a word is never above 64 bits.
 use native.Mathlib.Omega.{arith}
-use Rattle.srt_group_model.specs.Validity.{data-out-of-range}
-use Rattle.srt_group_model.specs.laws.Reason.{or-assoc}
+use Rattle.srt_group_model.specs.Tools.{any}
+use Rattle.srt_group_model.specs.Validity.{any-above, data-words, data-out-of-range}
+use Rattle.srt_group_model.specs.laws.Reason.{or-assoc, or-no}
 use Rattle.srt_group_rules.specs.laws.Rules.{no-word-above}
 use Rattle.srt_group_rules.proofs.ranges.data_out_of_range.Statement.{statement}
 use Rattle.srt_group_rules.proofs.ranges.data_out_of_range.Tie as tie
 
 returns : tie.Need-returns
-unfolding data-out-of-range
+unfolding data-out-of-range data-words any-above any
 returns c =
     simp (
       or-assoc,
+      or-no,
       no-word-above (c .before .before .before .before .before .args .content .source .0) (omega arith),
     )
 

@@ -1,7 +1,8 @@
 -- `leg_out_of_range` meets its contract: a word is never above 64 bits.
 use native.Mathlib.Omega.{arith}
 use borrow.Author.Needs.{needs}
-use Rattle.srt_group_model.specs.Validity.{leg-out-of-range}
+use Rattle.srt_group_model.specs.Tools.{any}
+use Rattle.srt_group_model.specs.Validity.{any-above, leg-words, leg-out-of-range}
 use Rattle.srt_group_model.specs.laws.Reason.{or-assoc}
 use Rattle.srt_group_rules.specs.Rules.{flight-out-of-range}
 use Rattle.srt_group_rules.specs.laws.Rules.{no-word-above}
@@ -12,7 +13,7 @@ flight-out-of-range-requires : tie.Need-flight-out-of-range-requires
 flight-out-of-range-requires c κs = search needs
 
 returns : tie.Need-returns
-unfolding leg-out-of-range flight-out-of-range
+unfolding leg-out-of-range leg-words any-above any flight-out-of-range
 returns c =
     simp (
       c .before .before .before .before .before .before .flight-out-of-range .ensures,
