@@ -19,7 +19,7 @@ use Rattle.srt_group_model.specs.Removal.{remove-member-at, leg-given-ba
 use Rattle.srt_group_model.specs.Sending.{list-size, Flow, ends-with, above-limit, send-broadcast}
 use Rattle.srt_group_model.specs.Backup.{stability-timeout, demote-stale-backup-carrier, trim-by-carrier, send-backup, backup-send-ready, group-time-until-send}
 use Rattle.srt_group_model.specs.Cells.{free-cell}
-use Rattle.srt_group_model.specs.Validity.{above, _at-most_, any-above, data-words, is-invalid, leg-out-of-range, leg-sequence-too-large, max-members, max-queued}
+use Rattle.srt_group_model.specs.Validity.{above, _at-most_, any-above, making-words, data-words, is-invalid, leg-out-of-range, leg-sequence-too-large, max-members, max-queued}
 use Rattle.srt_group_model.specs.Guards.{Answer, no-answer, truth, number, optional, polled, data-polled, leg-back, membership, memberships, Step, refuse, accept, _when_, guard}
 use Rattle.srt_group_model.specs.declared.Data.{Data}
 use Rattle.srt_group_model.specs.declared.Event.{Event}
@@ -76,7 +76,7 @@ new id mode store-length =
     }
 
 unfoldable pub new-code : (id mode : ℕ) → ℕ
-new-code id mode = if above largest-32 id || above 1 mode then 2 else (if has-group-mask id then 0 else 1)
+new-code id mode = if any-above (making-words id mode) then 2 else (if has-group-mask id then 0 else 1)
 
 -- ---- members
 
