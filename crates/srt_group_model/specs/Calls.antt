@@ -20,7 +20,7 @@ use Rattle.srt_group_model.specs.Removal.{remove-member-at, leg-given-ba
 use Rattle.srt_group_model.specs.Sending.{list-size, Flow, ends-with, above-limit, send-broadcast}
 use Rattle.srt_group_model.specs.Backup.{stability-timeout, demote-stale-backup-carrier, trim-by-carrier, send-backup, backup-send-ready, group-time-until-send}
 use Rattle.srt_group_model.specs.Cells.{free-cell}
-use Rattle.srt_group_model.specs.Validity.{above, _at-most_, any-above, data-words, is-invalid, leg-out-of-range, leg-sequence-too-large, max-members, max-queued}
+use Rattle.srt_group_model.specs.Validity.{above, _at-most_, any-above, data-words, is-invalid, leg-out-of-range, leg-sequence-too-large, max-members, max-queued, making-words}
 use Rattle.srt_group_model.specs.Guards.{Answer, no-answer, truth, number, optional, polled, data-polled, leg-back, membership, memberships, Step, refuse, accept, _when_, guard}
 use Rattle.srt_group_model.specs.declared.Data.{Data}
 use Rattle.srt_group_model.specs.declared.Event.{Event}
@@ -77,7 +77,7 @@ new making =
 
 unfoldable pub new-code : Making → ℕ
 new-code making =
-    if above largest-32 (making .id) || above 1 (making .mode) then 2 else (if has-group-mask (making .id) then 0 else 1)
+    if any-above (making-words making) then 2 else (if has-group-mask (making .id) then 0 else 1)
 
 -- ---- members
 

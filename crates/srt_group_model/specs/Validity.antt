@@ -1,14 +1,14 @@
 -- When a lent state is refused with 6, rule by rule: document 01, "the lent state breaks a rule". Each test is true of a state
 -- that breaks its rule; the last two are "a field above its range", in the record and in a row of a lent table.
 use mathlib.Core.Bool.{Bool, true, false, not, _&&_, _||_}
-use mathlib.Core.List.{List, [], _∷_}
-use Prim.Native.Nat.{ℕ, _+_}
+use mathlib.Core.List.{List, [], _∷_, _++_}
+use Prim.Native.Nat.{ℕ, _+_, _-_}
 use lib.Dec.{leb, ltb, eqb}
 use lib.ListN.{length}
 use Rattle.srt_protocol.specs.Handshake.{has-group-mask}
 use Rattle.srt_protocol.specs.Cells.{cell-size}
 use Rattle.srt_group_model.specs.Tools.{if_then_else_, any, such-that, each, total}
-use Rattle.srt_group_model.specs.State.{Member, State}
+use Rattle.srt_group_model.specs.State.{Member, Making, State}
 use Rattle.srt_group_model.specs.Legs.{is-connected, has-sender, no-sequence, largest-sequence, largest-16, largest-32, largest-64}
 use Rattle.srt_group_model.specs.Members.{id-of, has-id}
 use Rattle.srt_group_model.specs.Removal.{is-owned}
@@ -19,9 +19,25 @@ use Rattle.srt_group_model.specs.declared.Event.{Event}
 use Rattle.srt_group_model.specs.declared.Packet.{Packet}
 use Rattle.srt_group_model.specs.declared.Leg.{Leg}
 use Rattle.srt_group_model.specs.declared.Membership.{Membership}
+use Rattle.srt_group_model.specs.declared.Entry.{Entry}
+use Rattle.srt_group_model.specs.declared.Waiting.{Waiting}
+
+-- ---- a word above its range
 
 abbrev pub above : ℕ → ℕ → Bool
 above limit n = ltb limit n
+
+-- a word, and the largest that it may be
+pub record Ranged : Type 0 where
+  pub value : ℕ
+  pub largest : ℕ
+
+infix 20 _at-most_
+abbrev pub _at-most_ : ℕ → ℕ → Ranged
+value at-most largest = record { value = value; largest = largest }
+
+unfoldable pub any-above : List Ranged → Bool
+any-above words = any (λ word. above (word .largest) (word .value)) words
 
 -- ---- blank: not made by `new`, so without the mark of a group id
 
@@ -43,14 +59,17 @@ abbrev pub max-waiting : ℕ
 max-waiting = 64
 
 -- the round's place is that of a member; with no member it is 0
+unfoldable pub counts : State → List Ranged
+counts s =
+    (length (s .members) at-most max-members) ∷ (length (s .receive .pending) at-most max-pending)
+    ∷ (length (s .waiting) at-most max-waiting) ∷ (length (s .send .history) at-most max-history)
+    ∷ (s .visit .round at-most (length (s .members) - 1)) ∷ []
+
+abbrev pub long-queue : Member → Bool
+long-queue m = above max-queued (length (m .queue))
+
 unfoldable pub count-above-limit : State → Bool
-count-above-limit s =
-    above max-members (length (s .members))
-    || (any (λ m. above max-queued (length (m .queue))) (s .members)
-    || (above max-pending (length (s .receive .pending))
-    || (above max-waiting (length (s .waiting))
-    || (above max-history (length (s .send .history))
-    || (ltb 0 (s .visit .round) && leb (length (s .members)) (s .visit .round))))))
+count-above-limit s = any-above (counts s) || any long-queue (s .members)
 
 -- ---- a sequence of 2^31 or more
 
@@ -62,16 +81,18 @@ leg-sequence-too-large l =
     is-too-large (l .sender .next)
     || (is-too-large (l .receiver .advanced) || (is-too-large (l .receiver .first) && not (eqb (l .receiver .first) no-sequence)))
 
+-- only data has a sequence
+unfoldable pub event-sequence-too-large : Event → Bool
+event-sequence-too-large e = is-data e && is-too-large (e .content .sequence)
+
+unfoldable pub member-sequence-too-large : Member → Bool
+member-sequence-too-large m = leg-sequence-too-large (m .leg) || any event-sequence-too-large (m .queue)
+
 unfoldable pub sequence-too-large : State → Bool
 sequence-too-large s =
-    is-too-large (s .receive .numbers .base)
-    || (is-too-large (s .send .numbers .next)
+    any is-too-large (s .receive .numbers .base ∷ s .send .numbers .next ∷ [])
     || (any (λ p. is-too-large (p .content .sequence)) (s .receive .pending)
-    || (any (λ e. is-too-large (e .sequence)) (s .send .history)
-    || any
-    (λ m.
-    leg-sequence-too-large (m .leg) || any (λ e. is-data e && is-too-large (e .content .sequence)) (m .queue))
-    (s .members))))
+    || (any (λ e. is-too-large (e .sequence)) (s .send .history) || any member-sequence-too-large (s .members)))
 
 -- ---- one id twice; one held sequence twice, or held packets that do not ascend; a cell named twice
 
@@ -123,33 +144,22 @@ reserved-sum-wrong s =
     || (any (is-unreserved (s .members)) (s .receive .pending)
     || not (eqb (s .own .reserved) (total (λ p. p .content .count) (such-that is-owned (s .receive .pending)))))
 
--- ---- a word above its range
-
--- a word, and the largest that it may be
-pub record Ranged : Type 0 where
-  pub value : ℕ
-  pub largest : ℕ
-
-infix 20 _at-most_
-abbrev pub _at-most_ : ℕ → ℕ → Ranged
-value at-most largest = record { value = value; largest = largest }
-
-unfoldable pub any-above : List Ranged → Bool
-any-above words = any (λ word. above (word .largest) (word .value)) words
-
 -- ---- a word of the record above its range
 
--- An id is 32 bits, a flag 0 or 1, the mode 0 or 1. The base and the next send number are among the sequences; what counts
--- rows is among the counts or the sums; any word is a length of the store, a skipped total.
-unfoldable pub record-words : State → List Ranged
-record-words s =
-    (s .making .id at-most largest-32) ∷ (s .making .mode at-most 1) ∷ (s .peer at-most largest-32)
-    ∷ (s .receive .numbers .based at-most 1) ∷ (s .send .numbers .numbered at-most 1)
+-- What is fixed at creation: an id is 32 bits, the mode 0 or 1; any word is a length of the store.
+unfoldable pub making-words : Making → List Ranged
+making-words making = (making .id at-most largest-32) ∷ (making .mode at-most 1) ∷ []
+
+-- What calls move: a flag is 0 or 1. The base and the next send number are among the sequences; what counts rows is among the
+-- counts or the sums; any word is a skipped total.
+unfoldable pub group-words : State → List Ranged
+group-words s =
+    (s .peer at-most largest-32) ∷ (s .receive .numbers .based at-most 1) ∷ (s .send .numbers .numbered at-most 1)
     ∷ (s .send .numbers .carried at-most 1) ∷ (s .send .numbers .carrier at-most largest-32)
     ∷ (s .send .numbers .gap at-most 1) ∷ (s .visit .continuation at-most 1) ∷ []
 
 unfoldable pub record-out-of-range : State → Bool
-record-out-of-range s = any-above (record-words s)
+record-out-of-range s = any-above (making-words (s .making)) || any-above (group-words s)
 
 -- ---- a field of a row above its range
 
@@ -163,9 +173,11 @@ data-words d =
 unfoldable pub data-out-of-range : Data → Bool
 data-out-of-range d = eqb (d .count) 0 || any-above ((d .length at-most cell-size) ∷ data-words d)
 
+unfoldable pub event-words : Event → List Ranged
+event-words e = (e .kind at-most 3) ∷ (e .reason at-most largest-32) ∷ []
+
 unfoldable pub event-out-of-range : Event → Bool
-event-out-of-range e =
-    above 3 (e .kind) || (above largest-32 (e .reason) || (is-data e && data-out-of-range (e .content)))
+event-out-of-range e = any-above (event-words e) || (is-data e && data-out-of-range (e .content))
 
 -- a flight is 0 without a sender
 unfoldable pub leg-words : Leg → List Ranged
@@ -187,25 +199,51 @@ membership-words x =
     (x .id at-most largest-32) ∷ (x .weight at-most largest-16) ∷ (x .state at-most 4) ∷ (x .admitted at-most 1)
     ∷ (x .collision .expected at-most largest-32) ∷ (x .collision .actual at-most largest-32) ∷ []
 
+unfoldable pub membership-out-of-range : Membership → Bool
+membership-out-of-range x = any-above (membership-words x)
+
 unfoldable pub member-out-of-range : Member → Bool
 member-out-of-range m =
-    any-above (membership-words (m .membership)) || (leg-out-of-range (m .leg) || any event-out-of-range (m .queue))
+    membership-out-of-range (m .membership) || (leg-out-of-range (m .leg) || any event-out-of-range (m .queue))
+
+unfoldable pub packet-words : Packet → List Ranged
+packet-words p = (p .member at-most largest-32) ∷ (p .owned at-most 1) ∷ []
+
+unfoldable pub packet-out-of-range : Packet → Bool
+packet-out-of-range p = any-above (packet-words p) || data-out-of-range (p .content)
+
+-- its sequence is among the sequences, its cell among the cells
+unfoldable pub entry-words : Entry → List Ranged
+entry-words e = (e .length at-most cell-size) ∷ (e .source .0 at-most largest-64) ∷ []
+
+unfoldable pub entry-out-of-range : Entry → Bool
+entry-out-of-range e = any-above (entry-words e)
+
+unfoldable pub waiting-words : Waiting → List Ranged
+waiting-words w = (w .member at-most largest-32) ∷ (w .kind at-most 3) ∷ (w .reason at-most largest-32) ∷ []
+
+-- data does not wait
+unfoldable pub waiting-out-of-range : Waiting → Bool
+waiting-out-of-range w = eqb (w .kind) 0 || any-above (waiting-words w)
 
 unfoldable pub field-out-of-range : State → Bool
 field-out-of-range s =
     any member-out-of-range (s .members)
-    || (any (λ p. above largest-32 (p .member) || (above 1 (p .owned) || data-out-of-range (p .content))) (s .receive .pending)
-    || (any (λ e. above cell-size (e .length) || above largest-64 (e .source .0)) (s .send .history)
-    || any
-    (λ w. above largest-32 (w .member) || (above 3 (w .kind) || (eqb (w .kind) 0 || above largest-32 (w .reason))))
-    (s .waiting)))
+    || (any packet-out-of-range (s .receive .pending)
+    || (any entry-out-of-range (s .send .history) || any waiting-out-of-range (s .waiting)))
 
 -- ---- all of them, over a store of so many cells
 
+unfoldable pub rules-outside-cells : State → List Bool
+rules-outside-cells s =
+    is-blank s ∷ count-above-limit s ∷ sequence-too-large s ∷ id-twice s ∷ held-sequence-twice s ∷ reserved-sum-wrong s
+    ∷ record-out-of-range s ∷ field-out-of-range s ∷ []
+
+unfoldable pub rules-of-cells : ℕ → State → List Bool
+rules-of-cells cells s = cell-twice s ∷ cell-beyond-store cells s ∷ []
+
 unfoldable pub broken-rules : ℕ → State → List Bool
-broken-rules cells s =
-    is-blank s ∷ count-above-limit s ∷ sequence-too-large s ∷ id-twice s ∷ held-sequence-twice s ∷ cell-twice s
-    ∷ cell-beyond-store cells s ∷ reserved-sum-wrong s ∷ record-out-of-range s ∷ field-out-of-range s ∷ []
+broken-rules cells s = rules-outside-cells s ++ rules-of-cells cells s
 
 unfoldable pub is-invalid : ℕ → State → Bool
 is-invalid cells s = any (λ rule. rule) (broken-rules cells s)

@@ -1,8 +1,8 @@
 // Document 01's code 6, value by value: a sequence of 2^31 or more, and a field above its range. A word is never above 64 bits,
 // so a field that may take all of them has no test.
 ghost use mathlib.Core.Path.{_≡_};
-ghost use Rattle.srt_group_model.specs.Validity.{is-too-large, leg-sequence-too-large, leg-out-of-range, data-out-of-range, event-out-of-range};
-ghost use Rattle.srt_group_rules.specs.Rules.{flight-out-of-range, event-sequence-too-large, membership-out-of-range, packet-out-of-range, entry-out-of-range, waiting-out-of-range};
+ghost use Rattle.srt_group_model.specs.Validity.{is-too-large, leg-sequence-too-large, event-sequence-too-large, data-out-of-range, event-out-of-range, leg-out-of-range, membership-out-of-range, packet-out-of-range, entry-out-of-range, waiting-out-of-range};
+ghost use Rattle.srt_group_rules.specs.Rules.{flight-out-of-range};
 use srt_connection::legs::LARGEST_16;
 use srt_connection::legs::LARGEST_32;
 use srt_connection::legs::LARGEST_SEQUENCE;
@@ -113,8 +113,9 @@ pub fn entry_out_of_range(entry: Entry) -> bool
     LONGEST_PAYLOAD < entry.length
 }
 
+// Data does not wait.
 pub fn waiting_out_of_range(event: Waiting) -> bool
     ensures { λ r. ⌜ r ≡ waiting-out-of-range event ⌝ }
 {
-    (LARGEST_32 < event.member) | (3 < event.kind) | (event.kind == 0) | (LARGEST_32 < event.reason)
+    (event.kind == 0) | (LARGEST_32 < event.member) | (3 < event.kind) | (LARGEST_32 < event.reason)
 }

@@ -1,58 +1,44 @@
 -- Every rule but the two about cells, and the walks that test them: the core's numbers, each row once, and what rows say of each
 -- other.
-use mathlib.Core.Bool.{Bool, not, _&&_, _||_}
+use mathlib.Core.Bool.{Bool, not, _||_}
 use mathlib.Core.List.{List, [], _∷_}
-use Prim.Native.Nat.{ℕ, _≤_}
-use lib.Dec.{leb, ltb}
+use Prim.Native.Nat.{ℕ, _-_, _≤_}
 use Rattle.srt_protocol.specs.Handshake.{has-group-mask}
 use Rattle.srt_group_model.specs.Tools.{any, each}
 use Rattle.srt_group_model.specs.State.{State}
-use Rattle.srt_group_model.specs.Legs.{largest-32}
 use Rattle.srt_group_model.specs.Members.{id-of}
-use Rattle.srt_group_model.specs.Validity.{Ranged, _at-most_, any-above, record-out-of-range, above, is-blank, max-members, max-pending, max-waiting, count-above-limit, is-too-large, sequence-too-large, one-twice, id-twice, ascends, held-sequence-twice, reserved-sum-wrong, field-out-of-range}
+use Rattle.srt_group_model.specs.Validity.{Ranged, _at-most_, any-above, max-members, max-pending, max-waiting, is-too-large, one-twice, ascends, record-out-of-range, waiting-out-of-range, rules-outside-cells}
 use Rattle.srt_group_model.specs.declared.Core.{Core}
 use Rattle.srt_group_model.specs.declared.Identity.{Identity}
 use Rattle.srt_group_model.specs.declared.Sending.{Sending}
 use Rattle.srt_connection_members.specs.Members.{members-of}
 use Rattle.srt_group_tables.specs.Packets.{packets}
 use Rattle.srt_group_tables.specs.Waitings.{waitings}
-use Rattle.srt_group_rules.specs.Rules.{waiting-out-of-range, member-breaks-rule, packet-breaks-rule}
+use Rattle.srt_group_shown.specs.Shown.{rest, shown}
+use Rattle.srt_group_rules.specs.Rules.{member-breaks-rule, packet-breaks-rule}
 use Rattle.srt_group_rules.specs.Sums.{sums-wrong}
 
 -- ---- definitions
-
--- the rules but those about cells
-unfoldable pub rules-outside-cells : State → List Bool
-rules-outside-cells s =
-    is-blank s ∷ count-above-limit s ∷ sequence-too-large s ∷ id-twice s ∷ held-sequence-twice s ∷ reserved-sum-wrong s
-    ∷ record-out-of-range s ∷ field-out-of-range s ∷ []
 
 unfoldable pub breaks-rule-outside-cells : State → Bool
 breaks-rule-outside-cells s = any (λ rule. rule) (rules-outside-cells s)
 
 -- ---- the numbers of the core
 
-unfoldable pub counts-above-limit : Core → Bool
-counts-above-limit c =
-    above max-members (c .counts .members)
-    || (above max-pending (c .counts .pending)
-    || (above max-waiting (c .counts .waiting)
-    || (ltb 0 (c .visit .round) && leb (c .counts .members) (c .visit .round))))
+-- the counts of rows in use; the history's is tested with the history
+unfoldable pub core-counts : Core → List Ranged
+core-counts c =
+    (c .counts .members at-most max-members) ∷ (c .counts .pending at-most max-pending)
+    ∷ (c .counts .waiting at-most max-waiting) ∷ (c .visit .round at-most (c .counts .members - 1)) ∷ []
 
--- the words of the record that have a range of their own, as the model lists them
-abbrev pub words : Identity → Core → Sending → List Ranged
-words identity c sending =
-    (identity .id at-most largest-32) ∷ (c .mode at-most 1) ∷ (c .peer at-most largest-32) ∷ (c .receiving .based at-most 1)
-    ∷ (sending .numbered at-most 1) ∷ (sending .carried at-most 1) ∷ (sending .carrier at-most largest-32) ∷ (sending .gap at-most 1)
-    ∷ (c .visit .continuation at-most 1) ∷ []
-
+-- the words of the record: no table has a part in them
 unfoldable pub words-out-of-range : Identity → Core → Sending → Bool
-words-out-of-range identity c sending = any-above (words identity c sending)
+words-out-of-range identity c sending = record-out-of-range (shown c (rest identity sending []) [] [] [])
 
 unfoldable pub numbers-break-rule : Identity → Core → Sending → Bool
 numbers-break-rule identity c sending =
     not (has-group-mask (identity .id))
-    || (counts-above-limit c
+    || (any-above (core-counts c)
     || (is-too-large (c .receiving .base) || (is-too-large (sending .next) || words-out-of-range identity c sending)))
 
 -- so many rows as the lent tables have

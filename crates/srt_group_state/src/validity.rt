@@ -5,6 +5,7 @@ ghost use mathlib.Core.List.{[]};
 ghost use Prim.Native.Nat.{_≤_};
 ghost use lib.ListN.{length};
 ghost use Rattle.srt_group_model.specs.Tools.{any};
+ghost use Rattle.srt_group_model.specs.Validity.{any-above};
 ghost use Rattle.srt_protocol.specs.Handshake.{has-group-mask};
 ghost use Rattle.srt_protocol.specs.Cells.{max-cells};
 ghost use Rattle.srt_connection_members.specs.Members.{members-of, members-size};
@@ -16,7 +17,7 @@ ghost use Rattle.srt_group_state.specs.CellPass.{Represents};
 ghost use Rattle.srt_group_shown.specs.Shown.{rest, shown};
 ghost use Rattle.srt_group_shown.specs.Tables.{parts, tables, state-of};
 ghost use Rattle.srt_group_state.specs.Tested.{Tested};
-ghost use Rattle.srt_group_state.specs.Outside.{counts-above-limit, words-out-of-range, numbers-break-rule, CountsWithin, rows-break-rule, rows-disagree, breaks-rule-outside-cells};
+ghost use Rattle.srt_group_state.specs.Outside.{core-counts, words-out-of-range, numbers-break-rule, CountsWithin, rows-break-rule, rows-disagree, breaks-rule-outside-cells};
 use crate::cells::mark_cells;
 use srt_connection::legs::LARGEST_32;
 use srt_connection::legs::LARGEST_SEQUENCE;
@@ -47,7 +48,7 @@ pub fn is_blank(identity: Identity) -> bool
 
 // The round's place is that of a member; with no member it is 0.
 pub fn count_above_limit(core: Core) -> bool
-    ensures { λ r. ⌜ r ≡ counts-above-limit core ⌝ }
+    ensures { λ r. ⌜ r ≡ any-above (core-counts core) ⌝ }
 {
     (MAX_MEMBERS < core.counts.members)
         | (MAX_PENDING < core.counts.pending)

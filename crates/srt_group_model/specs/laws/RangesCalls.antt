@@ -1,6 +1,6 @@
 -- Every number of a state stays in its range over every call.
-use mathlib.Core.Path.{_≡_, refl, sym, ap, ap₂, subst, _∙_}
-use mathlib.Core.Bool.{Bool, true, false, not, _&&_, _||_}
+use mathlib.Core.Path.{_≡_, refl, sym, ap, subst, _∙_}
+use mathlib.Core.Bool.{Bool, true, false, not, _&&_}
 use mathlib.Core.List.{List, [], _∷_}
 use mathlib.Core.Option.{Option, none, some}
 use Prim.Native.Nat.{ℕ, zero, suc, _+_, _≤_, _<_}
@@ -10,18 +10,18 @@ use lib.Dec.{leb, eqb}
 use lib.ListN.{length, length-append, drop}
 use Rattle.srt_protocol.specs.Sequence.{sequence-distance, sequence-further}
 use Rattle.srt_protocol.specs.Cells.{cell-size}
-use Rattle.srt_group_model.specs.Tools.{if_then_else_, if-some_give_otherwise_, at-place, change, each, without-place, All}
+use Rattle.srt_group_model.specs.Tools.{if_then_else_, if-some_give_otherwise_, at-place, change, each, without-place, All, any}
 use Rattle.srt_group_model.specs.laws.Flag.{bit-most}
-use Rattle.srt_group_model.specs.laws.Reason.{if-elim, by-test, not-both, none-some, some-inj, and-left, and-right, or-left, or-right, no-either, first-such-of, all-append}
+use Rattle.srt_group_model.specs.laws.Reason.{if-elim, by-test, not-both, none-some, some-inj, and-left, and-right, or-left, or-right, no-either, first-such-of, all-append, neither}
 use Rattle.srt_group_model.specs.State.{Member, Send, State, next-send-sequence, with-receive, with-send, with-members, on-leg}
 use Rattle.srt_group_model.specs.Accounts.{reserve}
-use Rattle.srt_group_model.specs.Legs.{Reading, readings, reading-of, goes-back, read-state, acknowledge, handed, disconnect-leg, add-reservation, has-sender, is-connected, oldest-unacked-sequence, largest-sequence, largest-16, largest-32, largest-64}
+use Rattle.srt_group_model.specs.Legs.{Reading, readings, reading-of, goes-back, read-state, acknowledge, handed, disconnect-leg, add-reservation, has-sender, is-connected, oldest-unacked-sequence, largest-sequence, largest-16, largest-32, largest-64, no-sequence}
 use Rattle.srt_group_model.specs.Members.{id-of}
 use Rattle.srt_group_model.specs.Nearest.{sequence-of, nearest}
 use Rattle.srt_group_model.specs.Delivery.{skip-to}
 use Rattle.srt_group_model.specs.Removal.{own-packet, retire, take-out}
 use Rattle.srt_group_model.specs.Backup.{max-history, drop-before, trim-backup-history, append-history}
-use Rattle.srt_group_model.specs.Validity.{above, any-above, data-words, leg-words, is-too-large, max-queued, data-out-of-range, event-out-of-range, leg-out-of-range, leg-sequence-too-large}
+use Rattle.srt_group_model.specs.Validity.{above, any-above, data-words, leg-words, is-too-large, max-queued, data-out-of-range, event-out-of-range, leg-out-of-range, leg-sequence-too-large, event-words}
 use Rattle.srt_group_model.specs.Calls.{queue-full, enqueue, data-event, data-unfit, no-data, reading-out-of-range, read-field, state-at-addition, new-member}
 use Rattle.srt_group_model.specs.Lent.{Lent, Call, perform}
 use Rattle.srt_group_model.specs.laws.InRange.{in-range-of, of-in-range}
@@ -239,21 +239,21 @@ reserve-fit n m h =
     record { leg = record { state = l .state; peer = l .peer; limit = l .limit; started = l .started; flight = l .flight; no-flight = l .no-flight; window = l .window; oldest = l .oldest; pace = l .pace; receive-window = l .receive-window; latency = l .latency; srtt = l .srtt; rttvar = l .rttvar; heard = l .heard; connects = l .connects; next = l .next; advanced = l .advanced; first = l .first }; id = h .id; weight = h .weight; state = h .state; admitted = h .admitted; expected = h .expected; actual = h .actual; queue = h .queue; short = h .short }
 
 data-event-fit : (id cell size : ℕ) (d : Data) → data-unfit id d ≡ false → size ≤ cell-size → Event-fit (data-event cell size d)
-unfolding data-unfit event-out-of-range data-out-of-range data-words
+unfolding data-unfit event-out-of-range event-words data-out-of-range data-words
 data-event-fit id cell size d h z =
     let words = in-range-of _ (or-right (eqb (d .count) 0) _ h) in
     record {
-      fields = no-either _ _ (or-left (eqb (d .count) 0) _ h) (of-in-range _ (z, words .1 .1));
+      fields =
+          no-either _ _ (of-in-range (event-words (data-event cell size d)) (omega arith, (omega arith, tt)))
+          (no-either _ _ (or-left (eqb (d .count) 0) _ h) (of-in-range _ (z, words .1 .1)));
       sequence = le-ltb largest-sequence (d .sequence) (words .1 .0);
     }
 
 event-event-fit : (kind reason : ℕ) → eqb kind 0 ≡ false → above 3 kind ≡ false → above largest-32 reason ≡ false → Event-fit record { kind = kind; reason = reason; content = no-data }
-unfolding event-out-of-range
+unfolding event-out-of-range event-words any-above any
 event-event-fit kind reason a b c =
     record {
-      fields =
-          ap₂ (λ (x y : Bool). x || y) b
-          (ap₂ (λ (x y : Bool). x || y) c (ap (λ (x : Bool). x && data-out-of-range no-data) a));
+      fields = no-either _ _ (no-either _ _ b (no-either _ _ c refl)) (ap (λ (x : Bool). x && data-out-of-range no-data) a);
       sequence = ap (λ (x : Bool). x && is-too-large 0) a;
     }
 
@@ -287,36 +287,23 @@ rule-connect false b h = refl
 pub leg-of-rules : (l : Leg) → leg-out-of-range l ≡ false → leg-sequence-too-large l ≡ false → Leg-fit l
 unfolding leg-out-of-range leg-words leg-sequence-too-large
 leg-of-rules l h k =
-    let w = in-range-of (leg-words l) (or-left (any-above (leg-words l)) _ h) in
-    let first-rest = or-right (is-too-large (l .sender .next)) _ k in
-    record {
-      state = w .0;
-      peer = w .1 .0;
-      limit = w .1 .1 .0;
-      started = w .1 .1 .1 .0;
-      flight = flight-most (has-sender l) (l .sender .flight) (w .1 .1 .1 .1 .0);
-      no-flight = flight-none (has-sender l) (l .sender .flight) (w .1 .1 .1 .1 .0);
-      window = w .1 .1 .1 .1 .1 .0;
-      oldest = w .1 .1 .1 .1 .1 .1 .0;
-      pace = w .1 .1 .1 .1 .1 .1 .1 .0;
-      receive-window = w .1 .1 .1 .1 .1 .1 .1 .1 .0;
-      latency = w .1 .1 .1 .1 .1 .1 .1 .1 .1 .0;
-      srtt = w .1 .1 .1 .1 .1 .1 .1 .1 .1 .1 .0;
-      rttvar = w .1 .1 .1 .1 .1 .1 .1 .1 .1 .1 .1 .0;
-      heard = w .1 .1 .1 .1 .1 .1 .1 .1 .1 .1 .1 .1 .0;
-      connects = connect-rule (is-connected l) (has-sender l) (or-right (any-above (leg-words l)) _ h);
-      next = ltb-false largest-sequence (l .sender .next) (or-left (is-too-large (l .sender .next)) _ k);
-      advanced = ltb-false largest-sequence (l .receiver .advanced) (or-left (is-too-large (l .receiver .advanced)) _ first-rest);
-      first = or-right (is-too-large (l .receiver .advanced)) _ first-rest;
-    }
+    let words = in-range-of (leg-words l) (search neither) in
+    let flight = flight-most (has-sender l) (l .sender .flight) (search) in
+    let no-flight = flight-none (has-sender l) (l .sender .flight) (search) in
+    let connects = connect-rule (is-connected l) (has-sender l) (search neither) in
+    let next = ltb-false largest-sequence (l .sender .next) (search neither) in
+    let advanced = ltb-false largest-sequence (l .receiver .advanced) (search neither) in
+    let first : (is-too-large (l .receiver .first) && not (eqb (l .receiver .first) no-sequence)) ≡ false = search neither in
+    search
 
 pub rules-of-leg : (l : Leg) → Leg-fit l → (leg-out-of-range l ≡ false) × (leg-sequence-too-large l ≡ false)
 unfolding leg-out-of-range leg-words leg-sequence-too-large
-rules-of-leg l h = (
-  no-either _ _ (of-in-range (leg-words l) (h .state, (h .peer, (h .limit, (h .started, (flight-bound (has-sender l) (l .sender .flight) (h .flight) (h .no-flight), (h .window, (h .oldest, (h .pace, (h .receive-window, (h .latency, (h .srtt, (h .rttvar, (h .heard, tt)))))))))))))) (rule-connect (is-connected l) (has-sender l) (h .connects)),
-  no-either _ _ (le-ltb largest-sequence (l .sender .next) (h .next))
-      (no-either _ _ (le-ltb largest-sequence (l .receiver .advanced) (h .advanced)) (h .first)),
-)
+rules-of-leg l h =
+    let flight = flight-bound (has-sender l) (l .sender .flight) (h .flight) (h .no-flight) in (
+      no-either _ _ (of-in-range (leg-words l) (search)) (rule-connect (is-connected l) (has-sender l) (h .connects)),
+      no-either _ _ (le-ltb largest-sequence (l .sender .next) (h .next))
+          (no-either _ _ (le-ltb largest-sequence (l .receiver .advanced) (h .advanced)) (h .first)),
+    )
 
 handed-sequences : (l : Leg) → leg-sequence-too-large (handed l) ≡ leg-sequence-too-large l
 unfolding leg-sequence-too-large

@@ -18,7 +18,8 @@ use Rattle.srt_group_model.specs.Nearest.{lowest, nearest, covered}
 use Rattle.srt_group_model.specs.Collecting.{front}
 use Rattle.srt_group_model.specs.Delivery.{release-pending-reservation, release-all, advance-legs, deliver-packet, pass-run}
 use Rattle.srt_group_model.specs.Backup.{max-history}
-use Rattle.srt_group_model.specs.Validity.{above, is-too-large, data-out-of-range, event-out-of-range}
+use Rattle.srt_group_model.specs.Validity.{any-above, event-words, is-too-large, data-out-of-range, event-out-of-range}
+use Rattle.srt_group_model.specs.laws.InRange.{in-range-of}
 use Rattle.srt_group_model.specs.laws.Queues.{pop, packet-of}
 use Rattle.srt_group_model.specs.laws.Sums.{all-such-that}
 use Rattle.srt_group_model.specs.Sound.{Event-fit, Member-fit, All-fit}
@@ -150,7 +151,7 @@ front-fit (x ∷ q) e f h = subst Event-fit (some-inj f) (h .0)
 pub packet-fit : (m : Member) (e : Event) → Member-fit m → Event-fit e → eqb (e .kind) 0 ≡ true → Packet-fit (packet-of m e)
 unfolding event-out-of-range
 packet-fit m e h k d =
-    let rest = or-right (above largest-32 (e .reason)) _ (or-right (above 3 (e .kind)) _ (k .fields)) in
+    let rest = or-right (any-above (event-words e)) _ (k .fields) in
     record {
       member = h .id;
       owned = omega arith;
@@ -160,14 +161,10 @@ packet-fit m e h k d =
 
 -- an event that is reported
 pub waiting-fit : (m : Member) (e : Event) → Member-fit m → Event-fit e → eqb (e .kind) 0 ≡ false → Waiting-fit record { member = id-of m; kind = e .kind; reason = e .reason }
-unfolding event-out-of-range
+unfolding event-out-of-range event-words
 waiting-fit m e h k d =
-    record {
-      member = h .id;
-      kind = ltb-false 3 (e .kind) (or-left (above 3 (e .kind)) _ (k .fields));
-      some-kind = d;
-      reason = ltb-false largest-32 (e .reason) (or-left (above largest-32 (e .reason)) _ (or-right (above 3 (e .kind)) _ (k .fields)));
-    }
+    let words = in-range-of (event-words e) (or-left (any-above (event-words e)) _ (k .fields)) in
+    record { member = h .id; kind = words .0; some-kind = d; reason = words .1 .0 }
 
 -- ---- one part is changed
 

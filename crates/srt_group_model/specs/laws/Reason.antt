@@ -5,8 +5,7 @@ use mathlib.Core.List.{List, [], _∷_, _++_}
 use mathlib.Core.Option.{Option, none, some}
 use Prim.Native.Nat.{ℕ, zero, suc}
 use lib.Dec.{T}
-use Rattle.srt_group_model.specs.Tools.{if_then_else_, if-some_give_otherwise_, first-such, at-place, change, each}
-use Rattle.srt_group_model.specs.Tools.{All}
+use Rattle.srt_group_model.specs.Tools.{if_then_else_, if-some_give_otherwise_, any, first-such, at-place, change, each, All}
 
 -- ---- a choice
 
@@ -47,12 +46,27 @@ pub or-right : (a b : Bool) → a || b ≡ false → b ≡ false
 or-right true b e = not-both {t = true} refl e
 or-right false b e = e
 
+-- what a test that fails says of its parts: for `search`
+pub ruleset neither = (or-left, or-right)
+
 pub no-either : (a b : Bool) → a ≡ false → b ≡ false → a || b ≡ false
 no-either a b e f = ap₂ (λ (x y : Bool). x || y) e f
 
 pub or-assoc : (a b c : Bool) → ((a || b) || c) ≡ (a || (b || c))
 or-assoc true b c = refl
 or-assoc false b c = refl
+
+pub or-comm : (a b : Bool) → (a || b) ≡ (b || a)
+or-comm true true = refl
+or-comm true false = refl
+or-comm false true = refl
+or-comm false false = refl
+
+pub or-swap : (a b c : Bool) → (a || (b || c)) ≡ (b || (a || c))
+or-swap a b c = sym (or-assoc a b c) ∙ ap (λ (x : Bool). x || c) (or-comm a b) ∙ or-assoc b a c
+
+-- the parts of a test in one order: for `simp`
+pub ruleset any-order = (or-assoc, or-comm, or-swap)
 
 pub or-no : (a : Bool) → (a || false) ≡ a
 or-no true = refl
@@ -96,6 +110,31 @@ module _ {A : Type 0} where
   pub all-map : (P Q : A → Type 0) → ((a : A) → P a → Q a) → (l : List A) → All P l → All Q l
   all-map P Q f [] h = tt
   all-map P Q f (x ∷ xs) h = (f x (h .0), all-map P Q f xs (h .1))
+
+  pub all-two : (P Q R : A → Type 0) → ((a : A) → P a → Q a → R a) → (l : List A) → All P l → All Q l → All R l
+  all-two P Q R f [] h k = tt
+  all-two P Q R f (x ∷ xs) h k = (f x (h .0) (k .0), all-two P Q R f xs (h .1) (k .1))
+
+  -- that none passes a test is that each fails it
+  pub none-of : (test : A → Bool) (l : List A) → any test l ≡ false → All (λ (x : A). test x ≡ false) l
+  unfolding any
+  none-of test [] h = tt
+  none-of test (x ∷ xs) h = (or-left (test x) _ h, none-of test xs (or-right (test x) _ h))
+
+  pub of-none : (test : A → Bool) (l : List A) → All (λ (x : A). test x ≡ false) l → any test l ≡ false
+  unfolding any
+  of-none test [] h = refl
+  of-none test (x ∷ xs) h = no-either _ _ (h .0) (of-none test xs (h .1))
+
+  pub any-agree : (a b : A → Bool) → ((x : A) → a x ≡ b x) → (l : List A) → any a l ≡ any b l
+  unfolding any
+  any-agree a b h [] = refl
+  any-agree a b h (x ∷ xs) = ap₂ (λ (p q : Bool). p || q) (h x) (any-agree a b h xs)
+
+  pub any-append : (test : A → Bool) (l m : List A) → any test (l ++ m) ≡ (any test l || any test m)
+  unfolding any
+  any-append test [] m = refl
+  any-append test (x ∷ xs) m = ap (λ (b : Bool). test x || b) (any-append test xs m) ∙ sym (or-assoc (test x) _ _)
 
   -- the first that passes a test is one of them, and passes it
   pub first-such-of : (P : A → Type 0) (test : A → Bool) (l : List A) (a : A) → first-such test l ≡ some a → All P l → P a × (test a ≡ true)

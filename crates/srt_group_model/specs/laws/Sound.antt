@@ -18,7 +18,7 @@ use Rattle.srt_group_model.specs.Legs.{largest-sequence, largest-16, lar
 use Rattle.srt_group_model.specs.Members.{id-of}
 use Rattle.srt_group_model.specs.Collecting.{front}
 use Rattle.srt_group_model.specs.Cells.{is-data, is-among, used-cells}
-use Rattle.srt_group_model.specs.Validity.{above, ascends, data-words, data-out-of-range, event-out-of-range, held-sequence-twice, id-twice, cell-twice, cell-beyond-store, is-invalid, queued-count, max-queued, max-pending}
+use Rattle.srt_group_model.specs.Validity.{any-above, event-words, ascends, data-words, data-out-of-range, event-out-of-range, held-sequence-twice, id-twice, cell-twice, cell-beyond-store, is-invalid, queued-count, max-queued, max-pending}
 use Rattle.srt_group_model.specs.laws.Steps.{State-law}
 use Rattle.srt_group_model.specs.Sound.{Within, room, one, occurs, pending-cells, In-round, Event-fit, Member-fit, Packet-fit, Fit, Summed, held-for, for-member}
 use Rattle.srt_group_model.specs.laws.CellsKept.{room-inside, room-most, one-same, present, popped-data, apart-of-rules, uses-used}
@@ -192,8 +192,7 @@ module _ (s : State) (i : ℕ) (m : Member) (e : Event) (sound : Sound s) (at : 
   fields-fit : data-out-of-range (e .content) ≡ false
   unfolding event-out-of-range
   fields-fit =
-      right-of (is-data e) _ is-packet
-      (or-right (above largest-32 (e .reason)) _ (or-right (above 3 (e .kind)) _ (event-fits .fields)))
+      right-of (is-data e) _ is-packet (or-right (any-above (event-words e)) _ (event-fits .fields))
 
   pub front-data : Front-data s m e
   front-data =
@@ -235,7 +234,7 @@ queued-most [] h = omega arith
 queued-most (e ∷ q) h =
     by-test (is-data e)
     (λ d.
-    let fields = right-of (is-data e) _ d (or-right (above largest-32 (e .reason)) _ (or-right (above 3 (e .kind)) _ (h .0 .fields))) in
+    let fields = right-of (is-data e) _ d (or-right (any-above (event-words e)) _ (h .0 .fields)) in
     rw d (omega (arith, count-fits (e .content) fields, queued-most q (h .1))))
     (λ d. rw d (omega (arith, queued-most q (h .1))))
 

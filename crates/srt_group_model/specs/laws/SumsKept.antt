@@ -9,7 +9,7 @@ use borrow.Author.Tests.{eqb-true, eq-eqb, not-false}
 use lib.Dec.{eqb}
 use lib.ListN.{length}
 use Rattle.srt_group_model.specs.Tools.{if_then_else_, any, such-that, each, total, All}
-use Rattle.srt_group_model.specs.laws.Reason.{if-elim, by-test, not-both, or-left, or-right, or-cases, or-yes-left, or-yes-right, all-map, all-append}
+use Rattle.srt_group_model.specs.laws.Reason.{if-elim, by-test, not-both, or-left, or-right, or-cases, or-yes-left, or-yes-right, all-map, all-append, none-of, of-none}
 use Rattle.srt_group_model.specs.State.{Member, State, with-members}
 use Rattle.srt_group_model.specs.Legs.{handed}
 use Rattle.srt_group_model.specs.Members.{id-of, has-id}
@@ -168,16 +168,6 @@ pub sums-kept : (c : Call) (lent : Lent) (s : State) → Right s → Right (perf
 sums-kept c lent s h = call-keeps (λ hand s log. Right s) c lent s (right-moves c _) h
 
 -- ---- the rule and the statement
-
-pub none-of : {A : Type 0} (test : A → Bool) (l : List A) → any test l ≡ false → All (λ (x : A). test x ≡ false) l
-unfolding any
-none-of test [] h = tt
-none-of test (x ∷ l) h = (or-left (test x) _ h, none-of test l (or-right (test x) _ h))
-
-pub of-none : {A : Type 0} (test : A → Bool) (l : List A) → All (λ (x : A). test x ≡ false) l → any test l ≡ false
-unfolding any
-of-none test [] h = refl
-of-none test (x ∷ l) h = ap₂ (λ (a b : Bool). a || b) (h .0) (of-none test l (h .1))
 
 summed-of-rule : (ps : List Packet) (m : Member) → member-sum-wrong ps m ≡ false → Summed ps m
 unfolding member-sum-wrong

@@ -7,10 +7,10 @@ use borrow.Author.Tests.{le-ltb}
 use Rattle.srt_group_model.specs.laws.Reason.{or-assoc}
 use Rattle.srt_group_model.specs.State.{Member}
 use Rattle.srt_group_model.specs.Legs.{largest-64}
-use Rattle.srt_group_model.specs.Validity.{above}
+use Rattle.srt_group_model.specs.Validity.{above, membership-out-of-range}
 use Rattle.srt_group_model.specs.declared.Leg.{Leg}
 use Rattle.srt_group_model.specs.declared.Membership.{Membership}
-use Rattle.srt_group_rules.specs.Rules.{membership-out-of-range, queue-breaks-rule, leg-breaks-rule, member-breaks-rule}
+use Rattle.srt_group_rules.specs.Rules.{queue-breaks-rule, leg-breaks-rule, member-breaks-rule}
 
 -- ---- laws
 

@@ -17,11 +17,11 @@ use Rattle.srt_group_model.specs.Tools.{if_then_else_, any, such-that, each, to
 use Rattle.srt_group_model.specs.laws.Reason.{by-test, if-elim, not-both, or-left, or-right, or-yes-left, or-yes-right}
 use Rattle.srt_group_model.specs.laws.Sound.{count-fits}
 use Rattle.srt_group_model.specs.State.{Member, State}
-use Rattle.srt_group_model.specs.Legs.{largest-16, largest-32}
+use Rattle.srt_group_model.specs.Legs.{largest-16}
 use Rattle.srt_group_model.specs.Members.{id-of, has-id, find}
 use Rattle.srt_group_model.specs.Removal.{is-owned}
 use Rattle.srt_group_model.specs.Cells.{is-data}
-use Rattle.srt_group_model.specs.Validity.{max-pending, max-members, above, max-queued, is-too-large, one-twice, held-count, queued-count, member-sum-wrong, is-unreserved, reserved-sum-wrong, data-out-of-range, event-out-of-range}
+use Rattle.srt_group_model.specs.Validity.{max-pending, max-members, above, any-above, max-queued, is-too-large, event-sequence-too-large, one-twice, held-count, queued-count, member-sum-wrong, is-unreserved, reserved-sum-wrong, data-out-of-range, event-words, event-out-of-range, membership-out-of-range, packet-words, packet-out-of-range}
 use Rattle.srt_group_model.specs.declared.Event.{Event}
 use Rattle.srt_group_model.specs.declared.Membership.{Membership}
 use Rattle.srt_group_model.specs.declared.Packet.{Packet}
@@ -35,7 +35,7 @@ use Rattle.srt_connection_members.specs.laws.Members.{found-below, found-id, fo
 use Rattle.srt_group_tables.specs.Packets.{packet-at, packets, is-held-for}
 use Rattle.word_rows.specs.Tab.{tab}
 use Rattle.word_rows.specs.laws.Tab.{tab-push}
-use Rattle.srt_group_rules.specs.Rules.{event-breaks-rule, queue-breaks-rule, member-breaks-rule, packet-breaks-rule, packet-out-of-range, event-sequence-too-large, leg-breaks-rule, membership-out-of-range}
+use Rattle.srt_group_rules.specs.Rules.{event-breaks-rule, queue-breaks-rule, member-breaks-rule, packet-breaks-rule, leg-breaks-rule}
 use Rattle.srt_group_rules.specs.laws.Walks.{any-there, any-nowhere, any-same, none-there, queued, the-queue, queue-length}
 use Rattle.srt_group_rules.specs.Ids.{id-at}
 use Rattle.srt_group_rules.specs.laws.Ids.{Apart, ids-of, once-apart, place-none}
@@ -104,15 +104,14 @@ pub packet-small : (p : Packet) → packet-breaks-rule p ≡ false → packet-co
 unfolding packet-breaks-rule packet-out-of-range
 packet-small p h =
     count-fits (p .content)
-    (or-right (above 1 (p .owned)) _
-    (or-right (above largest-32 (p .member)) _ (or-right (is-too-large (p .content .sequence)) _ h)))
+    (or-right (any-above (packet-words p)) _ (or-right (is-too-large (p .content .sequence)) _ h))
 
 pub event-small : (e : Event) → event-breaks-rule e ≡ false → is-data e ≡ true → event-count e ≤ largest-16
 unfolding event-breaks-rule event-out-of-range
 event-small e h it =
     count-fits (e .content)
     (subst (λ (b : Bool). b && data-out-of-range (e .content) ≡ false) it
-    (or-right (above largest-32 (e .reason)) _ (or-right (above 3 (e .kind)) _ (or-right (event-sequence-too-large e) _ h))))
+    (or-right (any-above (event-words e)) _ (or-right (event-sequence-too-large e) _ h)))
 
 -- ---- the queued counts, front to back
 

@@ -1,14 +1,14 @@
 -- `entry_out_of_range` meets its contract: a word is never above 64 bits.
 use native.Mathlib.Omega.{arith}
-use borrow.Author.Needs.{needs}
+use Rattle.srt_group_model.specs.Tools.{any}
+use Rattle.srt_group_model.specs.Validity.{any-above, entry-words, entry-out-of-range}
 use Rattle.srt_group_model.specs.laws.Reason.{or-no}
-use Rattle.srt_group_rules.specs.Rules.{entry-out-of-range}
 use Rattle.srt_group_rules.specs.laws.Rules.{no-word-above}
 use Rattle.srt_group_rules.proofs.ranges.entry_out_of_range.Statement.{statement}
 use Rattle.srt_group_rules.proofs.ranges.entry_out_of_range.Tie as tie
 
 returns : tie.Need-returns
-unfolding entry-out-of-range
+unfolding entry-out-of-range entry-words any-above any
 returns c = simp (no-word-above (c .before .args .entry .source .0) (omega arith), or-no)
 
 pub entry-out-of-range-spec : {M : Type 1} → statement M

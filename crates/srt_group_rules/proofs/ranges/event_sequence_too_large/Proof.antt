@@ -1,6 +1,6 @@
 -- `event_sequence_too_large` meets its contract.
 use mathlib.Core.Path.{refl}
-use Rattle.srt_group_rules.specs.Rules.{event-sequence-too-large}
+use Rattle.srt_group_model.specs.Validity.{event-sequence-too-large}
 use Rattle.srt_group_rules.proofs.ranges.event_sequence_too_large.Statement.{statement}
 use Rattle.srt_group_rules.proofs.ranges.event_sequence_too_large.Tie as tie
 

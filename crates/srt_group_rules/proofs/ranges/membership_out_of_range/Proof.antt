@@ -1,8 +1,7 @@
 -- `membership_out_of_range` meets its contract.
 use Rattle.srt_group_model.specs.laws.Reason.{or-assoc, or-no}
 use Rattle.srt_group_model.specs.Tools.{any}
-use Rattle.srt_group_model.specs.Validity.{any-above, membership-words}
-use Rattle.srt_group_rules.specs.Rules.{membership-out-of-range}
+use Rattle.srt_group_model.specs.Validity.{any-above, membership-words, membership-out-of-range}
 use Rattle.srt_group_rules.proofs.ranges.membership_out_of_range.Statement.{statement}
 use Rattle.srt_group_rules.proofs.ranges.membership_out_of_range.Tie as tie
 

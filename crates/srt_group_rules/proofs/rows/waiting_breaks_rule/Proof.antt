@@ -3,7 +3,7 @@ use Prim.Native.Nat.{_-_}
 use native.Mathlib.Omega.{arith}
 use borrow.Author.Needs.{needs}
 use Rattle.srt_group_tables.specs.Waitings.{waiting-at}
-use Rattle.srt_group_rules.specs.Rules.{waiting-out-of-range}
+use Rattle.srt_group_model.specs.Validity.{waiting-out-of-range}
 use Rattle.srt_group_rules.specs.laws.Walks.{Passed, passed-start, passed-one, passed-all, stops-there}
 use Rattle.srt_group_rules.proofs.rows.waiting_breaks_rule.Statement.{statement}
 use Rattle.srt_group_rules.proofs.rows.waiting_breaks_rule.Tie as tie
