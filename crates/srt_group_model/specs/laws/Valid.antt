@@ -1,6 +1,6 @@
 -- A call keeps validity: from a valid state only valid states come, so 6 never follows from our own calls. Document 01's rules of
 -- 6 one by one, with the laws that keep each.
-use mathlib.Core.Path.{_≡_, refl, ap, ap₂, _∙_}
+use mathlib.Core.Path.{_≡_, refl, ap, _∙_}
 use mathlib.Core.Bool.{Bool, true, false, not, _||_}
 use Prim.Native.Nat.{ℕ, _≤_}
 use native.Mathlib.Omega.{arith}

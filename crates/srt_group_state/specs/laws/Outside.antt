@@ -131,7 +131,7 @@ module _ (identity : Identity) (c : Core) (sending : Sending) (history : List En
       let remembered = ltb-false max-history (length history) (search neither) in
       of-in-range (counts state) (search (arith, member-count, packet-count, waiting-count)))
 
-  sums-shown : sums-wrong (state .members) (state .receive .pending) (c .owned) ≡ reserved-sum-wrong state
+  sums-shown : sums-wrong (state .members) (state .receive .pending) (c .own .reserved) ≡ reserved-sum-wrong state
   sums-shown = sums-wrong-is state
 
   words-shown : words-out-of-range identity c sending ≡ record-out-of-range state
