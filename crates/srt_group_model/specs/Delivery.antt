@@ -26,12 +26,14 @@ leg-gives-up time p ms =
     (λ m. if-some gives-up-at (p .content .source .0) (m .leg) give (λ moment. leb moment time) otherwise false)
     otherwise false
 
--- `gap_given_up`: true with no members, or if all legs are disconnected
+-- true with no members, or if all legs are disconnected
+abbrev pub given-up-for : ℕ → Packet → List Member → Bool
+given-up-for time p ms = all (λ m. is-disconnected (m .leg)) ms || leg-gives-up time p ms
+
+-- `gap_given_up`, for the nearest packet
 unfoldable pub gap-given-up : ℕ → State → Bool
 gap-given-up time s =
-    if-some nearest (s .receive .pending)
-    give (λ p. all (λ m. is-disconnected (m .leg)) (s .members) || leg-gives-up time p (s .members))
-    otherwise false
+    if-some nearest (s .receive .pending) give (λ p. given-up-for time p (s .members)) otherwise false
 
 -- ---- delivery
 
@@ -108,30 +110,35 @@ give-waiting r =
     give (λ w. record { gave = event w; run = on-state (λ s. with-waiting (drop 1 (s .waiting)) s) r })
     otherwise record { gave = nothing; run = r }
 
+-- The base goes to the nearest packet, which is delivered; `tested` and `time` are those of the give-up test.
+abbrev pub skip-nearest : (tested : State) (time base : ℕ) → Run → Poll
+skip-nearest tested time base r =
+    if-some nearest (r .state .receive .pending)
+    give
+    (λ p.
+    deliver (sequence-of p)
+    (marking (gap-skipped tested time (sequence-distance base (sequence-of p)))
+    (on-state (λ s. with-receive (skip-to base (sequence-of p) (s .receive)) s) r)))
+    otherwise record { gave = nothing; run = r }
+
 -- The queues were collected after the give-up test was true of `tested`: the gap is skipped if they ended empty, no event
 -- waits, and the base is still not held. The test is not repeated.
 unfoldable pub skip-after : ℕ → State → ℕ → Emptied → Poll
 skip-after time tested base c =
     if not (is-empty (c .run .state .waiting))
     then give-waiting (c .run)
-    else
-    (if c .emptied
-    then
-    (if-some nearest (c .run .state .receive .pending)
-    give
-    (λ p.
-    deliver (sequence-of p)
-    (marking (gap-skipped tested time (sequence-distance base (sequence-of p)))
-    (on-state (λ s. with-receive (skip-to base (sequence-of p) (s .receive)) s) (c .run))))
-    otherwise record { gave = nothing; run = c .run })
-    else deliver base (c .run))
+    else (if c .emptied then skip-nearest tested time base (c .run) else deliver base (c .run))
 
 abbrev pub max-visits : ℕ
 max-visits = 64
 
+-- the base is held, the continuation is asked for, or the gap is not given up
+unfoldable pub base-stays : (time base : ℕ) → State → Bool
+base-stays time base s =
+    is-held base (s .receive .pending) || (is-set (s .visit .continuation) || not (gap-given-up time s))
+
 unfoldable pub skip-given-up-gap : ℕ → ℕ → Run → Poll
 skip-given-up-gap time base r =
-    let s = r .state in
-    if is-held base (s .receive .pending) || (is-set (s .visit .continuation) || not (gap-given-up time s))
+    if base-stays time base (r .state)
     then deliver base r
-    else skip-after time s base (collect-until-empty max-visits base r)
+    else skip-after time (r .state) base (collect-until-empty max-visits base r)
