@@ -13,6 +13,7 @@ use Rattle.srt_group_model.specs.State.{Member, on-leg, on-membership, with-res
 use Rattle.srt_group_model.specs.Legs.{gives-up-at, release-data-reservation}
 use Rattle.srt_group_model.specs.Validity.{max-pending, max-members, ascends}
 use Rattle.srt_group_model.specs.Delivery.{release-all, deliver-packet}
+use Rattle.srt_group_model.specs.Core.{with-owned-sum}
 use Rattle.srt_connection_members.specs.Members.{members-size}
 use Rattle.srt_group_tables.specs.Packets.{pending-size, packets}
 use Rattle.srt_group_shown.specs.Shown.{Rest, shown}
@@ -41,17 +42,6 @@ leg-given-up time source l = if-some gives-up-at source l give (λ moment. leb m
 abbrev pub release-member : ℕ → Member → Member
 release-member count m =
     on-leg (release-data-reservation count) (on-membership (λ x. with-reserved (x .reserved - count) x) m)
-
-abbrev pub with-owned-sum : ℕ → Core → Core
-with-owned-sum n c =
-    record {
-      counts = c .counts;
-      mode = c .mode;
-      peer = c .peer;
-      receiving = c .receiving;
-      visit = c .visit;
-      owned = n;
-    }
 
 -- these packets' reservations are released, over any held packets and waiting events: only the group's own sum and the members'
 -- sums change

@@ -397,10 +397,13 @@ abbrev pub no-data : Data
 no-data = record { sequence = 0; count = 0; message = 0; timestamp = 0; source = record { 0 = 0 }; cell = 0; length = 0 }
 
 -- kind 1 connected, 2 error, 3 disconnected
+abbrev pub lifecycle-event : (kind reason : ℕ) → Event
+lifecycle-event kind reason = record { kind = kind; reason = reason; content = no-data }
+
 unfoldable pub queue-event : (id kind reason : ℕ) → State → Step
 queue-event id kind reason s =
     guard
     ((6 when breaks-rule s) ∷ (2 when (above largest-32 id || (eqb kind 0 || (above 3 kind || above largest-32 reason))))
     ∷ (3 when is-unknown id s) ∷ (31 when of-member id queue-full s) ∷ [])
     s
-    (accept (change-member id (enqueue record { kind = kind; reason = reason; content = no-data }) s) no-answer)
+    (accept (change-member id (enqueue (lifecycle-event kind reason)) s) no-answer)

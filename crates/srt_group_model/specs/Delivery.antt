@@ -7,7 +7,7 @@ use lib.Dec.{leb, eqb}
 use lib.ListN.{drop}
 use Rattle.srt_protocol.specs.Sequence.{sequence-distance, sequence-further}
 use Rattle.srt_group_model.specs.Tools.{if_then_else_, if-some_give_otherwise_, is-set, or-else, is-empty, all, first-such, at-place, change, each}
-use Rattle.srt_group_model.specs.State.{Member, Receive, State, with-receive, with-owned, with-members, with-waiting, with-base, with-pending, on-leg, on-membership, with-reserved}
+use Rattle.srt_group_model.specs.State.{Member, Receive, State, with-receive, with-owned, with-members, with-waiting, with-base, with-pending, on-leg, on-membership, with-reserved, receive-side, based-at}
 use Rattle.srt_group_model.specs.Legs.{is-disconnected, gives-up-at, release-data-reservation, advance-receive-sequence, largest-64}
 use Rattle.srt_group_model.specs.Members.{has-id, find}
 use Rattle.srt_group_model.specs.Nearest.{sequence-of, is-held, held-at, nearest, covered, not-covered}
@@ -97,11 +97,7 @@ deliver base r =
 -- the skipped total rises by the distance, up to its ceiling; the base goes to the packet
 unfoldable pub skip-to : ℕ → ℕ → Receive → Receive
 skip-to base next x =
-    record {
-      numbers =
-          record { based = 1; base = next; skipped = min (x .numbers .skipped + sequence-distance base next) largest-64 };
-      pending = x .pending;
-    }
+    receive-side (based-at next (min (x .numbers .skipped + sequence-distance base next) largest-64)) (x .pending)
 
 -- the first waiting event is given
 unfoldable pub give-waiting : Run → Poll

@@ -8,6 +8,7 @@ use Rattle.srt_group_model.specs.declared.Core.{Core}
 use Rattle.srt_group_model.specs.Legs.{largest-16}
 use Rattle.srt_group_model.specs.Removal.{take-out, remove-member-at, leg-given-back}
 use Rattle.srt_group_model.specs.Validity.{max-pending, max-members}
+use Rattle.srt_group_model.specs.Core.{with-owned-sum, with-next, with-member-count}
 use Rattle.srt_connection_members.specs.Members.{members-size, member-at}
 use Rattle.srt_group_shown.specs.Shown.{Rest, shown}
 use Rattle.srt_group_removal.specs.declared.removal.Removed.{Removed}
@@ -25,15 +26,7 @@ pub record Removable (i : ℕ) (core : Core) (members pending : List ℕ) : Type
 
 -- a member less, the round's place and the group's own sum
 abbrev pub taken-out : (left round owned : ℕ) → Core → Core
-taken-out left round owned c =
-    record {
-      mode = c .mode;
-      peer = c .peer;
-      counts = record { members = left; pending = c .counts .pending; waiting = c .counts .waiting };
-      receiving = c .receiving;
-      visit = record { continuation = c .visit .continuation; round = round };
-      owned = owned;
-    }
+taken-out left round owned c = with-owned-sum owned (with-next round (with-member-count left c))
 
 pub record TakesOut (i : ℕ) (core : Core) (ms ps : List ℕ) (after : Core) (ms′ ps′ : List ℕ) : Type 0 where
   pub members-long : length ms′ ≡ length ms

@@ -10,6 +10,7 @@ use Rattle.srt_group_model.specs.declared.Packet.{Packet}
 use Rattle.srt_group_model.specs.State.{State}
 use Rattle.srt_group_model.specs.Removal.{retire}
 use Rattle.srt_group_model.specs.Validity.{max-pending, ascends}
+use Rattle.srt_group_model.specs.Core.{with-owned-sum, with-held}
 use Rattle.srt_group_tables.specs.Packets.{pending-size, packets}
 use Rattle.srt_group_shown.specs.Shown.{Rest, shown}
 
@@ -23,15 +24,7 @@ pub record Held (core : Core) (pending : List ℕ) : Type 0 where
 
 -- so many packets are held, and the group's own sum is this
 abbrev pub holding : (held owned : ℕ) → Core → Core
-holding held owned c =
-    record {
-      mode = c .mode;
-      peer = c .peer;
-      counts = record { members = c .counts .members; pending = held; waiting = c .counts .waiting };
-      receiving = c .receiving;
-      visit = c .visit;
-      owned = owned;
-    }
+holding held owned c = with-owned-sum owned (with-held held c)
 
 -- only the held packets and the group's own sum change, over any rest of the group, members and waiting events
 pub record Retires (f : State → State) (core : Core) (ps : List ℕ) (after : Core) (ps′ : List ℕ) : Type 0 where

@@ -18,6 +18,7 @@ use Rattle.srt_group_model.specs.Legs.{release-data-reservation}
 use Rattle.srt_group_model.specs.Members.{promote-backup-member}
 use Rattle.srt_group_model.specs.Nearest.{sequence-of, has-sequence, is-held, insert}
 use Rattle.srt_group_model.specs.Collecting.{is-late, is-discarded, retain-group-packet, report-event}
+use Rattle.srt_group_model.specs.Core.{with-held, with-waiting-count}
 use Rattle.srt_connection_members.specs.Members.{members-of, Changed}
 use Rattle.srt_group_members.specs.Scan.{Became}
 use Rattle.srt_group_members.specs.laws.Scan.{became-changed, became-same, became-then}
@@ -28,17 +29,6 @@ use Rattle.srt_group_shown.specs.Shown.{shown}
 use Rattle.srt_group_collecting.specs.Collect.{Retained, receive-of, broken-by, Reported}
 
 -- ---- a packet is held or discarded
-
-abbrev pub with-held : ℕ → Core → Core
-with-held n c =
-    record {
-      counts = record { members = c .counts .members; pending = n; waiting = c .counts .waiting };
-      mode = c .mode;
-      peer = c .peer;
-      receiving = c .receiving;
-      visit = c .visit;
-      owned = c .owned;
-    }
 
 discards : (i : ℕ) (p : Packet) (s : State) → is-discarded p (s .receive) ≡ true
     → retain-group-packet i p s ≡ with-members (change i (on-leg (release-data-reservation (p .content .count))) (s .members)) s
@@ -184,17 +174,6 @@ module _ (n mode kind i : ℕ) (t : List ℕ) where
   broken-promoted {backup} {u} {v} high is in-backup changed became =
       rw (le-leb 2 kind high, ← is, in-backup)
       (became-then n promote-backup-member t u v (became-changed n i t u changed) became)
-
-abbrev pub with-waiting-count : ℕ → Core → Core
-with-waiting-count n c =
-    record {
-      counts = record { members = c .counts .members; pending = c .counts .pending; waiting = n };
-      mode = c .mode;
-      peer = c .peer;
-      receiving = c .receiving;
-      visit = c .visit;
-      owned = c .owned;
-    }
 
 pub reported : (i : ℕ) (w : Waiting) (core : Core) (ms ws ms′ ws′ : List ℕ)
     → Became (core .counts .members) (broken-by (core .mode) (w .kind) i (members-of (core .counts .members) ms)) ms ms′

@@ -12,13 +12,12 @@ use Rattle.srt_group_model.specs.Tools.{is-set, or-else, at-place, All}
 use Rattle.srt_group_model.specs.laws.Reason.{if-elim, if-some-elim, none-some, some-inj, or-left, or-right}
 use Rattle.srt_group_model.specs.State.{Member, Receive, Send, State, next-send-sequence, with-receive, with-send, with-visit, with-members, with-waiting, with-peer, on-leg, on-membership, with-reserved}
 use Rattle.srt_group_model.specs.Legs.{release-data-reservation, advance-receive-sequence, largest-sequence, largest-32}
-use Rattle.srt_group_model.specs.Members.{id-of}
 use Rattle.srt_group_model.specs.Nearest.{lowest, nearest, covered}
 use Rattle.srt_group_model.specs.Collecting.{front}
 use Rattle.srt_group_model.specs.Delivery.{release-pending-reservation, release-all, advance-legs, deliver-packet, pass-run}
 use Rattle.srt_group_model.specs.Backup.{max-history}
 use Rattle.srt_group_model.specs.Validity.{above, is-too-large, data-out-of-range, event-out-of-range}
-use Rattle.srt_group_model.specs.laws.Queues.{pop, packet-of}
+use Rattle.srt_group_model.specs.laws.Queues.{pop, packet-of, waiting-of}
 use Rattle.srt_group_model.specs.laws.Sums.{all-such-that}
 use Rattle.srt_group_model.specs.Sound.{Event-fit, Member-fit, All-fit}
 use Rattle.srt_group_model.specs.laws.Ranges.{further-fits, Option-fit, change-fit, each-fit, flagged-fit}
@@ -157,7 +156,7 @@ packet-fit m e h k d =
     }
 
 -- an event that is reported
-pub waiting-fit : (m : Member) (e : Event) → Member-fit m → Event-fit e → eqb (e .kind) 0 ≡ false → Waiting-fit record { member = id-of m; kind = e .kind; reason = e .reason }
+pub waiting-fit : (m : Member) (e : Event) → Member-fit m → Event-fit e → eqb (e .kind) 0 ≡ false → Waiting-fit (waiting-of m e)
 unfolding event-out-of-range
 waiting-fit m e h k d =
     record {

@@ -15,14 +15,15 @@ use Rattle.srt_group_model.specs.Sound.{Sending-fit, Sound}
 use Rattle.srt_group_model.specs.Run.{Mark, Run, set-base, on-members, admit-connected-peer-groups, refresh-pending-states, refresh-states}
 use Rattle.srt_group_model.specs.laws.Steps.{refresh-pending-has, refresh-has}
 use Rattle.srt_group_model.specs.laws.Sound.{sound-law}
+use Rattle.srt_group_model.specs.Core.{with-peer-group}
 use Rattle.srt_connection_queue.specs.Rows.{row-size}
 use Rattle.srt_connection_members.specs.Members.{members-of}
 use Rattle.srt_group_members.specs.declared.admission.Admission.{Admission}
 use Rattle.srt_group_members.specs.Admission.{Admitted, base-in}
 use Rattle.srt_group_members.specs.Scan.{Became}
-use Rattle.srt_group_shown.specs.Shown.{Rest, shown}
+use Rattle.srt_group_shown.specs.Shown.{Rest, shown, remembering}
 use Rattle.srt_group_shown.specs.Tables.{receive-tables}
-use Rattle.srt_group_collecting.specs.Leaves.{remembering, every, sends, Usable, under-way, At}
+use Rattle.srt_group_collecting.specs.Leaves.{every, sends, Usable, under-way, At}
 use Rattle.srt_group_collecting.specs.laws.Leaves.{sound-with, sound-blank, members-shown}
 use Rattle.srt_group_delivery.specs.Poll.{Bases}
 use Rattle.srt_group_polls.specs.Refresh.{Refreshes}
@@ -43,17 +44,6 @@ refreshes-among among refreshes =
     }
 
 -- ---- admission
-
-abbrev pub with-peer-group : ℕ → Core → Core
-with-peer-group n c =
-    record {
-      mode = c .mode;
-      peer = n;
-      counts = c .counts;
-      receiving = c .receiving;
-      visit = c .visit;
-      owned = c .owned;
-    }
 
 module _ (core : Core) (ms ms′ : List ℕ) (answer : Admission)
     (admitted : Admitted (core .counts .members) (core .peer) ms answer ms′) where

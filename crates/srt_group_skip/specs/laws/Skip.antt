@@ -28,11 +28,11 @@ use Rattle.srt_group_tables.specs.Packets.{packet-at, packets, packet-found, Fo
 use Rattle.srt_group_tables.specs.Waitings.{waiting-at}
 use Rattle.srt_group_tables.specs.declared.pending.Found.{Found}
 use Rattle.srt_group_tables.specs.declared.pending.Found.the-variants.{At as PendingAt, Nothing as NothingPending}
-use Rattle.srt_group_shown.specs.Shown.{Rest, shown}
+use Rattle.srt_group_shown.specs.Shown.{Rest, shown, blank}
 use Rattle.srt_group_shown.specs.Tables.{ReceiveTables, receive-tables}
 use Rattle.srt_group_collecting.specs.declared.collecting.Emptied.{Emptied}
 use Rattle.srt_group_delivery.specs.declared.delivery.Poll.{Poll}
-use Rattle.srt_group_collecting.specs.Leaves.{blank, every, Usable, under-way}
+use Rattle.srt_group_collecting.specs.Leaves.{every, Usable, under-way}
 use Rattle.srt_group_collecting.specs.Gather.{Empties}
 use Rattle.srt_group_collecting.specs.laws.Gather.{tab-full, tab-spent, neither, run-is}
 use Rattle.srt_group_delivery.specs.Delivery.{Deliverable}

@@ -1,0 +1,49 @@
+-- What a poll carries by value, with one part changed.
+use Prim.Native.Nat.{ℕ}
+use Rattle.srt_group_model.specs.declared.Core.{Core}
+use Rattle.srt_group_model.specs.declared.Counts.{Counts}
+use Rattle.srt_group_model.specs.declared.Receiving.{Receiving}
+use Rattle.srt_group_model.specs.declared.Visit.{Visit}
+
+abbrev pub with-peer-group : ℕ → Core → Core
+with-peer-group n c =
+    record { mode = c .mode; peer = n; counts = c .counts; receiving = c .receiving; visit = c .visit; owned = c .owned }
+
+abbrev pub with-counts : Counts → Core → Core
+with-counts n c =
+    record { mode = c .mode; peer = c .peer; counts = n; receiving = c .receiving; visit = c .visit; owned = c .owned }
+
+abbrev pub with-receiving : Receiving → Core → Core
+with-receiving x c =
+    record { mode = c .mode; peer = c .peer; counts = c .counts; receiving = x; visit = c .visit; owned = c .owned }
+
+abbrev pub with-visit : Visit → Core → Core
+with-visit v c =
+    record { mode = c .mode; peer = c .peer; counts = c .counts; receiving = c .receiving; visit = v; owned = c .owned }
+
+abbrev pub with-owned-sum : ℕ → Core → Core
+with-owned-sum n c =
+    record { mode = c .mode; peer = c .peer; counts = c .counts; receiving = c .receiving; visit = c .visit; owned = n }
+
+-- ---- how many rows are in use
+
+abbrev pub with-member-count : ℕ → Core → Core
+with-member-count n c =
+    with-counts record { members = n; pending = c .counts .pending; waiting = c .counts .waiting } c
+
+abbrev pub with-held : ℕ → Core → Core
+with-held n c = with-counts record { members = c .counts .members; pending = n; waiting = c .counts .waiting } c
+
+abbrev pub with-waiting-count : ℕ → Core → Core
+with-waiting-count n c =
+    with-counts record { members = c .counts .members; pending = c .counts .pending; waiting = n } c
+
+-- ---- the visits
+
+-- the round goes on at a place
+abbrev pub with-next : ℕ → Core → Core
+with-next n c = with-visit record { continuation = c .visit .continuation; round = n } c
+
+-- the continuation's word is another
+abbrev pub continued : ℕ → Core → Core
+continued n c = with-visit record { continuation = n; round = c .visit .round } c
