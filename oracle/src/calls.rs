@@ -83,26 +83,14 @@ impl Calls {
                 self.gateway.reading(leg, field, number).map(done)
             }
             ("event", &[leg, kind, reason]) => self.gateway.event(leg, kind, reason).map(done),
-            (
-                "data",
-                &[
-                    leg,
-                    sequence,
-                    count,
-                    source_time,
-                    message_number,
-                    timestamp,
-                    length,
-                    seed,
-                ],
-            ) => {
+            ("data", &[a, b, c, d, e, f, length, seed]) => {
                 let data = Data {
-                    leg,
-                    sequence,
-                    count,
-                    source_time,
-                    message_number,
-                    timestamp,
+                    leg: a,
+                    sequence: b,
+                    count: c,
+                    source_time: d,
+                    message_number: e,
+                    timestamp: f,
                     payload: &payload(length, seed),
                 };
                 self.gateway.data(data).map(done)

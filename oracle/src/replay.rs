@@ -50,25 +50,15 @@ fn call(gateway: &mut Gateway, line: &[u64; INPUT_COLUMNS]) -> Option<Result<Col
     })
 }
 
-fn leg(
-    [
-        leg,
-        weight,
-        state,
-        next_send,
-        peer_initial_sequence,
-        window,
-        latency,
-    ]: [u64; 7],
-) -> Leg {
+fn leg([a, b, c, d, e, f, g]: [u64; 7]) -> Leg {
     Leg {
-        leg,
-        weight,
-        state,
-        next_send,
-        peer_initial_sequence,
-        window,
-        latency,
+        leg: a,
+        weight: b,
+        state: c,
+        next_send: d,
+        peer_initial_sequence: e,
+        window: f,
+        latency: g,
         flight: 0,
     }
 }

@@ -3,9 +3,9 @@
 ghost use mathlib.Core.Path.{_≡_};
 ghost use Prim.Native.Nat.{_+_, _-_, _<_, _^_};
 ghost use Rattle.srt_protocol.specs.Sequence.{sequence-distance, sequence-further};
-ghost use Rattle.srt_group_model.specs.Legs.{is-connected, is-disconnected, has-sender, remaining-window-packets, can-send, can-send-with-pacing, time-until-send, oldest-unacked-sequence, gives-up-at, next-sequence-number, peer-initial-sequence};
+ghost use Rattle.srt_group_model.specs.Legs.{is-connected, is-disconnected, has-sender, remaining-window-packets, can-send, can-send-with-pacing, time-until-send, oldest-unacked-sequence, gives-up-at, next-sequence-number, peer-initial-sequence, after-send};
 ghost use Rattle.srt_group_model.specs.Legs.{send-shared-with-sequence, synchronize-send-sequence, release-data-reservation, add-reservation, advance-receive-sequence, disconnect-leg, handed, read-state, acknowledge};
-ghost use Rattle.srt_connection.specs.Answers.{deadline-of, sequence-of, result-of, after-send};
+ghost use Rattle.srt_connection.specs.Answers.{deadline-of, sequence-of, result-of};
 use srt_group_model::Leg;
 use srt_group_model::Sender;
 use srt_protocol::srt_packet::word_distance;

@@ -1,7 +1,7 @@
 // Readings: document 01, "Fields of 3". A leg's field by its number, with its range (code 2) and its turn (code 32).
 ghost use mathlib.Core.Path.{_≡_};
-ghost use Rattle.srt_group_model.specs.Legs.{goes-back, on-sender, with-oldest};
-ghost use Rattle.srt_connection.specs.Readings.{with-window, with-pace, with-receive-window, with-latency, with-srtt, with-rttvar, with-heard, with-peer, with-limit, acknowledges, reading};
+ghost use Rattle.srt_group_model.specs.Legs.{goes-back, on-sender, with-oldest, with-window, with-pace, with-receive-window, with-latency, with-srtt, with-rttvar, with-heard, with-peer, with-limit};
+ghost use Rattle.srt_connection.specs.Readings.{acknowledges, reading};
 ghost use Rattle.srt_group_model.specs.Calls.{reading-out-of-range, read-field};
 use crate::legs::LARGEST_16;
 use crate::legs::LARGEST_32;

@@ -18,7 +18,7 @@ use Rattle.srt_connection_members.specs.declared.Found.the-variants.{At,
 use Rattle.srt_connection_queue.specs.declared.queue.LegPoll.{LegPoll}
 use Rattle.word_rows.specs.Tab.{tab}
 use Rattle.word_rows.specs.Rows.{row-at}
-use Rattle.srt_connection_queue.specs.Rows.{row-size, member-of}
+use Rattle.srt_connection_queue.specs.Rows.{row-size, member-of, member-from}
 use Rattle.srt_connection_queue.specs.Queue.{enqueued, push-outcome, leg-poll, queue-after}
 
 -- ---- definitions
@@ -40,7 +40,7 @@ has-row i t = i * row-size + row-size ≤ length t
 
 -- a member as it is added: its queue is empty
 abbrev pub new-member : Membership → Leg → Member
-new-member x l = record { membership = x; leg = l; queue = [] }
+new-member x l = member-from x l []
 
 abbrev pub found-of : Option ℕ → Found
 found-of none = Nothing

@@ -4,8 +4,8 @@ use mathlib.Core.Path.{_≡_}
 use mathlib.Core.List.{List, [], _∷_}
 use Prim.Native.Nat.{ℕ, _+_, _*_, _%_}
 use lib.ListN.{length, getD, set}
-use Rattle.srt_group_model.specs.State.{Member}
-use Rattle.srt_group_model.specs.Legs.{moment}
+use Rattle.srt_group_model.specs.State.{Member, on-leg, on-membership}
+use Rattle.srt_group_model.specs.Legs.{moment, on-link, on-sender, on-receiver, on-trip}
 use Rattle.srt_group_model.specs.Validity.{max-queued}
 use Rattle.srt_group_model.specs.declared.Event.{Event}
 use Rattle.srt_group_model.specs.declared.Leg.{Leg}
@@ -154,11 +154,14 @@ event-in r k = event-of (part r (first-event-part + k))
 unfoldable pub queue-of : Ring → (ℕ → Event) → List Event
 queue-of ring event = tab (ring .length) (λ j. event ((ring .start + j) % max-queued))
 
-unfoldable pub leg-of : LinkPart → Sender → Receiver → Leg
+abbrev pub leg-of : LinkPart → Sender → Receiver → Leg
 leg-of x s r = record { link = x .link; sender = s; receiver = r; trip = x .trip }
 
+abbrev pub member-from : Membership → Leg → List Event → Member
+member-from x l q = record { membership = x; leg = l; queue = q }
+
 unfoldable pub member-parts : Membership → LinkPart → Sender → Receiver → Ring → (ℕ → Event) → Member
-member-parts m x s y ring event = record { membership = m; leg = leg-of x s y; queue = queue-of ring event }
+member-parts m x s y ring event = member-from m (leg-of x s y) (queue-of ring event)
 
 -- the member that a row shows
 unfoldable pub member-of : List ℕ → Member
@@ -174,28 +177,13 @@ pub record Kept (r : List ℕ) (m : Member) : Type 0 where
 -- ---- one part is changed
 
 abbrev pub with-membership : Membership → Member → Member
-with-membership x m = record { membership = x; leg = m .leg; queue = m .queue }
+with-membership x = on-membership (λ y. x)
 
 abbrev pub with-link-trip : Link → Trip → Member → Member
-with-link-trip x t m =
-    record {
-      membership = m .membership;
-      leg = record { link = x; sender = m .leg .sender; receiver = m .leg .receiver; trip = t };
-      queue = m .queue;
-    }
+with-link-trip x t = on-leg (λ l. on-link (λ y. x) (on-trip (λ y. t) l))
 
 abbrev pub with-sender : Sender → Member → Member
-with-sender x m =
-    record {
-      membership = m .membership;
-      leg = record { link = m .leg .link; sender = x; receiver = m .leg .receiver; trip = m .leg .trip };
-      queue = m .queue;
-    }
+with-sender x = on-leg (on-sender (λ y. x))
 
 abbrev pub with-receiver : Receiver → Member → Member
-with-receiver x m =
-    record {
-      membership = m .membership;
-      leg = record { link = m .leg .link; sender = m .leg .sender; receiver = x; trip = m .leg .trip };
-      queue = m .queue;
-    }
+with-receiver x = on-leg (on-receiver (λ y. x))

@@ -5,7 +5,7 @@ use mathlib.Core.List.{[], _∷_}
 use Prim.Native.Nat.{ℕ, _+_, _≤_}
 use Rattle.srt_protocol.specs.Sequence.{sequence-further}
 use Rattle.srt_group_model.specs.Tools.{if_then_else_, if-some_give_otherwise_}
-use Rattle.srt_group_model.specs.State.{Member, with-leg}
+use Rattle.srt_group_model.specs.State.{Member, with-leg, with-number}
 use Rattle.srt_group_model.specs.Legs.{send-shared-with-sequence}
 use Rattle.srt_group_model.specs.Members.{id-of}
 use Rattle.srt_group_model.specs.Sending.{own-send}
@@ -15,12 +15,10 @@ use Rattle.srt_group_model.specs.declared.Leg.{Leg}
 use Rattle.srt_group_model.specs.declared.Sending.{Sending}
 use Rattle.srt_connection_members.specs.Members.{member-at, Changed}
 use Rattle.srt_group_members.specs.Scan.{is-some}
-use Rattle.srt_group_tables.specs.Ring.{Arrays, with-entry, next-place}
+use Rattle.srt_group_tables.specs.Ring.{Arrays, with-entry, next-place, send-of}
 use Rattle.srt_group_tables.specs.declared.history.HistoryRing.{HistoryRing}
 use Rattle.srt_group_sending.specs.SentList.{SendTables, Wrote}
-use Rattle.srt_group_sending.specs.Broadcast.{with-number}
 use Rattle.srt_group_backup.specs.declared.trimming.SendHistory.{SendHistory}
-use Rattle.srt_group_backup.specs.Trimming.{send-of}
 
 -- ---- definitions
 

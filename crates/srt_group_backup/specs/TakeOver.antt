@@ -11,12 +11,11 @@ use Rattle.srt_group_model.specs.Backup.{max-history, align-carrier}
 use Rattle.srt_group_model.specs.declared.Entry.{Entry}
 use Rattle.srt_group_model.specs.declared.Sending.{Sending}
 use Rattle.srt_connection_members.specs.Members.{members-of}
-use Rattle.srt_group_tables.specs.Ring.{Arrays}
+use Rattle.srt_group_tables.specs.Ring.{Arrays, send-of}
 use Rattle.srt_group_tables.specs.declared.history.HistoryRing.{HistoryRing}
 use Rattle.srt_group_sending.specs.SentList.{SendTables, Wrote}
 use Rattle.srt_group_backup.specs.declared.takeover.Flight.{Flight}
 use Rattle.srt_group_backup.specs.declared.takeover.TakenOver.{TakenOver}
-use Rattle.srt_group_backup.specs.Trimming.{send-of}
 
 -- ---- definitions
 

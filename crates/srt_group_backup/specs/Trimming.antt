@@ -10,15 +10,11 @@ use Rattle.srt_group_model.specs.Tools.{if_then_else_}
 use Rattle.srt_group_model.specs.State.{Member, Send, State, with-send}
 use Rattle.srt_group_model.specs.Backup.{max-history, trim-by-carrier}
 use Rattle.srt_group_model.specs.declared.Sending.{Sending}
-use Rattle.srt_group_tables.specs.Ring.{Arrays, word-sequence, entries-of}
+use Rattle.srt_group_tables.specs.Ring.{Arrays, word-sequence, send-of}
 use Rattle.srt_group_tables.specs.declared.history.HistoryRing.{HistoryRing}
 use Rattle.srt_group_backup.specs.declared.trimming.SendHistory.{SendHistory}
 
 -- ---- definitions
-
--- what sending moves, as the numbers, the ring and the arrays of the group record show it
-abbrev pub send-of : Sending → HistoryRing → Arrays → Send
-send-of x r a = record { numbers = x; history = entries-of r a }
 
 -- the front of the ring is after a sequence
 unfoldable pub front-after : ℕ → List ℕ → HistoryRing → Bool

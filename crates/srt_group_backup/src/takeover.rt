@@ -9,9 +9,8 @@ ghost use Rattle.srt_group_model.specs.Backup.{max-history, replay-on, replay-f
 ghost use Rattle.srt_group_model.specs.Sending.{max-sent, list-size};
 ghost use Rattle.srt_connection_queue.specs.Rows.{row-size};
 ghost use Rattle.srt_connection_members.specs.Members.{member-at, has-row};
-ghost use Rattle.srt_group_tables.specs.Ring.{arrays, Long, entry-at, entries-of};
+ghost use Rattle.srt_group_tables.specs.Ring.{arrays, Long, entry-at, entries-of, send-of};
 ghost use Rattle.srt_group_sending.specs.SentList.{send-tables};
-ghost use Rattle.srt_group_backup.specs.Trimming.{send-of};
 ghost use Rattle.srt_group_backup.specs.TakeOver.{history-is, send-is, FlightReplayed, CarrierAligned, TookOver};
 use crate::replay::replay_entries;
 use crate::trimming::trim_by_carrier;

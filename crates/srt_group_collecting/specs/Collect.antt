@@ -10,7 +10,7 @@ use Rattle.srt_group_model.specs.declared.Core.{Core}
 use Rattle.srt_group_model.specs.declared.Packet.{Packet}
 use Rattle.srt_group_model.specs.declared.Waiting.{Waiting}
 use Rattle.srt_group_model.specs.Tools.{if_then_else_, change}
-use Rattle.srt_group_model.specs.State.{Member, Receive, is-backup, turned, broken-state}
+use Rattle.srt_group_model.specs.State.{Member, Receive, is-backup, turned, broken-state, receive-side}
 use Rattle.srt_group_model.specs.Legs.{largest-sequence}
 use Rattle.srt_group_model.specs.Members.{promote-backup-member}
 use Rattle.srt_group_model.specs.Validity.{max-pending, ascends}
@@ -40,7 +40,7 @@ pub record Retained (i : ℕ) (p : Packet) (core : Core) (ms ps : List ℕ) (aft
 
 -- what is received of a state that is shown
 abbrev pub receive-of : Core → List ℕ → Receive
-receive-of core ps = record { numbers = core .receiving; pending = packets (core .counts .pending) ps }
+receive-of core ps = receive-side (core .receiving) (packets (core .counts .pending) ps)
 
 -- ---- an event is reported
 

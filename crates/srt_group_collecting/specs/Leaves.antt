@@ -1,11 +1,10 @@
 -- What a step of a poll does to the record's numbers and the lent tables: the state that they show afterwards is the definition's,
 -- over every rest of the state, since receiving reads none of it.
 use mathlib.Core.Path.{_≡_}
-use mathlib.Core.List.{List, []}
+use mathlib.Core.List.{List}
 use Prim.Native.Nat.{ℕ, _≤_}
 use lib.ListN.{length}
 use Rattle.srt_group_model.specs.declared.Core.{Core}
-use Rattle.srt_group_model.specs.declared.Entry.{Entry}
 use Rattle.srt_group_model.specs.declared.Sending.{Sending}
 use Rattle.srt_group_model.specs.State.{State}
 use Rattle.srt_group_model.specs.Run.{Mark, Run}
@@ -14,20 +13,8 @@ use Rattle.srt_group_model.specs.Validity.{max-waiting, max-members}
 use Rattle.srt_connection_members.specs.Members.{members-size}
 use Rattle.srt_group_tables.specs.Packets.{pending-size}
 use Rattle.srt_group_tables.specs.Waitings.{waiting-size}
-use Rattle.srt_group_shown.specs.Shown.{Rest, rest}
+use Rattle.srt_group_shown.specs.Shown.{Rest, blank}
 use Rattle.srt_group_shown.specs.Tables.{ReceiveTables, shown-by}
-
--- ---- a rest of the state, where one must be named
-
--- no identity, and this sending side
-abbrev pub remembering : Sending → List Entry → Rest
-remembering sending history = rest record { id = 0; length = 0 } sending history
-
-abbrev pub nothing-sent : Sending
-nothing-sent = record { numbered = 0; next = 0; carried = 0; carrier = 0; gap = 0 }
-
-abbrev pub blank : Rest
-blank = remembering nothing-sent []
 
 -- over which rests of the state a step is promised: every one, or those with the numbers of sending that it reads
 abbrev pub every : Rest → Type 0

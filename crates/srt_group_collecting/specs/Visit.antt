@@ -6,13 +6,10 @@ use lib.Dec.{eqb}
 use lib.ListN.{length}
 use Rattle.srt_group_model.specs.declared.Core.{Core}
 use Rattle.srt_group_model.specs.declared.Event.{Event}
-use Rattle.srt_group_model.specs.declared.Packet.{Packet}
-use Rattle.srt_group_model.specs.declared.Visit.{Visit}
-use Rattle.srt_group_model.specs.declared.Waiting.{Waiting}
 use Rattle.srt_group_model.specs.Tools.{if_then_else_, is-set}
 use Rattle.srt_group_model.specs.State.{Receive, State}
 use Rattle.srt_group_model.specs.Run.{Mark, Run}
-use Rattle.srt_group_model.specs.Collecting.{retain-group-packet, report-event, Visited as VisitedRun}
+use Rattle.srt_group_model.specs.Collecting.{retain-group-packet, report-event, Visited as VisitedRun, packet-from, waiting-from}
 use Rattle.srt_group_model.specs.Validity.{max-waiting}
 use Rattle.srt_connection_queue.specs.Rows.{row-size}
 use Rattle.srt_connection_members.specs.Members.{member-at, has-row}
@@ -25,12 +22,6 @@ use Rattle.srt_group_collecting.specs.Leaves.{Usable, Leaves, under-way}
 use Rattle.srt_group_collecting.specs.Collect.{Holdable}
 
 -- ---- definitions
-
-abbrev pub packet-from : ℕ → Event → Packet
-packet-from id e = record { member = id; owned = 0; content = e .content }
-
-abbrev pub waiting-from : ℕ → Event → Waiting
-waiting-from id e = record { member = id; kind = e .kind; reason = e .reason }
 
 -- what an event of the member at a place makes of a state
 unfoldable pub collect-event : (place id : ℕ) → Event → State → State

@@ -11,12 +11,12 @@ use Rattle.srt_group_model.specs.declared.Packet.{Packet}
 use Rattle.srt_group_model.specs.Tools.{if-some_give_otherwise_}
 use Rattle.srt_group_model.specs.State.{Member, on-leg, on-membership, on-account}
 use Rattle.srt_group_model.specs.Accounts.{release}
+use Rattle.srt_group_model.specs.Core.{with-own-account}
 use Rattle.srt_group_model.specs.Legs.{gives-up-at, release-data-reservation}
 use Rattle.srt_group_model.specs.Validity.{max-pending, max-members, ascends}
 use Rattle.srt_group_model.specs.Delivery.{release-all, deliver-packet}
 use Rattle.srt_connection_members.specs.Members.{members-size}
 use Rattle.srt_group_tables.specs.Packets.{pending-size, packets}
-use Rattle.srt_group_shown.specs.Cores.{with-own-account}
 use Rattle.srt_group_shown.specs.Shown.{Rest, shown}
 use Rattle.srt_group_shown.specs.Tables.{receive-tables}
 use Rattle.srt_group_collecting.specs.Leaves.{Leaves}

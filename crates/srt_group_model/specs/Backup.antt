@@ -10,8 +10,8 @@ use lib.ListN.{length, drop}
 use Rattle.srt_protocol.specs.Time.{elapsed}
 use Rattle.srt_protocol.specs.Sequence.{sequence-before, sequence-further}
 use Rattle.srt_group_model.specs.Tools.{if_then_else_, if-some_give_otherwise_, bit, is-set, or-else, any, at-place, change}
-use Rattle.srt_group_model.specs.State.{Member, Send, State, next-send-sequence, backup-carrier, with-send, with-members, with-leg, turned, active-state, standby-state, unstable-state}
-use Rattle.srt_group_model.specs.Legs.{moment, has-sender, remaining-window-packets, can-send, can-send-with-pacing, time-until-send, oldest-unacked-sequence, send-shared-with-sequence, synchronize-send-sequence}
+use Rattle.srt_group_model.specs.State.{Member, Send, State, next-send-sequence, backup-carrier, with-send, with-members, with-leg, turned, active-state, standby-state, unstable-state, send-side, with-carrier, with-gap, entry-of}
+use Rattle.srt_group_model.specs.Legs.{has-sender, remaining-window-packets, can-send, can-send-with-pacing, time-until-send, oldest-unacked-sequence, send-shared-with-sequence, synchronize-send-sequence}
 use Rattle.srt_group_model.specs.Members.{id-of, find, in-state, is-standby, first-active, promotion, promote-backup-member, promote-if-none, align-member-sequence}
 use Rattle.srt_group_model.specs.Sending.{Sent, own-send, Flow, goes-on, ends-with, _and-then_, mark-send-failure, sequence-for-send, sequence-mismatch, with-send-number}
 use Rattle.srt_group_model.specs.declared.Leg.{Leg}
@@ -57,17 +57,7 @@ trim-backup-history l x =
     then
     (let oldest = oldest-unacked-sequence l in
     let h = drop-before oldest (x .history) in
-    record {
-      numbers =
-          record {
-            numbered = x .numbers .numbered;
-            next = x .numbers .next;
-            carried = x .numbers .carried;
-            carrier = x .numbers .carrier;
-            gap = bit (starts-after oldest h);
-          };
-      history = h;
-    })
+    send-side (with-gap (bit (starts-after oldest h)) (x .numbers)) h)
     else x
 
 -- by what the carrier's leg says, if the group has a carrier that is a member
@@ -89,17 +79,8 @@ max-history = 512
 -- the send's carrier and payload are noted; a full history loses its oldest entry
 unfoldable pub append-history : ℕ → Entry → Send → Send
 append-history carrier e x =
-    record {
-      numbers =
-          record {
-            numbered = x .numbers .numbered;
-            next = x .numbers .next;
-            carried = 1;
-            carrier = carrier;
-            gap = x .numbers .gap;
-          };
-      history = (if leb max-history (length (x .history)) then drop 1 (x .history) else x .history) ++ (e ∷ []);
-    }
+    send-side (with-carrier carrier (x .numbers))
+    ((if leb max-history (length (x .history)) then drop 1 (x .history) else x .history) ++ (e ∷ []))
 
 -- the payload is kept until its carrier's peer acknowledges it
 unfoldable pub record-backup-send : Member → Entry → Send → Send
@@ -194,10 +175,9 @@ send-own time size cell sequence i failed =
     if-some send-shared-with-sequence time size sequence (m .leg)
     give
     (λ l.
-    let entry : Entry = record { sequence = sequence; cell = cell; length = size; source = moment time } in
     let numbered = with-send-number (sequence-further sequence 1) (put-leg i l s) in
     record {
-      state = with-send (record-backup-send (with-leg l m) entry (numbered .send)) numbered;
+      state = with-send (record-backup-send (with-leg l m) (entry-of sequence cell size time) (numbered .send)) numbered;
       sends = own-send time sequence m ∷ [];
       code = 0;
     })

@@ -9,7 +9,7 @@ use lib.ListN.{length}
 use Rattle.srt_protocol.specs.Handshake.{has-group-mask}
 use Rattle.srt_protocol.specs.Cells.{cell-size, cells-of, max-cells, output-size}
 use Rattle.srt_group_model.specs.Tools.{if_then_else_, if-some_give_otherwise_, is-set, is-empty, any, first-such, change, each}
-use Rattle.srt_group_model.specs.State.{Member, Making, State, is-backup, next-send-sequence, with-members, with-peer, on-leg, with-queue, turned, pending-state, active-state, standby-state, broken-state}
+use Rattle.srt_group_model.specs.State.{Member, State, is-backup, next-send-sequence, with-members, with-peer, on-leg, with-queue, turned, pending-state, active-state, standby-state, broken-state, Making}
 use Rattle.srt_group_model.specs.Accounts.{no-packets}
 use Rattle.srt_group_model.specs.Legs.{reading-of, goes-back, handed, is-connected, disconnect-leg, can-send, can-send-with-pacing, has-sender, add-reservation, largest-sequence, largest-16, largest-32, largest-64}
 use Rattle.srt_group_model.specs.Members.{has-id, find, is-active, has-active-member, promote-if-none, base-after, peer-after, admit-peer-group, align-member-sequence, found}
@@ -21,7 +21,7 @@ use Rattle.srt_group_model.specs.Sending.{list-size, Flow, ends-with, ab
 use Rattle.srt_group_model.specs.Backup.{stability-timeout, demote-stale-backup-carrier, trim-by-carrier, send-backup, backup-send-ready, group-time-until-send}
 use Rattle.srt_group_model.specs.Cells.{free-cell}
 use Rattle.srt_group_model.specs.Validity.{above, _at-most_, any-above, data-words, is-invalid, leg-out-of-range, leg-sequence-too-large, max-members, max-queued, making-words}
-use Rattle.srt_group_model.specs.Guards.{Answer, no-answer, truth, number, optional, polled, data-polled, leg-back, membership, memberships, Step, refuse, accept, _when_, guard}
+use Rattle.srt_group_model.specs.Guards.{Answer, no-answer, truth, number, optional, polled, data-polled, leg-back, membership, memberships, Step, refuse, accept, _when_, guard, shown, Looking}
 use Rattle.srt_group_model.specs.declared.Data.{Data}
 use Rattle.srt_group_model.specs.declared.Event.{Event}
 use Rattle.srt_group_model.specs.declared.Leg.{Leg}
@@ -147,11 +147,13 @@ remove-member-connection id s =
     guard ((6 when breaks-rule s) ∷ (2 when above largest-32 id) ∷ (3 when is-unknown id s) ∷ []) s (remove-body id s)
 
 -- `member`: its state, its weight and its collision
-unfoldable pub member : (id : ℕ) → State → Step
+unfoldable pub member : (id : ℕ) → State → Looking
 member id s =
-    guard ((6 when breaks-rule s) ∷ (2 when above largest-32 id) ∷ (3 when is-unknown id s) ∷ []) s
-    (accept s
-    (if-some first-such (has-id id) (s .members) give (λ m. membership (m .membership)) otherwise no-answer))
+    record {
+      checks = (6 when breaks-rule s) ∷ (2 when above largest-32 id) ∷ (3 when is-unknown id s) ∷ [];
+      shows =
+          membership (if-some first-such (has-id id) (s .members) give (λ m. some (m .membership)) otherwise none);
+    }
 
 -- accepted, with the log of a call under way
 abbrev pub left-by : Run → Answer → Step
@@ -201,7 +203,7 @@ left-by-send cell payload r flow =
     record {
       state = flow .state;
       code = 0;
-      answer = number (if backup then 1 else length (flow .sends));
+      answer = shown (number (if backup then 1 else length (flow .sends)));
       put = if backup then some record { cell = cell; payload = payload } else none;
       sends = flow .sends;
       log = if backup then put cell payload ∷ r .log else r .log;
@@ -245,8 +247,8 @@ can-send-body s =
     if is-backup (s .making .mode)
     then
     (let t = trim-by-carrier (r .state) in
-    record { state = t; code = 0; answer = truth (backup-send-ready none t); put = none; sends = []; log = r .log })
-    else left-by r (truth (any (λ m. is-active m && can-send (m .leg)) (r .state .members)))
+    record { state = t; code = 0; answer = shown (truth (backup-send-ready none t)); put = none; sends = []; log = r .log })
+    else left-by r (shown (truth (any (λ m. is-active m && can-send (m .leg)) (r .state .members))))
 
 unfoldable pub can-send-call : State → Step
 can-send-call s = guard ((6 when breaks-rule s) ∷ []) s (can-send-body s)
@@ -260,55 +262,67 @@ can-send-with-pacing-body time s =
     with-members (promote-if-none (s .making .mode) (demote-stale-backup-carrier time (r .state .members))) (r .state)
     in
     let t = trim-by-carrier demoted in
-    record { state = t; code = 0; answer = truth (backup-send-ready (some time) t); put = none; sends = []; log = r .log })
-    else left-by r (truth (any (λ m. is-active m && can-send-with-pacing time (m .leg)) (r .state .members)))
+    record {
+      state = t;
+      code = 0;
+      answer = shown (truth (backup-send-ready (some time) t));
+      put = none;
+      sends = [];
+      log = r .log;
+    })
+    else left-by r (shown (truth (any (λ m. is-active m && can-send-with-pacing time (m .leg)) (r .state .members))))
 
 unfoldable pub can-send-with-pacing-call : (time : ℕ) → State → Step
 can-send-with-pacing-call time s =
     guard ((6 when breaks-rule s) ∷ (2 when above largest-64 time) ∷ []) s (can-send-with-pacing-body time s)
 
-unfoldable pub time-until-send : (time : ℕ) → State → Step
+unfoldable pub time-until-send : (time : ℕ) → State → Looking
 time-until-send time s =
-    guard ((6 when breaks-rule s) ∷ (2 when above largest-64 time) ∷ []) s
-    (accept s (number (group-time-until-send time (s .members))))
+    record {
+      checks = (6 when breaks-rule s) ∷ (2 when above largest-64 time) ∷ [];
+      shows = number (group-time-until-send time (s .members));
+    }
 
 -- none for a leg without a sender
-unfoldable pub backup-stability-timeout-micros : (id : ℕ) → State → Step
+unfoldable pub backup-stability-timeout-micros : (id : ℕ) → State → Looking
 backup-stability-timeout-micros id s =
-    guard ((6 when breaks-rule s) ∷ (2 when above largest-32 id) ∷ (3 when is-unknown id s) ∷ []) s
-    (accept s
-    (optional
-    (if-some first-such (has-id id) (s .members)
-    give (λ m. if has-sender (m .leg) then some (stability-timeout (m .leg)) else none)
-    otherwise none)))
+    record {
+      checks = (6 when breaks-rule s) ∷ (2 when above largest-32 id) ∷ (3 when is-unknown id s) ∷ [];
+      shows =
+          optional
+          (if-some first-such (has-id id) (s .members)
+          give (λ m. if has-sender (m .leg) then some (stability-timeout (m .leg)) else none)
+          otherwise none);
+    }
 
 -- ---- looking
 
 -- `members`: the memberships, in the order of addition
-unfoldable pub members-call : State → Step
+unfoldable pub members-call : State → Looking
 members-call s =
-    guard ((6 when breaks-rule s) ∷ []) s (accept s (memberships (each (λ m. m .membership) (s .members))))
+    record { checks = (6 when breaks-rule s) ∷ []; shows = memberships (each (λ m. m .membership) (s .members)) }
 
-unfoldable pub group-id : State → Step
-group-id s = guard ((6 when breaks-rule s) ∷ []) s (accept s (number (s .making .id)))
+unfoldable pub group-id : State → Looking
+group-id s = record { checks = (6 when breaks-rule s) ∷ []; shows = number (s .making .id) }
 
 -- 0 Broadcast, 1 Backup
-unfoldable pub mode : State → Step
-mode s = guard ((6 when breaks-rule s) ∷ []) s (accept s (number (s .making .mode)))
+unfoldable pub mode : State → Looking
+mode s = record { checks = (6 when breaks-rule s) ∷ []; shows = number (s .making .mode) }
 
-unfoldable pub peer-group-id : State → Step
+unfoldable pub peer-group-id : State → Looking
 peer-group-id s =
-    guard ((6 when breaks-rule s) ∷ []) s
-    (accept s (optional (if eqb (s .peer) 0 then none else some (s .peer))))
+    record { checks = (6 when breaks-rule s) ∷ []; shows = optional (if eqb (s .peer) 0 then none else some (s .peer)) }
 
-unfoldable pub skipped-receive-packets : State → Step
-skipped-receive-packets s = guard ((6 when breaks-rule s) ∷ []) s (accept s (number (s .receive .numbers .skipped)))
+unfoldable pub skipped-receive-packets : State → Looking
+skipped-receive-packets s =
+    record { checks = (6 when breaks-rule s) ∷ []; shows = number (s .receive .numbers .skipped) }
 
-unfoldable pub has-pending-data-call : State → Step
-has-pending-data-call s = guard ((6 when breaks-rule s) ∷ []) s (accept s (truth (has-pending-data s)))
+unfoldable pub has-pending-data-call : State → Looking
+has-pending-data-call s = record { checks = (6 when breaks-rule s) ∷ []; shows = truth (has-pending-data s) }
 
-unfoldable pub has-receive-continuation : State → Step
-has-receive-continuation s = guard ((6 when breaks-rule s) ∷ []) s (accept s (truth (is-set (s .visit .continuation))))
+unfoldable pub has-receive-continuation : State → Looking
+has-receive-continuation s =
+    record { checks = (6 when breaks-rule s) ∷ []; shows = truth (is-set (s .visit .continuation)) }
 
 -- ---- the stand-in leg: a reading, data and an event
 
@@ -384,10 +398,13 @@ abbrev pub no-data : Data
 no-data = record { sequence = 0; count = 0; message = 0; timestamp = 0; source = record { 0 = 0 }; cell = 0; length = 0 }
 
 -- kind 1 connected, 2 error, 3 disconnected
+abbrev pub lifecycle-event : (kind reason : ℕ) → Event
+lifecycle-event kind reason = record { kind = kind; reason = reason; content = no-data }
+
 unfoldable pub queue-event : (id kind reason : ℕ) → State → Step
 queue-event id kind reason s =
     guard
     ((6 when breaks-rule s) ∷ (2 when (above largest-32 id || (eqb kind 0 || (above 3 kind || above largest-32 reason))))
     ∷ (3 when is-unknown id s) ∷ (31 when of-member id queue-full s) ∷ [])
     s
-    (accept (change-member id (enqueue record { kind = kind; reason = reason; content = no-data }) s) no-answer)
+    (accept (change-member id (enqueue (lifecycle-event kind reason)) s) no-answer)

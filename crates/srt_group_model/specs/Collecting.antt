@@ -20,6 +20,13 @@ use Rattle.srt_group_model.specs.declared.Waiting.{Waiting}
 
 -- ---- collecting
 
+-- what an event in front of a member's queue becomes: a packet, or an event that waits
+abbrev pub packet-from : (id : ℕ) → Event → Packet
+packet-from id e = record { member = id; owned = 0; content = e .content }
+
+abbrev pub waiting-from : (id : ℕ) → Event → Waiting
+waiting-from id e = record { member = id; kind = e .kind; reason = e .reason }
+
 -- the packet is before the base
 unfoldable pub is-late : Packet → Receive → Bool
 is-late p x = if-some next-receive-sequence x give (λ base. sequence-before (sequence-of p) base) otherwise false
@@ -57,9 +64,9 @@ unfoldable pub collect-member-event : ℕ → ℕ → Event → Run → Run
 collect-member-event i id e r =
     if eqb (e .kind) 0
     then
-    (let p : Packet = record { member = id; owned = 0; content = e .content } in
+    (let p = packet-from id e in
     record { state = retain-group-packet i p (r .state); log = collected p ∷ r .log; budget = r .budget - 1 })
-    else on-state (report-event i record { member = id; kind = e .kind; reason = e .reason }) r
+    else on-state (report-event i (waiting-from id e)) r
 
 -- the first member with a queue that is not empty, from the round's place on, and then from the first
 unfoldable pub in-turn : ℕ → List Member → Option ℕ

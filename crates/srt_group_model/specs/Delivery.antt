@@ -7,7 +7,7 @@ use lib.Dec.{leb, eqb}
 use lib.ListN.{drop}
 use Rattle.srt_protocol.specs.Sequence.{sequence-distance, sequence-further}
 use Rattle.srt_group_model.specs.Tools.{if_then_else_, if-some_give_otherwise_, is-set, or-else, is-empty, all, first-such, at-place, change, each}
-use Rattle.srt_group_model.specs.State.{Member, Receive, State, with-receive, with-members, with-waiting, with-base, with-pending, on-leg, on-membership, with-own, on-account}
+use Rattle.srt_group_model.specs.State.{Member, Receive, State, with-receive, with-members, with-waiting, with-base, with-pending, on-leg, on-membership, with-own, on-account, based-at, receive-side}
 use Rattle.srt_group_model.specs.Accounts.{release}
 use Rattle.srt_group_model.specs.Legs.{is-disconnected, gives-up-at, release-data-reservation, advance-receive-sequence, largest-64}
 use Rattle.srt_group_model.specs.Members.{has-id, find}
@@ -27,12 +27,14 @@ leg-gives-up time p ms =
     (λ m. if-some gives-up-at (p .content .source .0) (m .leg) give (λ moment. leb moment time) otherwise false)
     otherwise false
 
--- `gap_given_up`: true with no members, or if all legs are disconnected
+-- true with no members, or if all legs are disconnected
+abbrev pub given-up-for : ℕ → Packet → List Member → Bool
+given-up-for time p ms = all (λ m. is-disconnected (m .leg)) ms || leg-gives-up time p ms
+
+-- `gap_given_up`, for the nearest packet
 unfoldable pub gap-given-up : ℕ → State → Bool
 gap-given-up time s =
-    if-some nearest (s .receive .pending)
-    give (λ p. all (λ m. is-disconnected (m .leg)) (s .members) || leg-gives-up time p (s .members))
-    otherwise false
+    if-some nearest (s .receive .pending) give (λ p. given-up-for time p (s .members)) otherwise false
 
 -- ---- delivery
 
@@ -96,11 +98,7 @@ deliver base r =
 -- the skipped total rises by the distance, up to its ceiling; the base goes to the packet
 unfoldable pub skip-to : ℕ → ℕ → Receive → Receive
 skip-to base next x =
-    record {
-      numbers =
-          record { based = 1; base = next; skipped = min (x .numbers .skipped + sequence-distance base next) largest-64 };
-      pending = x .pending;
-    }
+    receive-side (based-at next (min (x .numbers .skipped + sequence-distance base next) largest-64)) (x .pending)
 
 -- the first waiting event is given
 unfoldable pub give-waiting : Run → Poll
@@ -109,30 +107,35 @@ give-waiting r =
     give (λ w. record { gave = event w; run = on-state (λ s. with-waiting (drop 1 (s .waiting)) s) r })
     otherwise record { gave = nothing; run = r }
 
+-- The base goes to the nearest packet, which is delivered; `tested` and `time` are those of the give-up test.
+abbrev pub skip-nearest : (tested : State) (time base : ℕ) → Run → Poll
+skip-nearest tested time base r =
+    if-some nearest (r .state .receive .pending)
+    give
+    (λ p.
+    deliver (sequence-of p)
+    (marking (gap-skipped tested time (sequence-distance base (sequence-of p)))
+    (on-state (λ s. with-receive (skip-to base (sequence-of p) (s .receive)) s) r)))
+    otherwise record { gave = nothing; run = r }
+
 -- The queues were collected after the give-up test was true of `tested`: the gap is skipped if they ended empty, no event
 -- waits, and the base is still not held. The test is not repeated.
 unfoldable pub skip-after : ℕ → State → ℕ → Emptied → Poll
 skip-after time tested base c =
     if not (is-empty (c .run .state .waiting))
     then give-waiting (c .run)
-    else
-    (if c .emptied
-    then
-    (if-some nearest (c .run .state .receive .pending)
-    give
-    (λ p.
-    deliver (sequence-of p)
-    (marking (gap-skipped tested time (sequence-distance base (sequence-of p)))
-    (on-state (λ s. with-receive (skip-to base (sequence-of p) (s .receive)) s) (c .run))))
-    otherwise record { gave = nothing; run = c .run })
-    else deliver base (c .run))
+    else (if c .emptied then skip-nearest tested time base (c .run) else deliver base (c .run))
 
 abbrev pub max-visits : ℕ
 max-visits = 64
 
+-- the base is held, the continuation is asked for, or the gap is not given up
+unfoldable pub base-stays : (time base : ℕ) → State → Bool
+base-stays time base s =
+    is-held base (s .receive .pending) || (is-set (s .visit .continuation) || not (gap-given-up time s))
+
 unfoldable pub skip-given-up-gap : ℕ → ℕ → Run → Poll
 skip-given-up-gap time base r =
-    let s = r .state in
-    if is-held base (s .receive .pending) || (is-set (s .visit .continuation) || not (gap-given-up time s))
+    if base-stays time base (r .state)
     then deliver base r
-    else skip-after time s base (collect-until-empty max-visits base r)
+    else skip-after time (r .state) base (collect-until-empty max-visits base r)

@@ -13,24 +13,28 @@ use Rattle.srt_group_model.specs.declared.Packet.{Packet}
 use Rattle.srt_group_model.specs.declared.Leg.{Leg}
 use Rattle.srt_group_model.specs.declared.Membership.{Membership}
 
+-- what an answer says of the group
+pub data Shown : Type 0 where
+  -- readiness, pending data, continuation
+  truth : Bool → Shown
+  -- legs sent on, ids, totals, times
+  number : ℕ → Shown
+  -- a timeout, a peer group; none where there is none
+  optional : Option ℕ → Shown
+  -- a member; none where there is none, which code 3 refuses
+  membership : Option Membership → Shown
+  -- all members, in the order of their addition
+  memberships : List Membership → Shown
+
 pub data Answer : Type 0 where
   no-answer : Answer
-  -- readiness, pending data, continuation
-  truth : Bool → Answer
-  -- legs sent on, ids, totals, times
-  number : ℕ → Answer
-  -- a timeout, a peer group; none where there is none
-  optional : Option ℕ → Answer
+  shown : Shown → Answer
   -- of an event poll
   polled : Polled → Answer
   -- of a data poll: the packet, and the continuation
   data-polled : Option Packet → Bool → Answer
   -- of a removal
   leg-back : Leg → Answer
-  -- of a look at a member
-  membership : Membership → Answer
-  -- of a look at all members, in the order of their addition
-  memberships : List Membership → Answer
 
 -- a payload that is written into a cell
 pub record Put : Type 0 where
@@ -65,3 +69,8 @@ code when fails = record { code = code; fails = fails }
 unfoldable pub guard : List Check → State → Step → Step
 guard [] s body = body
 guard (c ∷ cs) s body = if c .fails then refuse (c .code) s else guard cs s body
+
+-- A call that only looks: its codes, and what it shows when none refuses.
+pub record Looking : Type 0 where
+  pub checks : List Check
+  pub shows : Shown

@@ -51,10 +51,52 @@ abbrev pub with-oldest : ℕ → Sender → Sender
 with-oldest n x =
     record { started = x .started; next = x .next; flight = x .flight; window = x .window; oldest = moment n; pace = x .pace }
 
-abbrev pub with-reservation : ℕ → Leg → Leg
-with-reservation n =
+abbrev pub with-window : ℕ → Leg → Leg
+with-window n =
+    on-sender
+    (λ x. record { started = x .started; next = x .next; flight = x .flight; window = n; oldest = x .oldest; pace = x .pace })
+
+abbrev pub with-pace : ℕ → Leg → Leg
+with-pace n =
+    on-sender
+    (λ x.
+    record { started = x .started; next = x .next; flight = x .flight; window = x .window; oldest = x .oldest; pace = moment n })
+
+abbrev pub with-receive-window : ℕ → Leg → Leg
+with-receive-window n =
     on-receiver
-    (λ x. record { first = x .first; window = x .window; latency = x .latency; reserved = n; advanced = x .advanced })
+    (λ x. record { first = x .first; window = n; latency = x .latency; reserved = x .reserved; advanced = x .advanced })
+
+abbrev pub with-latency : ℕ → Leg → Leg
+with-latency n =
+    on-receiver
+    (λ x. record { first = x .first; window = x .window; latency = n; reserved = x .reserved; advanced = x .advanced })
+
+abbrev pub with-receiver-reserved : ℕ → Receiver → Receiver
+with-receiver-reserved n x =
+    record { first = x .first; window = x .window; latency = x .latency; reserved = n; advanced = x .advanced }
+
+abbrev pub with-reservation : ℕ → Leg → Leg
+with-reservation n = on-receiver (with-receiver-reserved n)
+
+abbrev pub with-advanced : ℕ → Receiver → Receiver
+with-advanced n x =
+    record { first = x .first; window = x .window; latency = x .latency; reserved = x .reserved; advanced = n }
+
+abbrev pub with-srtt : ℕ → Leg → Leg
+with-srtt n = on-trip (λ x. record { srtt = n; rttvar = x .rttvar; heard = x .heard })
+
+abbrev pub with-rttvar : ℕ → Leg → Leg
+with-rttvar n = on-trip (λ x. record { srtt = x .srtt; rttvar = n; heard = x .heard })
+
+abbrev pub with-heard : ℕ → Leg → Leg
+with-heard n = on-trip (λ x. record { srtt = x .srtt; rttvar = x .rttvar; heard = moment n })
+
+abbrev pub with-peer : ℕ → Leg → Leg
+with-peer n = on-link (λ x. record { state = x .state; peer = n; limit = x .limit })
+
+abbrev pub with-limit : ℕ → Leg → Leg
+with-limit n = on-link (λ x. record { state = x .state; peer = x .peer; limit = n })
 
 -- ---- what it can do
 
@@ -110,24 +152,24 @@ gives-up-at source l = flagged (not (eqb (l .receiver .latency) 0)) (later sourc
 
 -- ---- what is done to it
 
+-- the sender once one more has gone out: the oldest send time becomes the time if the flight was empty
+abbrev pub after-send : ℕ → Sender → Sender
+after-send time x =
+    record {
+      started = x .started;
+      next = sequence-further (x .next) 1;
+      flight = x .flight + 1;
+      window = x .window;
+      oldest = if eqb (x .flight) 0 then moment time else x .oldest;
+      pace = x .pace;
+    }
+
 -- A send at a sequence fails unless the leg can send, the sequence is its next, and the payload is within its limit.
 unfoldable pub send-shared-with-sequence : (time size sequence : ℕ) → Leg → Option Leg
 send-shared-with-sequence time size sequence l =
-    if can-send l && (eqb sequence (l .sender .next) && leb size (l .link .limit)) then some (sent l) else none
-  where
-    -- next and flight rise by one; the oldest send time becomes the time if the flight was empty
-    sent : Leg → Leg
-    sent =
-        on-sender
-        (λ x.
-        record {
-          started = x .started;
-          next = sequence-further (x .next) 1;
-          flight = x .flight + 1;
-          window = x .window;
-          oldest = if eqb (x .flight) 0 then moment time else x .oldest;
-          pace = x .pace;
-        })
+    if can-send l && (eqb sequence (l .sender .next) && leb size (l .link .limit))
+    then some (on-sender (after-send time) l)
+    else none
 
 -- refused unless the flight is empty; it sets next
 unfoldable pub synchronize-send-sequence : ℕ → Leg → Option Leg
@@ -141,9 +183,7 @@ add-reservation count l = with-reservation (l .receiver .reserved + count) l
 
 -- advancing records the number
 abbrev pub advance-receive-sequence : ℕ → Leg → Leg
-advance-receive-sequence sequence =
-    on-receiver
-    (λ x. record { first = x .first; window = x .window; latency = x .latency; reserved = x .reserved; advanced = sequence })
+advance-receive-sequence sequence = on-receiver (with-advanced sequence)
 
 abbrev pub disconnect-leg : Leg → Leg
 disconnect-leg = with-link-state disconnected
@@ -184,45 +224,13 @@ acknowledge n l = on-sender (with-flight (sequence-distance n (l .sender .next))
 -- 11 payload limit, 12 oldest send time
 unfoldable pub readings : List Reading
 readings =
-    record { field = 1; largest = 2; put = read-state }
-    ∷ record {
-      field = 2;
-      largest = largest-16;
-      put =
-          λ n.
-          on-sender
-          (λ x. record { started = x .started; next = x .next; flight = x .flight; window = n; oldest = x .oldest; pace = x .pace });
-    }
-    ∷ record {
-      field = 3;
-      largest = largest-16;
-      put =
-          λ n.
-          on-receiver
-          (λ x. record { first = x .first; window = n; latency = x .latency; reserved = x .reserved; advanced = x .advanced });
-    }
-    ∷ record {
-      field = 4;
-      largest = largest-64;
-      put =
-          λ n.
-          on-receiver
-          (λ x. record { first = x .first; window = x .window; latency = n; reserved = x .reserved; advanced = x .advanced });
-    }
+    record { field = 1; largest = 2; put = read-state } ∷ record { field = 2; largest = largest-16; put = with-window }
+    ∷ record { field = 3; largest = largest-16; put = with-receive-window }
+    ∷ record { field = 4; largest = largest-64; put = with-latency }
     ∷ record { field = 5; largest = largest-sequence; put = acknowledge }
-    ∷ record { field = 6; largest = largest-32; put = λ n. on-trip (λ x. record { srtt = n; rttvar = x .rttvar; heard = x .heard }) }
-    ∷ record { field = 7; largest = largest-32; put = λ n. on-trip (λ x. record { srtt = x .srtt; rttvar = n; heard = x .heard }) }
-    ∷ record { field = 8; largest = largest-64; put = λ n. on-trip (λ x. record { srtt = x .srtt; rttvar = x .rttvar; heard = moment n }) }
-    ∷ record {
-      field = 9;
-      largest = largest-64;
-      put =
-          λ n.
-          on-sender
-          (λ x. record { started = x .started; next = x .next; flight = x .flight; window = x .window; oldest = x .oldest; pace = moment n });
-    }
-    ∷ record { field = 10; largest = largest-32; put = λ n. on-link (λ x. record { state = x .state; peer = n; limit = x .limit }) }
-    ∷ record { field = 11; largest = largest-16; put = λ n. on-link (λ x. record { state = x .state; peer = x .peer; limit = n }) }
+    ∷ record { field = 6; largest = largest-32; put = with-srtt } ∷ record { field = 7; largest = largest-32; put = with-rttvar }
+    ∷ record { field = 8; largest = largest-64; put = with-heard } ∷ record { field = 9; largest = largest-64; put = with-pace }
+    ∷ record { field = 10; largest = largest-32; put = with-peer } ∷ record { field = 11; largest = largest-16; put = with-limit }
     ∷ record { field = 12; largest = largest-64; put = λ n. on-sender (with-oldest n) } ∷ []
 
 -- the row of that number

@@ -10,7 +10,7 @@ use Rattle.srt_group_model.specs.State.{State}
 use Rattle.srt_group_model.specs.Run.{Mark}
 use Rattle.srt_group_model.specs.Delivery.{nothing, event, packet, max-visits}
 use Rattle.srt_group_model.specs.Sending.{Sent}
-use Rattle.srt_group_model.specs.Guards.{Answer, no-answer, truth, number, optional, polled, data-polled, leg-back, membership, memberships, Put, Step}
+use Rattle.srt_group_model.specs.Guards.{Answer, no-answer, shown, polled, data-polled, leg-back, Put, Step, accept, guard, Looking}
 use Rattle.srt_group_model.specs.Calls.{add-member, mark-member-broken, remove-member-connection, member, refresh-member-states, disconnect, poll-event-call, poll-data-call, send, can-send-call, can-send-with-pacing-call, time-until-send, backup-stability-timeout-micros, group-id, members-call, mode, peer-group-id, skipped-receive-packets, has-pending-data-call, has-receive-continuation, read-leg, queue-data, queue-event}
 use Rattle.srt_group_model.specs.declared.Data.{Data}
 use Rattle.srt_group_model.specs.declared.Event.{Event}
@@ -31,16 +31,12 @@ stored (some p) store = overwritten (p .cell * cell-size) (p .payload) store
 -- the packet that an answer delivers
 unfoldable pub delivered-by : Answer → Option Packet
 delivered-by no-answer = none
-delivered-by (truth b) = none
-delivered-by (number n) = none
-delivered-by (optional o) = none
+delivered-by (shown x) = none
 delivered-by (polled nothing) = none
 delivered-by (polled (event w)) = none
 delivered-by (polled (packet p)) = some p
 delivered-by (data-polled o more) = o
 delivered-by (leg-back l) = none
-delivered-by (membership m) = none
-delivered-by (memberships ms) = none
 
 -- the bytes of a packet's payload
 abbrev pub payload-of : Packet → List ℕ → List ℕ
@@ -96,17 +92,21 @@ pub data Look : Type 0 where
   look-has-pending-data : Look
   look-has-receive-continuation : Look
 
+unfoldable pub looking : Look → State → Looking
+looking (look-member id) s = member id s
+looking (look-time-until-send time) s = time-until-send time s
+looking (look-backup-stability-timeout-micros id) s = backup-stability-timeout-micros id s
+looking look-group-id s = group-id s
+looking look-members s = members-call s
+looking look-mode s = mode s
+looking look-peer-group-id s = peer-group-id s
+looking look-skipped-receive-packets s = skipped-receive-packets s
+looking look-has-pending-data s = has-pending-data-call s
+looking look-has-receive-continuation s = has-receive-continuation s
+
+-- What every look does: it refuses, or shows; either way nothing changes.
 unfoldable pub look-at : Look → State → Step
-look-at (look-member id) s = member id s
-look-at (look-time-until-send time) s = time-until-send time s
-look-at (look-backup-stability-timeout-micros id) s = backup-stability-timeout-micros id s
-look-at look-group-id s = group-id s
-look-at look-members s = members-call s
-look-at look-mode s = mode s
-look-at look-peer-group-id s = peer-group-id s
-look-at look-skipped-receive-packets s = skipped-receive-packets s
-look-at look-has-pending-data s = has-pending-data-call s
-look-at look-has-receive-continuation s = has-receive-continuation s
+look-at look s = let l = looking look s in guard (l .checks) s (accept s (shown (l .shows)))
 
 pub data Call : Type 0 where
   call-add-member : (id weight : ℕ) → Leg → (queue : List Event) → Call

@@ -2,6 +2,7 @@
 pub mod Tools
 pub mod State
 pub mod Accounts
+pub mod Core
 pub mod Legs
 pub mod Members
 pub mod Nearest

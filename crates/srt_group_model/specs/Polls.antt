@@ -17,15 +17,19 @@ use Rattle.srt_group_model.specs.declared.Packet.{Packet}
 abbrev pub delivery-budget : ℕ
 delivery-budget = 32
 
--- the base; while none is set, the nearest packet sets it and is delivered
+-- the nearest packet sets the base, and is delivered
+abbrev pub deliver-nearest : Run → Poll
+deliver-nearest r =
+    if-some nearest (r .state .receive .pending)
+    give (λ p. deliver (sequence-of p) (set-base (some (sequence-of p)) r))
+    otherwise record { gave = nothing; run = r }
+
+-- the packet at the base; while none is set, the nearest
 unfoldable pub deliver-next : ℕ → Run → Poll
 deliver-next time r =
     if-some next-receive-sequence (r .state .receive)
     give (λ base. skip-given-up-gap time base r)
-    otherwise
-    (if-some nearest (r .state .receive .pending)
-    give (λ p. deliver (sequence-of p) (set-base (some (sequence-of p)) r))
-    otherwise record { gave = nothing; run = r })
+    otherwise deliver-nearest r
 
 unfoldable pub poll-event : ℕ → Run → Poll
 poll-event time r =

@@ -16,9 +16,13 @@ use Rattle.srt_group_model.specs.declared.Leg.{Leg}
 abbrev pub is-owned : Packet → Bool
 is-owned p = eqb (p .owned) 1
 
+-- a packet that the group holds itself
+abbrev pub by-group : Packet → Packet
+by-group p = record { member = p .member; owned = 1; content = p .content }
+
 -- a held packet of the member becomes the group's own
 unfoldable pub own-packet : ℕ → Packet → Packet
-own-packet id p = if eqb (p .member) id then record { member = p .member; owned = 1; content = p .content } else p
+own-packet id p = if eqb (p .member) id then by-group p else p
 
 -- the largest receive window, the removed leg's included
 unfoldable pub largest-window : ℕ → List Member → ℕ

@@ -6,7 +6,7 @@ use Prim.Native.Nat.{ℕ, _*_}
 use lib.Dec.{ltb, eqb}
 use Rattle.srt_protocol.specs.Sequence.{sequence-further}
 use Rattle.srt_group_model.specs.Tools.{if_then_else_, if-some_give_otherwise_, is-empty, any, such-that, at-place, each}
-use Rattle.srt_group_model.specs.State.{Member, Send, State, next-send-sequence, with-send, with-members, with-leg, turned, unstable-state, broken-state}
+use Rattle.srt_group_model.specs.State.{Member, Send, State, next-send-sequence, with-send, with-members, with-leg, turned, unstable-state, broken-state, with-sending, with-number}
 use Rattle.srt_group_model.specs.Legs.{is-connected, can-send, send-shared-with-sequence}
 use Rattle.srt_group_model.specs.Members.{id-of, is-active}
 
@@ -70,20 +70,7 @@ unfoldable pub sequence-mismatch : ℕ → List Member → Bool
 sequence-mismatch sequence = any (λ m. not (eqb (m .leg .sender .next) sequence))
 
 abbrev pub with-send-number : ℕ → State → State
-with-send-number n s =
-    with-send
-    record {
-      numbers =
-          record {
-            numbered = 1;
-            next = n;
-            carried = s .send .numbers .carried;
-            carrier = s .send .numbers .carrier;
-            gap = s .send .numbers .gap;
-          };
-      history = s .send .history;
-    }
-    s
+with-send-number n s = with-send (with-sending (with-number n (s .send .numbers)) (s .send)) s
 
 -- 23: the payload is above the limit of the first active leg
 unfoldable pub above-limit : ℕ → List Member → Bool

@@ -158,12 +158,39 @@ with-peer n s =
       waiting = s .waiting;
     }
 
+abbrev pub receive-side : Receiving → List Packet → Receive
+receive-side x ps = record { numbers = x; pending = ps }
+
+-- the base is set, and so many are skipped
+abbrev pub based-at : (base skipped : ℕ) → Receiving
+based-at base skipped = record { based = 1; base = base; skipped = skipped }
+
 abbrev pub with-base : ℕ → Receive → Receive
-with-base n x =
-    record { numbers = record { based = 1; base = n; skipped = x .numbers .skipped }; pending = x .pending }
+with-base n x = receive-side (based-at n (x .numbers .skipped)) (x .pending)
 
 abbrev pub with-pending : List Packet → Receive → Receive
-with-pending ps x = record { numbers = x .numbers; pending = ps }
+with-pending ps x = receive-side (x .numbers) ps
+
+abbrev pub send-side : Sending → List Entry → Send
+send-side x h = record { numbers = x; history = h }
+
+abbrev pub with-sending : Sending → Send → Send
+with-sending x y = send-side x (y .history)
+
+abbrev pub with-history : List Entry → Send → Send
+with-history h y = send-side (y .numbers) h
+
+abbrev pub with-number : ℕ → Sending → Sending
+with-number n x = record { numbered = 1; next = n; carried = x .carried; carrier = x .carrier; gap = x .gap }
+
+abbrev pub with-carrier : ℕ → Sending → Sending
+with-carrier id x = record { numbered = x .numbered; next = x .next; carried = 1; carrier = id; gap = x .gap }
+
+abbrev pub with-gap : ℕ → Sending → Sending
+with-gap n x = record { numbered = x .numbered; next = x .next; carried = x .carried; carrier = x .carrier; gap = n }
+
+abbrev pub entry-of : (sequence cell size time : ℕ) → Entry
+entry-of sequence cell size time = record { sequence = sequence; cell = cell; length = size; source = record { 0 = time } }
 
 abbrev pub with-continuation : Bool → State → State
 with-continuation b s = with-visit record { continuation = bit b; round = s .visit .round } s
@@ -201,11 +228,13 @@ unstable-state = 3
 abbrev pub broken-state : ℕ
 broken-state = 4
 
+abbrev pub with-state : ℕ → Membership → Membership
+with-state n x =
+    record { id = x .id; weight = x .weight; state = n; admitted = x .admitted; account = x .account; collision = x .collision }
+
 -- a member turns to a state
 abbrev pub turned : ℕ → Member → Member
-turned n =
-    on-membership
-    (λ x. record { id = x .id; weight = x .weight; state = n; admitted = x .admitted; account = x .account; collision = x .collision })
+turned n = on-membership (with-state n)
 
 abbrev pub with-account : Account → Membership → Membership
 with-account a x =

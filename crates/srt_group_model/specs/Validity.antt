@@ -8,7 +8,7 @@ use lib.ListN.{length}
 use Rattle.srt_protocol.specs.Handshake.{has-group-mask}
 use Rattle.srt_protocol.specs.Cells.{cell-size}
 use Rattle.srt_group_model.specs.Tools.{if_then_else_, any, such-that, each, total}
-use Rattle.srt_group_model.specs.State.{Member, Making, State}
+use Rattle.srt_group_model.specs.State.{Member, State, Making}
 use Rattle.srt_group_model.specs.Legs.{is-connected, has-sender, no-sequence, largest-sequence, largest-16, largest-32, largest-64}
 use Rattle.srt_group_model.specs.Members.{id-of, has-id}
 use Rattle.srt_group_model.specs.Removal.{is-owned}

@@ -10,10 +10,10 @@ use Rattle.srt_group_model.specs.Legs.{largest-16}
 use Rattle.srt_group_model.specs.Removal.{take-out, remove-member-at, leg-given-back}
 use Rattle.srt_group_model.specs.Validity.{max-pending, max-members}
 use Rattle.srt_connection_members.specs.Members.{members-size, member-at}
-use Rattle.srt_group_shown.specs.Cores.{with-own-account, with-member-count, with-next}
 use Rattle.srt_group_shown.specs.Shown.{Rest, shown}
 use Rattle.srt_group_removal.specs.declared.removal.Removed.{Removed}
 use Rattle.srt_group_removal.specs.Retire.{Held}
+use Rattle.srt_group_model.specs.Core.{with-own-account, with-member-count, with-next}
 
 -- ---- what a removal may rely on, and what it leaves
 

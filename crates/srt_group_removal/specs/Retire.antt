@@ -9,10 +9,10 @@ use Rattle.srt_group_model.specs.declared.Core.{Core}
 use Rattle.srt_group_model.specs.declared.Account.{Account}
 use Rattle.srt_group_model.specs.declared.Packet.{Packet}
 use Rattle.srt_group_model.specs.State.{State}
+use Rattle.srt_group_model.specs.Core.{with-own-account, with-held}
 use Rattle.srt_group_model.specs.Removal.{retire}
 use Rattle.srt_group_model.specs.Validity.{max-pending, ascends}
 use Rattle.srt_group_tables.specs.Packets.{pending-size, packets}
-use Rattle.srt_group_shown.specs.Cores.{with-own-account, with-held}
 use Rattle.srt_group_shown.specs.Shown.{Rest, shown}
 
 -- ---- what retirement may rely on, and what it leaves

@@ -15,7 +15,7 @@ use Rattle.srt_group_model.specs.declared.Sending.{Sending}
 use Rattle.srt_connection_members.specs.Members.{members-of}
 use Rattle.srt_connection.specs.declared.legs.OptionalSequence.{OptionalSequence}
 use Rattle.srt_connection.specs.declared.legs.OptionalSequence.the-variants.{Some, None}
-use Rattle.srt_group_tables.specs.Ring.{Arrays, word-sequence, entries-of}
+use Rattle.srt_group_tables.specs.Ring.{Arrays, word-sequence, send-of}
 use Rattle.srt_group_tables.specs.declared.history.HistoryRing.{HistoryRing}
 
 -- ---- definitions
@@ -57,9 +57,9 @@ could-take-over id x r history l =
 -- the model's answer for a member, whatever else the history's arrays hold
 pub record MemberReady (time : Option ℕ) (x : Sending) (r : HistoryRing) (history : List ℕ) (m : Member) (answer : Bool) : Type 0 where
   pub is : (a : Arrays) → a .history ≡ history
-      → answer ≡ backup-member-ready time record { numbers = x; history = entries-of r a } m
+      → answer ≡ backup-member-ready time (send-of x r a) m
 
 -- the model's answer for every state with these members, these numbers and this history
 pub record BackupReady (n : ℕ) (time : Option ℕ) (x : Sending) (r : HistoryRing) (history t : List ℕ) (answer : Bool) : Type 0 where
   pub is : (s : State) (a : Arrays) → a .history ≡ history → s .members ≡ members-of n t
-      → s .send ≡ record { numbers = x; history = entries-of r a } → answer ≡ backup-send-ready time s
+      → s .send ≡ send-of x r a → answer ≡ backup-send-ready time s

@@ -7,7 +7,7 @@ use lib.Dec.{eqb}
 use lib.ListN.{length}
 use Rattle.srt_protocol.specs.Errors.{outcome-number}
 use Rattle.srt_group_model.specs.Tools.{if_then_else_, is-set, such-that, each}
-use Rattle.srt_group_model.specs.State.{Member, State, with-send, with-members}
+use Rattle.srt_group_model.specs.State.{Member, State, with-send, with-members, with-sending}
 use Rattle.srt_group_model.specs.Members.{is-active}
 use Rattle.srt_group_model.specs.Sending.{Sent, own-send, takes-send, attempt-send, send-broadcast}
 use Rattle.srt_group_model.specs.declared.Sending.{Sending}
@@ -25,16 +25,13 @@ number-for-send x m = if is-set (x .numbered) then x .next else m .leg .sender .
 unfoldable pub is-mismatched : ℕ → Member → Bool
 is-mismatched sequence m = is-active m && not (eqb (m .leg .sender .next) sequence)
 
-abbrev pub with-number : ℕ → Sending → Sending
-with-number n x = record { numbered = 1; next = n; carried = x .carried; carrier = x .carrier; gap = x .gap }
-
 -- what the members that take a send have sent
 unfoldable pub sends-of : (time size sequence : ℕ) → List Member → List Sent
 sends-of time size sequence ms = each (own-send time sequence) (such-that (takes-send time size sequence) ms)
 
 -- what a send leaves of a state: other numbers of the group and other members
 abbrev pub left-by-send : Sending → List Member → State → State
-left-by-send x ms s = with-send record { numbers = x; history = s .send .history } (with-members ms s)
+left-by-send x ms s = with-send (with-sending x (s .send)) (with-members ms s)
 
 -- ---- what a call does to the members and to the list
 

@@ -1,4 +1,3 @@
-pub mod Cores
 pub mod Shown
 pub mod Tables
 pub mod Ready

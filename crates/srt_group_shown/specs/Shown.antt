@@ -1,11 +1,11 @@
 -- The state that the numbers of a poll and the lent tables show. Rows past a count are free and show in nothing.
-use mathlib.Core.List.{List}
+use mathlib.Core.List.{List, []}
 use Prim.Native.Nat.{ℕ}
 use Rattle.srt_group_model.specs.declared.Core.{Core}
 use Rattle.srt_group_model.specs.declared.Identity.{Identity}
 use Rattle.srt_group_model.specs.declared.Sending.{Sending}
 use Rattle.srt_group_model.specs.declared.Entry.{Entry}
-use Rattle.srt_group_model.specs.State.{State, Send, Making}
+use Rattle.srt_group_model.specs.State.{State, Send, Making, receive-side, send-side}
 use Rattle.srt_connection_members.specs.Members.{members-of}
 use Rattle.srt_group_tables.specs.Packets.{packets}
 use Rattle.srt_group_tables.specs.Waitings.{waitings}
@@ -16,7 +16,21 @@ pub record Rest : Type 0 where
   pub send : Send
 
 abbrev pub rest : Identity → Sending → List Entry → Rest
-rest identity sending history = record { identity = identity; send = record { numbers = sending; history = history } }
+rest identity sending history = record { identity = identity; send = send-side sending history }
+
+-- ---- a rest of the state, where one must be named
+
+-- no identity, and this sending side
+abbrev pub remembering : Sending → List Entry → Rest
+remembering sending history = rest record { id = 0; length = 0 } sending history
+
+abbrev pub nothing-sent : Sending
+nothing-sent = record { numbered = 0; next = 0; carried = 0; carrier = 0; gap = 0 }
+
+abbrev pub blank : Rest
+blank = remembering nothing-sent []
+
+-- ---- the state
 
 -- what the group was made of, read from the record
 abbrev pub making-of : Identity → (mode : ℕ) → Making
@@ -27,7 +41,7 @@ shown core others members pending waiting =
     record {
       making = making-of (others .identity) (core .mode);
       peer = core .peer;
-      receive = record { numbers = core .receiving; pending = packets (core .counts .pending) pending };
+      receive = receive-side (core .receiving) (packets (core .counts .pending) pending);
       send = others .send;
       visit = core .visit;
       own = core .own;

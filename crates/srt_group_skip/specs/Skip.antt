@@ -1,52 +1,17 @@
 -- The skip over a gap that is given up, and the delivery at the base: what they give and leave, over every rest of the state and log. Nothing
 -- reads the budget after the queues are collected, so that it is not said what is left of it.
 use mathlib.Core.Path.{_≡_}
-use mathlib.Core.Bool.{Bool, not, _||_}
 use mathlib.Core.List.{List}
-use mathlib.Core.Option.{some}
 use Prim.Native.Nat.{ℕ}
 use lib.ListN.{length}
-use Rattle.srt_protocol.specs.Sequence.{sequence-distance}
 use Rattle.srt_group_model.specs.declared.Core.{Core}
-use Rattle.srt_group_model.specs.Tools.{if-some_give_otherwise_, is-set}
-use Rattle.srt_group_model.specs.State.{State, with-receive}
-use Rattle.srt_group_model.specs.Nearest.{sequence-of, is-held, nearest}
-use Rattle.srt_group_model.specs.Run.{Mark, gap-skipped, Run, on-state, marking, set-base}
-use Rattle.srt_group_model.specs.Delivery.{nothing, deliver, skip-to, gap-given-up}
+use Rattle.srt_group_model.specs.Run.{Mark, Run}
 use Rattle.srt_group_model.specs.Delivery as model
 use Rattle.srt_group_shown.specs.Shown.{Rest, shown}
 use Rattle.srt_group_shown.specs.Tables.{ReceiveTables}
 use Rattle.srt_group_delivery.specs.declared.delivery.Poll.{Poll}
 use Rattle.srt_group_collecting.specs.Leaves.{Usable, under-way}
 use Rattle.srt_group_delivery.specs.Poll.{polled-of}
-
--- ---- the nearest packet
-
--- The base goes to the nearest held packet, which is delivered; `tested` and `time` are those of the give-up test.
-unfoldable pub skip-nearest : (tested : State) (time base : ℕ) → Run → model.Poll
-skip-nearest tested time base r =
-    if-some nearest (r .state .receive .pending)
-    give
-    (λ p.
-    deliver (sequence-of p)
-    (marking (gap-skipped tested time (sequence-distance base (sequence-of p)))
-    (on-state (λ s. with-receive (skip-to base (sequence-of p) (s .receive)) s) r)))
-    otherwise record { gave = nothing; run = r }
-
--- with no base set the nearest held packet sets it, and is delivered
-unfoldable pub deliver-nearest : Run → model.Poll
-deliver-nearest r =
-    if-some nearest (r .state .receive .pending)
-    give (λ p. deliver (sequence-of p) (set-base (some (sequence-of p)) r))
-    otherwise record { gave = nothing; run = r }
-
--- ---- whether the base stays
-
--- it is held, the continuation is asked for, or the gap is not given up
-unfoldable pub base-stays : (time base : ℕ) → State → Bool
-base-stays time base s = is-held base (s .receive .pending) || (is-set (s .visit .continuation) || not (gap-given-up time s))
-
--- ---- a poll from a budget on
 
 -- a poll of the definition gave this answer, and stands at this record and these tables
 pub record GivesState (p : model.Poll) (answer : Poll) (others : Rest) (t : ReceiveTables) : Type 0 where

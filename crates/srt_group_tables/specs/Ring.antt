@@ -9,6 +9,8 @@ use Rattle.srt_group_model.specs.declared.Entry.{Entry}
 use Rattle.srt_group_model.specs.Tools.{if_then_else_}
 use Rattle.srt_group_model.specs.Legs.{largest-sequence}
 use Rattle.srt_group_model.specs.Backup.{max-history, drop-before}
+use Rattle.srt_group_model.specs.State.{Send, send-side, entry-of}
+use Rattle.srt_group_model.specs.declared.Sending.{Sending}
 use Rattle.srt_group_tables.specs.declared.history.HistoryRing.{HistoryRing}
 use Rattle.word_rows.specs.Tab.{tab}
 
@@ -58,12 +60,7 @@ pub record Long (a : Arrays) : Type 0 where
 abbrev pub entry-in : Arrays → ℕ → Entry
 entry-in a k =
     let word = getD (a .history) k 0 in
-    record {
-      sequence = word-sequence word;
-      cell = word-cell word;
-      length = word-length word;
-      source = record { 0 = getD (a .sources) k 0 };
-    }
+    entry-of (word-sequence word) (word-cell word) (word-length word) (getD (a .sources) k 0)
 
 -- the entry i places after the start, round the ring
 abbrev pub entry-at : HistoryRing → Arrays → ℕ → Entry
@@ -72,6 +69,10 @@ entry-at r a i = entry-in a ((r .start + i) % max-history)
 -- the entries in use, oldest first
 abbrev pub entries-of : HistoryRing → Arrays → List Entry
 entries-of r a = tab (r .length) (entry-at r a)
+
+-- what sending moves, as the numbers, the ring and the arrays of the group record show it
+abbrev pub send-of : Sending → HistoryRing → Arrays → Send
+send-of x r a = send-side x (entries-of r a)
 
 -- an entry at a place of the arrays
 abbrev pub with-entry : ℕ → Entry → Arrays → Arrays

@@ -1,6 +1,5 @@
 -- What is proved. A reader who trusts the checker need not read it.
 pub mod Ring
-pub mod Packets
 pub mod PacketIndex
 pub mod PacketLaws
 pub mod Waitings

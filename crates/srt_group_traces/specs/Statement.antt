@@ -1,19 +1,19 @@
 -- What demand 3 says: every definition that the statement of the theorem needs, and no proof. Read Calls first (a call, what it is
 -- lent, what it delivers, lists of calls), then this, then the record in HistoryTheorem.
 use mathlib.Core.Path.{_≡_}
-use mathlib.Core.Bool.{Bool, true, false, _||_}
+use mathlib.Core.Bool.{Bool, true, false}
 use mathlib.Core.List.{List, [], _∷_, _++_}
 use mathlib.Core.Option.{Option, none, some}
 use Prim.Native.Nat.{ℕ, zero, suc, _+_, _-_, _%_, _≤_, _<_}
 use lib.Dec.{leb, eqb}
 use Rattle.srt_protocol.specs.Sequence.{half, sequence-distance, sequence-further}
-use Rattle.srt_group_model.specs.Tools.{if_then_else_, if-some_give_otherwise_, is-set, or-else, all, All}
+use Rattle.srt_group_model.specs.Tools.{if_then_else_, if-some_give_otherwise_, is-set, or-else, All}
 use Rattle.srt_group_model.specs.State.{Member, State, next-receive-sequence, with-continuation, Making}
-use Rattle.srt_group_model.specs.Legs.{is-disconnected, largest-64}
+use Rattle.srt_group_model.specs.Legs.{largest-64}
 use Rattle.srt_group_model.specs.Nearest.{sequence-of, is-held, nearest}
 use Rattle.srt_group_model.specs.Run.{Mark, put, base-set, collected, gap-skipped, delivered, Run, start, refresh-pending-states, refresh-states}
 use Rattle.srt_group_model.specs.Collecting.{collect-until-held, collect-until-empty}
-use Rattle.srt_group_model.specs.Delivery.{leg-gives-up, max-visits}
+use Rattle.srt_group_model.specs.Delivery.{max-visits, given-up-for}
 use Rattle.srt_group_model.specs.Polls.{delivery-budget, poll-event}
 use Rattle.srt_group_model.specs.Lent.{Call, delivered-by}
 use Rattle.srt_group_model.specs.declared.Data.{Data}
@@ -215,7 +215,7 @@ QueuesEmpty s = All (λ (m : Member). m .queue ≡ []) (s .members)
 pub record GivenUp (time : ℕ) (tested : State) : Type 0 where
   pub nearest-then : Packet
   pub is : nearest (tested .receive .pending) ≡ some nearest-then
-  pub passed : (all (λ m. is-disconnected (m .leg)) (tested .members) || leg-gives-up time nearest-then (tested .members)) ≡ true
+  pub passed : given-up-for time nearest-then (tested .members) ≡ true
 
 -- A skip of a call over so far a distance: `when` has the call's time and the state that it began with, `gave` is the packet that
 -- it gave, s the state that it leaves. The test was made at the poll's time, of the state that one of the call's event polls

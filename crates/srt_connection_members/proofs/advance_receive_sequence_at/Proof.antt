@@ -2,7 +2,7 @@
 use mathlib.Core.Path.{ap}
 use borrow.Author.Needs.{needs}
 use Rattle.srt_group_model.specs.declared.Receiver.{Receiver}
-use Rattle.srt_group_model.specs.Legs.{advance-receive-sequence}
+use Rattle.srt_group_model.specs.Legs.{advance-receive-sequence, with-advanced}
 use Rattle.srt_group_model.specs.State.{on-leg}
 use Rattle.srt_connection_members.specs.Members.{member-at}
 use Rattle.srt_connection_members.specs.laws.Members.{changed-by}
@@ -25,11 +25,7 @@ returns c =
     let t = args .members .now in
     changed-by (args .index) t _ (on-leg (advance-receive-sequence (args .sequence)))
     (c .before .before .put-receiver-at .ensures)
-    (ap
-    (λ (x : Receiver).
-    with-receiver
-    record { first = x .first; window = x .window; latency = x .latency; reserved = x .reserved; advanced = args .sequence }
-    (member-at t (args .index)))
+    (ap (λ (x : Receiver). with-receiver (with-advanced (args .sequence) x) (member-at t (args .index)))
     (c .before .before .before .before .receiver-at .ensures))
 
 pub advance-receive-sequence-at-spec : {M : Type 1} → statement M

@@ -20,7 +20,7 @@ use Rattle.srt_connection_queue.specs.declared.queue.LegPoll.the-variant
 use Rattle.word_rows.specs.Tab.{tab}
 use Rattle.word_rows.specs.laws.Tab.{tab-length, tab-pop, tab-push}
 use Rattle.srt_connection_queue.specs.laws.Tab.{tab-place}
-use Rattle.srt_connection_queue.specs.Rows.{part-size, membership-part, link-part, sender-part, receiver-part, first-event-part, row-size, part, put-part, membership-of, link-part-of, sender-of, receiver-of, ring-of, ring-in, event-of, event-words, event-in, queue-of, leg-of, member-parts, member-of, Kept}
+use Rattle.srt_connection_queue.specs.Rows.{part-size, membership-part, link-part, sender-part, receiver-part, first-event-part, row-size, part, put-part, membership-of, link-part-of, sender-of, receiver-of, ring-of, ring-in, event-of, event-words, event-in, queue-of, leg-of, member-parts, member-of, Kept, member-from}
 use Rattle.srt_connection_queue.specs.laws.Rows.{part-long, part-here, part-other, ring-put}
 use Rattle.srt_connection_queue.specs.Queue.{optional-event, popped, enqueued, cleared, Pushed, budget-after, leg-poll, queue-after, Polled}
 
@@ -60,7 +60,7 @@ module _ (r : List ℕ) (long : length r ≡ row-size) where
       → Kept (put-part r receiver-part (ring-in new (part r receiver-part))) (with-queue q (member-of r))
   unfolding member-of member-parts
   ring-shows new q is =
-      kept-as (ring-put r long new) (λ i. record { membership = member-of r .membership; leg = member-of r .leg; queue = is i })
+      kept-as (ring-put r long new) (λ i. with-queue (is i) (member-of r))
 
   pub cleared-is : Kept (put-part r receiver-part (ring-in record { start = 0; length = 0 } (part r receiver-part))) (cleared (member-of r))
   unfolding queue-of tab
@@ -102,7 +102,7 @@ module _ (r : List ℕ) (long : length r ≡ row-size) (ring : Ring) (read : rin
       let q = the-queue ∙ ap (λ (n : ℕ). tab n (in-ring (ring .start) (event-in r))) h in
       record {
         long = long;
-        is = λ i. record { membership = member-of r .membership; leg = member-of r .leg; queue = (q ∙ sym (ap (drop 1) q)) i };
+        is = λ i. with-queue ((q ∙ sym (ap (drop 1) q)) i) (member-of r);
       }
 
   pub push-refused : (e : Event) → max-queued ≤ ring .length → Pushed (member-of r) e (Refused QueueFull) r
@@ -149,16 +149,12 @@ module _ (r : List ℕ) (long : length r ≡ row-size) (ring : Ring) (read : rin
     unfolding member-of member-parts queue-of
     shown =
         λ i.
-        record {
-          membership = membership-of (other membership-part (λ q. omega arith) i);
-          leg =
-              leg-of (link-part-of (other link-part (λ q. omega arith) i)) (sender-of (other sender-part (λ q. omega arith) i))
-              (receiver-of (other receiver-part (λ q. omega arith) i));
-          queue =
-              (ring-append (ring .start) (ring .length) (event-in r) (event-in written) e room there elsewhere
-              ∙ ap (λ (q : List Event). q ++ (e ∷ [])) (sym (the-queue r long ring read)))
-              i;
-        }
+        member-from (membership-of (other membership-part (λ q. omega arith) i))
+        (leg-of (link-part-of (other link-part (λ q. omega arith) i)) (sender-of (other sender-part (λ q. omega arith) i))
+        (receiver-of (other receiver-part (λ q. omega arith) i)))
+        ((ring-append (ring .start) (ring .length) (event-in r) (event-in written) e room there elsewhere
+        ∙ ap (λ (q : List Event). q ++ (e ∷ [])) (sym (the-queue r long ring read)))
+        i)
 
     pub push-accepted : Pushed (member-of r) e Accepted (put-part written receiver-part (ring-in counted (part written receiver-part)))
     push-accepted =
@@ -211,7 +207,7 @@ event-goes budget q left = rw (ne-eqb budget 0 left)
 module _ (r : List ℕ) where
   same-queue : length r ≡ row-size → (q : List Event) → member-of r .queue ≡ q → Kept r (with-queue q (member-of r))
   same-queue long q is =
-      record { long = long; is = λ i. record { membership = member-of r .membership; leg = member-of r .leg; queue = is i } }
+      record { long = long; is = λ i. with-queue (is i) (member-of r) }
 
   pub poll-empty : length r ≡ row-size → (budget : ℕ) → None ≡ optional-event (at-place 0 (member-of r .queue))
       → Polled (member-of r) budget Nothing r

@@ -18,7 +18,7 @@ use Rattle.srt_connection_queue.specs.declared.rows.Ring.{Ring}
 use Rattle.word_rows.specs.laws.Tab.{tab-same}
 use Rattle.word_rows.specs.laws.Rows.{row-length}
 use Rattle.srt_connection_queue.specs.laws.Row.{row-put, row-put-other, put-length}
-use Rattle.srt_connection_queue.specs.Rows.{part-size, membership-part, link-part, sender-part, receiver-part, first-event-part, parts, row-size, word, membership-of, membership-words, link-part-of, link-part-words, sender-of, sender-words, receiver-of, ring-of, receiver-in, ring-in, event-of, part, put-part, event-in, queue-of, leg-of, member-parts, member-of, Kept, with-membership, with-link-trip, with-sender, with-receiver}
+use Rattle.srt_connection_queue.specs.Rows.{part-size, membership-part, link-part, sender-part, receiver-part, first-event-part, parts, row-size, word, membership-of, membership-words, link-part-of, link-part-words, sender-of, sender-words, receiver-of, ring-of, receiver-in, ring-in, event-of, part, put-part, event-in, queue-of, leg-of, member-parts, member-of, Kept, with-membership, with-link-trip, with-sender, with-receiver, member-from}
 
 -- ---- laws of nine words
 
@@ -90,12 +90,7 @@ parts-same : {m n : Membership} {x y : LinkPart} {s t : Sender} {u v : Receiver}
     → v ≡ u → q ≡ p → ((k : ℕ) → g k ≡ f k) → member-parts n y t v q g ≡ member-parts m x s u p f
 unfolding member-parts
 parts-same {p = p} f g a b c d h e =
-    λ i.
-    record {
-      membership = a i;
-      leg = leg-of (b i) (c i) (d i);
-      queue = (ap (λ (ring : Ring). queue-of ring g) h ∙ queue-same p f g e) i;
-    }
+    λ i. member-from (a i) (leg-of (b i) (c i) (d i)) ((ap (λ (ring : Ring). queue-of ring g) h ∙ queue-same p f g e) i)
 
 -- the words w in the place of part k
 module _ (r w : List ℕ) (k : ℕ) (long : length r ≡ row-size) (full : length w ≡ part-size) (there : k < parts) where
@@ -131,7 +126,7 @@ module _ (r : List ℕ) (long : length r ≡ row-size) where
 
   pub link-trip-put : (x : Link) (t : Trip)
       → Kept (put-part r link-part (link-part-words record { link = x; trip = t })) (with-link-trip x t (member-of r))
-  unfolding member-of member-parts leg-of link-part-words link-part-of
+  unfolding member-of member-parts link-part-words link-part-of
   link-trip-put x t =
       let w = link-part-words record { link = x; trip = t } in
       let other = part-other r w link-part long refl (omega arith) in
@@ -148,7 +143,7 @@ module _ (r : List ℕ) (long : length r ≡ row-size) where
       }
 
   pub sender-put : (x : Sender) → Kept (put-part r sender-part (sender-words x)) (with-sender x (member-of r))
-  unfolding member-of member-parts leg-of sender-words sender-of
+  unfolding member-of member-parts sender-words sender-of
   sender-put x =
       let w = sender-words x in
       let other = part-other r w sender-part long refl (omega arith) in
@@ -168,7 +163,7 @@ module _ (r : List ℕ) (long : length r ≡ row-size) where
   receiver-part-long = row-length part-size r receiver-part (omega arith)
 
   pub receiver-put : (x : Receiver) → Kept (put-part r receiver-part (receiver-in x (part r receiver-part))) (with-receiver x (member-of r))
-  unfolding member-of member-parts leg-of
+  unfolding member-of member-parts
   receiver-put x =
       let w = receiver-in x (part r receiver-part) in
       let full = receiver-in-long (part r receiver-part) receiver-part-long x in
@@ -215,17 +210,17 @@ module _ (r : List ℕ) where
   membership-read = refl
 
   pub sender-read : sender-of (part r sender-part) ≡ member-of r .leg .sender
-  unfolding member-of member-parts leg-of
+  unfolding member-of member-parts
   sender-read = refl
 
   pub receiver-read : receiver-of (part r receiver-part) ≡ member-of r .leg .receiver
-  unfolding member-of member-parts leg-of
+  unfolding member-of member-parts
   receiver-read = refl
 
   pub leg-read : (x : LinkPart) (s : Sender) (y : Receiver) → x ≡ link-part-of (part r link-part) → s ≡ member-of r .leg .sender
-      → y ≡ member-of r .leg .receiver → record { link = x .link; sender = s; receiver = y; trip = x .trip } ≡ member-of r .leg
-  unfolding member-of member-parts leg-of
-  leg-read x s y a b c = λ i. record { link = a i .link; sender = b i; receiver = c i; trip = a i .trip }
+      → y ≡ member-of r .leg .receiver → leg-of x s y ≡ member-of r .leg
+  unfolding member-of member-parts
+  leg-read x s y a b c = λ i. leg-of (a i) (b i) (c i)
 
 -- the leg's three parts, one after the other
 pub leg-put : (r₀ r₁ r₂ r₃ : List ℕ) (l : Leg) → Kept r₁ (with-link-trip (l .link) (l .trip) (member-of r₀))

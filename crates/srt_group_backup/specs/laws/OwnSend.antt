@@ -8,8 +8,8 @@ use native.Mathlib.Omega.{arith}
 use lib.ListN.{length}
 use Rattle.srt_protocol.specs.Sequence.{sequence-further}
 use Rattle.srt_group_model.specs.Tools.{if_then_else_, if-some_give_otherwise_, at-place, change}
-use Rattle.srt_group_model.specs.State.{Member, Send, State, with-send, with-members, with-leg}
-use Rattle.srt_group_model.specs.Legs.{moment, send-shared-with-sequence}
+use Rattle.srt_group_model.specs.State.{Member, Send, State, with-send, with-members, with-leg, send-side, with-sending, with-number, with-carrier, entry-of}
+use Rattle.srt_group_model.specs.Legs.{send-shared-with-sequence}
 use Rattle.srt_group_model.specs.Members.{id-of}
 use Rattle.srt_group_model.specs.Sending.{Flow, own-payload, own-send}
 use Rattle.srt_group_model.specs.Backup.{max-history, trim-backup-history, append-history, record-backup-send, send-own}
@@ -24,22 +24,20 @@ use Rattle.srt_connection_members.specs.laws.Members.{members-place, changed-by
 use Rattle.srt_connection.specs.declared.legs.LegResult.{LegResult}
 use Rattle.srt_connection.specs.declared.legs.LegResult.the-variants.{Ok, Err}
 use Rattle.srt_group_members.specs.Scan.{is-some}
-use Rattle.srt_group_tables.specs.Ring.{Arrays, Long, Packs, with-entry, next-place, after-push}
+use Rattle.srt_group_tables.specs.Ring.{Arrays, Long, Packs, with-entry, next-place, after-push, send-of}
 use Rattle.srt_group_tables.specs.laws.Ring.{with-newest, pushed}
 use Rattle.srt_group_tables.specs.declared.history.HistoryRing.{HistoryRing}
 use Rattle.srt_group_sending.specs.SentList.{SendTables, send-tables, sent-row, Wrote}
 use Rattle.srt_group_sending.specs.laws.SentList.{wrote-nothing}
-use Rattle.srt_group_sending.specs.Broadcast.{with-number}
 use Rattle.srt_group_backup.specs.declared.trimming.SendHistory.{SendHistory}
-use Rattle.srt_group_backup.specs.Trimming.{send-of, SendTrimmed}
+use Rattle.srt_group_backup.specs.Trimming.{SendTrimmed}
 use Rattle.srt_group_backup.specs.OwnSend.{after-own-send, SentOn, SendRecorded}
 
 -- ---- definitions
 
 -- the numbers of sending once a send at a sequence was the last, and who carried it
 abbrev pub carried-by : (carrier sequence : ℕ) → Sending → Sending
-carried-by carrier sequence x =
-    record { numbered = 1; next = sequence-further sequence 1; carried = 1; carrier = carrier; gap = x .gap }
+carried-by carrier sequence x = with-carrier carrier (with-number (sequence-further sequence 1) x)
 
 -- ---- the send
 
@@ -87,12 +85,11 @@ module _ (l : Leg) (carrier : ℕ) (e : Entry) (x : Sending) (r : HistoryRing) (
   numbered = send-of (with-number (sequence-further (e .sequence) 1) x) r before
 
   with-entries : List Entry → Send
-  with-entries h = record { numbers = numbers; history = h }
+  with-entries h = send-side numbers h
 
   pub send-recorded : {y : Sending} {ring : HistoryRing} {answer : SendHistory} → after ≡ with-entry (next-place r) e before
       → y ≡ with-number (sequence-further (e .sequence) 1) x → ring ≡ after-push r
-      → SendTrimmed (trim-backup-history l) (after .history)
-      record { numbered = y .numbered; next = y .next; carried = 1; carrier = carrier; gap = y .gap } ring answer
+      → SendTrimmed (trim-backup-history l) (after .history) (with-carrier carrier y) ring answer
       → SendRecorded l carrier e x r before answer after
   unfolding record-backup-send append-history with-newest with-entries
   send-recorded {y} {ring} {answer} stored numbers-are ring-is trimmed =
@@ -102,16 +99,13 @@ module _ (l : Leg) (carrier : ℕ) (e : Entry) (x : Sending) (r : HistoryRing) (
         is =
             λ m leg id.
             trimmed .is after refl
-            ∙ ap (λ (z : Sending). trim-backup-history l (send-of (by-carrier z) ring after)) numbers-are
+            ∙ ap (λ (z : Sending). trim-backup-history l (send-of (with-carrier carrier z) ring after)) numbers-are
             ∙ ap (λ (q : HistoryRing). trim-backup-history l (send-of numbers q after)) ring-is
             ∙ ap (λ (b : Arrays). trim-backup-history l (send-of numbers (after-push r) b)) stored
             ∙ ap (λ (h : List Entry). trim-backup-history l (with-entries h)) (pushed r before e long packs fits)
             ∙ ap (λ (c : ℕ). trim-backup-history l (append-history c e numbered)) (sym id)
             ∙ ap (λ (k : Leg). trim-backup-history k (append-history (id-of m) e numbered)) (sym leg);
       }
-    where
-      by-carrier : Sending → Sending
-      by-carrier z = record { numbered = z .numbered; next = z .next; carried = 1; carrier = carrier; gap = z .gap }
 
 -- ---- the model's send
 
@@ -130,8 +124,8 @@ module _ (time size cell sequence i n : ℕ) (t : List ℕ) (below : i < n) (fai
   pub send-own-succeeded : {u : List ℕ} (l : Leg) (y : Send)
       → send-shared-with-sequence time size sequence (member-at t i .leg) ≡ some l → Changed i (with-leg l) t u
       → y
-      ≡ record-backup-send (with-leg l (member-at t i)) record { sequence = sequence; cell = cell; length = size; source = moment time }
-      record { numbers = with-number (sequence-further sequence 1) (s .send .numbers); history = s .send .history }
+      ≡ record-backup-send (with-leg l (member-at t i)) (entry-of sequence cell size time)
+      (with-sending (with-number (sequence-further sequence 1) (s .send .numbers)) (s .send))
       → send-own time size cell sequence i failed s
       ≡ record { state = with-send y (with-members (members-of n u) s); sends = own-send time sequence (member-at t i) ∷ []; code = 0 }
   unfolding send-own if-some_give_otherwise_
@@ -152,7 +146,7 @@ with-some (some l) is go = go l refl
 module _ (time size cell sequence i n : ℕ) (before after : SendTables) (below : i < n) (failed : Member → State → Flow) (s : State)
     (ms : s .members ≡ members-of n (before .members)) where
   abbrev own-entry : Entry
-  own-entry = record { sequence = sequence; cell = cell; length = size; source = moment time }
+  own-entry = entry-of sequence cell size time
 
   pub send-own-met : (x : Sending) (r : HistoryRing) (a b : Arrays) {l : Leg} {carrier : ℕ} {answer : SendHistory} (sent : ℕ)
       → s .send ≡ send-of x r a → SentOn time size sequence i sent before true after
@@ -181,11 +175,11 @@ module _ (time size cell sequence i n : ℕ) (before after : SendTables) (below 
       all-recorded : (k : Leg) → send-shared-with-sequence time size sequence (m .leg) ≡ some k
           → send-of (answer .sending) (answer .ring) b
           ≡ record-backup-send (with-leg k m) own-entry
-          record { numbers = with-number (sequence-further sequence 1) (s .send .numbers); history = s .send .history }
+          (with-sending (with-number (sequence-further sequence 1) (s .send .numbers)) (s .send))
       all-recorded k succeeds =
           recorded .is (with-leg k m) (sent-leg k succeeds) id
           ∙ ap
           (λ (y : Send).
           record-backup-send (with-leg k m) own-entry
-          record { numbers = with-number (sequence-further sequence 1) (y .numbers); history = y .history })
+          (with-sending (with-number (sequence-further sequence 1) (y .numbers)) y))
           (sym sends)

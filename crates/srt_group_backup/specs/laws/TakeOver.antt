@@ -33,7 +33,7 @@ use Rattle.srt_connection_members.specs.laws.Members.{members-place}
 use Rattle.srt_connection.specs.declared.legs.LegResult.{LegResult}
 use Rattle.srt_connection.specs.declared.legs.LegResult.the-variants.{Ok, Err}
 use Rattle.srt_group_members.specs.Scan.{is-some, Tried}
-use Rattle.srt_group_tables.specs.Ring.{Arrays, entry-at, entries-of}
+use Rattle.srt_group_tables.specs.Ring.{Arrays, entry-at, entries-of, send-of}
 use Rattle.srt_group_tables.specs.declared.history.HistoryRing.{HistoryRing}
 use Rattle.srt_group_sending.specs.SentList.{send-tables}
 use Rattle.srt_group_sending.specs.laws.SentList.{wrote-nothing}
@@ -42,7 +42,7 @@ use Rattle.srt_group_sending.specs.laws.BackupReadiness.{takes-over-is}
 use Rattle.srt_group_backup.specs.declared.replay.Replayed.{Replayed}
 use Rattle.srt_group_backup.specs.declared.takeover.Flight.{Flight}
 use Rattle.srt_group_backup.specs.declared.trimming.SendHistory.{SendHistory}
-use Rattle.srt_group_backup.specs.Trimming.{send-of, TrimmedByCarrier}
+use Rattle.srt_group_backup.specs.Trimming.{TrimmedByCarrier}
 use Rattle.srt_group_backup.specs.Replay.{EntriesReplayed}
 use Rattle.srt_group_backup.specs.TakeOver.{history-is, send-is, FlightReplayed, CarrierAligned, TookOver}
 

@@ -12,7 +12,7 @@ use Rattle.word_rows.specs.Tab.{tab}
 use Rattle.srt_protocol.specs.Sequence.{sequence-before}
 use Rattle.srt_group_model.specs.Tools.{if_then_else_, if-some_give_otherwise_, bit, at-place}
 use Rattle.srt_group_model.specs.laws.Flag.{unset-none, set-some}
-use Rattle.srt_group_model.specs.State.{Send, backup-carrier, with-send}
+use Rattle.srt_group_model.specs.State.{Send, backup-carrier, with-send, send-side, with-gap}
 use Rattle.srt_group_model.specs.Legs.{has-sender, oldest-unacked-sequence}
 use Rattle.srt_group_model.specs.Members.{find}
 use Rattle.srt_group_model.specs.Backup.{max-history, starts-after, drop-before, trim-backup-history, trim-by-carrier}
@@ -22,10 +22,10 @@ use Rattle.srt_group_model.specs.declared.Sending.{Sending}
 use Rattle.srt_connection_members.specs.Members.{member-at, members-of, found-of}
 use Rattle.srt_connection_members.specs.laws.Members.{members-place, found-some, found-none, found-below}
 use Rattle.srt_connection_members.specs.declared.Found.the-variants.{At, Nothing}
-use Rattle.srt_group_tables.specs.Ring.{Arrays, word-sequence, entry-at, entries-of, Trimmed}
+use Rattle.srt_group_tables.specs.Ring.{Arrays, word-sequence, entry-at, entries-of, Trimmed, send-of}
 use Rattle.srt_group_tables.specs.declared.history.HistoryRing.{HistoryRing}
 use Rattle.srt_group_backup.specs.declared.trimming.SendHistory.{SendHistory}
-use Rattle.srt_group_backup.specs.Trimming.{send-of, front-after, SendTrimmed, TrimmedByCarrier}
+use Rattle.srt_group_backup.specs.Trimming.{front-after, SendTrimmed, TrimmedByCarrier}
 
 -- ---- the gap
 
@@ -64,10 +64,6 @@ module _ (sequence : ℕ) (history : List ℕ) (r : HistoryRing) where
 
 -- ---- one trim
 
-abbrev pub with-gap : ℕ → Sending → Sending
-with-gap gap x =
-    record { numbered = x .numbered; next = x .next; carried = x .carried; carrier = x .carrier; gap = gap }
-
 module _ (l : Leg) (history : List ℕ) (x : Sending) (r : HistoryRing) where
   pub no-sender-none-trimmed : {answer : Bool} → r .length ≤ max-history → answer ≡ has-sender l → answer ≡ false
       → SendTrimmed (trim-backup-history l) history x r record { sending = x; ring = r }
@@ -83,17 +79,14 @@ module _ (l : Leg) (history : List ℕ) (x : Sending) (r : HistoryRing) where
     where
       shown : (a : Arrays) → a .history ≡ history
           → send-of (with-gap gap x) left a
-          ≡ record {
-            numbers = with-gap (bit (starts-after oldest (drop-before oldest (entries-of r a)))) x;
-            history = drop-before oldest (entries-of r a);
-          }
+          ≡ send-side (with-gap (bit (starts-after oldest (drop-before oldest (entries-of r a)))) x) (drop-before oldest (entries-of r a))
       shown a e =
           ap (λ (g : ℕ). send-of (with-gap g x) left a) (gap-is ∙ ap bit (front-is-front oldest history left a e))
-          ∙ ap (λ (h : List Entry). record { numbers = with-gap (bit (starts-after oldest h)) x; history = h }) (trimmed .is a e)
+          ∙ ap (λ (h : List Entry). send-side (with-gap (bit (starts-after oldest h)) x) h) (trimmed .is a e)
 
 -- ---- by the carrier
 
-module _ (x : Sending) (h : List Entry) (y : Send) (is : y ≡ record { numbers = x; history = h }) where
+module _ (x : Sending) (h : List Entry) (y : Send) (is : y ≡ send-side x h) where
   no-carrier : x .carried ≡ 0 → backup-carrier y ≡ none
   no-carrier none-there = rw is (unset-none (x .carried) (x .carrier) none-there)
 

@@ -15,6 +15,7 @@ use Rattle.srt_group_model.specs.laws.Flag.{other-set}
 use Rattle.srt_group_model.specs.laws.Reason.{not-both, or-right, or-yes-left}
 use Rattle.srt_group_model.specs.State.{Member, State, on-leg, on-membership, with-members, with-receive, with-pending, with-waiting, is-backup, turned, broken-state, on-account}
 use Rattle.srt_group_model.specs.Accounts.{reserve}
+use Rattle.srt_group_model.specs.Core.{with-held, with-waiting-count}
 use Rattle.srt_group_model.specs.Legs.{release-data-reservation}
 use Rattle.srt_group_model.specs.Members.{promote-backup-member}
 use Rattle.srt_group_model.specs.Nearest.{sequence-of, has-sequence, is-held, insert}
@@ -25,7 +26,6 @@ use Rattle.srt_group_members.specs.laws.Scan.{became-changed, became-same, beca
 use Rattle.srt_group_tables.specs.Packets.{packets, Holds, found, place-found}
 use Rattle.srt_group_tables.specs.Waitings.{waitings, HoldsWaiting}
 use Rattle.srt_group_tables.specs.declared.pending.Found.the-variants.{At, Nothing}
-use Rattle.srt_group_shown.specs.Cores.{with-held, with-waiting-count}
 use Rattle.srt_group_shown.specs.Shown.{shown}
 use Rattle.srt_group_collecting.specs.Collect.{Retained, receive-of, broken-by, Reported}
 

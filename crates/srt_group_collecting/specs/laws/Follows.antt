@@ -12,11 +12,11 @@ use Rattle.srt_group_model.specs.Sound.{pending-cells, history-cells}
 use Rattle.srt_group_model.specs.laws.CellsMoved.{Moves, Keeps}
 use Rattle.srt_connection_members.specs.Members.{members-of}
 use Rattle.srt_group_tables.specs.Packets.{packets}
-use Rattle.srt_group_shown.specs.Shown.{Rest, shown}
+use Rattle.srt_group_shown.specs.Shown.{Rest, shown, remembering}
 use Rattle.cell_set.specs.Sets.{ShowsCells, Freed}
 use Rattle.cell_set.specs.laws.Shows.{shows-freed, none-freed}
 use Rattle.cell_set.specs.Bits.{set-size}
-use Rattle.srt_group_collecting.specs.Leaves.{remembering, sends}
+use Rattle.srt_group_collecting.specs.Leaves.{sends}
 use Rattle.srt_group_collecting.specs.Follows.{Follows}
 
 -- ---- one after another

@@ -13,6 +13,7 @@ use Rattle.srt_group_model.specs.Tools.{if_then_else_, is-set, bit, is-empty}
 use Rattle.srt_group_model.specs.laws.Flag.{other-set, set-is-not-zero, bit-set, set-bit}
 use Rattle.srt_group_model.specs.laws.Reason.{or-yes-left, or-yes-right, if-true, if-false}
 use Rattle.srt_group_model.specs.State.{State}
+use Rattle.srt_group_model.specs.Core.{continued}
 use Rattle.srt_group_model.specs.Nearest.{is-held}
 use Rattle.srt_group_model.specs.Run.{Mark, Run}
 use Rattle.srt_group_model.specs.Collecting.{collect-one-event, or-continue, has-pending-data, collect-until-held, Emptied as EmptiedRun, collect-until-empty}
@@ -21,14 +22,13 @@ use Rattle.srt_group_model.specs.laws.Sound.{sound-law}
 use Rattle.srt_group_model.specs.Validity.{max-waiting, max-pending}
 use Rattle.srt_group_tables.specs.Packets.{packets, packet-at}
 use Rattle.srt_group_tables.specs.Waitings.{waiting-at}
-use Rattle.srt_group_shown.specs.Cores.{continued}
-use Rattle.srt_group_shown.specs.Shown.{Rest, shown}
+use Rattle.srt_group_shown.specs.Shown.{Rest, shown, blank}
 use Rattle.srt_group_shown.specs.Tables.{ReceiveTables, receive-tables}
 use Rattle.srt_group_shown.specs.laws.Shown.{held-few}
 use Rattle.srt_group_collecting.specs.declared.collecting.Visited.{Visited}
 use Rattle.srt_group_collecting.specs.declared.collecting.Visiting.{Visiting}
 use Rattle.srt_group_collecting.specs.declared.collecting.Emptied.{Emptied}
-use Rattle.srt_group_collecting.specs.Leaves.{blank, Usable, under-way}
+use Rattle.srt_group_collecting.specs.Leaves.{Usable, under-way}
 use Rattle.srt_group_collecting.specs.Visit.{Collects}
 use Rattle.srt_group_collecting.specs.Gather.{Shows, run-of, HeldVisit, Gathers, Empties}
 

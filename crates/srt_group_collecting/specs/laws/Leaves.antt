@@ -9,9 +9,8 @@ use Rattle.srt_group_model.specs.Tools.{each}
 use Rattle.srt_group_model.specs.State.{Member, with-members}
 use Rattle.srt_group_model.specs.Sound.{occurs, Sending-fit, Sound}
 use Rattle.srt_connection_members.specs.Members.{members-of}
-use Rattle.srt_group_shown.specs.Shown.{Rest, shown}
+use Rattle.srt_group_shown.specs.Shown.{Rest, shown, remembering, nothing-sent, blank}
 use Rattle.srt_group_shown.specs.Tables.{ReceiveTables, shown-by}
-use Rattle.srt_group_collecting.specs.Leaves.{remembering, nothing-sent, blank}
 
 -- ---- a rest of the state, where one must be named
 

@@ -13,10 +13,11 @@ use Rattle.srt_group_model.specs.declared.Packet.{Packet}
 use Rattle.srt_group_model.specs.Tools.{if_then_else_, at-place}
 use Rattle.srt_group_model.specs.laws.Reason.{by-test}
 use Rattle.srt_group_model.specs.State.{Member, Receive, State, with-members, with-queue}
+use Rattle.srt_group_model.specs.Core.{with-next, continued}
 use Rattle.srt_group_model.specs.Members.{id-of}
 use Rattle.srt_group_model.specs.laws.Queues.{pop}
 use Rattle.srt_group_model.specs.laws.Steps.{popped}
-use Rattle.srt_group_model.specs.Collecting.{front, is-discarded}
+use Rattle.srt_group_model.specs.Collecting.{front, is-discarded, packet-from, waiting-from}
 use Rattle.srt_group_model.specs.Cells.{used-cells}
 use Rattle.srt_group_model.specs.laws.CellsMoved.{Moves, reported-keeps}
 use Rattle.srt_connection_members.specs.Members.{member-at, Changed}
@@ -24,18 +25,16 @@ use Rattle.srt_connection_members.specs.laws.Members.{members-place, changed-by
 use Rattle.srt_connection_queue.specs.Queue.{leg-poll, queue-after}
 use Rattle.srt_connection_queue.specs.laws.Queue.{nothing-goes}
 use Rattle.srt_connection_queue.specs.declared.queue.LegPoll.the-variants.{Nothing, Continuation, Event as PolledEvent}
-use Rattle.srt_group_shown.specs.Cores.{with-next, continued}
-use Rattle.srt_group_shown.specs.Shown.{Rest, shown}
+use Rattle.srt_group_shown.specs.Shown.{Rest, shown, nothing-sent}
 use Rattle.srt_group_shown.specs.Tables.{receive-tables}
 use Rattle.cell_set.specs.Sets.{Freed}
 use Rattle.cell_set.specs.Shows.{freed-by}
 use Rattle.cell_set.specs.laws.Shows.{collected-frees, none-freed}
 use Rattle.cell_set.specs.Bits.{set-size}
-use Rattle.srt_group_collecting.specs.Leaves.{nothing-sent}
 use Rattle.srt_group_collecting.specs.Follows.{Follows}
 use Rattle.srt_group_collecting.specs.laws.Follows.{follows-as, follows-freed}
 use Rattle.srt_group_collecting.specs.Collect.{receive-of}
-use Rattle.srt_group_collecting.specs.Visit.{packet-from, waiting-from, collect-event, freed-by-event, Collected}
+use Rattle.srt_group_collecting.specs.Visit.{collect-event, freed-by-event, Collected}
 use Rattle.srt_group_collecting.specs.laws.Visit.{gave-nothing, gave-continuation, gave-event, queue-goes, queue-stays, members-stay}
 
 -- ---- a packet is held or discarded

@@ -13,10 +13,11 @@ use Rattle.srt_group_model.specs.declared.Core.{Core}
 use Rattle.srt_group_model.specs.declared.Event.{Event}
 use Rattle.srt_group_model.specs.Tools.{if_then_else_, if-some_give_otherwise_, bit, at-place, change}
 use Rattle.srt_group_model.specs.State.{Member, State, with-members, with-round, with-continuation, with-queue}
+use Rattle.srt_group_model.specs.Core.{with-next, continued}
 use Rattle.srt_group_model.specs.Members.{id-of}
 use Rattle.srt_group_model.specs.Run.{Run}
 use Rattle.srt_group_model.specs.laws.Queues.{pop}
-use Rattle.srt_group_model.specs.Collecting.{retain-group-packet, report-event, collect-member-event, in-turn, Visited as VisitedRun, take-front, collect-one-event}
+use Rattle.srt_group_model.specs.Collecting.{retain-group-packet, report-event, collect-member-event, in-turn, Visited as VisitedRun, take-front, collect-one-event, packet-from, waiting-from}
 use Rattle.srt_group_model.specs.Sound.{Sound}
 use Rattle.srt_group_model.specs.laws.Sound.{sound-law, Front-data, front-data}
 use Rattle.srt_group_model.specs.laws.Steps.{collect-one-has}
@@ -28,13 +29,12 @@ use Rattle.srt_connection_queue.specs.laws.Queue.{nothing-goes}
 use Rattle.srt_connection_members.specs.declared.Found.the-variants.{At, Nothing as Nowhere}
 use Rattle.srt_connection_queue.specs.declared.queue.LegPoll.the-variants.{Nothing, Continuation, Event as PolledEvent}
 use Rattle.srt_group_tables.specs.Packets.{packet-at}
-use Rattle.srt_group_shown.specs.Cores.{with-next, continued}
-use Rattle.srt_group_shown.specs.Shown.{shown}
+use Rattle.srt_group_shown.specs.Shown.{shown, blank}
 use Rattle.srt_group_shown.specs.Tables.{receive-tables}
 use Rattle.srt_group_collecting.specs.declared.collecting.Visited.{Visited}
-use Rattle.srt_group_collecting.specs.Leaves.{blank, Usable, under-way}
+use Rattle.srt_group_collecting.specs.Leaves.{Usable, under-way}
 use Rattle.srt_group_collecting.specs.Collect.{Retained, Reported}
-use Rattle.srt_group_collecting.specs.Visit.{packet-from, waiting-from, collect-event, Collectable, Collected, Visits, Collects}
+use Rattle.srt_group_collecting.specs.Visit.{collect-event, Collectable, Collected, Visits, Collects}
 
 -- ---- an event of a member
 

@@ -17,8 +17,9 @@ use Rattle.srt_group_model.specs.declared.Leg.{Leg}
 use Rattle.srt_group_model.specs.declared.Membership.{Membership}
 use Rattle.srt_group_model.specs.declared.Packet.{Packet}
 use Rattle.srt_group_model.specs.Tools.{if_then_else_, if-some_give_otherwise_, or-else, all, first-such, such-that, place-of, at-place}
-use Rattle.srt_group_model.specs.State.{Member, State, with-members, with-receive, with-base, with-pending, on-leg, with-account}
+use Rattle.srt_group_model.specs.State.{Member, State, with-members, with-receive, with-base, with-pending, on-leg, with-account, based-at}
 use Rattle.srt_group_model.specs.Accounts.{release}
+use Rattle.srt_group_model.specs.Core.{with-receiving, with-own-account, with-held}
 use Rattle.srt_group_model.specs.Legs.{is-disconnected, gives-up-at, release-data-reservation, advance-receive-sequence}
 use Rattle.srt_group_model.specs.Members.{has-id, find}
 use Rattle.srt_group_model.specs.Nearest.{sequence-of, nearest, covered, not-covered}
@@ -34,10 +35,9 @@ use Rattle.srt_group_tables.specs.Packets.{packet-at, packets, Holds, FoundPack
 use Rattle.srt_group_tables.specs.laws.PacketLaws.{drop-zero}
 use Rattle.srt_group_tables.specs.declared.pending.Found.{Found}
 use Rattle.srt_group_tables.specs.declared.pending.Found.the-variants.{At as PendingAt, Nothing as NothingPending}
-use Rattle.srt_group_shown.specs.Cores.{with-own-account, with-held, with-base-at}
-use Rattle.srt_group_shown.specs.Shown.{Rest, shown}
+use Rattle.srt_group_shown.specs.Shown.{Rest, shown, blank}
 use Rattle.srt_group_shown.specs.Tables.{receive-tables}
-use Rattle.srt_group_collecting.specs.Leaves.{blank, Usable}
+use Rattle.srt_group_collecting.specs.Leaves.{Usable}
 use Rattle.srt_group_shown.specs.laws.Shown.{held-few}
 use Rattle.srt_group_delivery.specs.Delivery.{Deliverable, leg-given-up, release-member, Released, Delivered}
 
@@ -262,7 +262,7 @@ module _ (core : Core) (ms : List ℕ) (p : Packet) (base run : ℕ) where
 
 -- so many are held, and the base is set
 abbrev pub passed : (held base : ℕ) → Core → Core
-passed held base c = with-held held (with-base-at base c)
+passed held base c = with-receiving (based-at base (c .receiving .skipped)) (with-held held c)
 
 module _ (base : ℕ) (p : Packet) (core : Core) (ms ps : List ℕ) where
   abbrev run : ℕ

@@ -14,16 +14,15 @@ use Rattle.srt_group_model.specs.declared.Packet.{Packet}
 use Rattle.srt_group_model.specs.declared.Waiting.{Waiting}
 use Rattle.srt_group_model.specs.Tools.{if-some_give_otherwise_, is-set, flagged, place-of, at-place}
 use Rattle.srt_group_model.specs.laws.Flag.{other-set}
-use Rattle.srt_group_model.specs.State.{with-waiting}
+use Rattle.srt_group_model.specs.State.{with-waiting, based-at}
+use Rattle.srt_group_model.specs.Core.{with-receiving, with-waiting-count}
 use Rattle.srt_group_model.specs.Nearest.{has-sequence, held-at}
 use Rattle.srt_group_model.specs.Run.{Mark, Run, set-base}
 use Rattle.srt_group_model.specs.Delivery.{nothing, deliver, skip-to, give-waiting}
-use Rattle.srt_group_model.specs.Delivery as model
 use Rattle.srt_connection_queue.specs.laws.Tab.{tab-place, place-below}
 use Rattle.srt_group_tables.specs.Packets.{packet-at, packets, found, place-found}
 use Rattle.srt_group_tables.specs.Waitings.{waiting-at, waitings, HoldsWaiting}
 use Rattle.srt_group_tables.specs.declared.pending.Found.the-variants.{At as PendingAt, Nothing as NothingPending}
-use Rattle.srt_group_shown.specs.Cores.{with-waiting-count, with-numbers}
 use Rattle.srt_group_shown.specs.Shown.{Rest, shown}
 use Rattle.srt_group_shown.specs.Tables.{receive-tables, shown-by}
 use Rattle.srt_group_delivery.specs.declared.delivery.Poll.{Poll}
@@ -32,6 +31,7 @@ use Rattle.srt_group_collecting.specs.Leaves.{under-way}
 use Rattle.srt_group_delivery.specs.Delivery.{Delivered}
 use Rattle.srt_group_delivery.specs.laws.Delivery.{first-place}
 use Rattle.srt_group_delivery.specs.Poll.{Polls, Skips, Bases}
+use Rattle.srt_group_model.specs.Delivery as model
 
 -- ---- what a poll gives
 
@@ -161,6 +161,9 @@ module _ (core : Core) (ms ps ws : List ℕ) where
       }
 
 -- ---- the base is skipped ahead, or first set
+
+abbrev pub with-numbers : (base skipped : ℕ) → Core → Core
+with-numbers base skipped = with-receiving (based-at base skipped)
 
 pub skips : {skipped : ℕ} (base next : ℕ) (core : Core) → skipped ≡ min (core .receiving .skipped + sequence-distance base next) largest-64
     → Skips base next core (with-numbers next skipped core)

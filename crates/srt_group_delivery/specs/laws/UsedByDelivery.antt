@@ -17,11 +17,10 @@ use Rattle.srt_group_model.specs.Sound.{pending-cells}
 use Rattle.srt_group_model.specs.laws.CellsMoved.{delivery-frees}
 use Rattle.srt_group_tables.specs.Packets.{packet-at, packets}
 use Rattle.srt_group_members.specs.laws.Scan.{tab-next, tab-ended}
-use Rattle.srt_group_shown.specs.Shown.{shown}
+use Rattle.srt_group_shown.specs.Shown.{shown, nothing-sent}
 use Rattle.cell_set.specs.Sets.{Freed}
 use Rattle.cell_set.specs.laws.Shows.{none-freed, freed-then}
 use Rattle.cell_set.specs.Bits.{set-size}
-use Rattle.srt_group_collecting.specs.Leaves.{nothing-sent}
 use Rattle.srt_group_collecting.specs.Follows.{Follows}
 use Rattle.srt_group_collecting.specs.laws.Follows.{follows-freed}
 use Rattle.srt_group_tables.specs.laws.PacketLaws.{drop-zero}

@@ -11,7 +11,6 @@ use lib.ListN.{drop}
 use Rattle.word_rows.specs.Tab.{tab}
 use Rattle.srt_group_model.specs.Tools.{if_then_else_, if-some_give_otherwise_, any, all, place-of, change}
 use Rattle.srt_group_model.specs.State.{Member}
-use Rattle.srt_group_model.specs.declared.Membership.{Membership}
 use Rattle.srt_connection_queue.specs.laws.Tab.{tab-found, tab-not-found, place-below}
 use Rattle.srt_connection_members.specs.Members.{member-at, members-of, found-of, Changed}
 use Rattle.srt_connection_members.specs.laws.Members.{members-length, found-some, found-none}
@@ -19,12 +18,6 @@ use Rattle.srt_connection.specs.Answers.{sequence-of}
 use Rattle.srt_connection.specs.declared.legs.OptionalSequence.the-variants.{Some, None}
 use Rattle.srt_connection_members.specs.declared.Found.the-variants.{At, Nothing}
 use Rattle.srt_group_members.specs.Scan.{is-some, Became}
-
--- ---- definitions
-
-abbrev pub with-state : ℕ → Membership → Membership
-with-state n x =
-    record { id = x .id; weight = x .weight; state = n; admitted = x .admitted; account = x .account; collision = x .collision }
 
 -- an answer, as the option that it stands for
 pub sequence-some : (o : Option ℕ) (n : ℕ) → Some n ≡ sequence-of o → o ≡ some n

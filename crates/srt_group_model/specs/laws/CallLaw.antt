@@ -22,9 +22,9 @@ use Rattle.srt_group_model.specs.Removal.{is-owned, retire, take-out}
 use Rattle.srt_group_model.specs.Sending.{with-send-number}
 use Rattle.srt_group_model.specs.Backup.{trim-backup-history, append-history}
 use Rattle.srt_group_model.specs.Validity.{above, max-members, max-waiting, leg-out-of-range, leg-sequence-too-large}
-use Rattle.srt_group_model.specs.Calls.{no-free-cell, taken-cell, new-member, reading-out-of-range, read-field, queue-full, enqueue, data-event, data-unfit, no-data}
+use Rattle.srt_group_model.specs.Calls.{no-free-cell, taken-cell, new-member, reading-out-of-range, read-field, queue-full, enqueue, data-event, data-unfit, lifecycle-event}
 use Rattle.srt_group_model.specs.Lent.{Call, call-add-member, call-remove-member-connection, call-queue-data, call-queue-event}
-use Rattle.srt_group_model.specs.laws.Queues.{pop, packet-of}
+use Rattle.srt_group_model.specs.laws.Queues.{pop, packet-of, waiting-of}
 use Rattle.srt_group_model.specs.declared.Data.{Data}
 use Rattle.srt_group_model.specs.declared.Event.{Event}
 use Rattle.srt_group_model.specs.declared.Entry.{Entry}
@@ -76,7 +76,7 @@ pub record In-front (s : State) (i : ℕ) (m : Member) (e : Event) : Type 0 wher
 -- it is taken from its queue and waits
 abbrev pub reported : ℕ → Member → Event → State → State
 reported i m e s =
-    with-waiting (s .waiting ++ (record { member = id-of m; kind = e .kind; reason = e .reason } ∷ [])) (with-members (change i pop (s .members)) s)
+    with-waiting (s .waiting ++ (waiting-of m e ∷ [])) (with-members (change i pop (s .members)) s)
 
 -- ---- the moves
 
@@ -140,7 +140,7 @@ pub record Call-law (c : Call) (cells : ℕ) (P : Option ℕ → State → List 
       → P none (with-members (change i (λ x. on-leg (add-reservation (d .count)) (enqueue (data-event cell (length payload) d) x)) (s .members)) s) log
   pub queues-event : {hand : Option ℕ} {log : List Mark} (s : State) (i : ℕ) (m : Member) (id kind reason : ℕ) → c ≡ call-queue-event id kind reason → at-place i (s .members) ≡ some m
       → queue-full m ≡ false → eqb kind 0 ≡ false → above 3 kind ≡ false → above largest-32 reason ≡ false → P hand s log
-      → P hand (with-members (change i (enqueue record { kind = kind; reason = reason; content = no-data }) (s .members)) s) log
+      → P hand (with-members (change i (enqueue (lifecycle-event kind reason)) (s .members)) s) log
   -- the group's send number is set; the history takes the payload in hand, at its carrier's next number; it loses what a leg has had acknowledged
   pub numbers : {hand : Option ℕ} {log : List Mark} (s : State) (sequence : ℕ) → P hand s log → P hand (with-send-number (sequence-further sequence 1) s) log
   pub remembers : {log : List Mark} (s : State) (i : ℕ) (m : Member) (e : Entry) → at-place i (s .members) ≡ some m → e .sequence ≡ m .leg .sender .next

@@ -22,7 +22,7 @@ use Rattle.srt_group_model.specs.Backup.{max-history, drop-before, trim-
 use Rattle.srt_group_model.specs.Run.{Mark}
 use Rattle.srt_group_model.specs.Cells.{is-data, queue-cells, queued-cells, used-cells, free-cell}
 use Rattle.srt_group_model.specs.Validity.{cell-twice, cell-beyond-store}
-use Rattle.srt_group_model.specs.Calls.{new-member, enqueue, no-data, data-event, no-free-cell, taken-cell}
+use Rattle.srt_group_model.specs.Calls.{new-member, enqueue, data-event, no-free-cell, taken-cell, lifecycle-event}
 use Rattle.srt_group_model.specs.Lent.{Lent, Call, perform}
 use Rattle.srt_group_model.specs.laws.CellLaws.{Lowest, free-cell-is-lowest}
 use Rattle.srt_group_model.specs.laws.Queues.{pop, packet-of}
@@ -177,10 +177,10 @@ takes-free cells s free h n =
     (omega (arith, uses-used cell s, absent cell (used-cells s) (low .unused), one-same cell, room-of cells cell (omega (arith, low .within)))))
     (λ e. omega (arith, h n, one-other cell n e))
 
-none-queued : (n kind reason : ℕ) → eqb kind 0 ≡ false → occurs n (each (λ (x : Event). x .content .cell) (such-that is-data (record { kind = kind; reason = reason; content = no-data } ∷ []))) ≡ 0
+none-queued : (n kind reason : ℕ) → eqb kind 0 ≡ false → occurs n (each (λ (x : Event). x .content .cell) (such-that is-data (lifecycle-event kind reason ∷ []))) ≡ 0
 unfolding such-that each occurs
 none-queued n kind reason h =
-    if-elim (λ (l : List Event). occurs n (each (λ (x : Event). x .content .cell) l) ≡ 0) (eqb kind 0) (record { kind = kind; reason = reason; content = no-data } ∷ []) [] (λ e. not-both e h) (λ e. refl)
+    if-elim (λ (l : List Event). occurs n (each (λ (x : Event). x .content .cell) l) ≡ 0) (eqb kind 0) (lifecycle-event kind reason ∷ []) [] (λ e. not-both e h) (λ e. refl)
 
 one-queued : (n cell size : ℕ) (d : Data) → occurs n (each (λ (x : Event). x .content .cell) (such-that is-data (data-event cell size d ∷ []))) ≡ one cell n
 unfolding such-that each occurs if_then_else_
@@ -235,7 +235,7 @@ cells-moves c cells =
           omega (arith, h n, change-queued n (one cell n) i (λ x. on-leg (add-reservation (d .count)) (enqueue (data-event cell (length payload) d) x)) (s .members) (λ x. omega (arith, enqueued n (data-event cell (length payload) d) x, one-queued n cell (length payload) d)));
       queues-event =
           λ s i m id kind reason is at full some-kind known fits h n.
-          omega (arith, h n, change-queued n 0 i (enqueue record { kind = kind; reason = reason; content = no-data }) (s .members) (λ x. omega (arith, enqueued n record { kind = kind; reason = reason; content = no-data } x, none-queued n kind reason some-kind)));
+          omega (arith, h n, change-queued n 0 i (enqueue (lifecycle-event kind reason)) (s .members) (λ x. omega (arith, enqueued n (lifecycle-event kind reason) x, none-queued n kind reason some-kind)));
       numbers = λ s sequence h. h;
       remembers = λ s i m e at next short fits h n. omega (arith, h n, append-bounded n (id-of m) e (s .send));
       trims = λ s l h n. omega (arith, h n, trim-fewer n l (s .send));

@@ -12,7 +12,6 @@ use Rattle.srt_group_model.specs.Tools.{any, each}
 use Rattle.srt_group_model.specs.laws.Reason.{by-test, or-left, or-right}
 use Rattle.srt_group_model.specs.State.{State}
 use Rattle.srt_group_model.specs.Removal.{retire, take-out}
-use Rattle.srt_group_model.specs.Members.{id-of}
 use Rattle.srt_group_model.specs.Cells.{used-cells}
 use Rattle.srt_group_model.specs.Validity.{max-waiting}
 use Rattle.srt_group_model.specs.Lent.{Lent, Call, perform}
@@ -24,6 +23,7 @@ use Rattle.srt_group_model.specs.laws.CellsKept.{one-same, one-other, ro
 use Rattle.srt_group_model.specs.laws.RangesKept.{drop-short}
 use Rattle.srt_group_model.specs.declared.Packet.{Packet}
 use Rattle.srt_group_model.specs.declared.Waiting.{Waiting}
+use Rattle.srt_group_model.specs.laws.Queues.{waiting-of}
 
 -- ---- held packets and cells
 
@@ -91,7 +91,7 @@ waiting-polls =
       turns = λ s i m at h. h;
       discards = λ s i m e f d g h. h;
       holds = λ s i m e f d g h. h;
-      reports = λ s i m e f d few h. omega (arith, few, length-append (s .waiting) (record { member = id-of m; kind = e .kind; reason = e .reason } ∷ []));
+      reports = λ s i m e f d few h. omega (arith, few, length-append (s .waiting) (waiting-of m e ∷ []));
       gives = λ s h. omega (arith, h, drop-short (s .waiting));
       skips = λ s base p tested time b n near h. h;
       delivers = λ s base p b e h. omega (arith, h, ap (λ (l : List Waiting). length l) (deliver-frame base p s .waiting));

@@ -12,7 +12,7 @@ use Rattle.srt_protocol.specs.Cells.{cell-size, cells-of}
 use Rattle.srt_protocol.specs.Sequence.{sequence-further}
 use Rattle.srt_group_model.specs.Tools.{is-empty, first-such, place-of, at-place, change, each}
 use Rattle.srt_group_model.specs.laws.Reason.{if-elim, if-some-elim, by-test, not-both, and-left, and-right, or-left, or-right, none-some, some-inj, each-to-at, at-change}
-use Rattle.srt_group_model.specs.State.{Member, Receive, Send, State, is-backup, next-receive-sequence, next-send-sequence, with-receive, with-send, with-members, with-peer, with-base, with-round, with-leg, on-leg, turned, pending-state, active-state, standby-state, unstable-state, broken-state}
+use Rattle.srt_group_model.specs.State.{Member, Receive, Send, State, is-backup, next-receive-sequence, next-send-sequence, with-receive, with-send, with-members, with-peer, with-base, with-round, with-leg, on-leg, turned, pending-state, active-state, standby-state, unstable-state, broken-state, with-pending, entry-of}
 use Rattle.srt_group_model.specs.Legs.{largest-16, largest-32, largest-64, handed, goes-back, is-connected, can-send, disconnect-leg, peer-initial-sequence, send-shared-with-sequence}
 use Rattle.srt_group_model.specs.Members.{id-of, has-id, find, in-state, is-active, is-standby, promote-backup-member, promote-if-none, arrives, base-after, peer-after, admit-peer-group, align-member-sequence, steps-from, turn-aligned, settle, requalify, settle-members, break-disconnected, requalify-members}
 use Rattle.srt_group_model.specs.Nearest.{sequence-of, nearest}
@@ -31,7 +31,7 @@ use Rattle.srt_group_model.specs.Lent.{Lent, Call, call-add-member, call
 use Rattle.srt_group_model.specs.laws.Refusals.{guard-elim, guard-passed, look-elim}
 use Rattle.srt_group_model.specs.laws.Frame.{Kept, align-kept, promotion-standby, not-broken, place-passes, active-not-broken, Active-at, first-active-at, take-over-framed, take-over-active, found-stands}
 use Rattle.srt_group_model.specs.laws.Moves.{At-base, Not-held, until-empty-base, until-empty-not-held, skip-base, set-base-base}
-use Rattle.srt_group_model.specs.laws.Queues.{pop, packet-of}
+use Rattle.srt_group_model.specs.laws.Queues.{pop, packet-of, waiting-of}
 use Rattle.srt_group_model.specs.laws.Waits.{waits, Few-wait, none-waits, collect-one-waits, refresh-waits}
 use Rattle.srt_group_model.specs.laws.CallLaw.{Member-move, unmoved, turn, admission, colliding, alignment, catching-up, leg-send, leg-end, leg-reading, Joining, Base-source, first-of, nearest-held, In-front, reported, Poll-law, Call-law}
 use Rattle.srt_group_model.specs.declared.Data.{Data}
@@ -291,11 +291,11 @@ module _ (P : Option ℕ → State → List Mark → Type 0) (law : Poll-law P) 
       (law .holds s i m e f d g h))
     where
       law-receive : State → Packet → Receive
-      law-receive s p = record { numbers = s .receive .numbers; pending = Rattle.srt_group_model.specs.Nearest.insert p (s .receive .pending) }
+      law-receive s p = with-pending (Rattle.srt_group_model.specs.Nearest.insert p (s .receive .pending)) (s .receive)
 
   -- a member whose error or end is reported breaks, and in Backup another is promoted
   pub breaks : (hand : Option ℕ) (log : List Mark) (s : State) (i : ℕ) (m : Member) (e : Event) → P hand (reported i m e s) log
-      → P hand (report-event i record { member = id-of m; kind = e .kind; reason = e .reason } (with-members (change i pop (s .members)) s)) log
+      → P hand (report-event i (waiting-of m e) (with-members (change i pop (s .members)) s)) log
   unfolding report-event
   breaks hand log s i m e h =
       let t = reported i m e s in
@@ -542,7 +542,7 @@ module _ (c : Call) (cells : ℕ) (P : Option ℕ → State → List Mark → Ty
         (λ m at.
         if-some-elim Ended _ _ _
         (λ l k.
-        let entry : Entry = record { sequence = sequence; cell = cell; length = length payload; source = record { 0 = time } } in
+        let entry = entry-of sequence cell (length payload) time in
         let noted : State = with-send (append-history (id-of m) entry (s .send)) s in
         let remembered = law .remembers s i m entry at (at-next time (length payload) sequence (m .leg) l k) short fits (law .puts s cell payload h) in
         let numbered = law .numbers noted sequence remembered in

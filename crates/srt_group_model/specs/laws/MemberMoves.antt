@@ -9,7 +9,7 @@ use lib.Dec.{eqb}
 use Rattle.srt_protocol.specs.Sequence.{sequence-further}
 use Rattle.srt_group_model.specs.Tools.{at-place, change, All}
 use Rattle.srt_group_model.specs.laws.Reason.{if-elim, if-some-elim, some-inj, first-such-of, Each-to, each-to-same, each-to-then, each-to-each, each-to-change}
-use Rattle.srt_group_model.specs.State.{Member, State, on-leg, broken-state}
+use Rattle.srt_group_model.specs.State.{Member, State, on-leg, broken-state, with-leg}
 use Rattle.srt_group_model.specs.Legs.{Reading, readings, reading-of, advance-receive-sequence}
 use Rattle.srt_group_model.specs.Members.{id-of, in-state}
 use Rattle.srt_group_model.specs.Nearest.{covered}
@@ -55,7 +55,7 @@ pub record Same-account (m n : Member) : Type 0 where
 same-account : (m : Member) → Same-account m m
 same-account m = record { id = refl; queue = refl; account = refl; reservation = refl; first = refl; broken = λ b. b }
 
-same-legs : (m : Member) (l : Leg) → Same-leg (m .leg) l → Same-account m record { membership = m .membership; leg = l; queue = m .queue }
+same-legs : (m : Member) (l : Leg) → Same-leg (m .leg) l → Same-account m (with-leg l m)
 same-legs m l h = record { id = refl; queue = refl; account = refl; reservation = ap (λ (x : Receiver). x .reserved) (h .receiver); first = ap (λ (x : Receiver). x .first) (h .receiver); broken = λ b. b }
 
 pub moved-account : {s : State} {m n : Member} → Member-move s m n → Same-account m n

@@ -13,7 +13,7 @@ use Rattle.srt_group_model.specs.State.{Member, State, on-leg, with-queu
 use Rattle.srt_group_model.specs.Members.{id-of, in-state}
 use Rattle.srt_group_model.specs.Legs.{advance-receive-sequence}
 use Rattle.srt_group_model.specs.Run.{Mark, put, base-set, collected, gap-skipped, delivered}
-use Rattle.srt_group_model.specs.Collecting.{retain-group-packet, report-event, front}
+use Rattle.srt_group_model.specs.Collecting.{retain-group-packet, report-event, front, packet-from, waiting-from}
 use Rattle.srt_group_model.specs.Delivery.{release-pending-reservation, advance-legs}
 use Rattle.srt_group_model.specs.laws.Frame.{Carried, All-carried, all-same, all-then, all-change, promote-carried, broken-carried}
 use Rattle.srt_group_model.specs.declared.Event.{Event}
@@ -49,7 +49,11 @@ pop m = with-queue (drop 1 (m .queue)) m
 
 -- the packet that is collected from a member's front event
 abbrev pub packet-of : Member → Event → Packet
-packet-of m e = record { member = id-of m; owned = 0; content = e .content }
+packet-of m e = packet-from (id-of m) e
+
+-- the event that then waits
+abbrev pub waiting-of : Member → Event → Waiting
+waiting-of m e = waiting-from (id-of m) e
 
 abbrev pub is-collected : Mark → Bool
 is-collected (put cell payload) = false

@@ -13,7 +13,7 @@ use Rattle.srt_protocol.specs.Cells.{cell-size}
 use Rattle.srt_group_model.specs.Tools.{if_then_else_, if-some_give_otherwise_, at-place, change, each, without-place, All, any}
 use Rattle.srt_group_model.specs.laws.Flag.{bit-most}
 use Rattle.srt_group_model.specs.laws.Reason.{if-elim, by-test, not-both, none-some, some-inj, and-left, and-right, or-left, or-right, no-either, first-such-of, all-append, neither}
-use Rattle.srt_group_model.specs.State.{Member, Send, State, next-send-sequence, with-receive, with-send, with-members, on-leg}
+use Rattle.srt_group_model.specs.State.{Member, Send, State, next-send-sequence, with-receive, with-send, with-members, on-leg, based-at}
 use Rattle.srt_group_model.specs.Accounts.{reserve}
 use Rattle.srt_group_model.specs.Legs.{Reading, readings, reading-of, goes-back, read-state, acknowledge, handed, disconnect-leg, add-reservation, has-sender, is-connected, oldest-unacked-sequence, largest-sequence, largest-16, largest-32, largest-64, no-sequence}
 use Rattle.srt_group_model.specs.Members.{id-of}
@@ -22,7 +22,7 @@ use Rattle.srt_group_model.specs.Delivery.{skip-to}
 use Rattle.srt_group_model.specs.Removal.{own-packet, retire, take-out}
 use Rattle.srt_group_model.specs.Backup.{max-history, drop-before, trim-backup-history, append-history}
 use Rattle.srt_group_model.specs.Validity.{above, any-above, data-words, leg-words, is-too-large, max-queued, data-out-of-range, event-out-of-range, leg-out-of-range, leg-sequence-too-large, event-words}
-use Rattle.srt_group_model.specs.Calls.{queue-full, enqueue, data-event, data-unfit, no-data, reading-out-of-range, read-field, state-at-addition, new-member}
+use Rattle.srt_group_model.specs.Calls.{queue-full, enqueue, data-event, data-unfit, no-data, reading-out-of-range, read-field, state-at-addition, new-member, lifecycle-event}
 use Rattle.srt_group_model.specs.Lent.{Lent, Call, perform}
 use Rattle.srt_group_model.specs.laws.InRange.{in-range-of, of-in-range}
 use Rattle.srt_group_model.specs.laws.Sums.{all-such-that, inserted-all}
@@ -249,7 +249,7 @@ data-event-fit id cell size d h z =
       sequence = le-ltb largest-sequence (d .sequence) (words .1 .0);
     }
 
-event-event-fit : (kind reason : ℕ) → eqb kind 0 ≡ false → above 3 kind ≡ false → above largest-32 reason ≡ false → Event-fit record { kind = kind; reason = reason; content = no-data }
+event-event-fit : (kind reason : ℕ) → eqb kind 0 ≡ false → above 3 kind ≡ false → above largest-32 reason ≡ false → Event-fit (lifecycle-event kind reason)
 unfolding event-out-of-range event-words any-above any
 event-event-fit kind reason a b c =
     record {
@@ -335,7 +335,7 @@ base-fit s b (first-of i m at a e) h = first-fit (m .leg) (at-fit i m (s .member
 base-fit s b (nearest-held p g e) h = subst (λ (n : ℕ). n ≤ largest-sequence) e (nearest-fit (s .receive .pending) (h .pending) p g .sequence)
 
 -- a base that is set
-based-fit : {n total : ℕ} → n ≤ largest-sequence → Receiving-fit record { based = 1; base = n; skipped = total }
+based-fit : {n total : ℕ} → n ≤ largest-sequence → Receiving-fit (based-at n total)
 based-fit h = record { based = omega arith; base = h }
 
 skips-fit : (s : State) (base : ℕ) (p : Packet) → nearest (s .receive .pending) ≡ some p → Fit s → Fit (with-receive (skip-to base (sequence-of p) (s .receive)) s)

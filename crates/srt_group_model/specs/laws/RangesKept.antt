@@ -13,23 +13,21 @@ use Rattle.srt_group_model.specs.laws.Reason.{if-elim, if-some-elim, non
 use Rattle.srt_group_model.specs.State.{Member, Receive, Send, State, next-send-sequence, with-receive, with-send, with-visit, with-members, with-waiting, with-peer, on-leg, on-membership, on-account}
 use Rattle.srt_group_model.specs.Accounts.{release}
 use Rattle.srt_group_model.specs.Legs.{release-data-reservation, advance-receive-sequence, largest-sequence, largest-32}
-use Rattle.srt_group_model.specs.Members.{id-of}
 use Rattle.srt_group_model.specs.Nearest.{lowest, nearest, covered}
 use Rattle.srt_group_model.specs.Collecting.{front}
 use Rattle.srt_group_model.specs.Delivery.{release-pending-reservation, release-all, advance-legs, deliver-packet, pass-run}
 use Rattle.srt_group_model.specs.Backup.{max-history}
 use Rattle.srt_group_model.specs.Validity.{any-above, event-words, is-too-large, data-out-of-range, event-out-of-range}
 use Rattle.srt_group_model.specs.laws.InRange.{in-range-of}
-use Rattle.srt_group_model.specs.laws.Queues.{pop, packet-of}
+use Rattle.srt_group_model.specs.laws.Queues.{pop, packet-of, waiting-of}
 use Rattle.srt_group_model.specs.laws.Sums.{all-such-that}
-use Rattle.srt_group_model.specs.Sound.{Event-fit, Member-fit, All-fit}
+use Rattle.srt_group_model.specs.Sound.{Event-fit, Member-fit, All-fit, Packet-fit, Entry-fit, Waiting-fit, Receiving-fit, Sending-fit, Fit}
 use Rattle.srt_group_model.specs.laws.Ranges.{further-fits, Option-fit, change-fit, each-fit, flagged-fit}
 use Rattle.srt_group_model.specs.declared.Event.{Event}
 use Rattle.srt_group_model.specs.declared.Packet.{Packet}
 use Rattle.srt_group_model.specs.declared.Account.{Account}
 use Rattle.srt_group_model.specs.declared.Waiting.{Waiting}
 use Rattle.srt_group_model.specs.declared.Visit.{Visit}
-use Rattle.srt_group_model.specs.Sound.{Packet-fit, Entry-fit, Waiting-fit, Receiving-fit, Sending-fit, Fit}
 
 pub number-fit : (s : State) → Fit s → Option-fit (next-send-sequence (s .send))
 number-fit s h = flagged-fit (is-set (s .send .numbers .numbered)) (s .send .numbers .next) (h .sending .next)
@@ -160,7 +158,7 @@ packet-fit m e h k d =
     }
 
 -- an event that is reported
-pub waiting-fit : (m : Member) (e : Event) → Member-fit m → Event-fit e → eqb (e .kind) 0 ≡ false → Waiting-fit record { member = id-of m; kind = e .kind; reason = e .reason }
+pub waiting-fit : (m : Member) (e : Event) → Member-fit m → Event-fit e → eqb (e .kind) 0 ≡ false → Waiting-fit (waiting-of m e)
 unfolding event-out-of-range event-words
 waiting-fit m e h k d =
     let words = in-range-of (event-words e) (or-left (any-above (event-words e)) _ (k .fields)) in

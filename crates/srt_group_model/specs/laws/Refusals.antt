@@ -15,10 +15,10 @@ use Rattle.srt_group_model.specs.Run.{Run}
 use Rattle.srt_group_model.specs.Sending.{Flow, _and-then_, send-broadcast}
 use Rattle.srt_group_model.specs.Backup.{replay-on, replay-flight, align-carrier, take-over-backup-flight, send-own, send-after-promotion, send-at-place, send-backup}
 use Rattle.srt_group_model.specs.Guards.{Answer, no-answer, Put, Step, refuse, accept, Check, guard}
-use Rattle.srt_group_model.specs.Calls.{add-body, add-member, mark-member-broken, remove-body, remove-member-connection, member, refresh-member-states, disconnect, event-poll-body, poll-event-call, data-poll-body, poll-data-call, left-by-send, send-flow, send-body, send, can-send-body, can-send-call, can-send-with-pacing-body, can-send-with-pacing-call, time-until-send, backup-stability-timeout-micros, group-id, members-call, mode, peer-group-id, skipped-receive-packets, has-pending-data-call, has-receive-continuation, read-leg, queue-data-body, queue-data, queue-event}
+use Rattle.srt_group_model.specs.Calls.{add-body, add-member, mark-member-broken, remove-body, remove-member-connection, refresh-member-states, disconnect, event-poll-body, poll-event-call, data-poll-body, poll-data-call, left-by-send, send-flow, send-body, send, can-send-body, can-send-call, can-send-with-pacing-body, can-send-with-pacing-call, read-leg, queue-data-body, queue-data, queue-event}
 use Rattle.srt_group_model.specs.declared.Leg.{Leg}
 use Rattle.srt_group_model.specs.declared.Entry.{Entry}
-use Rattle.srt_group_model.specs.Lent.{Lent, Result, Call, call-add-member, call-mark-member-broken, call-remove-member-connection, call-refresh-member-states, call-disconnect, call-poll-event, call-poll-data-bounded, call-send, call-can-send, call-can-send-with-pacing, Look, look-member, look-time-until-send, look-backup-stability-timeout-micros, look-group-id, look-members, look-mode, look-peer-group-id, look-skipped-receive-packets, look-has-pending-data, look-has-receive-continuation, look-at, call-look, call-read-leg, call-queue-data, call-queue-event, stored, delivered-by, written-out, list-rows, with-bytes, step-of, perform}
+use Rattle.srt_group_model.specs.Lent.{Lent, Result, Call, call-add-member, call-mark-member-broken, call-remove-member-connection, call-refresh-member-states, call-disconnect, call-poll-event, call-poll-data-bounded, call-send, call-can-send, call-can-send-with-pacing, Look, look-at, call-look, call-read-leg, call-queue-data, call-queue-event, stored, delivered-by, written-out, list-rows, with-bytes, step-of, perform}
 
 -- the codes after which nothing has changed
 unfoldable pub changes-nothing : ℕ → Bool
@@ -59,18 +59,8 @@ guard-goes-on c cs s body passes = rw passes
 -- of what a look leaves
 pub look-elim : (P : Step → Type 0) (look : Look) (s : State) → ((code : ℕ) → P (refuse code s))
     → ((answer : Answer) → delivered-by answer ≡ none → P (accept s answer)) → P (look-at look s)
-unfolding look-at member time-until-send backup-stability-timeout-micros group-id members-call mode peer-group-id skipped-receive-packets has-pending-data-call has-receive-continuation delivered-by
-look-elim P (look-member id) s h k =
-    guard-elim P _ s _ h (k _ (if-some-elim (λ (a : Answer). delivered-by a ≡ none) _ _ _ (λ m e. refl) (λ e. refl)))
-look-elim P (look-time-until-send time) s h k = guard-elim P _ s _ h (k _ refl)
-look-elim P (look-backup-stability-timeout-micros id) s h k = guard-elim P _ s _ h (k _ refl)
-look-elim P look-group-id s h k = guard-elim P _ s _ h (k _ refl)
-look-elim P look-members s h k = guard-elim P _ s _ h (k _ refl)
-look-elim P look-mode s h k = guard-elim P _ s _ h (k _ refl)
-look-elim P look-peer-group-id s h k = guard-elim P _ s _ h (k _ refl)
-look-elim P look-skipped-receive-packets s h k = guard-elim P _ s _ h (k _ refl)
-look-elim P look-has-pending-data s h k = guard-elim P _ s _ h (k _ refl)
-look-elim P look-has-receive-continuation s h k = guard-elim P _ s _ h (k _ refl)
+unfolding look-at delivered-by
+look-elim P look s h k = guard-elim P _ s _ h (k _ refl)
 
 pub record Only-looked (s : State) (step : Step) : Type 0 where
   pub state : step .state ≡ s

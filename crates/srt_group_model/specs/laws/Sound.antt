@@ -12,8 +12,7 @@ use lib.ListN.{length}
 use Rattle.srt_protocol.specs.Cells.{max-cells}
 use Rattle.srt_group_model.specs.Tools.{if_then_else_, such-that, at-place, each, total, All}
 use Rattle.srt_group_model.specs.laws.Reason.{if-elim, by-test, not-both, none-some, some-inj, or-right}
-use Rattle.srt_group_model.specs.State.{Member, State, with-send}
-use Rattle.srt_group_model.specs.laws.State.{with-history}
+use Rattle.srt_group_model.specs.State.{Member, State, with-send, with-history}
 use Rattle.srt_group_model.specs.Legs.{largest-sequence, largest-16, largest-32}
 use Rattle.srt_group_model.specs.Members.{id-of}
 use Rattle.srt_group_model.specs.Collecting.{front}

@@ -13,10 +13,10 @@ use Rattle.srt_group_model.specs.State.{Member, State, with-receive, wit
 use Rattle.srt_group_model.specs.Members.{id-of, settle-members, requalify-members}
 use Rattle.srt_group_model.specs.Nearest.{sequence-of, held-at, nearest}
 use Rattle.srt_group_model.specs.Run.{Mark, Run, set-base, admit-connected-peer-groups, refresh-pending-states, refresh-states}
-use Rattle.srt_group_model.specs.Collecting.{retain-group-packet, report-event, collect-member-event, front, Visited, take-front, collect-one-event, collect-until-held, Emptied, collect-until-empty}
+use Rattle.srt_group_model.specs.Collecting.{retain-group-packet, report-event, collect-member-event, front, Visited, take-front, collect-one-event, collect-until-held, Emptied, collect-until-empty, packet-from, waiting-from}
 use Rattle.srt_group_model.specs.Delivery.{Polled, nothing, event, packet, Poll, deliver-packet, deliver, skip-to, give-waiting, skip-after, max-visits, skip-given-up-gap}
 use Rattle.srt_group_model.specs.Polls.{deliver-next, poll-event, DataPoll, pass-events, poll-until-data, poll-data-bounded}
-use Rattle.srt_group_model.specs.laws.Queues.{pop, packet-of}
+use Rattle.srt_group_model.specs.laws.Queues.{pop, packet-of, waiting-of}
 use Rattle.srt_group_model.specs.laws.CallLaw.{In-front, reported, Poll-law}
 use Rattle.srt_group_model.specs.laws.EveryCall.{admits-all, settles, requalifies, retains, breaks}
 use Rattle.srt_group_model.specs.declared.Event.{Event}
@@ -35,7 +35,7 @@ pub record State-law (Good : State → Type 0) : Type 0 where
   pub takes : (s : State) (i : ℕ) (m : Member) (e : Event) → at-place i (s .members) ≡ some m → front (m .queue) ≡ some e
       → eqb (e .kind) 0 ≡ true → Good s → Good (retain-group-packet i (packet-of m e) (popped i s))
   pub reports : (s : State) (i : ℕ) (m : Member) (e : Event) → at-place i (s .members) ≡ some m → front (m .queue) ≡ some e
-      → eqb (e .kind) 0 ≡ false → Good s → Good (report-event i record { member = id-of m; kind = e .kind; reason = e .reason } (popped i s))
+      → eqb (e .kind) 0 ≡ false → Good s → Good (report-event i (waiting-of m e) (popped i s))
   pub delivers : (s : State) (base : ℕ) (p : Packet) → held-at base (s .receive .pending) ≡ some p → Good s → Good (deliver-packet base p s)
   pub skips : (s : State) (base : ℕ) (p : Packet) → nearest (s .receive .pending) ≡ some p → Good s → Good (with-receive (skip-to base (sequence-of p) (s .receive)) s)
   pub bases : (s : State) (p : Packet) → nearest (s .receive .pending) ≡ some p → Good s → Good (with-receive (with-base (sequence-of p) (s .receive)) s)
@@ -78,8 +78,8 @@ module _ (Good : State → Type 0) (law : State-law Good) where
   refresh-has r h = law .requalifies _ (refresh-pending-has r h)
 
   collect-member-has : (i id : ℕ) (e : Event) (r : Run)
-      → (eqb (e .kind) 0 ≡ true → Good (retain-group-packet i record { member = id; owned = 0; content = e .content } (r .state)))
-      → (eqb (e .kind) 0 ≡ false → Good (report-event i record { member = id; kind = e .kind; reason = e .reason } (r .state)))
+      → (eqb (e .kind) 0 ≡ true → Good (retain-group-packet i (packet-from id e) (r .state)))
+      → (eqb (e .kind) 0 ≡ false → Good (report-event i (waiting-from id e) (r .state)))
       → Has (collect-member-event i id e r)
   unfolding collect-member-event
   collect-member-has i id e r f g = if-elim Has _ _ _ (λ k. f k) (λ k. g k)

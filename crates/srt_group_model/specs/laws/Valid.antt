@@ -11,7 +11,7 @@ use Rattle.srt_protocol.specs.Handshake.{has-group-mask}
 use Rattle.srt_protocol.specs.Cells.{cells-of, max-cells}
 use Rattle.srt_group_model.specs.Tools.{if_then_else_, any, such-that, each, total}
 use Rattle.srt_group_model.specs.laws.Reason.{or-left, neither, no-either, all-map, all-two, none-of, of-none}
-use Rattle.srt_group_model.specs.State.{Member, Making, State}
+use Rattle.srt_group_model.specs.State.{Member, State, Making}
 use Rattle.srt_group_model.specs.Legs.{largest-sequence}
 use Rattle.srt_group_model.specs.Cells.{queued-cells, used-cells}
 use Rattle.srt_group_model.specs.Validity.{is-too-large, any-above, is-blank, max-members, max-queued, max-pending, max-waiting, counts, long-queue, count-above-limit, event-sequence-too-large, member-sequence-too-large, sequence-too-large, one-twice, id-twice, ascends, held-sequence-twice, cell-twice, cell-beyond-store, reserved-sum-wrong, making-words, group-words, record-out-of-range, data-out-of-range, event-out-of-range, membership-words, membership-out-of-range, member-out-of-range, packet-words, packet-out-of-range, entry-words, entry-out-of-range, waiting-words, waiting-out-of-range, field-out-of-range, rules-outside-cells, rules-of-cells, broken-rules, is-invalid}

@@ -11,7 +11,7 @@ use Rattle.srt_group_model.specs.Tools.{is-empty}
 use Rattle.srt_group_model.specs.laws.Reason.{if-elim, if-some-elim, not-both}
 use Rattle.srt_group_model.specs.State.{Member, State}
 use Rattle.srt_group_model.specs.Run.{Run, set-base, admit-connected-peer-groups, refresh-pending-states, refresh-states}
-use Rattle.srt_group_model.specs.Collecting.{retain-group-packet, report-event, collect-member-event, Visited, take-front, collect-one-event}
+use Rattle.srt_group_model.specs.Collecting.{retain-group-packet, report-event, collect-member-event, Visited, take-front, collect-one-event, packet-from, waiting-from}
 use Rattle.srt_group_model.specs.Validity.{max-waiting}
 use Rattle.srt_group_model.specs.declared.Event.{Event}
 use Rattle.srt_group_model.specs.declared.Packet.{Packet}
@@ -32,8 +32,8 @@ collect-member-waits : (i id : ℕ) (e : Event) (r : Run) → One-more r (collec
 unfolding collect-member-event report-event
 collect-member-waits i id e r =
     if-elim (One-more r) _ _ _
-    (λ h. omega (arith, ap (λ (l : List Waiting). length l) (retain-waits i record { member = id; owned = 0; content = e .content } (r .state))))
-    (λ h. omega (arith, length-append (r .state .waiting) (record { member = id; kind = e .kind; reason = e .reason } ∷ [])))
+    (λ h. omega (arith, ap (λ (l : List Waiting). length l) (retain-waits i (packet-from id e) (r .state))))
+    (λ h. omega (arith, length-append (r .state .waiting) (waiting-from id e ∷ [])))
 
 take-front-waits : (i : ℕ) (m : Member) (r : Run) → One-more r (take-front i m r .run)
 unfolding take-front

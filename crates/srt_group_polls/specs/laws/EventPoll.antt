@@ -11,6 +11,7 @@ use Rattle.srt_group_model.specs.declared.Sending.{Sending}
 use Rattle.srt_group_model.specs.Tools.{if_then_else_, bit, is-empty}
 use Rattle.srt_group_model.specs.laws.Reason.{if-elim}
 use Rattle.srt_group_model.specs.State.{with-continuation}
+use Rattle.srt_group_model.specs.Core.{continued}
 use Rattle.srt_group_model.specs.Sound.{Sending-fit, Sound}
 use Rattle.srt_group_model.specs.Run.{Mark, Run, refresh-pending-states, refresh-states}
 use Rattle.srt_group_model.specs.Collecting.{collect-until-held}
@@ -20,7 +21,6 @@ use Rattle.srt_group_model.specs.Polls.{delivery-budget, deliver-next, poll-eve
 use Rattle.srt_group_model.specs.laws.Steps.{refresh-has, give-waiting-has, deliver-next-has}
 use Rattle.srt_group_model.specs.laws.Sound.{sound-law}
 use Rattle.srt_group_tables.specs.Waitings.{waiting-at}
-use Rattle.srt_group_shown.specs.Cores.{continued}
 use Rattle.srt_group_shown.specs.Shown.{Rest, shown}
 use Rattle.srt_group_shown.specs.Tables.{receive-tables}
 use Rattle.srt_group_collecting.specs.declared.collecting.Gathered.{Gathered}

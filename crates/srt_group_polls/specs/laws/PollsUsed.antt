@@ -8,7 +8,6 @@ use Rattle.srt_group_model.specs.declared.Sending.{Sending}
 use Rattle.srt_group_model.specs.laws.CellsMoved.{refresh-pending-keeps, refresh-keeps}
 use Rattle.srt_group_model.specs.Run.{refresh-pending-states, refresh-states}
 use Rattle.cell_set.specs.Bits.{set-size}
-use Rattle.srt_group_shown.specs.Cores.{continued}
 use Rattle.srt_group_shown.specs.Tables.{receive-tables}
 use Rattle.srt_group_delivery.specs.declared.delivery.Poll.{Poll}
 use Rattle.srt_group_collecting.specs.Leaves.{sends, under-way}
@@ -17,6 +16,7 @@ use Rattle.srt_group_collecting.specs.laws.Follows.{follows-kept}
 use Rattle.srt_group_polls.specs.Refresh.{Refreshes}
 use Rattle.srt_group_polls.specs.declared.polls.Passed.{Passed}
 use Rattle.srt_group_polls.specs.DataPoll.{Passes}
+use Rattle.srt_group_model.specs.Core.{continued}
 
 module _ (sending : Sending) (core after : Core) (ms ms′ ps used : List ℕ) (long : length used ≡ set-size) where
   pub follows-refreshed : Refreshes (sends sending) refresh-states core ms after ms′ → Follows core ms ps used after ms′ ps used

@@ -10,6 +10,7 @@ use Rattle.srt_group_model.specs.declared.Counts.{Counts}
 use Rattle.srt_group_model.specs.declared.Sending.{Sending}
 use Rattle.srt_group_model.specs.Tools.{is-set, flagged, each}
 use Rattle.srt_group_model.specs.State.{Member, State, next-send-sequence, with-members, with-peer}
+use Rattle.srt_group_model.specs.Core.{with-peer-group}
 use Rattle.srt_group_model.specs.Members.{base-after, peer-after, admit-peer-group, settle-members, requalify-members}
 use Rattle.srt_group_model.specs.Sound.{Sending-fit, Sound}
 use Rattle.srt_group_model.specs.Run.{Mark, Run, set-base, on-members, admit-connected-peer-groups, refresh-pending-states, refresh-states}
@@ -20,10 +21,9 @@ use Rattle.srt_connection_members.specs.Members.{members-of}
 use Rattle.srt_group_members.specs.declared.admission.Admission.{Admission}
 use Rattle.srt_group_members.specs.Admission.{Admitted, base-in}
 use Rattle.srt_group_members.specs.Scan.{Became}
-use Rattle.srt_group_shown.specs.Cores.{with-peer-group}
-use Rattle.srt_group_shown.specs.Shown.{Rest, shown}
+use Rattle.srt_group_shown.specs.Shown.{Rest, shown, remembering}
 use Rattle.srt_group_shown.specs.Tables.{receive-tables}
-use Rattle.srt_group_collecting.specs.Leaves.{remembering, every, sends, Usable, under-way, At}
+use Rattle.srt_group_collecting.specs.Leaves.{every, sends, Usable, under-way, At}
 use Rattle.srt_group_collecting.specs.laws.Leaves.{sound-with, sound-blank, members-shown}
 use Rattle.srt_group_delivery.specs.Poll.{Bases}
 use Rattle.srt_group_polls.specs.Refresh.{Refreshes}

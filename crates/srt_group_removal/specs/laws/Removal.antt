@@ -31,11 +31,10 @@ use Rattle.srt_connection_members.specs.laws.Members.{members-length, members-p
 use Rattle.srt_connection_queue.specs.laws.Tab.{all-tab}
 use Rattle.srt_connection_members.specs.declared.Found.the-variants.{At}
 use Rattle.srt_group_tables.specs.Packets.{pending-size, packet-at, packets, Holds}
-use Rattle.srt_group_shown.specs.Shown.{Rest, shown}
+use Rattle.srt_group_shown.specs.Shown.{Rest, shown, blank}
 use Rattle.srt_group_shown.specs.laws.Shown.{held-few}
 use Rattle.srt_group_removal.specs.declared.removal.Removed.{Removed}
 use Rattle.srt_group_removal.specs.Retire.{Held, Retires}
-use Rattle.srt_group_removal.specs.laws.Retire.{no-rest}
 use Rattle.srt_group_removal.specs.Removal.{Removable, taken-out, TakesOut, Removes}
 
 -- ---- a sound state gives what a removal relies on
@@ -126,7 +125,7 @@ module _ (i : ℕ) (core : Core) (ms ps : List ℕ) (may : Removable i core ms p
     (takes : TakesOut i core ms ps taken ms₁ ps₁) where
   own-after : each (own-packet (id-of (member-at ms i))) (packets (core .counts .pending) ps) ≡ packets (taken .counts .pending) ps₁
   unfolding take-out
-  own-after = ap (λ (s : State). s .receive .pending) (takes .state no-rest [])
+  own-after = ap (λ (s : State). s .receive .pending) (takes .state blank [])
 
   pub taken-held : Held taken ps₁
   taken-held =

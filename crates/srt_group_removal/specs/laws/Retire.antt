@@ -25,18 +25,8 @@ use Rattle.srt_connection_queue.specs.laws.Tab.{tab-place}
 use Rattle.srt_group_tables.specs.Packets.{packet-at, packets, packet-found, Holds, FoundPacket}
 use Rattle.srt_group_tables.specs.declared.pending.Found.{Found}
 use Rattle.srt_group_tables.specs.declared.pending.Found.the-variants.{At, Nothing}
-use Rattle.srt_group_shown.specs.Shown.{Rest, shown}
+use Rattle.srt_group_shown.specs.Shown.{Rest, shown, blank}
 use Rattle.srt_group_removal.specs.Retire.{Held, holding, Retires, Retired}
-
--- ---- what retirement may rely on, and what it leaves
-
--- any rest of the group will do where a law reads only the held packets
-abbrev pub no-rest : Rest
-no-rest =
-    record {
-      identity = record { id = 0; length = 0 };
-      send = record { numbers = record { numbered = 0; next = 0; carried = 0; carrier = 0; gap = 0 }; history = [] };
-    }
 
 -- ---- the packet at a place, in an ascending list, is the only one with its sequence
 
@@ -101,7 +91,7 @@ pub still-held : (p : Packet) (core after : Core) (ps ps′ : List ℕ) → Held
 unfolding retire
 still-held p core after ps ps′ held one =
     let same : such-that (λ q. not (has-sequence (sequence-of p) q)) (packets (core .counts .pending) ps) ≡ packets (after .counts .pending) ps′ =
-    ap (λ (s : State). s .receive .pending) (one .retires .state no-rest [] [])
+    ap (λ (s : State). s .receive .pending) (one .retires .state blank [] [])
     in
     record {
       pending-long = omega (arith, held .pending-long, one .retires .pending-long);

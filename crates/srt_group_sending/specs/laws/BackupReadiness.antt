@@ -11,7 +11,7 @@ use lib.Dec.{eqb}
 use lib.ListN.{getD}
 use Rattle.word_rows.specs.laws.Tab.{tab-length}
 use Rattle.srt_group_model.specs.Tools.{if_then_else_, if-some_give_otherwise_, or-else, place-of, at-place}
-use Rattle.srt_group_model.specs.State.{Member}
+use Rattle.srt_group_model.specs.State.{Member, send-side}
 use Rattle.srt_group_model.specs.laws.Flag.{set-is-not-zero, unset-none, set-some}
 use Rattle.srt_group_model.specs.Legs.{has-sender, can-send, remaining-window-packets}
 use Rattle.srt_group_model.specs.Members.{id-of, is-active, first-active, promotion}
@@ -29,7 +29,7 @@ use Rattle.srt_connection.specs.declared.legs.OptionalSequence.the-variants.{So
 use Rattle.srt_connection_members.specs.declared.Found.the-variants.{At, Nothing}
 use Rattle.srt_group_members.specs.laws.Scan.{sequence-some, sequence-none, found-row}
 use Rattle.srt_group_members.specs.laws.Rank.{promotion-below}
-use Rattle.srt_group_tables.specs.Ring.{Arrays, word-sequence, entry-at, entries-of}
+use Rattle.srt_group_tables.specs.Ring.{Arrays, word-sequence, entry-at, entries-of, send-of}
 use Rattle.srt_group_tables.specs.declared.history.HistoryRing.{HistoryRing}
 use Rattle.srt_group_sending.specs.BackupReadiness.{is-other-carrier, send-number, front-sequence, replay-length, replay-sequence, gap-allows, sequence-in, stands-at, could-take-over, MemberReady, BackupReady}
 
@@ -44,7 +44,7 @@ unfolding is-other-carrier if-some_give_otherwise_
 other-carrier id x h = sym (rw (set-some (x .carried) (x .carrier) h))
 
 -- whether a member takes over, whatever the history is
-pub takes-over-is : (id : ℕ) (x : Sending) (h : List Entry) → is-other-carrier id x ≡ takes-over id record { numbers = x; history = h }
+pub takes-over-is : (id : ℕ) (x : Sending) (h : List Entry) → is-other-carrier id x ≡ takes-over id (send-side x h)
 unfolding is-other-carrier takes-over
 takes-over-is id x h = refl
 
@@ -164,7 +164,7 @@ front-is r a = by (decLt 0 (r .length))
     by (no h) = rw (tab-past (r .length) (entry-at r a) 0 (omega arith), eq-eqb (r .length) 0 (omega arith))
 
 by-parts : (time : Option ℕ) (x : Sending) (r : HistoryRing) (a : Arrays) (m : Member)
-    → backup-member-ready time record { numbers = x; history = entries-of r a } m
+    → backup-member-ready time (send-of x r a) m
     ≡ (ready-to-send time (m .leg) && (has-sender (m .leg) && could-take-over (id-of m) x r (a .history) (m .leg)))
 unfolding backup-member-ready takes-over could-take-over gap-allows replay-length replay-sequence stands-at is-other-carrier
 by-parts time x r a m = rw (tab-length (r .length) (entry-at r a), front-is r a)
@@ -172,7 +172,7 @@ by-parts time x r a m = rw (tab-length (r .length) (entry-at r a), front-is r a)
 module _ (time : Option ℕ) (x : Sending) (r : HistoryRing) (history : List ℕ) (m : Member) {leg : Leg} {can : Bool}
     (is-leg : leg ≡ m .leg) (is-can : can ≡ ready-to-send time leg) where
   member-parts : (a : Arrays) → a .history ≡ history
-      → backup-member-ready time record { numbers = x; history = entries-of r a } m
+      → backup-member-ready time (send-of x r a) m
       ≡ (can && (eqb (leg .sender .started) 1 && could-take-over (id-of m) x r history leg))
   member-parts a e =
       by-parts time x r a m

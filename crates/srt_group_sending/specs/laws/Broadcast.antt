@@ -15,7 +15,7 @@ use Rattle.srt_protocol.specs.Sequence.{sequence-further}
 use Rattle.srt_protocol.specs.declared.error.Outcome.the-variants.{Accepted, Refused}
 use Rattle.srt_protocol.specs.declared.error.Error.the-variants.{NoActiveMember, SequenceMismatch, AllBroadcastFailed}
 use Rattle.srt_group_model.specs.Tools.{if_then_else_, if-some_give_otherwise_, is-set, flagged, is-empty, any, such-that, place-of, at-place, each}
-use Rattle.srt_group_model.specs.State.{Member, Send, State, with-leg, turned, unstable-state, broken-state}
+use Rattle.srt_group_model.specs.State.{Member, Send, State, with-leg, turned, unstable-state, broken-state, with-number}
 use Rattle.srt_group_model.specs.laws.Flag.{zero-unset, other-set}
 use Rattle.srt_group_model.specs.Legs.{is-connected, can-send, send-shared-with-sequence}
 use Rattle.srt_group_model.specs.Members.{is-active, first-active}
@@ -36,7 +36,7 @@ use Rattle.srt_group_members.specs.laws.Scan.{found-row, any-at, any-nowhere}
 use Rattle.srt_group_sending.specs.declared.broadcast.BroadcastSend.{BroadcastSend}
 use Rattle.srt_group_sending.specs.SentList.{sent-row, sent-rows, SendTables, send-tables, Wrote}
 use Rattle.srt_group_sending.specs.laws.SentList.{wrote-nothing, wrote-length, wrote-then, wrote-rows}
-use Rattle.srt_group_sending.specs.Broadcast.{number-for-send, is-mismatched, with-number, sends-of, left-by-send, AttemptedAt, Attempted, SentBroadcast}
+use Rattle.srt_group_sending.specs.Broadcast.{number-for-send, is-mismatched, sends-of, left-by-send, AttemptedAt, Attempted, SentBroadcast}
 
 -- ---- a leg that failed
 

@@ -17,9 +17,9 @@ use Rattle.srt_group_model.specs.State.{State, with-receive}
 use Rattle.srt_group_model.specs.Nearest.{sequence-of, is-held, nearest}
 use Rattle.srt_group_model.specs.Run.{Mark, gap-skipped, Run, on-state, marking, set-base}
 use Rattle.srt_group_model.specs.Collecting.{Emptied as EmptiedRun, collect-until-empty}
-use Rattle.srt_group_model.specs.Delivery.{deliver, skip-to, give-waiting, gap-given-up, skip-after, max-visits, skip-given-up-gap}
+use Rattle.srt_group_model.specs.Delivery.{deliver, skip-to, give-waiting, gap-given-up, skip-nearest, skip-after, max-visits, base-stays, skip-given-up-gap}
 use Rattle.srt_group_model.specs.Delivery as model
-use Rattle.srt_group_model.specs.Polls.{deliver-next}
+use Rattle.srt_group_model.specs.Polls.{deliver-nearest, deliver-next}
 use Rattle.srt_group_model.specs.laws.Steps.{skip-has, deliver-next-has}
 use Rattle.srt_group_model.specs.Sound.{Sound}
 use Rattle.srt_group_model.specs.laws.Sound.{sound-law}
@@ -28,17 +28,17 @@ use Rattle.srt_group_tables.specs.Packets.{packet-at, packets, packet-found, Fo
 use Rattle.srt_group_tables.specs.Waitings.{waiting-at}
 use Rattle.srt_group_tables.specs.declared.pending.Found.{Found}
 use Rattle.srt_group_tables.specs.declared.pending.Found.the-variants.{At as PendingAt, Nothing as NothingPending}
-use Rattle.srt_group_shown.specs.Shown.{Rest, shown}
+use Rattle.srt_group_shown.specs.Shown.{Rest, shown, blank}
 use Rattle.srt_group_shown.specs.Tables.{ReceiveTables, receive-tables}
 use Rattle.srt_group_collecting.specs.declared.collecting.Emptied.{Emptied}
 use Rattle.srt_group_delivery.specs.declared.delivery.Poll.{Poll}
-use Rattle.srt_group_collecting.specs.Leaves.{blank, every, Usable, under-way}
+use Rattle.srt_group_collecting.specs.Leaves.{every, Usable, under-way}
 use Rattle.srt_group_collecting.specs.Gather.{Empties}
 use Rattle.srt_group_collecting.specs.laws.Gather.{tab-full, tab-spent, neither, run-is}
 use Rattle.srt_group_delivery.specs.Delivery.{Deliverable}
 use Rattle.srt_group_delivery.specs.Poll.{Gives, Polls, Skips, Bases}
 use Rattle.srt_group_delivery.specs.laws.Poll.{nothing-given, gives-nothing}
-use Rattle.srt_group_skip.specs.Skip.{skip-nearest, deliver-nearest, base-stays, GivesState, PollsFrom}
+use Rattle.srt_group_skip.specs.Skip.{GivesState, PollsFrom}
 
 -- ---- what a delivery may rely on, after a step that leaves the tables alone
 
@@ -105,11 +105,11 @@ module _ (r : Run) (p : Packet) (near : nearest (r .state .receive .pending) ≡
       ≡ deliver (sequence-of p)
       (marking (gap-skipped tested time (sequence-distance base (sequence-of p)))
       (on-state (λ s. with-receive (skip-to base (sequence-of p) (s .receive)) s) r))
-  unfolding skip-nearest if-some_give_otherwise_
+  unfolding if-some_give_otherwise_
   nearest-skipped-to tested time base = rw near
 
   nearest-delivered : deliver-nearest r ≡ deliver (sequence-of p) (set-base (some (sequence-of p)) r)
-  unfolding deliver-nearest if-some_give_otherwise_
+  unfolding if-some_give_otherwise_
   nearest-delivered = rw near
 
 module _ (core : Core) (ms ps ws : List ℕ) {r : Found} (near : FoundPacket ps (core .counts .pending) r (nearest (packets (core .counts .pending) ps))) where
@@ -118,12 +118,12 @@ module _ (core : Core) (ms ps ws : List ℕ) {r : Found} (near : FoundPacket ps 
     none-near = sym (near .is) ∙ ap (packet-found ps) e
 
     pub none-to-skip-to : (tested : State) (time base : ℕ) → Polls (skip-nearest tested time base) core (receive-tables ms ps ws) (nothing-given core) (receive-tables ms ps ws)
-    unfolding skip-nearest if-some_give_otherwise_
+    unfolding if-some_give_otherwise_
     none-to-skip-to tested time base =
         gives-nothing (skip-nearest tested time base) core ms ps ws (λ others log budget. rw none-near)
 
     pub none-to-deliver : Polls deliver-nearest core (receive-tables ms ps ws) (nothing-given core) (receive-tables ms ps ws)
-    unfolding deliver-nearest if-some_give_otherwise_
+    unfolding if-some_give_otherwise_
     none-to-deliver = gives-nothing deliver-nearest core ms ps ws (λ others log budget. rw none-near)
 
   module _ (i : ℕ) (e : r ≡ PendingAt i) {p : Packet} (is : p ≡ packet-at ps i) (after : Core) (answer : Poll) (ms′ ps′ : List ℕ) where
@@ -185,7 +185,7 @@ module _ (emptied : Bool) (tested : State) (time base : ℕ) (r : Run) where
 
   module _ (none-waits : not (is-empty (r .state .waiting)) ≡ false) where
     ended-empty : emptied ≡ true → skip-from emptied tested time base r ≡ skip-nearest tested time base r
-    unfolding skip-after skip-nearest if_then_else_
+    unfolding skip-after if_then_else_
     ended-empty yes-emptied = rw (none-waits, yes-emptied)
 
     not-ended : emptied ≡ false → skip-from emptied tested time base r ≡ deliver base r
@@ -301,12 +301,12 @@ module _ (f : Run → model.Poll) (sound : Keeps-sound f) (core : Core) (budget 
 
 module _ (time base : ℕ) (r : Run) where
   gap-kept : base-stays time base (r .state) ≡ true → skip-given-up-gap time base r ≡ deliver base r
-  unfolding skip-given-up-gap base-stays if_then_else_
+  unfolding skip-given-up-gap if_then_else_
   gap-kept stays = rw stays
 
   gap-tested : base-stays time base (r .state) ≡ false
       → skip-given-up-gap time base r ≡ skip-after time (r .state) base (collect-until-empty max-visits base r)
-  unfolding skip-given-up-gap base-stays if_then_else_
+  unfolding skip-given-up-gap if_then_else_
   gap-tested goes = rw goes
 
 emptied-is : (x : EmptiedRun) (w : Bool) (s : State) (b : ℕ) → x .emptied ≡ w → x .run .state ≡ s → x .run .budget ≡ b
@@ -365,7 +365,7 @@ module _ (time : ℕ) (r : Run) where
   from-base set = rw (other-set (r .state .receive .numbers .based) set)
 
   from-nearest : r .state .receive .numbers .based ≡ 0 → deliver-next time r ≡ deliver-nearest r
-  unfolding deliver-next deliver-nearest flagged if-some_give_otherwise_
+  unfolding deliver-next flagged if-some_give_otherwise_
   from-nearest unset = rw unset
 
 module _ (time : ℕ) (core : Core) (budget : ℕ) (ms ps ws : List ℕ) (answer : Poll) where

@@ -16,10 +16,10 @@ use Rattle.srt_group_model.specs.Run.{Run}
 use Rattle.srt_group_model.specs.Delivery.{skip-to, give-waiting}
 use Rattle.srt_group_model.specs.Delivery as model
 use Rattle.cell_set.specs.Bits.{set-size}
-use Rattle.srt_group_shown.specs.Shown.{shown}
+use Rattle.srt_group_shown.specs.Shown.{shown, nothing-sent}
 use Rattle.srt_group_shown.specs.Tables.{receive-tables}
 use Rattle.srt_group_delivery.specs.declared.delivery.Poll.{Poll}
-use Rattle.srt_group_collecting.specs.Leaves.{nothing-sent, under-way}
+use Rattle.srt_group_collecting.specs.Leaves.{under-way}
 use Rattle.srt_group_delivery.specs.Poll.{Polls, Skips, Bases}
 use Rattle.srt_group_collecting.specs.Follows.{Follows}
 use Rattle.srt_group_collecting.specs.laws.Follows.{follows-counted, follows-kept}

@@ -15,8 +15,8 @@ use Rattle.srt_protocol.specs.laws.CellLaws.{overwritten-length, overwritten-el
 use Rattle.srt_group_model.specs.declared.Packet.{Packet}
 use Rattle.srt_group_model.specs.Nearest.{sequence-of}
 use Rattle.srt_group_model.specs.Validity.{max-pending}
+use Rattle.srt_group_model.specs.Removal.{by-group}
 use Rattle.srt_group_tables.specs.Packets.{pending-size, packet-row-size, index-size, index-rows, packet-of, row-words, packet-at}
-use Rattle.srt_group_tables.specs.laws.Packets.{by-group}
 
 abbrev pub cell-of : Packet → ℕ
 cell-of p = p .content .cell

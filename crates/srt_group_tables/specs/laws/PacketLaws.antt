@@ -25,12 +25,11 @@ use Rattle.srt_group_model.specs.Tools.{if_then_else_, if-some_give_otherwise_,
 use Rattle.srt_group_model.specs.Cells.{is-among}
 use Rattle.srt_group_model.specs.Sound.{pending-cells}
 use Rattle.srt_group_model.specs.Nearest.{sequence-of, has-sequence, is-held, insert, lowest, nearest, is-covered, farther, farthest}
-use Rattle.srt_group_model.specs.Removal.{own-packet, is-owned}
+use Rattle.srt_group_model.specs.Removal.{own-packet, is-owned, by-group}
 use Rattle.srt_group_model.specs.Validity.{max-pending, ascends}
 use Rattle.srt_group_tables.specs.declared.pending.Found.{Found}
 use Rattle.srt_group_tables.specs.declared.pending.Found.the-variants.{At, Nothing}
 use Rattle.srt_group_tables.specs.Packets.{pending-size, packet-row-size, index-rows, packet-at, packets, Placed, Holds, found, place-found, packet-found, in-use, FoundPacket, with-owned-packet, count-if, is-held-for, CountsFit}
-use Rattle.srt_group_tables.specs.laws.Packets.{by-group}
 use Rattle.srt_group_tables.specs.laws.PacketIndex.{cell-of, indexed-there, indexed-elsewhere, index-lent, index-back, back-length, closed-low, closed-high, opened-low, opened-high, put-in, put-length, put-there, put-elsewhere, member-word, same-member, owned-same-cell, owned-other-cell}
 
 pub drop-zero : (l : List Packet) → drop 0 l ≡ l

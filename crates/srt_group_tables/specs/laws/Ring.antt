@@ -19,6 +19,7 @@ use Rattle.srt_group_tables.specs.declared.history.HistoryRing.{HistoryR
 use Rattle.word_rows.specs.Tab.{tab}
 use Rattle.word_rows.specs.laws.Tab.{tab-length, tab-front, tab-none, tab-pop, tab-push}
 use Rattle.srt_group_tables.specs.Ring.{entry-word, word-sequence, word-cell, word-length, Packs, Arrays, Long, entry-in, entry-at, entries-of, with-entry, next-place, after-push, Trimmed}
+use Rattle.srt_group_model.specs.State.{entry-of}
 
 -- ---- a word: a sequence, a cell and a length
 
@@ -39,9 +40,9 @@ module _ (sequence cell length : ℕ) (packs : Packs sequence cell length) where
 pub entry-shown : (r : HistoryRing) (a : Arrays) (i at : ℕ) {sequence cell size : ℕ} → at ≡ (r .start + i) % 512
     → sequence ≡ word-sequence (getD (a .history) at 0) → cell ≡ word-cell (getD (a .history) at 0)
     → size ≡ word-length (getD (a .history) at 0)
-    → record { sequence = sequence; cell = cell; length = size; source = record { 0 = getD (a .sources) at 0 } } ≡ entry-at r a i
+    → entry-of sequence cell size (getD (a .sources) at 0) ≡ entry-at r a i
 entry-shown r a i at is sequence cell size =
-    (λ j. record { sequence = sequence j; cell = cell j; length = size j; source = record { 0 = getD (a .sources) at 0 } })
+    (λ j. entry-of (sequence j) (cell j) (size j) (getD (a .sources) at 0))
     ∙ ap (entry-in a) is
 
 -- the model's history after a send: the entry is the newest, and a full history loses its oldest
@@ -76,13 +77,7 @@ module _ (a : Arrays) (k : ℕ) (e : Entry) where
   entry-elsewhere j other =
       let word = getD-set-other (a .history) k j (entry-word (e .sequence) (e .cell) (e .length)) 0 other in
       let source = getD-set-other (a .sources) k j (e .source .0) 0 other in
-      λ i.
-      record {
-        sequence = word-sequence (word i);
-        cell = word-cell (word i);
-        length = word-length (word i);
-        source = record { 0 = source i };
-      }
+      λ i. entry-of (word-sequence (word i)) (word-cell (word i)) (word-length (word i)) (source i)
 
   entry-there : Long a → Packs (e .sequence) (e .cell) (e .length) → k < max-history → entry-in (with-entry k e a) k ≡ e
   entry-there long packs inside =
@@ -91,7 +86,7 @@ module _ (a : Arrays) (k : ℕ) (e : Entry) where
       let cell = ap word-cell word ∙ shows-cell (e .sequence) (e .cell) (e .length) packs in
       let size = ap word-length word ∙ shows-length (e .sequence) (e .cell) (e .length) packs in
       let source = getD-set-same (a .sources) k (e .source .0) 0 (omega (arith, long .sources)) in
-      λ i. record { sequence = sequence i; cell = cell i; length = size i; source = record { 0 = source i } }
+      λ i. entry-of (sequence i) (cell i) (size i) (source i)
 
 module _ (r : HistoryRing) (a : Arrays) where
   front-popped : 0 < r .length → entries-of (popped r) a ≡ drop 1 (entries-of r a)

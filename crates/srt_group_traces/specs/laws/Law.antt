@@ -20,6 +20,7 @@ use Rattle.srt_group_model.specs.Cells.{is-data}
 use Rattle.srt_group_model.specs.declared.Data.{Data}
 use Rattle.srt_group_model.specs.declared.Event.{Event}
 use Rattle.srt_group_model.specs.declared.Packet.{Packet}
+use Rattle.srt_group_model.specs.Removal.{by-group}
 use Rattle.srt_group_traces.specs.laws.Cases.{Each}
 use Rattle.srt_group_traces.specs.laws.Sides.{Side}
 
@@ -33,7 +34,7 @@ ElsewhereThan cell d = d .cell ≡ cell → ⊥
 
 -- a packet as the group's own, and all else as it was
 abbrev pub owned-by-group : Packet → Packet
-owned-by-group p = record { member = p .member; owned = 1; content = p .content }
+owned-by-group = by-group
 
 -- What is held now is among what was held, perhaps now the group's own: whatever holds of each packet, and does not ask who
 -- owns it, holds still.

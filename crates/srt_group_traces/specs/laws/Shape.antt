@@ -13,12 +13,13 @@ use lib.ListN.{length, drop}
 use Rattle.srt_protocol.specs.Sequence.{sequence-distance, sequence-further}
 use Rattle.srt_group_model.specs.Tools.{is-set, bit, flagged, is-empty, place-of, at-place, All}
 use Rattle.srt_group_model.specs.State.{Member, State, Receive, next-receive-sequence, next-send-sequence, with-continuation}
+use Rattle.srt_group_model.specs.Core.{continued}
 use Rattle.srt_group_model.specs.Legs.{no-sequence}
 use Rattle.srt_group_model.specs.Members.{find, base-after, align-member-sequence, has-id, found}
 use Rattle.srt_group_model.specs.Nearest.{sequence-of, held-at, is-held, nearest, covered}
 use Rattle.srt_group_model.specs.Run.{Mark, put, base-set, collected, gap-skipped, delivered, Run, start, set-base, admit-connected-peer-groups, refresh-pending-states, refresh-states}
 use Rattle.srt_group_model.specs.Collecting.{in-turn, front, Visited, take-front, collect-one-event, collect-until-held, Emptied, collect-until-empty}
-use Rattle.srt_group_model.specs.Delivery.{gap-given-up, release-pending-reservation, release-all, advance-legs, deliver-packet, pass-run, Polled, nothing, event, packet, Poll, deliver, skip-to, give-waiting, skip-after, max-visits, skip-given-up-gap}
+use Rattle.srt_group_model.specs.Delivery.{gap-given-up, base-stays, release-pending-reservation, release-all, advance-legs, deliver-packet, pass-run, Polled, nothing, event, packet, Poll, deliver, skip-to, give-waiting, skip-after, max-visits, skip-given-up-gap}
 use Rattle.srt_group_model.specs.Polls.{delivery-budget, deliver-next, poll-event, DataPoll, pass-events, poll-until-data, poll-data-bounded}
 use Rattle.srt_group_model.specs.Sending.{Flow}
 use Rattle.srt_group_model.specs.laws.Refusals.{guard-passed, look-elim}
@@ -398,7 +399,7 @@ test-was-true false false false e = not-both {t = true} refl e
 skip-given-up-gap-shape : (when : When) (base : ℕ) (r : Run) → UnderTest when r
     → next-receive-sequence (r .state .receive) ≡ some base → Quiet (r .log)
     → PollShape when (skip-given-up-gap (when .time) base r)
-unfolding skip-given-up-gap
+unfolding skip-given-up-gap base-stays
 skip-given-up-gap-shape when base r under based h =
     if-elim (PollShape when) _ _ _ (λ e. deliver-shape when base r h)
     (λ e.

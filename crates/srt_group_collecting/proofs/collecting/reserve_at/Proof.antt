@@ -6,8 +6,8 @@ use borrow.Author.Needs.{needs}
 use native.Mathlib.Omega.{arith}
 use Rattle.srt_group_collecting.proofs.collecting.reserve_at.Statement.{statement}
 use Rattle.srt_group_collecting.proofs.collecting.reserve_at.Tie as tie
-use Rattle.srt_group_model.specs.State.{with-account}
 use Rattle.srt_group_model.specs.Accounts.{reserve}
+use Rattle.srt_group_model.specs.State.{with-account}
 
 membership-at-requires : tie.Need-membership-at-requires
 membership-at-requires c κs = search needs

@@ -1,10 +1,10 @@
 -- `turn_at` meets its contract: the membership that is put has the state (`membership-changed`).
 use mathlib.Core.Path.{ap}
 use Rattle.srt_connection_members.specs.laws.Members.{membership-changed}
-use Rattle.srt_group_members.specs.laws.Scan.{with-state}
 use borrow.Author.Needs.{needs}
 use Rattle.srt_group_members.proofs.states.turn_at.Statement.{statement}
 use Rattle.srt_group_members.proofs.states.turn_at.Tie as tie
+use Rattle.srt_group_model.specs.State.{with-state}
 
 membership-at-requires : tie.Need-membership-at-requires
 membership-at-requires c κs = search needs

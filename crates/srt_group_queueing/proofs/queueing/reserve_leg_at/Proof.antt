@@ -3,6 +3,7 @@ use mathlib.Core.Path.{ap}
 use Prim.Native.Nat.{_+_}
 use native.Mathlib.Omega.{arith}
 use Rattle.srt_group_model.specs.declared.Receiver.{Receiver}
+use Rattle.srt_group_model.specs.Legs.{with-receiver-reserved}
 use Rattle.srt_connection_members.specs.laws.Members.{receiver-changed}
 use borrow.Author.Needs.{needs}
 use Rattle.srt_group_queueing.proofs.queueing.reserve_leg_at.Statement.{statement}
@@ -24,9 +25,7 @@ same-length c = search needs
 returns : tie.Need-returns
 returns c =
     let count = c .before .before .before .before .before .before .before .before .args .count in
-    let more : Receiver → Receiver =
-    λ x. record { first = x .first; window = x .window; latency = x .latency; reserved = x .reserved + count; advanced = x .advanced }
-    in
+    let more : Receiver → Receiver = λ x. with-receiver-reserved (x .reserved + count) x in
     receiver-changed more (c .before .before .put-receiver-at .ensures) (ap more (c .before .before .before .before .before .receiver-at .ensures))
 
 pub reserve-leg-at-spec : {M : Type 1} → statement M

@@ -1,10 +1,10 @@
 -- `with_number_after` meets its contract.
 use mathlib.Core.Path.{ap}
 use Prim.Native.Nat.{ℕ}
-use Rattle.srt_group_sending.specs.Broadcast.{with-number}
 use borrow.Author.Needs.{needs}
 use Rattle.srt_group_sending.proofs.broadcast.with_number_after.Statement.{statement}
 use Rattle.srt_group_sending.proofs.broadcast.with_number_after.Tie as tie
+use Rattle.srt_group_model.specs.State.{with-number}
 
 word-further-requires : tie.Need-word-further-requires
 word-further-requires c κs = search needs
