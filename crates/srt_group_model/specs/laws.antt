@@ -44,6 +44,7 @@ pub mod CallLaw
 pub mod Waits
 pub mod EveryCall
 pub mod MemberMoves
+pub mod Released
 pub mod Valid
 pub mod Sound
 -- What a poll gives lies in the store.

@@ -28,7 +28,8 @@ use Rattle.srt_group_model.specs.laws.Queues.{pop, packet-of}
 use Rattle.srt_group_model.specs.laws.Steps.{State-law, state-law-of}
 use Rattle.srt_group_model.specs.laws.CallLaw.{Poll-law, Call-law}
 use Rattle.srt_group_model.specs.laws.EveryCall.{call-keeps}
-use Rattle.srt_group_model.specs.laws.MemberMoves.{moved-relabelled, deliver-frame}
+use Rattle.srt_group_model.specs.laws.MemberMoves.{moved-relabelled}
+use Rattle.srt_group_model.specs.laws.Released.{deliver-released, deliver-relabelled}
 use Rattle.srt_group_model.specs.Sound.{room, uses, Within, one, occurs, history-cells}
 use Rattle.srt_group_model.specs.laws.CellsKept.{Apart, apart-of-rules, once-of-apart, inside-of-apart, uses-used, occurs-append, one-same, one-other, absent, relabelled-cells, popped-data, popped-event, inserted, fewer-held, own-cells}
 use Rattle.srt_group_model.specs.declared.Event.{Event}
@@ -158,11 +159,10 @@ Holding bound hand s log = (n : ℕ) → uses n (s .members) (s .receive .pendin
 deliver-cells : (n : ℕ) (s : State) (base : ℕ) (p : Packet) → used n (deliver-packet base p s) ≤ used n s
 unfolding deliver-packet pass-run
 deliver-cells n s base p =
-    let frame = deliver-frame base p s in
     omega (
       arith,
-      ap (occurs n) (relabelled-cells (s .members) _ (frame .members)),
-      ap (kept-in n) (frame .send),
+      ap (occurs n) (relabelled-cells (s .members) _ (deliver-relabelled base p s)),
+      ap (kept-in n) (deliver-released base p s .send),
       fewer-held n (λ q. not (is-covered base (p .content .count) q)) (s .receive .pending),
     )
 

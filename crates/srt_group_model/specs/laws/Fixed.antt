@@ -9,7 +9,7 @@ use Rattle.srt_group_model.specs.Removal.{retire, take-out}
 use Rattle.srt_group_model.specs.Lent.{Lent, Call, perform}
 use Rattle.srt_group_model.specs.laws.CallLaw.{Poll-law, Call-law}
 use Rattle.srt_group_model.specs.laws.EveryCall.{call-keeps}
-use Rattle.srt_group_model.specs.laws.MemberMoves.{deliver-frame}
+use Rattle.srt_group_model.specs.laws.Released.{deliver-released}
 use Rattle.srt_group_model.specs.declared.Identity.{Identity}
 
 abbrev pub Given : Identity → (mode : ℕ) → Option ℕ → State → List Mark → Type 0
@@ -29,7 +29,7 @@ given-polls x mode =
       gives = λ s h. h;
       skips = λ s base p tested time b n near h. h;
       delivers =
-          λ s base p b e h. let frame = deliver-frame base p s in (frame .identity ∙ h .0, frame .mode ∙ h .1);
+          λ s base p b e h. let frame = deliver-released base p s in (frame .identity ∙ h .0, frame .mode ∙ h .1);
     }
 
 pub given-law : (x : Identity) (mode : ℕ) (c : Call) (cells : ℕ) → Call-law c cells (Given x mode)

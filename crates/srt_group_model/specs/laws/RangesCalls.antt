@@ -3,7 +3,7 @@ use mathlib.Core.Path.{_≡_, refl, sym, ap, ap₂, subst, _∙_}
 use mathlib.Core.Bool.{Bool, true, false, not, _&&_, _||_}
 use mathlib.Core.List.{List, [], _∷_}
 use mathlib.Core.Option.{Option, none, some}
-use Prim.Native.Nat.{ℕ, zero, suc, _+_, _≤_, _<_}
+use Prim.Native.Nat.{ℕ, zero, suc, _≤_, _<_}
 use native.Mathlib.Omega.{arith}
 use borrow.Author.Tests.{eqb-true, eq-eqb, ltb-false, le-ltb, leb-true, leb-false, not-false}
 use lib.Dec.{leb, eqb}
@@ -32,7 +32,7 @@ use Rattle.srt_group_model.specs.laws.EveryCall.{call-keeps}
 use Rattle.srt_group_model.specs.laws.Acknowledging.{acknowledged-less}
 use Rattle.srt_group_model.specs.Sound.{Leg-fit, Event-fit, Member-fit, All-fit, Packet-fit, Entry-fit, Waiting-fit, Receiving-fit, Sending-fit, Fit}
 use Rattle.srt_group_model.specs.laws.Ranges.{further-fits, synchronize-fit, send-fit, align-leg-fit, turned-fit, with-leg-fit, at-fit, at-change-fit, source-fit, first-fit, admitted-fit, collided-fit}
-use Rattle.srt_group_model.specs.laws.RangesKept.{number-fit, drop-fit, pop-fit, release-leg-fit, advance-leg-fit, reserved-fit, front-fit, packet-fit, waiting-fit, members-fit, receive-fit, sending-fit, events-fit, peer-fit, visit-fit, delivers-fit, nearest-fit}
+use Rattle.srt_group_model.specs.laws.RangesKept.{number-fit, drop-fit, pop-fit, advance-leg-fit, counted-fit, front-fit, packet-fit, waiting-fit, members-fit, receive-fit, sending-fit, events-fit, peer-fit, visit-fit, delivers-fit, nearest-fit}
 use Rattle.srt_group_model.specs.declared.Leg.{Leg}
 use Rattle.srt_group_model.specs.declared.Data.{Data}
 use Rattle.srt_group_model.specs.declared.Event.{Event}
@@ -374,12 +374,12 @@ fit-polls =
       continues = λ s b h. visit-fit _ s (bit-most b) h;
       turns = λ s i m at h. visit-fit _ s (h .continuation) h;
       discards =
-          λ s i m e f d g h. changes-fit s i m _ (f .stands) (λ k. release-leg-fit (e .content .count) (pop m) (pop-fit m k)) h;
+          λ s i m e f d g h. changes-fit s i m _ (f .stands) (λ k. counted-fit _ _ (pop m) (pop-fit m k)) h;
       holds =
           λ s i m e f d g h.
           let mine = at-fit i m (s .members) (f .stands) (h .members) in
           receive-fit _ _ (inserted-all Packet-fit (packet-of m e) (s .receive .pending) (packet-fit m e mine (front-fit (m .queue) e (f .first) (mine .queue)) d) (h .pending)) (h .receiving)
-          (changes-fit s i m _ (f .stands) (λ k. reserved-fit (λ n. n + e .content .count) (pop m) (pop-fit m k)) h);
+          (changes-fit s i m _ (f .stands) (λ k. counted-fit _ _ (pop m) (pop-fit m k)) h);
       reports = λ s i m e f d few h. reports-fit s i m e f d h;
       gives = λ s h. events-fit _ s (drop-fit Waiting-fit (s .waiting) (h .waiting)) h;
       skips = λ s base p tested time b n near h. skips-fit s base p near h;

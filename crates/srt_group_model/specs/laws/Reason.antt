@@ -150,6 +150,20 @@ module _ {A : Type 0} where
   at-change zero f (x ∷ xs) a e = ap {B = Option A} (λ z. some (f z)) (some-inj e)
   at-change (suc i) f (x ∷ xs) a e = at-change i f xs a e
 
+  -- both lists changed alike, and what holds of each of the first
+  pub each-to-both : (R : A → A → Type 0) (f : A → A) → ((a b : A) → R a b → R (f a) (f b)) → (l m : List A) → Each-to R l m → Each-to R (each f l) (each f m)
+  unfolding each
+  each-to-both R f r [] [] h = tt
+  each-to-both R f r [] (y ∷ ys) h = h
+  each-to-both R f r (x ∷ xs) [] h = h
+  each-to-both R f r (x ∷ xs) (y ∷ ys) h = (r x y (h .0), each-to-both R f r xs ys (h .1))
+
+  pub each-to-all : (R : A → A → Type 0) (P : A → Type 0) → ((a b : A) → R a b → P a → P b) → (l m : List A) → Each-to R l m → All P l → All P m
+  each-to-all R P f [] [] h k = tt
+  each-to-all R P f [] (y ∷ ys) h k = absurd h
+  each-to-all R P f (x ∷ xs) [] h k = absurd h
+  each-to-all R P f (x ∷ xs) (y ∷ ys) h k = (f x y (h .0) (k .0), each-to-all R P f xs ys (h .1) (k .1))
+
   pub each-to-map : (R S : A → A → Type 0) → ((a b : A) → R a b → S a b) → (l m : List A) → Each-to R l m → Each-to S l m
   each-to-map R S f [] [] h = tt
   each-to-map R S f [] (y ∷ ys) h = h
