@@ -11,10 +11,11 @@ use Rattle.srt_group_model.specs.Tools.{each, if_then_else_, All}
 use Rattle.srt_group_model.specs.State.{Member, State}
 use Rattle.srt_group_model.specs.Members.{id-of}
 use Rattle.srt_group_model.specs.Cells.{queued-cells, is-among, is-data}
+use Rattle.srt_group_model.specs.declared.Data.{Data}
 use Rattle.srt_group_model.specs.declared.Packet.{Packet}
 use Rattle.srt_group_model.specs.declared.Entry.{Entry}
 use Rattle.srt_group_model.specs.Removal.{is-owned}
-use Rattle.srt_group_model.specs.Validity.{one-twice, queued-count, max-queued, is-too-large, event-out-of-range, data-out-of-range, ascends}
+use Rattle.srt_group_model.specs.Validity.{one-twice, held-weight, own-weight, queued-weight, held-count, queued-count, max-queued, is-too-large, event-out-of-range, data-out-of-range, ascends}
 use Rattle.srt_group_model.specs.Legs.{is-connected, has-sender, no-sequence, largest-sequence, largest-16, largest-32, largest-64}
 use Rattle.srt_group_model.specs.declared.Leg.{Leg}
 use Rattle.srt_group_model.specs.declared.Event.{Event}
@@ -54,40 +55,31 @@ uses n ms ps hs = occurs n (queued-cells ms) + (occurs n (pending-cells ps) + oc
 abbrev pub Within : (ℕ → ℕ) → State → Type 0
 Within bound s = (n : ℕ) → uses n (s .members) (s .receive .pending) (s .send .history) ≤ bound n
 
--- ---- the reserved sums
-
--- a packet's count, if it is held for this member; if it is the group's own
-abbrev pub for-member : ℕ → Packet → ℕ
-for-member id p = if eqb (p .member) id && not (is-owned p) then p .content .count else 0
-
-abbrev pub own-count : Packet → ℕ
-own-count p = if is-owned p then p .content .count else 0
-
-unfoldable pub held-for : ℕ → List Packet → ℕ
-held-for id [] = 0
-held-for id (p ∷ ps) = for-member id p + held-for id ps
-
-unfoldable pub held-own : List Packet → ℕ
-held-own [] = 0
-held-own (p ∷ ps) = own-count p + held-own ps
-
--- a member's sums, over these held packets
-pub record Summed (ps : List Packet) (m : Member) : Type 0 where
-  pub reserved : m .membership .reserved ≡ held-for (id-of m) ps
-  pub reservation : m .leg .receiver .reserved ≡ held-for (id-of m) ps + queued-count (m .queue)
+-- ---- accounts of packets
 
 -- a packet is the group's own, or its member is there
 abbrev pub Placed : List ℕ → Packet → Type 0
 Placed l p = (is-owned p || is-among (p .member) l) ≡ true
 
-pub record Sums (ps : List Packet) (s : State) : Type 0 where
-  pub unique : one-twice (ids (s .members)) ≡ false
-  pub members : All (Summed ps) (s .members)
-  pub placed : All (Placed (ids (s .members))) ps
-  pub own : s .owned ≡ held-own ps
+-- Members, each with its account, and the group with its own, keep account of packets that weigh something: `Row` says of what a member's
+-- queue weighs and what is held for it how they stand to its account and its leg's reservation, `Own` the like of the group.
+pub record Accounts (weight : Data → ℕ) (Row : (queued held account reservation : ℕ) → Type 0) (Own : (held account : ℕ) → Type 0)
+    (ps : List Packet) (ms : List Member) (account : ℕ) : Type 0 where
+  pub unique : one-twice (ids ms) ≡ false
+  pub members : All (λ (m : Member). Row (queued-weight weight (m .queue)) (held-weight weight (id-of m) ps) (m .membership .reserved) (m .leg .receiver .reserved)) ms
+  pub placed : All (Placed (ids ms)) ps
+  pub own : Own (own-weight weight ps) account
+
+-- the reserved sums: a packet weighs its count, an account is what is held, and a leg's reservation what is held and queued
+pub record Reserved (queued held account leg : ℕ) : Type 0 where
+  pub reserved : account ≡ held
+  pub reservation : leg ≡ held + queued
+
+abbrev pub Summed : List Packet → Member → Type 0
+Summed ps m = Reserved (queued-count (m .queue)) (held-count (id-of m) ps) (m .membership .reserved) (m .leg .receiver .reserved)
 
 abbrev pub Sums-right : State → Type 0
-Sums-right s = Sums (s .receive .pending) s
+Sums-right s = Accounts (λ d. d .count) Reserved (λ held account. account ≡ held) (s .receive .pending) (s .members) (s .owned)
 
 -- ---- the range of each number of a member
 

@@ -30,8 +30,8 @@ pub mod CellsCalls
 pub mod Fixed
 pub mod CellsMoved
 pub mod Unique
-pub mod Sums
-pub mod SumsRemoval
+pub mod Weights
+pub mod AccountLaw
 pub mod SumsKept
 pub mod InRange
 pub mod Ranges

@@ -85,7 +85,7 @@ pub record Found (id : ℕ) (ms : List Member) (i : ℕ) : Type 0 where
   pub stands : at-place i ms ≡ some member
   pub first : first-such (has-id id) ms ≡ some member
 
-found : (id : ℕ) (ms : List Member) (i : ℕ) → find id ms ≡ some i → Found id ms i
+pub found : (id : ℕ) (ms : List Member) (i : ℕ) → find id ms ≡ some i → Found id ms i
 unfolding place-of at-place first-such
 found id [] i = λ g. none-some g
 found id (m ∷ ms) i =

@@ -9,7 +9,7 @@ use borrow.Author.Tests.{ltb-false}
 use lib.Dec.{eqb}
 use lib.ListN.{length, drop}
 use Rattle.srt_group_model.specs.Tools.{is-set, or-else, at-place, All}
-use Rattle.srt_group_model.specs.laws.Reason.{if-elim, if-some-elim, none-some, some-inj, or-left, or-right, each-to-all}
+use Rattle.srt_group_model.specs.laws.Reason.{if-elim, if-some-elim, none-some, some-inj, or-left, or-right, all-each, each-to-all}
 use Rattle.srt_group_model.specs.State.{Member, Receive, Send, State, next-send-sequence, with-receive, with-send, with-visit, with-members, with-waiting, with-peer, on-leg}
 use Rattle.srt_group_model.specs.Legs.{advance-receive-sequence, largest-sequence, largest-32}
 use Rattle.srt_group_model.specs.Members.{id-of}
@@ -20,9 +20,9 @@ use Rattle.srt_group_model.specs.Backup.{max-history}
 use Rattle.srt_group_model.specs.Validity.{above, is-too-large, data-out-of-range, event-out-of-range}
 use Rattle.srt_group_model.specs.laws.Queues.{pop, packet-of}
 use Rattle.srt_group_model.specs.laws.Released.{recounted, Recounted, Released, run-passed, deliver-released}
-use Rattle.srt_group_model.specs.laws.Sums.{all-such-that}
+use Rattle.srt_group_model.specs.laws.Weights.{all-such-that}
 use Rattle.srt_group_model.specs.Sound.{Event-fit, Member-fit, All-fit}
-use Rattle.srt_group_model.specs.laws.Ranges.{further-fits, Option-fit, each-fit, flagged-fit}
+use Rattle.srt_group_model.specs.laws.Ranges.{further-fits, Option-fit, flagged-fit}
 use Rattle.srt_group_model.specs.declared.Event.{Event}
 use Rattle.srt_group_model.specs.declared.Packet.{Packet}
 use Rattle.srt_group_model.specs.declared.Waiting.{Waiting}
@@ -175,7 +175,7 @@ delivers-fit s base p h =
     let further = further-fits base (p .content .count) in
     released-fit (run-passed base p s) (deliver-packet base p s) (deliver-released base p s)
     (receive-fit (pass-run base p (s .receive)) _ (all-such-that Packet-fit _ (s .receive .pending) (h .pending)) record { based = omega arith; base = further }
-    (members-fit _ s (each-fit _ (s .members) (λ m k. advance-leg-fit _ m further k) (h .members)) h))
+    (members-fit _ s (all-each Member-fit _ (λ m k. advance-leg-fit _ m further k) (s .members) (h .members)) h))
 
 abbrev Packet-gives : Option Packet → Type 0
 Packet-gives o = (p : Packet) → o ≡ some p → Packet-fit p

@@ -5,7 +5,7 @@ use mathlib.Core.List.{List, [], _∷_, _++_}
 use mathlib.Core.Option.{Option, none, some}
 use Prim.Native.Nat.{ℕ, zero, suc}
 use lib.Dec.{T}
-use Rattle.srt_group_model.specs.Tools.{if_then_else_, if-some_give_otherwise_, first-such, at-place, change, each}
+use Rattle.srt_group_model.specs.Tools.{if_then_else_, if-some_give_otherwise_, any, first-such, place-of, at-place, change, each}
 use Rattle.srt_group_model.specs.Tools.{All}
 
 -- ---- a choice
@@ -96,6 +96,31 @@ module _ {A : Type 0} where
   pub all-map : (P Q : A → Type 0) → ((a : A) → P a → Q a) → (l : List A) → All P l → All Q l
   all-map P Q f [] h = tt
   all-map P Q f (x ∷ xs) h = (f x (h .0), all-map P Q f xs (h .1))
+
+  pub all-each : (P : A → Type 0) (f : A → A) → ((a : A) → P a → P (f a)) → (l : List A) → All P l → All P (each f l)
+  unfolding each
+  all-each P f g [] h = tt
+  all-each P f g (x ∷ xs) h = (g x (h .0), all-each P f g xs (h .1))
+
+  pub all-at : (P : A → Type 0) (i : ℕ) (a : A) (l : List A) → at-place i l ≡ some a → All P l → P a
+  unfolding at-place
+  all-at P i a [] at h = none-some at
+  all-at P zero a (x ∷ xs) at h = subst P (some-inj at) (h .0)
+  all-at P (suc i) a (x ∷ xs) at h = all-at P i a xs at (h .1)
+
+  pub all-pair : (P Q R : A → Type 0) → ((a : A) → P a → Q a → R a) → (l : List A) → All P l → All Q l → All R l
+  all-pair P Q R f [] h k = tt
+  all-pair P Q R f (x ∷ xs) h k = (f x (h .0) (k .0), all-pair P Q R f xs (h .1) (k .1))
+
+  -- where a search finds no place, none passes
+  pub place-none : (test : A → Bool) (l : List A) → place-of test l ≡ none → any test l ≡ false
+  unfolding place-of any
+  place-none test [] = λ g. refl
+  place-none test (x ∷ xs) =
+      if-elim (λ (o : Option ℕ). o ≡ none → any test (x ∷ xs) ≡ false) _ _ _ (λ e g. none-some (sym g))
+      (λ e.
+      if-some-elim (λ (o : Option ℕ). o ≡ none → any test (x ∷ xs) ≡ false) _ _ _ (λ k f g. none-some (sym g))
+      (λ f g. no-either _ _ e (place-none test xs f)))
 
   -- the first that passes a test is one of them, and passes it
   pub first-such-of : (P : A → Type 0) (test : A → Bool) (l : List A) (a : A) → first-such test l ≡ some a → All P l → P a × (test a ≡ true)

@@ -362,7 +362,7 @@ valid-kept c lent s invalid =
     let apart = cells-kept c lent s (h .cells-once) (h .cells-inside) in
     let right =
     sums-kept c lent s
-    record { sums = sums-of-rule s (h .ids-once) (h .sums); ascending = not-false (ascends (s .receive .pending)) (h .ascending) }
+    record { accounts = sums-of-rule s (h .ids-once) (h .sums); ascending = not-false (ascends (s .receive .pending)) (h .ascending) }
     in
     let fixed = identity-kept c lent s in
     let words = words-of s (h .words) in
@@ -385,7 +385,7 @@ valid-kept c lent s invalid =
       ascending = ascending-kept c lent s (h .ascending);
       cells-once = apart .0;
       cells-inside = apart .1;
-      sums = rule-of-sums t (right .sums);
+      sums = rule-of-sums t (right .accounts);
       words =
           of-words t
           record {
