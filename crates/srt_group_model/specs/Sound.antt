@@ -61,25 +61,37 @@ Within bound s = (n : ℕ) → uses n (s .members) (s .receive .pending) (s .sen
 abbrev pub Placed : List ℕ → Packet → Type 0
 Placed l p = (is-owned p || is-among (p .member) l) ≡ true
 
--- Members, each with its account, and the group with its own, keep account of packets that weigh something: `Row` says of what a member's
--- queue weighs and what is held for it how they stand to its account and its leg's reservation, `Own` the like of the group.
-pub record Accounts (weight : Data → ℕ) (Row : (queued held account reservation : ℕ) → Type 0) (Own : (held account : ℕ) → Type 0)
-    (ps : List Packet) (ms : List Member) (account : ℕ) : Type 0 where
-  pub unique : one-twice (ids ms) ≡ false
-  pub members : All (λ (m : Member). Row (queued-weight weight (m .queue)) (held-weight weight (id-of m) ps) (m .membership .reserved) (m .leg .receiver .reserved)) ms
-  pub placed : All (Placed (ids ms)) ps
-  pub own : Own (own-weight weight ps) account
+-- A rule of accounts: what a packet weighs; how a member's account and its leg's reservation stand to what its queue weighs and what
+-- is held for it; how the group's own account stands to what it holds itself.
+pub record Account-rule : Type 1 where
+  pub weight : Data → ℕ
+  pub member : (queued held account reservation : ℕ) → Type 0
+  pub group : (held account : ℕ) → Type 0
 
--- the reserved sums: a packet weighs its count, an account is what is held, and a leg's reservation what is held and queued
+-- every account is as the rule says, and every held packet is in one
+pub record Accounts (rule : Account-rule) (ps : List Packet) (ms : List Member) (account : ℕ) : Type 0 where
+  pub unique : one-twice (ids ms) ≡ false
+  pub members :
+      All
+      (λ (m : Member).
+      rule .member (queued-weight (rule .weight) (m .queue)) (held-weight (rule .weight) (id-of m) ps) (m .membership .reserved) (m .leg .receiver .reserved))
+      ms
+  pub placed : All (Placed (ids ms)) ps
+  pub own : rule .group (own-weight (rule .weight) ps) account
+
+-- the reserved sums: a packet weighs its count, an account is what is held, a leg's reservation what is held and queued
 pub record Reserved (queued held account leg : ℕ) : Type 0 where
   pub reserved : account ≡ held
   pub reservation : leg ≡ held + queued
+
+abbrev pub reserved-sums : Account-rule
+reserved-sums = record { weight = λ d. d .count; member = Reserved; group = λ held account. account ≡ held }
 
 abbrev pub Summed : List Packet → Member → Type 0
 Summed ps m = Reserved (queued-count (m .queue)) (held-count (id-of m) ps) (m .membership .reserved) (m .leg .receiver .reserved)
 
 abbrev pub Sums-right : State → Type 0
-Sums-right s = Accounts (λ d. d .count) Reserved (λ held account. account ≡ held) (s .receive .pending) (s .members) (s .owned)
+Sums-right s = Accounts reserved-sums (s .receive .pending) (s .members) (s .owned)
 
 -- ---- the range of each number of a member
 

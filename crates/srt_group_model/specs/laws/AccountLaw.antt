@@ -23,7 +23,7 @@ use Rattle.srt_group_model.specs.Cells.{is-data, is-among}
 use Rattle.srt_group_model.specs.Validity.{one-twice, ascends, held-weight, own-weight, queued-weight}
 use Rattle.srt_group_model.specs.Calls.{data-event, no-data, new-member}
 use Rattle.srt_group_model.specs.Lent.{Lent, Call, perform}
-use Rattle.srt_group_model.specs.Sound.{ids, Placed, Accounts}
+use Rattle.srt_group_model.specs.Sound.{ids, Placed, Account-rule, Accounts}
 use Rattle.srt_group_model.specs.laws.Frame.{place-passes}
 use Rattle.srt_group_model.specs.laws.HonestLog.{relabelled-ids, among-ids}
 use Rattle.srt_group_model.specs.laws.Unique.{among-any, ids-append, among-append, once-append, without-once}
@@ -41,23 +41,22 @@ use Rattle.srt_group_model.specs.declared.Packet.{Packet}
 
 -- ---- the moves
 
-pub record Account-law (weight : Data → ℕ) (Row : (queued held account reservation : ℕ) → Type 0) (Own : (held account : ℕ) → Type 0) : Type 0 where
+pub record Account-law (rule : Account-rule) : Type 0 where
   -- a member joins
-  pub joins : Row 0 0 0 0
+  pub joins : rule .member 0 0 0 0
   -- a packet is queued for it; is collected and discarded; is collected and retained
-  pub queues : (q h a r : ℕ) (d : Data) → Row q h a r → Row (weight d + q) h a (r + d .count)
-  pub discards : (q h a r : ℕ) (d : Data) → Row (weight d + q) h a r → Row q h a (r - d .count)
-  pub retains : (q h a r : ℕ) (d : Data) → Row (weight d + q) h a r → Row q (weight d + h) (a + d .count) r
+  pub queues : (q h a r : ℕ) (d : Data) → rule .member q h a r → rule .member (rule .weight d + q) h a (r + d .count)
+  pub discards : (q h a r : ℕ) (d : Data) → rule .member (rule .weight d + q) h a r → rule .member q h a (r - d .count)
+  pub retains : (q h a r : ℕ) (d : Data) → rule .member (rule .weight d + q) h a r → rule .member q (rule .weight d + h) (a + d .count) r
   -- a packet held for it is released; one of the group's own is released or retired
-  pub releases : (q h a r : ℕ) (d : Data) → Row q (weight d + h) a r → Row q h (a - d .count) (r - d .count)
-  pub own-releases : (h a : ℕ) (d : Data) → Own (weight d + h) a → Own h (a - d .count)
+  pub releases : (q h a r : ℕ) (d : Data) → rule .member q (rule .weight d + h) a r → rule .member q h (a - d .count) (r - d .count)
+  pub own-releases : (h a : ℕ) (d : Data) → rule .group (rule .weight d + h) a → rule .group h (a - d .count)
   -- it leaves, and the group takes over what is held for it
-  pub takes-over : (q h a r own b : ℕ) → Row q h a r → Own own b → Own (own + h) (b + a)
+  pub takes-over : (q h a r own b : ℕ) → rule .member q h a r → rule .group own b → rule .group (own + h) (b + a)
 
 -- with it the held packets ascend, so that each is the only one with its sequence
-pub record Accounted (weight : Data → ℕ) (Row : (queued held account reservation : ℕ) → Type 0) (Own : (held account : ℕ) → Type 0)
-    (ps : List Packet) (ms : List Member) (account : ℕ) : Type 0 where
-  pub accounts : Accounts weight Row Own ps ms account
+pub record Accounted (rule : Account-rule) (ps : List Packet) (ms : List Member) (account : ℕ) : Type 0 where
+  pub accounts : Accounts rule ps ms account
   pub ascending : ascends ps ≡ true
 
 -- ---- members
@@ -67,9 +66,18 @@ placed-more id l p h =
     or-cases (is-owned p) _ h (λ o. or-yes-left (is-owned p) _ o)
     (λ o. or-yes-right (is-owned p) _ (among-append (p .member) id l ∙ or-yes-left (is-among (p .member) l) _ o))
 
-module _ (weight : Data → ℕ) (Row : (queued held account reservation : ℕ) → Type 0) (Own : (held account : ℕ) → Type 0) (law : Account-law weight Row Own) where
+module _ (rule : Account-rule) (law : Account-law rule) where
+  abbrev weight : Data → ℕ
+  weight = rule .weight
+
+  abbrev Row : (queued held account reservation : ℕ) → Type 0
+  Row = rule .member
+
+  abbrev Own : (held account : ℕ) → Type 0
+  Own = rule .group
+
   abbrev Keeps : List Packet → List Member → ℕ → Type 0
-  Keeps = Accounts weight Row Own
+  Keeps = Accounts rule
 
   abbrev Row-of : List Packet → Member → Type 0
   Row-of ps m = Row (queued-weight weight (m .queue)) (held-weight weight (id-of m) ps) (m .membership .reserved) (m .leg .receiver .reserved)
@@ -85,7 +93,7 @@ module _ (weight : Data → ℕ) (Row : (queued held account reservation : ℕ) 
       (subst (λ (a : ℕ). Row q h a (n .leg .receiver .reserved)) (sym (c .reserved)) (subst (Row q h (m .membership .reserved)) (sym (c .reservation)) k))
 
   abbrev pub Kept : State → Type 0
-  Kept s = Accounted weight Row Own (s .receive .pending) (s .members) (s .owned)
+  Kept s = Accounted rule (s .receive .pending) (s .members) (s .owned)
 
   -- one member is changed; what is held for the others weighs what it did
   changed : (ps qs : List Packet) (i : ℕ) (m : Member) (f : Member → Member) (ms : List Member) (a b : ℕ) → at-place i ms ≡ some m → id-of (f m) ≡ id-of m

@@ -13,7 +13,7 @@ use Rattle.srt_group_model.specs.Members.{id-of, has-id}
 use Rattle.srt_group_model.specs.Removal.{is-owned}
 use Rattle.srt_group_model.specs.Validity.{one-twice, held-count, member-sum-wrong, is-unreserved, reserved-sum-wrong}
 use Rattle.srt_group_model.specs.Lent.{Lent, Call, perform}
-use Rattle.srt_group_model.specs.Sound.{ids, Placed, Reserved, Summed, Sums-right}
+use Rattle.srt_group_model.specs.Sound.{ids, Placed, reserved-sums, Summed, Sums-right}
 use Rattle.srt_group_model.specs.laws.Unique.{among-any}
 use Rattle.srt_group_model.specs.laws.Steps.{State-law}
 use Rattle.srt_group_model.specs.laws.AccountLaw.{Account-law, Accounted, account-kept, account-steps}
@@ -21,7 +21,7 @@ use Rattle.srt_group_model.specs.declared.Packet.{Packet}
 
 -- ---- the account
 
-sums-account : Account-law (λ d. d .count) Reserved (λ held account. account ≡ held)
+sums-account : Account-law reserved-sums
 sums-account =
     record {
       joins = record { reserved = refl; reservation = refl };
@@ -34,14 +34,14 @@ sums-account =
     }
 
 abbrev pub Right : State → Type 0
-Right s = Accounted (λ d. d .count) Reserved (λ held account. account ≡ held) (s .receive .pending) (s .members) (s .owned)
+Right s = Accounted reserved-sums (s .receive .pending) (s .members) (s .owned)
 
 pub right-law : State-law Right
-right-law = account-steps _ _ _ sums-account
+right-law = account-steps reserved-sums sums-account
 
 -- The reserved sums are the sums, and stay so over every call.
 pub sums-kept : (c : Call) (lent : Lent) (s : State) → Right s → Right (perform c lent s .state)
-sums-kept = account-kept _ _ _ sums-account
+sums-kept = account-kept reserved-sums sums-account
 
 -- ---- the rule and the statement
 
