@@ -11,6 +11,7 @@ use Rattle.srt_group_model.specs.Tools.{each, if_then_else_, All}
 use Rattle.srt_group_model.specs.State.{Member, State}
 use Rattle.srt_group_model.specs.Members.{id-of}
 use Rattle.srt_group_model.specs.Cells.{queued-cells, is-among, is-data}
+use Rattle.srt_group_model.specs.declared.Account.{Account}
 use Rattle.srt_group_model.specs.declared.Data.{Data}
 use Rattle.srt_group_model.specs.declared.Packet.{Packet}
 use Rattle.srt_group_model.specs.declared.Entry.{Entry}
@@ -65,33 +66,33 @@ Placed l p = (is-owned p || is-among (p .member) l) ≡ true
 -- is held for it; how the group's own account stands to what it holds itself.
 pub record Account-rule : Type 1 where
   pub weight : Data → ℕ
-  pub member : (queued held account reservation : ℕ) → Type 0
-  pub group : (held account : ℕ) → Type 0
+  pub member : (queued held : ℕ) → Account → (reservation : ℕ) → Type 0
+  pub group : (held : ℕ) → Account → Type 0
 
 -- every account is as the rule says, and every held packet is in one
-pub record Accounts (rule : Account-rule) (ps : List Packet) (ms : List Member) (account : ℕ) : Type 0 where
+pub record Accounts (rule : Account-rule) (ps : List Packet) (ms : List Member) (account : Account) : Type 0 where
   pub unique : one-twice (ids ms) ≡ false
   pub members :
       All
       (λ (m : Member).
-      rule .member (queued-weight (rule .weight) (m .queue)) (held-weight (rule .weight) (id-of m) ps) (m .membership .reserved) (m .leg .receiver .reserved))
+      rule .member (queued-weight (rule .weight) (m .queue)) (held-weight (rule .weight) (id-of m) ps) (m .membership .account) (m .leg .receiver .reserved))
       ms
   pub placed : All (Placed (ids ms)) ps
   pub own : rule .group (own-weight (rule .weight) ps) account
 
 -- the reserved sums: a packet weighs its count, an account is what is held, a leg's reservation what is held and queued
-pub record Reserved (queued held account leg : ℕ) : Type 0 where
-  pub reserved : account ≡ held
+pub record Reserved (queued held : ℕ) (account : Account) (leg : ℕ) : Type 0 where
+  pub reserved : account .reserved ≡ held
   pub reservation : leg ≡ held + queued
 
 abbrev pub reserved-sums : Account-rule
-reserved-sums = record { weight = λ d. d .count; member = Reserved; group = λ held account. account ≡ held }
+reserved-sums = record { weight = λ d. d .count; member = Reserved; group = λ held account. account .reserved ≡ held }
 
 abbrev pub Summed : List Packet → Member → Type 0
-Summed ps m = Reserved (queued-count (m .queue)) (held-count (id-of m) ps) (m .membership .reserved) (m .leg .receiver .reserved)
+Summed ps m = Reserved (queued-count (m .queue)) (held-count (id-of m) ps) (m .membership .account) (m .leg .receiver .reserved)
 
 abbrev pub Sums-right : State → Type 0
-Sums-right s = Accounts reserved-sums (s .receive .pending) (s .members) (s .owned)
+Sums-right s = Accounts reserved-sums (s .receive .pending) (s .members) (s .own)
 
 -- ---- the range of each number of a member
 

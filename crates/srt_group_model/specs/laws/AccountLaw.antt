@@ -12,7 +12,8 @@ use lib.ListN.{length, drop}
 use Rattle.srt_protocol.specs.Sequence.{sequence-further}
 use Rattle.srt_group_model.specs.Tools.{such-that, at-place, change, each, without-place, total, All}
 use Rattle.srt_group_model.specs.laws.Reason.{all-at, all-each, place-none, each-to-each, if-elim, if-some-elim, not-both, or-right, or-cases, or-yes-left, or-yes-right, all-map, all-append}
-use Rattle.srt_group_model.specs.State.{Member, State, with-members, on-leg, on-membership, with-reserved}
+use Rattle.srt_group_model.specs.State.{Member, State, with-members, on-leg, on-account}
+use Rattle.srt_group_model.specs.Accounts.{no-packets, reserve, release, add-account}
 use Rattle.srt_group_model.specs.Legs.{handed, advance-receive-sequence}
 use Rattle.srt_group_model.specs.Members.{id-of, has-id}
 use Rattle.srt_group_model.specs.Nearest.{sequence-of, has-sequence, is-held, insert, is-covered, farthest}
@@ -34,6 +35,7 @@ use Rattle.srt_group_model.specs.laws.CallLaw.{In-front, reported, Joini
 use Rattle.srt_group_model.specs.laws.EveryCall.{found, call-keeps}
 use Rattle.srt_group_model.specs.laws.Steps.{State-law, state-law-of}
 use Rattle.srt_group_model.specs.laws.Weights.{for-member, for-group, in-queue, counted-yes, counted-no, total-append, total-parted, total-inserted, inserted-all, all-passing, all-such-that, Alone, each-alone, farthest-of, held-other, held-owned, held-mine, none-held, others-hold, group-holds, front-weighs, without-all, change-all, ids-at, all-placed-after}
+use Rattle.srt_group_model.specs.declared.Account.{Account}
 use Rattle.srt_group_model.specs.declared.Data.{Data}
 use Rattle.srt_group_model.specs.declared.Event.{Event}
 use Rattle.srt_group_model.specs.declared.Leg.{Leg}
@@ -43,19 +45,19 @@ use Rattle.srt_group_model.specs.declared.Packet.{Packet}
 
 pub record Account-law (rule : Account-rule) : Type 0 where
   -- a member joins
-  pub joins : rule .member 0 0 0 0
+  pub joins : rule .member 0 0 no-packets 0
   -- a packet is queued for it; is collected and discarded; is collected and retained
-  pub queues : (q h a r : ℕ) (d : Data) → rule .member q h a r → rule .member (rule .weight d + q) h a (r + d .count)
-  pub discards : (q h a r : ℕ) (d : Data) → rule .member (rule .weight d + q) h a r → rule .member q h a (r - d .count)
-  pub retains : (q h a r : ℕ) (d : Data) → rule .member (rule .weight d + q) h a r → rule .member q (rule .weight d + h) (a + d .count) r
+  pub queues : (q h : ℕ) (a : Account) (r : ℕ) (d : Data) → rule .member q h a r → rule .member (rule .weight d + q) h a (r + d .count)
+  pub discards : (q h : ℕ) (a : Account) (r : ℕ) (d : Data) → rule .member (rule .weight d + q) h a r → rule .member q h a (r - d .count)
+  pub retains : (q h : ℕ) (a : Account) (r : ℕ) (d : Data) → rule .member (rule .weight d + q) h a r → rule .member q (rule .weight d + h) (reserve (d .count) a) r
   -- a packet held for it is released; one of the group's own is released or retired
-  pub releases : (q h a r : ℕ) (d : Data) → rule .member q (rule .weight d + h) a r → rule .member q h (a - d .count) (r - d .count)
-  pub own-releases : (h a : ℕ) (d : Data) → rule .group (rule .weight d + h) a → rule .group h (a - d .count)
+  pub releases : (q h : ℕ) (a : Account) (r : ℕ) (d : Data) → rule .member q (rule .weight d + h) a r → rule .member q h (release (d .count) a) (r - d .count)
+  pub own-releases : (h : ℕ) (a : Account) (d : Data) → rule .group (rule .weight d + h) a → rule .group h (release (d .count) a)
   -- it leaves, and the group takes over what is held for it
-  pub takes-over : (q h a r own b : ℕ) → rule .member q h a r → rule .group own b → rule .group (own + h) (b + a)
+  pub takes-over : (q h : ℕ) (a : Account) (r own : ℕ) (b : Account) → rule .member q h a r → rule .group own b → rule .group (own + h) (add-account a b)
 
 -- with it the held packets ascend, so that each is the only one with its sequence
-pub record Accounted (rule : Account-rule) (ps : List Packet) (ms : List Member) (account : ℕ) : Type 0 where
+pub record Accounted (rule : Account-rule) (ps : List Packet) (ms : List Member) (account : Account) : Type 0 where
   pub accounts : Accounts rule ps ms account
   pub ascending : ascends ps ≡ true
 
@@ -70,19 +72,19 @@ module _ (rule : Account-rule) (law : Account-law rule) where
   abbrev weight : Data → ℕ
   weight = rule .weight
 
-  abbrev Row : (queued held account reservation : ℕ) → Type 0
+  abbrev Row : (queued held : ℕ) → Account → (reservation : ℕ) → Type 0
   Row = rule .member
 
-  abbrev Own : (held account : ℕ) → Type 0
+  abbrev Own : (held : ℕ) → Account → Type 0
   Own = rule .group
 
-  abbrev Keeps : List Packet → List Member → ℕ → Type 0
+  abbrev Keeps : List Packet → List Member → Account → Type 0
   Keeps = Accounts rule
 
   abbrev Row-of : List Packet → Member → Type 0
-  Row-of ps m = Row (queued-weight weight (m .queue)) (held-weight weight (id-of m) ps) (m .membership .reserved) (m .leg .receiver .reserved)
+  Row-of ps m = Row (queued-weight weight (m .queue)) (held-weight weight (id-of m) ps) (m .membership .account) (m .leg .receiver .reserved)
 
-  same-row : {q q′ h h′ a r : ℕ} → q′ ≡ q → h′ ≡ h → Row q h a r → Row q′ h′ a r
+  same-row : {q q′ h h′ : ℕ} {a : Account} {r : ℕ} → q′ ≡ q → h′ ≡ h → Row q h a r → Row q′ h′ a r
   same-row {q} {q′} {h} {h′} {a} {r} e g k = subst (λ (n : ℕ). Row n h′ a r) (sym e) (subst (λ (n : ℕ). Row q n a r) (sym g) k)
 
   moved-row : (ps : List Packet) (m n : Member) → Same-account m n → Row-of ps m → Row-of ps n
@@ -90,13 +92,13 @@ module _ (rule : Account-rule) (law : Account-law rule) where
       let q = queued-weight weight (m .queue) in
       let h = held-weight weight (id-of m) ps in
       same-row (ap (queued-weight weight) (c .queue)) (ap (λ (id : ℕ). held-weight weight id ps) (c .id))
-      (subst (λ (a : ℕ). Row q h a (n .leg .receiver .reserved)) (sym (c .reserved)) (subst (Row q h (m .membership .reserved)) (sym (c .reservation)) k))
+      (subst (λ (a : Account). Row q h a (n .leg .receiver .reserved)) (sym (c .account)) (subst (Row q h (m .membership .account)) (sym (c .reservation)) k))
 
   abbrev pub Kept : State → Type 0
-  Kept s = Accounted rule (s .receive .pending) (s .members) (s .owned)
+  Kept s = Accounted rule (s .receive .pending) (s .members) (s .own)
 
   -- one member is changed; what is held for the others weighs what it did
-  changed : (ps qs : List Packet) (i : ℕ) (m : Member) (f : Member → Member) (ms : List Member) (a b : ℕ) → at-place i ms ≡ some m → id-of (f m) ≡ id-of m
+  changed : (ps qs : List Packet) (i : ℕ) (m : Member) (f : Member → Member) (ms : List Member) (a b : Account) → at-place i ms ≡ some m → id-of (f m) ≡ id-of m
       → ((id : ℕ) → (id ≡ id-of m → ⊥) → held-weight weight id qs ≡ held-weight weight id ps) → (Row-of ps m → Row-of qs (f m)) → All (Placed (ids ms)) qs
       → Own (own-weight weight qs) b → Keeps ps ms a → Keeps qs (change i f ms) b
   changed ps qs i m f ms a b at same others mine placed own k =
@@ -120,7 +122,7 @@ module _ (rule : Account-rule) (law : Account-law rule) where
       record { accounts = changed _ _ i m f (s .members) _ _ at same (λ id other. refl) mine (k .placed) (k .own) k; ascending = h .ascending }
 
   -- other packets that weigh the same, whatever is weighed
-  weighed-alike : (ps qs : List Packet) (ms : List Member) (a : ℕ) → ((f : Packet → ℕ) → total f qs ≡ total f ps) → All (Placed (ids ms)) qs → Keeps ps ms a → Keeps qs ms a
+  weighed-alike : (ps qs : List Packet) (ms : List Member) (a : Account) → ((f : Packet → ℕ) → total f qs ≡ total f ps) → All (Placed (ids ms)) qs → Keeps ps ms a → Keeps qs ms a
   weighed-alike ps qs ms a same placed k =
       record {
         unique = k .unique;
@@ -133,12 +135,12 @@ module _ (rule : Account-rule) (law : Account-law rule) where
 
   module _ (s : State) (i : ℕ) (m : Member) (e : Event) (f : In-front s i m e) where
     collected : eqb (e .kind) 0 ≡ true → Row-of (s .receive .pending) m
-        → Row (weight (e .content) + queued-weight weight (drop 1 (m .queue))) (held-weight weight (id-of m) (s .receive .pending)) (m .membership .reserved) (m .leg .receiver .reserved)
+        → Row (weight (e .content) + queued-weight weight (drop 1 (m .queue))) (held-weight weight (id-of m) (s .receive .pending)) (m .membership .account) (m .leg .receiver .reserved)
     collected d k =
         same-row (omega (arith, front-weighs weight (m .queue) e (f .first), counted-yes is-data (λ x. weight (x .content)) e d)) refl k
 
-    holds : eqb (e .kind) 0 ≡ true → Keeps (s .receive .pending) (s .members) (s .owned)
-        → Keeps (insert (packet-of m e) (s .receive .pending)) (change i (λ x. on-membership (λ y. with-reserved (y .reserved + e .content .count) y) (pop x)) (s .members)) (s .owned)
+    holds : eqb (e .kind) 0 ≡ true → Keeps (s .receive .pending) (s .members) (s .own)
+        → Keeps (insert (packet-of m e) (s .receive .pending)) (change i (λ x. on-account (reserve (e .content .count)) (pop x)) (s .members)) (s .own)
     holds d k =
         let p = packet-of m e in
         let ps = s .receive .pending in
@@ -148,7 +150,7 @@ module _ (rule : Account-rule) (law : Account-law rule) where
         same-row refl (omega (arith, total-inserted (for-member weight (id-of m)) p ps, held-mine weight (id-of m) p refl refl))
         (law .retains _ _ _ _ (e .content) (collected d h)))
         (inserted-all (Placed (ids (s .members))) p ps (among-ids i m (s .members) (f .stands)) (k .placed))
-        (subst (λ (n : ℕ). Own n (s .owned)) (omega (arith, total-inserted (for-group weight) p ps, counted-no is-owned (λ x. weight (x .content)) p refl)) (k .own)) k
+        (subst (λ (n : ℕ). Own n (s .own)) (omega (arith, total-inserted (for-group weight) p ps, counted-no is-owned (λ x. weight (x .content)) p refl)) (k .own)) k
 
     reports : eqb (e .kind) 0 ≡ false → Kept s → Kept (reported i m e s)
     reports d =
@@ -157,7 +159,7 @@ module _ (rule : Account-rule) (law : Account-law rule) where
 
   -- ---- releasing
 
-  releases-own : (p : Packet) (qs : List Packet) (ms : List Member) (a : ℕ) → is-owned p ≡ true → Keeps (p ∷ qs) ms a → Keeps qs ms (a - p .content .count)
+  releases-own : (p : Packet) (qs : List Packet) (ms : List Member) (a : Account) → is-owned p ≡ true → Keeps (p ∷ qs) ms a → Keeps qs ms (release (p .content .count) a)
   unfolding total
   releases-own p qs ms a o k =
       record {
@@ -169,32 +171,32 @@ module _ (rule : Account-rule) (law : Account-law rule) where
             (subst (λ (n : ℕ). Own (n + own-weight weight qs) a) (counted-yes is-owned (λ x. weight (x .content)) p o) (k .own));
       }
 
-  releases-one : (p : Packet) (qs : List Packet) (s : State) → Keeps (p ∷ qs) (s .members) (s .owned)
-      → Keeps qs (release-pending-reservation p s .members) (release-pending-reservation p s .owned)
+  releases-one : (p : Packet) (qs : List Packet) (s : State) → Keeps (p ∷ qs) (s .members) (s .own)
+      → Keeps qs (release-pending-reservation p s .members) (release-pending-reservation p s .own)
   unfolding release-pending-reservation total
   releases-one p qs s k =
-      if-elim (λ (t : State). Keeps qs (t .members) (t .owned)) _ _ _ (λ o. releases-own p qs (s .members) (s .owned) o k)
+      if-elim (λ (t : State). Keeps qs (t .members) (t .own)) _ _ _ (λ o. releases-own p qs (s .members) (s .own) o k)
       (λ o.
-      if-some-elim (λ (t : State). Keeps qs (t .members) (t .owned)) _ _ _
+      if-some-elim (λ (t : State). Keeps qs (t .members) (t .own)) _ _ _
       (λ i g.
       let there = found (p .member) (s .members) i g in
       let m = there .member in
       let same : id-of m ≡ p .member = eqb-true (id-of m) (p .member) (place-passes (has-id (p .member)) (s .members) i g m (there .stands)) in
-      changed (p ∷ qs) qs i m _ (s .members) (s .owned) (s .owned) (there .stands) refl
+      changed (p ∷ qs) qs i m _ (s .members) (s .own) (s .own) (there .stands) refl
       (λ id other. omega (arith, held-other weight id p (λ e. other (e ∙ sym same))))
       (λ h. law .releases _ _ _ _ (p .content) (same-row refl (omega (arith, held-mine weight (id-of m) p same o)) h)) (k .placed .1)
-      (subst (λ (n : ℕ). Own n (s .owned)) (omega (arith, counted-no is-owned (λ x. weight (x .content)) p o)) (k .own)) k)
+      (subst (λ (n : ℕ). Own n (s .own)) (omega (arith, counted-no is-owned (λ x. weight (x .content)) p o)) (k .own)) k)
       (λ g.
       not-both (ap (λ (b : Bool). b || is-among (p .member) (ids (s .members))) (sym o) ∙ k .placed .0)
       (among-any (p .member) (s .members) ∙ place-none (has-id (p .member)) (s .members) g)))
 
-  releases-all : (cs rest : List Packet) (s : State) → Keeps (cs ++ rest) (s .members) (s .owned) → Keeps rest (release-all cs s .members) (release-all cs s .owned)
+  releases-all : (cs rest : List Packet) (s : State) → Keeps (cs ++ rest) (s .members) (s .own) → Keeps rest (release-all cs s .members) (release-all cs s .own)
   unfolding release-all
   releases-all [] rest s k = k
   releases-all (p ∷ cs) rest s k = releases-all cs rest (release-pending-reservation p s) (releases-one p (cs ++ rest) s k)
 
-  delivers : (base : ℕ) (p : Packet) (s : State) → Keeps (s .receive .pending) (s .members) (s .owned)
-      → Keeps (deliver-packet base p s .receive .pending) (deliver-packet base p s .members) (deliver-packet base p s .owned)
+  delivers : (base : ℕ) (p : Packet) (s : State) → Keeps (s .receive .pending) (s .members) (s .own)
+      → Keeps (deliver-packet base p s .receive .pending) (deliver-packet base p s .members) (deliver-packet base p s .own)
   unfolding deliver-packet pass-run advance-legs
   delivers base p s k =
       let ps = s .receive .pending in
@@ -205,7 +207,7 @@ module _ (rule : Account-rule) (law : Account-law rule) where
       let ns = release-all gone s .members in
       let done =
       releases-all gone rest s
-      (weighed-alike ps (gone ++ rest) (s .members) (s .owned) (λ f. omega (arith, total-parted f test ps, total-append f gone rest))
+      (weighed-alike ps (gone ++ rest) (s .members) (s .own) (λ f. omega (arith, total-parted f test ps, total-append f gone rest))
       (all-append (Placed (ids (s .members))) gone rest (all-such-that _ test ps (k .placed)) (all-such-that _ (λ q. not (test q)) ps (k .placed))) k)
       in
       let names : ids (each advance ns) ≡ ids ns = relabelled-ids ns (each advance ns) (each-to-each Relabelled advance (λ m. record { id = refl; queue = refl; broken = λ b. b }) ns) in
@@ -218,8 +220,8 @@ module _ (rule : Account-rule) (law : Account-law rule) where
 
   -- ---- joining and leaving
 
-  joins : (id rank : ℕ) (l : Leg) (s : State) → Joining id rank l s → Keeps (s .receive .pending) (s .members) (s .owned)
-      → Keeps (s .receive .pending) (s .members ++ (new-member id rank (handed l) s ∷ [])) (s .owned)
+  joins : (id rank : ℕ) (l : Leg) (s : State) → Joining id rank l s → Keeps (s .receive .pending) (s .members) (s .own)
+      → Keeps (s .receive .pending) (s .members ++ (new-member id rank (handed l) s ∷ [])) (s .own)
   unfolding new-member each total
   joins id rank l s j k =
       let m = new-member id rank (handed l) s in
@@ -230,15 +232,15 @@ module _ (rule : Account-rule) (law : Account-law rule) where
         unique = ap one-twice names ∙ once-append id (ids (s .members)) (k .unique) fresh;
         members =
             all-append (Row-of ps) (s .members) (m ∷ []) (k .members)
-            (same-row refl (none-held weight id (ids (s .members)) ps fresh (k .placed)) (subst (Row 0 0 0) (sym (j .unreserved)) (law .joins)), tt);
+            (same-row refl (none-held weight id (ids (s .members)) ps fresh (k .placed)) (subst (Row 0 0 no-packets) (sym (j .unreserved)) (law .joins)), tt);
         placed =
             subst (λ (l : List ℕ). All (Placed l) ps) (sym names)
             (all-map (Placed (ids (s .members))) (Placed (ids (s .members) ++ (id ∷ []))) (placed-more id (ids (s .members))) ps (k .placed));
         own = k .own;
       }
 
-  leaves : (i : ℕ) (m : Member) (ps : List Packet) (ms : List Member) (a : ℕ) → at-place i ms ≡ some m → Keeps ps ms a
-      → Keeps (each (own-packet (id-of m)) ps) (without-place i ms) (a + m .membership .reserved)
+  leaves : (i : ℕ) (m : Member) (ps : List Packet) (ms : List Member) (a : Account) → at-place i ms ≡ some m → Keeps ps ms a
+      → Keeps (each (own-packet (id-of m)) ps) (without-place i ms) (add-account (m .membership .account) a)
   leaves i m ps ms a at k =
       record {
         unique = without-once i ms (k .unique);
@@ -248,12 +250,12 @@ module _ (rule : Account-rule) (law : Account-law rule) where
             (without-all (Row-of ps) i m ms (k .unique) at (k .members));
         placed = all-placed-after i m ms ps at (k .placed);
         own =
-            subst (λ (n : ℕ). Own n (a + m .membership .reserved)) (sym (group-holds weight (id-of m) ps))
+            subst (λ (n : ℕ). Own n (add-account (m .membership .account) a)) (sym (group-holds weight (id-of m) ps))
             (law .takes-over _ _ _ _ _ a (all-at (Row-of ps) i m ms at (k .members)) (k .own));
       }
 
-  retires : (base : ℕ) (p : Packet) (ps : List Packet) (ms : List Member) (a : ℕ) → farthest base (such-that is-owned ps) ≡ some p → ascends ps ≡ true → Keeps ps ms a
-      → Keeps (such-that (λ q. not (has-sequence (sequence-of p) q)) ps) ms (a - p .content .count)
+  retires : (base : ℕ) (p : Packet) (ps : List Packet) (ms : List Member) (a : Account) → farthest base (such-that is-owned ps) ≡ some p → ascends ps ≡ true → Keeps ps ms a
+      → Keeps (such-that (λ q. not (has-sequence (sequence-of p) q)) ps) ms (release (p .content .count) a)
   unfolding total
   retires base p ps ms a far up k =
       let rest = such-that (λ q. not (has-sequence (sequence-of p) q)) ps in
@@ -295,8 +297,8 @@ module _ (rule : Account-rule) (law : Account-law rule) where
       record {
         polling = polls;
         joins = λ s id rank l queue is j h. record { accounts = joins id rank l s j (h .accounts); ascending = h .ascending };
-        leaves = λ s i m is at h. record { accounts = leaves i m _ (s .members) (s .owned) at (h .accounts); ascending = own-ascends (id-of m) (s .receive .pending) ∙ h .ascending };
-        retires = λ s base p far h. record { accounts = retires base p _ (s .members) (s .owned) far (h .ascending) (h .accounts); ascending = such-that-ascends _ (s .receive .pending) (h .ascending) };
+        leaves = λ s i m is at h. record { accounts = leaves i m _ (s .members) (s .own) at (h .accounts); ascending = own-ascends (id-of m) (s .receive .pending) ∙ h .ascending };
+        retires = λ s base p far h. record { accounts = retires base p _ (s .members) (s .own) far (h .ascending) (h .accounts); ascending = such-that-ascends _ (s .receive .pending) (h .ascending) };
         takes = λ s e h. h;
         puts = λ s cell payload h. h;
         lets-go = λ s cell h. h;

@@ -42,30 +42,30 @@ read-leaves field n l =
 pub record Same-account (m n : Member) : Type 0 where
   pub id : id-of n ≡ id-of m
   pub queue : n .queue ≡ m .queue
-  pub reserved : n .membership .reserved ≡ m .membership .reserved
+  pub account : n .membership .account ≡ m .membership .account
   pub reservation : n .leg .receiver .reserved ≡ m .leg .receiver .reserved
   pub first : n .leg .receiver .first ≡ m .leg .receiver .first
   pub broken : in-state broken-state m ≡ true → in-state broken-state n ≡ true
 
 same-account : (m : Member) → Same-account m m
-same-account m = record { id = refl; queue = refl; reserved = refl; reservation = refl; first = refl; broken = λ b. b }
+same-account m = record { id = refl; queue = refl; account = refl; reservation = refl; first = refl; broken = λ b. b }
 
 same-legs : (m : Member) (l : Leg) → Same-leg (m .leg) l → Same-account m record { membership = m .membership; leg = l; queue = m .queue }
-same-legs m l h = record { id = refl; queue = refl; reserved = refl; reservation = ap (λ (x : Receiver). x .reserved) (h .receiver); first = ap (λ (x : Receiver). x .first) (h .receiver); broken = λ b. b }
+same-legs m l h = record { id = refl; queue = refl; account = refl; reservation = ap (λ (x : Receiver). x .reserved) (h .receiver); first = ap (λ (x : Receiver). x .first) (h .receiver); broken = λ b. b }
 
 pub moved-account : {s : State} {m n : Member} → Member-move s m n → Same-account m n
 moved-account {s} {m} unmoved = same-account m
 moved-account (turn n fits stays) =
-    record { id = refl; queue = refl; reserved = refl; reservation = refl; first = refl; broken = λ b. ap (λ (k : ℕ). eqb k broken-state) (stays b) }
-moved-account (admission e) = record { id = refl; queue = refl; reserved = refl; reservation = refl; first = refl; broken = λ b. b }
-moved-account (colliding e) = record { id = refl; queue = refl; reserved = refl; reservation = refl; first = refl; broken = λ b. refl }
+    record { id = refl; queue = refl; account = refl; reservation = refl; first = refl; broken = λ b. ap (λ (k : ℕ). eqb k broken-state) (stays b) }
+moved-account (admission e) = record { id = refl; queue = refl; account = refl; reservation = refl; first = refl; broken = λ b. b }
+moved-account (colliding e) = record { id = refl; queue = refl; account = refl; reservation = refl; first = refl; broken = λ b. refl }
 moved-account {s} {m} (alignment sequence l source e) = same-legs m l (align-gives sequence (m .leg) l e)
 moved-account {s} {m} (catching-up entry l there e) = same-legs m l (synchronize-gives (entry .sequence) (m .leg) l e)
 moved-account {s} {m} (leg-send time size sequence l fits e) = same-legs m l (send-gives time size sequence (m .leg) l e)
-moved-account leg-end = record { id = refl; queue = refl; reserved = refl; reservation = refl; first = refl; broken = λ b. b }
+moved-account leg-end = record { id = refl; queue = refl; account = refl; reservation = refl; first = refl; broken = λ b. b }
 moved-account {s} {m} (leg-reading field n fits forth) =
-    record { id = refl; queue = refl; reserved = refl; reservation = read-leaves field n (m .leg) .0; first = read-leaves field n (m .leg) .1; broken = λ b. b }
-moved-account (advance base count) = record { id = refl; queue = refl; reserved = refl; reservation = refl; first = refl; broken = λ b. b }
+    record { id = refl; queue = refl; account = refl; reservation = read-leaves field n (m .leg) .0; first = read-leaves field n (m .leg) .1; broken = λ b. b }
+moved-account (advance base count) = record { id = refl; queue = refl; account = refl; reservation = refl; first = refl; broken = λ b. b }
 
 -- the member at a place moves, and the others stay
 pub moved-at : (R : Member → Member → Type 0) → ((m : Member) → R m m) → (i : ℕ) (m : Member) (f : Member → Member) (ms : List Member) → at-place i ms ≡ some m

@@ -21,13 +21,13 @@ use Rattle.srt_group_model.specs.Validity.{above, is-too-large, data-out
 use Rattle.srt_group_model.specs.laws.Queues.{pop, packet-of}
 use Rattle.srt_group_model.specs.laws.Released.{recounted, Recounted, Released, run-passed, deliver-released}
 use Rattle.srt_group_model.specs.laws.Weights.{all-such-that}
-use Rattle.srt_group_model.specs.Sound.{Event-fit, Member-fit, All-fit}
+use Rattle.srt_group_model.specs.Sound.{Event-fit, Member-fit, All-fit, Packet-fit, Entry-fit, Waiting-fit, Receiving-fit, Sending-fit, Fit}
 use Rattle.srt_group_model.specs.laws.Ranges.{further-fits, Option-fit, flagged-fit}
 use Rattle.srt_group_model.specs.declared.Event.{Event}
 use Rattle.srt_group_model.specs.declared.Packet.{Packet}
 use Rattle.srt_group_model.specs.declared.Waiting.{Waiting}
 use Rattle.srt_group_model.specs.declared.Visit.{Visit}
-use Rattle.srt_group_model.specs.Sound.{Packet-fit, Entry-fit, Waiting-fit, Receiving-fit, Sending-fit, Fit}
+use Rattle.srt_group_model.specs.declared.Account.{Account}
 
 pub number-fit : (s : State) → Fit s → Option-fit (next-send-sequence (s .send))
 number-fit s h = flagged-fit (is-set (s .send .numbers .numbered)) (s .send .numbers .next) (h .sending .next)
@@ -57,7 +57,7 @@ pop-fit m h =
     }
 
 -- of what is counted and recorded of a member, only the number that its leg records has a range
-pub recounted-fit : (account reservation n : ℕ) (m : Member) → n ≤ largest-sequence → Member-fit m → Member-fit (on-leg (advance-receive-sequence n) (recounted account reservation m))
+pub recounted-fit : (account : Account) (reservation n : ℕ) (m : Member) → n ≤ largest-sequence → Member-fit m → Member-fit (on-leg (advance-receive-sequence n) (recounted account reservation m))
 recounted-fit account reservation n m b h =
     let l = h .leg in
     record {
@@ -93,9 +93,9 @@ recounted-fit account reservation n m b h =
     }
 
 pub advance-leg-fit : (n : ℕ) (m : Member) → n ≤ largest-sequence → Member-fit m → Member-fit (on-leg (advance-receive-sequence n) m)
-advance-leg-fit n m = recounted-fit (m .membership .reserved) (m .leg .receiver .reserved) n m
+advance-leg-fit n m = recounted-fit (m .membership .account) (m .leg .receiver .reserved) n m
 
-pub counted-fit : (account reservation : ℕ) (m : Member) → Member-fit m → Member-fit (recounted account reservation m)
+pub counted-fit : (account : Account) (reservation : ℕ) (m : Member) → Member-fit m → Member-fit (recounted account reservation m)
 counted-fit account reservation m h = recounted-fit account reservation (m .leg .receiver .advanced) m (h .leg .advanced) h
 
 pub front-fit : (q : List Event) (e : Event) → front q ≡ some e → All Event-fit q → Event-fit e

@@ -8,27 +8,28 @@ use Prim.Native.Nat.{ℕ, zero, suc}
 use Rattle.srt_protocol.specs.Sequence.{sequence-further}
 use Rattle.srt_group_model.specs.Tools.{such-that, each}
 use Rattle.srt_group_model.specs.laws.Reason.{if-elim, if-some-elim, Each-to, each-to-same, each-to-then, each-to-each, each-to-change, each-to-map, each-to-both}
-use Rattle.srt_group_model.specs.State.{Member, State, with-receive, with-owned, with-members, on-leg, on-membership, with-reserved, broken-state}
+use Rattle.srt_group_model.specs.State.{Member, State, with-receive, with-own, with-members, on-leg, on-membership, with-account, broken-state}
 use Rattle.srt_group_model.specs.Legs.{with-reservation, advance-receive-sequence}
 use Rattle.srt_group_model.specs.Members.{id-of, in-state}
 use Rattle.srt_group_model.specs.Nearest.{covered, farthest}
 use Rattle.srt_group_model.specs.Delivery.{release-pending-reservation, release-all, advance-legs, deliver-packet, pass-run}
 use Rattle.srt_group_model.specs.Removal.{is-owned, retire, bound-group-owned-pending}
 use Rattle.srt_group_model.specs.laws.Queues.{Relabelled, All-relabelled, relabelled-then}
+use Rattle.srt_group_model.specs.declared.Account.{Account}
 use Rattle.srt_group_model.specs.declared.Packet.{Packet}
 
 -- ---- a member is recounted
 
-abbrev pub recounted : (account reservation : ℕ) → Member → Member
-recounted account reservation m = on-leg (with-reservation reservation) (on-membership (with-reserved account) m)
+abbrev pub recounted : (account : Account) (reservation : ℕ) → Member → Member
+recounted account reservation m = on-leg (with-reservation reservation) (on-membership (with-account account) m)
 
 pub record Recounted (m n : Member) : Type 0 where
-  pub account : ℕ
+  pub account : Account
   pub reservation : ℕ
   pub is : n ≡ recounted account reservation m
 
 recounted-same : (m : Member) → Recounted m m
-recounted-same m = record { account = m .membership .reserved; reservation = m .leg .receiver .reserved; is = refl }
+recounted-same m = record { account = m .membership .account; reservation = m .leg .receiver .reserved; is = refl }
 
 recounted-then : (a b c : Member) → Recounted a b → Recounted b c → Recounted a c
 recounted-then a b c h k =
@@ -40,8 +41,7 @@ recounted-relabelled m n h = record { id = ap id-of (h .is); queue = ap (λ (x :
 -- ---- packets are released
 
 pub record Released (s t : State) : Type 0 where
-  pub identity : t .identity ≡ s .identity
-  pub mode : t .mode ≡ s .mode
+  pub making : t .making ≡ s .making
   pub peer : t .peer ≡ s .peer
   pub receive : t .receive ≡ s .receive
   pub send : t .send ≡ s .send
@@ -52,8 +52,7 @@ pub record Released (s t : State) : Type 0 where
 released-then : (s t u : State) → Released s t → Released t u → Released s u
 released-then s t u h k =
     record {
-      identity = k .identity ∙ h .identity;
-      mode = k .mode ∙ h .mode;
+      making = k .making ∙ h .making;
       peer = k .peer ∙ h .peer;
       receive = k .receive ∙ h .receive;
       send = k .send ∙ h .send;
@@ -62,9 +61,9 @@ released-then s t u h k =
       members = each-to-then Recounted recounted-then (s .members) (t .members) (u .members) (h .members) (k .members);
     }
 
-only-members : (s : State) (own : ℕ) (ms : List Member) → Each-to Recounted (s .members) ms → Released s (with-owned own (with-members ms s))
+only-members : (s : State) (own : Account) (ms : List Member) → Each-to Recounted (s .members) ms → Released s (with-own own (with-members ms s))
 only-members s own ms h =
-    record { identity = refl; mode = refl; peer = refl; receive = refl; send = refl; visit = refl; waiting = refl; members = h }
+    record { making = refl; peer = refl; receive = refl; send = refl; visit = refl; waiting = refl; members = h }
 
 pub release-one : (p : Packet) (s : State) → Released s (release-pending-reservation p s)
 unfolding release-pending-reservation
@@ -74,13 +73,13 @@ release-one p s =
     (λ e.
     if-some-elim (Released s) _ _ _
     (λ i g.
-    only-members s (s .owned) _
+    only-members s (s .own) _
     (each-to-change Recounted recounted-same i _ (s .members) (λ m at. record { account = _; reservation = _; is = refl })))
-    (λ g. only-members s (s .owned) (s .members) same))
+    (λ g. only-members s (s .own) (s .members) same))
 
 pub release-all-released : (ps : List Packet) (s : State) → Released s (release-all ps s)
 unfolding release-all
-release-all-released [] s = only-members s (s .owned) (s .members) (each-to-same Recounted recounted-same (s .members))
+release-all-released [] s = only-members s (s .own) (s .members) (each-to-same Recounted recounted-same (s .members))
 release-all-released (p ∷ ps) s = released-then s _ _ (release-one p s) (release-all-released ps (release-pending-reservation p s))
 
 -- ---- a packet is delivered
@@ -95,8 +94,7 @@ unfolding deliver-packet advance-legs
 deliver-released base p s =
     let h = release-all-released (covered base (p .content .count) (s .receive .pending)) s in
     record {
-      identity = h .identity;
-      mode = h .mode;
+      making = h .making;
       peer = h .peer;
       receive = refl;
       send = h .send;

@@ -34,7 +34,7 @@ sums-account =
     }
 
 abbrev pub Right : State → Type 0
-Right s = Accounted reserved-sums (s .receive .pending) (s .members) (s .owned)
+Right s = Accounted reserved-sums (s .receive .pending) (s .members) (s .own)
 
 pub right-law : State-law Right
 right-law = account-steps reserved-sums sums-account
@@ -59,8 +59,8 @@ summed-of-rule : (ps : List Packet) (m : Member) → member-sum-wrong ps m ≡ f
 unfolding member-sum-wrong
 summed-of-rule ps m h =
     record {
-      reserved = eqb-true _ _ (not-false _ (or-left (not (eqb (m .membership .reserved) (held-count (id-of m) ps))) _ h));
-      reservation = eqb-true _ _ (not-false _ (or-right (not (eqb (m .membership .reserved) (held-count (id-of m) ps))) _ h));
+      reserved = eqb-true _ _ (not-false _ (or-left (not (eqb (m .membership .account .reserved) (held-count (id-of m) ps))) _ h));
+      reservation = eqb-true _ _ (not-false _ (or-right (not (eqb (m .membership .account .reserved) (held-count (id-of m) ps))) _ h));
     }
 
 rule-of-summed : (ps : List Packet) (m : Member) → Summed ps m → member-sum-wrong ps m ≡ false
