@@ -93,6 +93,10 @@ module _ {A : Type 0} where
   each f [] = []
   each f (x ∷ xs) = f x ∷ each f xs
 
+  -- what an element weighs in a sum over those that pass a test
+  abbrev pub counted : (A → Bool) → (A → ℕ) → A → ℕ
+  counted test weight x = if test x then weight x else 0
+
   unfoldable pub total : (A → ℕ) → List A → ℕ
   total f [] = 0
   total f (x ∷ xs) = f x + total f xs

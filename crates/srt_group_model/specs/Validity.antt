@@ -7,7 +7,7 @@ use lib.Dec.{leb, ltb, eqb}
 use lib.ListN.{length}
 use Rattle.srt_protocol.specs.Handshake.{has-group-mask}
 use Rattle.srt_protocol.specs.Cells.{cell-size}
-use Rattle.srt_group_model.specs.Tools.{if_then_else_, any, such-that, each, total}
+use Rattle.srt_group_model.specs.Tools.{if_then_else_, any, each, total, counted}
 use Rattle.srt_group_model.specs.State.{Member, State, Making}
 use Rattle.srt_group_model.specs.Legs.{is-connected, has-sender, no-sequence, largest-sequence, largest-16, largest-32, largest-64}
 use Rattle.srt_group_model.specs.Members.{id-of, has-id}
@@ -121,12 +121,29 @@ cell-beyond-store cells s = any (leb cells) (used-cells s)
 
 -- ---- a reserved sum unequal to its packets' counts
 
--- the counts of the packets held for a member: those that are not the group's own
-unfoldable pub held-count : ℕ → List Packet → ℕ
-held-count id ps = total (λ p. p .content .count) (such-that (λ p. eqb (p .member) id && not (is-owned p)) ps)
+-- held for a member, and not by the group itself
+abbrev pub is-held-for : ℕ → Packet → Bool
+is-held-for id p = eqb (p .member) id && not (is-owned p)
 
-unfoldable pub queued-count : List Event → ℕ
-queued-count q = total (λ e. e .content .count) (such-that is-data q)
+-- what packets weigh together: those held for a member, the group's own, those in a queue
+abbrev pub held-weight : (Data → ℕ) → ℕ → List Packet → ℕ
+held-weight weight id = total (counted (is-held-for id) (λ p. weight (p .content)))
+
+abbrev pub own-weight : (Data → ℕ) → List Packet → ℕ
+own-weight weight = total (counted is-owned (λ p. weight (p .content)))
+
+abbrev pub queued-weight : (Data → ℕ) → List Event → ℕ
+queued-weight weight = total (counted is-data (λ e. weight (e .content)))
+
+-- in the reserved sums a packet weighs its count
+abbrev pub held-count : ℕ → List Packet → ℕ
+held-count = held-weight (λ d. d .count)
+
+abbrev pub own-count : List Packet → ℕ
+own-count = own-weight (λ d. d .count)
+
+abbrev pub queued-count : List Event → ℕ
+queued-count = queued-weight (λ d. d .count)
 
 -- the member's sum is that of its held packets, its leg's reservation that of the held and the queued ones
 unfoldable pub member-sum-wrong : List Packet → Member → Bool
@@ -142,7 +159,7 @@ unfoldable pub reserved-sum-wrong : State → Bool
 reserved-sum-wrong s =
     any (member-sum-wrong (s .receive .pending)) (s .members)
     || (any (is-unreserved (s .members)) (s .receive .pending)
-    || not (eqb (s .own .reserved) (total (λ p. p .content .count) (such-that is-owned (s .receive .pending)))))
+    || not (eqb (s .own .reserved) (own-count (s .receive .pending))))
 
 -- ---- a word of the record above its range
 

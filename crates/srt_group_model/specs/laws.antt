@@ -30,8 +30,8 @@ pub mod CellsCalls
 pub mod Fixed
 pub mod CellsMoved
 pub mod Unique
-pub mod Sums
-pub mod SumsRemoval
+pub mod Weights
+pub mod AccountLaw
 pub mod SumsKept
 pub mod InRange
 pub mod Ranges
@@ -44,6 +44,7 @@ pub mod CallLaw
 pub mod Waits
 pub mod EveryCall
 pub mod MemberMoves
+pub mod Released
 pub mod Valid
 pub mod Sound
 -- What a poll gives lies in the store.

@@ -6,29 +6,25 @@ use mathlib.Core.List.{List}
 use Prim.Native.Nat.{ℕ, _+_, _<_}
 use lib.Dec.{eqb}
 use lib.ListN.{length, getD}
-use Rattle.srt_group_model.specs.Tools.{if_then_else_, any, such-that, total}
+use Rattle.srt_group_model.specs.Tools.{if_then_else_, any, counted, total}
 use Rattle.srt_group_model.specs.State.{Member}
 use Rattle.srt_group_model.specs.Members.{find}
 use Rattle.srt_group_model.specs.Removal.{is-owned}
-use Rattle.srt_group_model.specs.Validity.{max-members, queued-count, member-sum-wrong, is-unreserved}
+use Rattle.srt_group_model.specs.Validity.{max-members, is-held-for, own-count, queued-count, member-sum-wrong, is-unreserved}
 use Rattle.srt_group_model.specs.declared.Event.{Event}
 use Rattle.srt_group_model.specs.declared.Packet.{Packet}
 use Rattle.srt_connection_members.specs.declared.Found.{Found}
 use Rattle.srt_connection_members.specs.declared.Found.the-variants.{At}
 use Rattle.srt_connection_members.specs.Members.{member-at, members-of, found-of}
-use Rattle.srt_group_tables.specs.Packets.{packet-at, packets, is-held-for}
+use Rattle.srt_group_tables.specs.Packets.{packet-at, packets}
 use Rattle.word_rows.specs.Tab.{tab}
 use Rattle.srt_group_rules.specs.Ids.{id-at}
 
 -- ---- definitions
 
--- an element's count if it passes a test, else 0
-unfoldable pub counted : {A : Type 0} → (A → Bool) → (A → ℕ) → A → ℕ
-counted test count x = if test x then count x else 0
-
 -- the counts of those that pass, of the first n
 unfoldable pub sum-of : {A : Type 0} → (A → Bool) → (A → ℕ) → ℕ → (ℕ → A) → ℕ
-sum-of test count n f = total count (such-that test (tab n f))
+sum-of test count n f = total (counted test count) (tab n f)
 
 abbrev pub packet-count : Packet → ℕ
 packet-count p = p .content .count
@@ -52,7 +48,7 @@ differs held m =
 -- the rule over the two tables and the group's own sum
 unfoldable pub sums-wrong : List Member → List Packet → ℕ → Bool
 sums-wrong ms ps owned =
-    any (member-sum-wrong ps) ms || (any (is-unreserved ms) ps || not (eqb owned (total packet-count (such-that is-owned ps))))
+    any (member-sum-wrong ps) ms || (any (is-unreserved ms) ps || not (eqb owned (own-count ps)))
 
 -- ---- the packets' counts, added up front to back: the sums of the members, and the group's own behind them
 

@@ -1,11 +1,9 @@
 -- The pending packets as an index of one word each, with a row of eight words for each cell, and what a search for a sequence
 -- finds. The list of what the first `count` index words show is the model's list of pending packets.
 use mathlib.Core.Path.{_≡_}
-use mathlib.Core.Bool.{Bool, not, _&&_}
 use mathlib.Core.List.{List, [], _∷_}
 use mathlib.Core.Option.{Option, none, some}
 use Prim.Native.Nat.{ℕ, _+_, _*_, _/_, _%_, _≤_, _<_}
-use lib.Dec.{eqb}
 use lib.ListN.{length, getD}
 use Rattle.word_rows.specs.Tab.{tab}
 use Rattle.word_rows.specs.Rows.{row-at}
@@ -107,17 +105,3 @@ pub record FoundPacket (words : List ℕ) (count : ℕ) (r : Found) (p : Option 
 unfoldable pub with-owned-packet : ℕ → Packet → Option Packet → Option Packet
 with-owned-packet base p best =
     if is-owned p then (if-some best give (λ q. some (farther base p q)) otherwise some p) else best
-
--- ---- sums of counts
-
--- a packet's count if it passes a test, else 0
-unfoldable pub count-if : (Packet → Bool) → Packet → ℕ
-count-if test p = if test p then p .content .count else 0
-
--- held for a member, and not by the group itself
-abbrev pub is-held-for : ℕ → Packet → Bool
-is-held-for id p = eqb (p .member) id && not (is-owned p)
-
--- every count is one that a packet can have
-pub record CountsFit (count : ℕ) (words : List ℕ) : Type 0 where
-  pub fit : (k : ℕ) → k < count → packet-at words k .content .count ≤ 65535

@@ -13,11 +13,11 @@ ghost use Rattle.srt_protocol.specs.Cells.{max-cells, overwritten};
 ghost use Rattle.srt_group_model.specs.Cells.{is-among};
 ghost use Rattle.srt_group_model.specs.Sound.{pending-cells};
 ghost use Rattle.srt_group_model.specs.Nearest.{sequence-of, insert, is-held, nearest, not-covered, farthest};
-ghost use Rattle.srt_group_model.specs.Tools.{each, such-that, total};
+ghost use Rattle.srt_group_model.specs.Tools.{each, such-that};
 ghost use Rattle.srt_group_model.specs.Removal.{own-packet, is-owned};
-ghost use Rattle.srt_group_model.specs.Validity.{max-pending, ascends, held-count};
+ghost use Rattle.srt_group_model.specs.Validity.{max-pending, ascends};
 ghost use Rattle.srt_group_model.specs.Legs.{largest-sequence};
-ghost use Rattle.srt_group_tables.specs.Packets.{pending-size, packet-row-size, index-rows, packet-of, row-words, packet-at, packets, Placed, Holds, place-found, packet-found, in-use, FoundPacket, with-owned-packet, count-if, is-held-for, CountsFit};
+ghost use Rattle.srt_group_tables.specs.Packets.{pending-size, packet-row-size, index-rows, packet-of, row-words, packet-at, packets, Placed, Holds, place-found, packet-found, in-use, FoundPacket, with-owned-packet};
 use srt_group_model::Data;
 use srt_group_model::Packet;
 use srt_protocol::received_payload::MAX_CELLS;
@@ -312,58 +312,4 @@ pub fn farthest_owned(pending: &[u64], count: usize, base: u64) -> Found
         left = at;
     }
     best
-}
-
-// A packet's count, if it is held for the member and not by the group itself.
-fn count_for(packet: Packet, member: u64) -> u64
-    ensures { λ r. ⌜ r ≡ count-if (is-held-for member) packet ⌝ }
-{
-    if packet.member == member {
-        if packet.owned != 1 {
-            return packet.content.count;
-        }
-    }
-    0
-}
-
-// A packet's count, if the group holds it itself.
-fn count_owned(packet: Packet) -> u64
-    ensures { λ r. ⌜ r ≡ count-if is-owned packet ⌝ }
-{
-    if packet.owned == 1 {
-        return packet.content.count;
-    }
-    0
-}
-
-// The counts of the packets that are held for a member, added up.
-pub fn reserved_packets(pending: &[u64], count: usize, member: u64) -> u64
-    requires { ⌜ (pending-size ≤ length (now pending)) × (count ≤ max-pending) ⌝ }
-    requires { ⌜ CountsFit count (now pending) ⌝ }
-    ensures { λ r. ⌜ r ≡ held-count member (packets count (now (pending .entry))) ⌝ }
-{
-    let mut sum: u64 = 0;
-    let mut left = count;
-    while 0 < left {
-        let at = left - 1;
-        sum += count_for(packet(pending, at), member);
-        left = at;
-    }
-    sum
-}
-
-// The counts of the packets that the group holds itself, added up.
-pub fn owned_packets(pending: &[u64], count: usize) -> u64
-    requires { ⌜ (pending-size ≤ length (now pending)) × (count ≤ max-pending) ⌝ }
-    requires { ⌜ CountsFit count (now pending) ⌝ }
-    ensures { λ r. ⌜ r ≡ total (λ p. p .content .count) (such-that is-owned (packets count (now (pending .entry)))) ⌝ }
-{
-    let mut sum: u64 = 0;
-    let mut left = count;
-    while 0 < left {
-        let at = left - 1;
-        sum += count_owned(packet(pending, at));
-        left = at;
-    }
-    sum
 }

@@ -11,7 +11,7 @@ use lib.ListN.{length, drop}
 use Rattle.srt_protocol.specs.Cells.{cells-of}
 use Rattle.srt_group_model.specs.Tools.{if_then_else_, such-that, change, each, without-place}
 use Rattle.srt_group_model.specs.laws.Reason.{if-elim, if-some-elim, by-test, not-both, none-some}
-use Rattle.srt_group_model.specs.State.{Member, Send, State, on-leg, on-membership, on-account}
+use Rattle.srt_group_model.specs.State.{Member, Send, State, on-leg, on-account}
 use Rattle.srt_group_model.specs.Accounts.{reserve}
 use Rattle.srt_group_model.specs.Legs.{handed, release-data-reservation, add-reservation}
 use Rattle.srt_group_model.specs.Members.{id-of}
@@ -29,7 +29,8 @@ use Rattle.srt_group_model.specs.laws.Queues.{pop, packet-of}
 use Rattle.srt_group_model.specs.laws.Steps.{State-law, state-law-of}
 use Rattle.srt_group_model.specs.laws.CallLaw.{Poll-law, Call-law}
 use Rattle.srt_group_model.specs.laws.EveryCall.{call-keeps}
-use Rattle.srt_group_model.specs.laws.MemberMoves.{moved-relabelled, deliver-frame}
+use Rattle.srt_group_model.specs.laws.MemberMoves.{moved-relabelled}
+use Rattle.srt_group_model.specs.laws.Released.{deliver-released, deliver-relabelled}
 use Rattle.srt_group_model.specs.Sound.{room, uses, Within, one, occurs, history-cells}
 use Rattle.srt_group_model.specs.laws.CellsKept.{Apart, apart-of-rules, once-of-apart, inside-of-apart, uses-used, occurs-append, one-same, one-other, absent, relabelled-cells, popped-data, popped-event, inserted, fewer-held, own-cells}
 use Rattle.srt_group_model.specs.declared.Event.{Event}
@@ -159,11 +160,10 @@ Holding bound hand s log = (n : ℕ) → uses n (s .members) (s .receive .pendin
 deliver-cells : (n : ℕ) (s : State) (base : ℕ) (p : Packet) → used n (deliver-packet base p s) ≤ used n s
 unfolding deliver-packet pass-run
 deliver-cells n s base p =
-    let frame = deliver-frame base p s in
     omega (
       arith,
-      ap (occurs n) (relabelled-cells (s .members) _ (frame .members)),
-      ap (kept-in n) (frame .send),
+      ap (occurs n) (relabelled-cells (s .members) _ (deliver-relabelled base p s)),
+      ap (kept-in n) (deliver-released base p s .send),
       fewer-held n (λ q. not (is-covered base (p .content .count) q)) (s .receive .pending),
     )
 

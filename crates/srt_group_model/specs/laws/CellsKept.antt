@@ -15,11 +15,10 @@ use Rattle.srt_group_model.specs.State.{Member, State}
 use Rattle.srt_group_model.specs.Nearest.{insert}
 use Rattle.srt_group_model.specs.Run.{Run, set-base}
 use Rattle.srt_group_model.specs.Collecting.{front, retain-group-packet}
-use Rattle.srt_group_model.specs.Delivery.{release-all, release-pending-reservation, advance-legs}
 use Rattle.srt_group_model.specs.Removal.{own-packet}
 use Rattle.srt_group_model.specs.Cells.{is-data, queue-cells, queued-cells, used-cells, is-among}
 use Rattle.srt_group_model.specs.Validity.{one-twice}
-use Rattle.srt_group_model.specs.laws.Queues.{All-relabelled, pop, release-relabelled}
+use Rattle.srt_group_model.specs.laws.Queues.{All-relabelled, pop}
 use Rattle.srt_group_model.specs.declared.Event.{Event}
 use Rattle.srt_group_model.specs.declared.Packet.{Packet}
 use Rattle.srt_group_model.specs.Sound.{one, occurs, room, pending-cells, history-cells, uses}
@@ -201,12 +200,6 @@ own-cells id (p ∷ ps) =
     (if-elim (λ (q : Packet). q .content .cell ≡ p .content .cell) _ _ _ (λ e. refl) (λ e. refl))
     (own-cells id ps)
 
-pub release-cells : (ps : List Packet) (s : State) → queued-cells (release-all ps s .members) ≡ queued-cells (s .members)
-unfolding release-all
-release-cells [] s = refl
-release-cells (p ∷ ps) s =
-    release-cells ps (release-pending-reservation p s) ∙ relabelled-cells (s .members) _ (release-relabelled p s)
-
 pub set-base-parts : (o : Option ℕ) (r : Run) → (set-base o r .state .receive .pending ≡ r .state .receive .pending) × (set-base o r .state .send ≡ r .state .send)
 unfolding set-base
 set-base-parts o r =
@@ -219,18 +212,3 @@ set-base-parts o r =
 pub retain-send : (i : ℕ) (p : Packet) (s : State) → retain-group-packet i p s .send ≡ s .send
 unfolding retain-group-packet
 retain-send i p s = if-elim (λ (t : State). t .send ≡ s .send) _ _ _ (λ e. refl) (λ e. refl)
-
-release-send : (p : Packet) (s : State) → release-pending-reservation p s .send ≡ s .send
-unfolding release-pending-reservation
-release-send p s =
-    if-elim (λ (t : State). t .send ≡ s .send) _ _ _ (λ e. refl)
-    (λ e. if-some-elim (λ (t : State). t .send ≡ s .send) _ _ _ (λ i g. refl) (λ g. refl))
-
-pub release-all-send : (ps : List Packet) (s : State) → release-all ps s .send ≡ s .send
-unfolding release-all
-release-all-send [] s = refl
-release-all-send (p ∷ ps) s = release-all-send ps (release-pending-reservation p s) ∙ release-send p s
-
-pub advance-send : (sequence : ℕ) (s : State) → advance-legs sequence s .send ≡ s .send
-unfolding advance-legs
-advance-send sequence s = refl

@@ -1,6 +1,6 @@
 -- Which cells each step of a call takes and frees, exactly: what a table of the cells in use follows, where it is kept from call
 -- to call and not made anew. CellsKept and CellsCalls bound the same counts from above.
-use mathlib.Core.Path.{_≡_, refl, ap, _∙_}
+use mathlib.Core.Path.{_≡_, refl, ap}
 use mathlib.Core.Bool.{Bool, true, false, not}
 use mathlib.Core.List.{List, [], _∷_}
 use mathlib.Core.Option.{none, some}
@@ -8,7 +8,7 @@ use Prim.Native.Nat.{ℕ, zero, suc, _+_}
 use native.Mathlib.Omega.{arith}
 use lib.Dec.{leb, eqb}
 use lib.ListN.{length, drop, take}
-use Rattle.srt_protocol.specs.Sequence.{sequence-before, sequence-further}
+use Rattle.srt_protocol.specs.Sequence.{sequence-before}
 use Rattle.srt_group_model.specs.Tools.{if_then_else_, such-that, at-place, change, each, without-place}
 use Rattle.srt_group_model.specs.laws.Reason.{if-elim, by-test, not-both, none-some, some-inj}
 use Rattle.srt_group_model.specs.State.{Member, Send, State, with-members, with-send, on-leg}
@@ -17,16 +17,17 @@ use Rattle.srt_group_model.specs.Members.{id-of, base-after, peer-after,
 use Rattle.srt_group_model.specs.Nearest.{sequence-of, has-sequence, is-covered, covered}
 use Rattle.srt_group_model.specs.Run.{Run, admit-connected-peer-groups, refresh-pending-states, refresh-states}
 use Rattle.srt_group_model.specs.Collecting.{front, is-discarded, retain-group-packet, report-event}
-use Rattle.srt_group_model.specs.Delivery.{release-all, deliver-packet, advance-legs, pass-run}
+use Rattle.srt_group_model.specs.Delivery.{deliver-packet, pass-run}
 use Rattle.srt_group_model.specs.Backup.{max-history, drop-before, trim-backup-history, append-history}
 use Rattle.srt_group_model.specs.Removal.{retire, take-out}
 use Rattle.srt_group_model.specs.Cells.{queue-cells, queued-cells, used-cells}
 use Rattle.srt_group_model.specs.Calls.{enqueue, data-event}
 use Rattle.srt_group_model.specs.laws.Frame.{admit-all-carried, settle-carried, requalify-carried}
-use Rattle.srt_group_model.specs.laws.Queues.{All-relabelled, pop, packet-of, all-carried-relabelled, retain-relabelled, report-carried, advance-relabelled}
+use Rattle.srt_group_model.specs.laws.Queues.{All-relabelled, pop, packet-of, all-carried-relabelled, retain-relabelled, report-carried}
 use Rattle.srt_group_model.specs.laws.Steps.{popped}
 use Rattle.srt_group_model.specs.Sound.{one, occurs, uses, pending-cells, history-cells}
-use Rattle.srt_group_model.specs.laws.CellsKept.{occurs-append, uses-used, relabelled-cells, popped-data, popped-event, inserted, own-cells, set-base-parts, retain-send, release-cells, release-all-send, advance-send}
+use Rattle.srt_group_model.specs.laws.Released.{deliver-released, deliver-relabelled}
+use Rattle.srt_group_model.specs.laws.CellsKept.{occurs-append, uses-used, relabelled-cells, popped-data, popped-event, inserted, own-cells, set-base-parts, retain-send}
 use Rattle.srt_group_model.specs.laws.CellsCalls.{enqueued, history-append}
 use Rattle.srt_group_model.specs.declared.Data.{Data}
 use Rattle.srt_group_model.specs.declared.Event.{Event}
@@ -111,24 +112,11 @@ pub delivery-frees : (base : ℕ) (p : Packet) (s : State)
     → Moves [] (pending-cells (covered base (p .content .count) (s .receive .pending))) s (deliver-packet base p s)
 unfolding deliver-packet pass-run occurs
 delivery-frees base p s =
-    parts-move [] (pending-cells gone) s (deliver-packet base p s)
+    parts-move [] (pending-cells (covered base (p .content .count) (s .receive .pending))) s (deliver-packet base p s)
     (λ n.
-    let queued : occurs n (queued-cells (advance-legs next parts .members)) ≡ occurs n (queued-cells (s .members)) =
-    ap (occurs n) (relabelled-cells (parts .members) _ (advance-relabelled next parts) ∙ release-cells gone s)
-    in
-    let history : occurs n (history-cells (advance-legs next parts .send .history)) ≡ occurs n (history-cells (s .send .history)) =
-    ap (λ (x : Send). occurs n (history-cells (x .history))) (advance-send next parts ∙ release-all-send gone s)
-    in
+    let queued = ap (occurs n) (relabelled-cells (s .members) _ (deliver-relabelled base p s)) in
+    let history = ap (λ (x : Send). occurs n (history-cells (x .history))) (deliver-released base p s .send) in
     omega (arith, queued, history, split-cells n (is-covered base (p .content .count)) (s .receive .pending)))
-  where
-    gone : List Packet
-    gone = covered base (p .content .count) (s .receive .pending)
-
-    next : ℕ
-    next = sequence-further base (p .content .count)
-
-    parts : State
-    parts = release-all gone s
 
 -- ---- the history
 

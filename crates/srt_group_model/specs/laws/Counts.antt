@@ -17,7 +17,7 @@ use Rattle.srt_group_model.specs.Validity.{max-waiting}
 use Rattle.srt_group_model.specs.Lent.{Lent, Call, perform}
 use Rattle.srt_group_model.specs.laws.CallLaw.{Poll-law, Call-law}
 use Rattle.srt_group_model.specs.laws.EveryCall.{call-keeps}
-use Rattle.srt_group_model.specs.laws.MemberMoves.{deliver-frame}
+use Rattle.srt_group_model.specs.laws.Released.{deliver-released}
 use Rattle.srt_group_model.specs.Sound.{one, occurs, pending-cells}
 use Rattle.srt_group_model.specs.laws.CellsKept.{one-same, one-other, room-most, Apart, inside-of-apart, uses-used}
 use Rattle.srt_group_model.specs.laws.RangesKept.{drop-short}
@@ -94,7 +94,7 @@ waiting-polls =
       reports = λ s i m e f d few h. omega (arith, few, length-append (s .waiting) (waiting-of m e ∷ []));
       gives = λ s h. omega (arith, h, drop-short (s .waiting));
       skips = λ s base p tested time b n near h. h;
-      delivers = λ s base p b e h. omega (arith, h, ap (λ (l : List Waiting). length l) (deliver-frame base p s .waiting));
+      delivers = λ s base p b e h. omega (arith, h, ap (λ (l : List Waiting). length l) (deliver-released base p s .waiting));
     }
 
 waiting-moves : (c : Call) (cells : ℕ) → Call-law c cells (λ hand s log. Few s)

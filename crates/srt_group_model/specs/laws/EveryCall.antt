@@ -21,7 +21,7 @@ use Rattle.srt_group_model.specs.Run.{Mark, put, base-set, collected, Ru
 use Rattle.srt_group_model.specs.Collecting.{retain-group-packet, report-event, collect-member-event, Visited, take-front, collect-one-event, collect-until-held, Emptied, collect-until-empty}
 use Rattle.srt_group_model.specs.Delivery.{Polled, nothing, event, packet, Poll, deliver, give-waiting, skip-after, max-visits, skip-given-up-gap}
 use Rattle.srt_group_model.specs.Polls.{deliver-next, poll-event, DataPoll, pass-events, poll-until-data, poll-data-bounded}
-use Rattle.srt_group_model.specs.Removal.{retire, bound-group-owned-pending, take-out, remove-member-at}
+use Rattle.srt_group_model.specs.Removal.{take-out, remove-member-at}
 use Rattle.srt_group_model.specs.Sending.{Flow, ends-with, _and-then_, mark-send-failure, attempt-send, send-broadcast, with-send-number}
 use Rattle.srt_group_model.specs.Backup.{demote-stale-backup-carrier, trim-by-carrier, append-history, record-backup-send, Replayed, replay-entries, put-leg, replay-on, replay-flight, align-carrier, take-over-backup-flight, send-own, send-after-promotion, send-at-place, send-backup}
 use Rattle.srt_group_model.specs.Validity.{above, max-members, max-waiting, leg-out-of-range}
@@ -40,6 +40,7 @@ use Rattle.srt_group_model.specs.declared.Entry.{Entry}
 use Rattle.srt_group_model.specs.declared.Packet.{Packet}
 use Rattle.srt_group_model.specs.declared.Leg.{Leg}
 use Rattle.srt_group_model.specs.declared.Membership.{Membership}
+use Rattle.srt_group_model.specs.laws.Released.{retirements-keep}
 
 -- ---- places of a list
 
@@ -84,7 +85,7 @@ pub record Found (id : ℕ) (ms : List Member) (i : ℕ) : Type 0 where
   pub stands : at-place i ms ≡ some member
   pub first : first-such (has-id id) ms ≡ some member
 
-found : (id : ℕ) (ms : List Member) (i : ℕ) → find id ms ≡ some i → Found id ms i
+pub found : (id : ℕ) (ms : List Member) (i : ℕ) → find id ms ≡ some i → Found id ms i
 unfolding place-of at-place first-such
 found id [] i = λ g. none-some g
 found id (m ∷ ms) i =
@@ -643,21 +644,13 @@ module _ (c : Call) (cells : ℕ) (P : Option ℕ → State → List Mark → Ty
       (λ g. added))
       (λ e. added)
 
-  retires-all : (log : List Mark) (left limit base : ℕ) (s : State) → P none s log → P none (bound-group-owned-pending left limit base s) log
-  unfolding bound-group-owned-pending
-  retires-all log zero limit base s h = h
-  retires-all log (suc left) limit base s h =
-      if-some-elim (λ (t : State). P none t log) _ _ _
-      (λ p e. if-elim (λ (t : State). P none t log) _ _ _ (λ g. h) (λ g. retires-all log left limit base (retire p s) (law .retires s base p e h)))
-      (λ e. h)
-
   removes : (id : ℕ) (s : State) → c ≡ call-remove-member-connection id → P none s [] → Keeps (remove-body id s)
   unfolding remove-body remove-member-at
   removes id s is h =
       if-some-elim Keeps _ _ _
       (λ f e.
       let there = found-stands (has-id id) (s .members) f e in
-      retires-all [] _ _ _ (take-out (f .place) (f .member) s)
+      retirements-keep (λ (t : State). P none t []) _ (λ t p far k. law .retires t _ p far k) _ _ (take-out (f .place) (f .member) s)
       (law .leaves s (f .place) (f .member)
       (is ∙ ap (λ (k : ℕ). call-remove-member-connection k) (sym (eqb-true (id-of (f .member)) id (there .is)))) (there .at) h))
       (λ e. h)

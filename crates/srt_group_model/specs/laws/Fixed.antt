@@ -9,7 +9,7 @@ use Rattle.srt_group_model.specs.Removal.{retire, take-out}
 use Rattle.srt_group_model.specs.Lent.{Lent, Call, perform}
 use Rattle.srt_group_model.specs.laws.CallLaw.{Poll-law, Call-law}
 use Rattle.srt_group_model.specs.laws.EveryCall.{call-keeps}
-use Rattle.srt_group_model.specs.laws.MemberMoves.{deliver-frame}
+use Rattle.srt_group_model.specs.laws.Released.{deliver-released}
 
 abbrev pub Given : Making → Option ℕ → State → List Mark → Type 0
 Given making hand s log = s .making ≡ making
@@ -27,7 +27,7 @@ given-polls making =
       reports = λ s i m e f d few h. h;
       gives = λ s h. h;
       skips = λ s base p tested time b n near h. h;
-      delivers = λ s base p b e h. deliver-frame base p s .making ∙ h;
+      delivers = λ s base p b e h. deliver-released base p s .making ∙ h;
     }
 
 pub given-law : (making : Making) (c : Call) (cells : ℕ) → Call-law c cells (Given making)

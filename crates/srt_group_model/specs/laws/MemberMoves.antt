@@ -1,25 +1,20 @@
--- What stays with a member whose label or leg moves, and with all members where a packet is delivered: the frames of the moves of
--- CallLaw, for the laws that do not look closer.
+-- What stays with a member whose label or leg moves: the frame of the moves of CallLaw, for the laws that do not look closer.
 use mathlib.Core.Path.{_≡_, refl, sym, ap, subst, _∙_}
 use mathlib.Core.Bool.{true}
-use mathlib.Core.List.{List, [], _∷_}
+use mathlib.Core.List.{List}
 use mathlib.Core.Option.{some}
 use Prim.Native.Nat.{ℕ}
 use lib.Dec.{eqb}
-use Rattle.srt_protocol.specs.Sequence.{sequence-further}
 use Rattle.srt_group_model.specs.Tools.{at-place, change, All}
-use Rattle.srt_group_model.specs.laws.Reason.{if-elim, if-some-elim, some-inj, first-such-of, Each-to, each-to-same, each-to-then, each-to-each, each-to-change}
-use Rattle.srt_group_model.specs.State.{Member, State, on-leg, broken-state, with-leg}
-use Rattle.srt_group_model.specs.Legs.{Reading, readings, reading-of, advance-receive-sequence}
+use Rattle.srt_group_model.specs.laws.Reason.{if-some-elim, some-inj, first-such-of, Each-to, each-to-change}
+use Rattle.srt_group_model.specs.State.{Member, State, broken-state, with-leg}
+use Rattle.srt_group_model.specs.Legs.{Reading, readings, reading-of}
 use Rattle.srt_group_model.specs.Members.{id-of, in-state}
-use Rattle.srt_group_model.specs.Nearest.{covered}
-use Rattle.srt_group_model.specs.Delivery.{release-pending-reservation, release-all, advance-legs, deliver-packet}
 use Rattle.srt_group_model.specs.Calls.{read-field}
 use Rattle.srt_group_model.specs.laws.Frame.{Same-leg, send-gives, synchronize-gives, align-gives}
 use Rattle.srt_group_model.specs.laws.Queues.{Relabelled, relabelled-same, All-relabelled}
 use Rattle.srt_group_model.specs.laws.CallLaw.{Member-move, unmoved, turn, admission, colliding, alignment, catching-up, leg-send, leg-end, leg-reading, advance}
 use Rattle.srt_group_model.specs.declared.Leg.{Leg}
-use Rattle.srt_group_model.specs.declared.Packet.{Packet}
 use Rattle.srt_group_model.specs.declared.Receiver.{Receiver}
 
 -- ---- a reading leaves the reservation and the peer's first sequence
@@ -85,66 +80,3 @@ account-relabelled m n h = record { id = h .id; queue = h .queue; broken = h .br
 
 pub moved-relabelled : {s : State} (i : ℕ) (m : Member) (f : Member → Member) (ms : List Member) → at-place i ms ≡ some m → Member-move s m (f m) → All-relabelled ms (change i f ms)
 moved-relabelled i m f ms at move = moved-at Relabelled relabelled-same i m f ms at (account-relabelled m (f m) (moved-account move))
-
--- ---- a delivery: of the members the sums and the legs' records of the base move, of the group the held packets, the base and its own sum
-
-relabelled-then : (a b c : Member) → Relabelled a b → Relabelled b c → Relabelled a c
-relabelled-then a b c h k = record { id = k .id ∙ h .id; queue = k .queue ∙ h .queue; broken = λ e. k .broken (h .broken e) }
-
-pub record Delivery-frame (s t : State) : Type 0 where
-  pub making : t .making ≡ s .making
-  pub peer : t .peer ≡ s .peer
-  pub send : t .send ≡ s .send
-  pub visit : t .visit ≡ s .visit
-  pub waiting : t .waiting ≡ s .waiting
-  pub members : All-relabelled (s .members) (t .members)
-
-release-frame : (p : Packet) (s : State) → Delivery-frame s (release-pending-reservation p s)
-unfolding release-pending-reservation
-release-frame p s =
-    let same = each-to-same Relabelled relabelled-same (s .members) in
-    if-elim (Delivery-frame s) _ _ _ (λ e. record { making = refl; peer = refl; send = refl; visit = refl; waiting = refl; members = same })
-    (λ e.
-    if-some-elim (Delivery-frame s) _ _ _
-    (λ i g.
-    record {
-      making = refl;
-      peer = refl;
-      send = refl;
-      visit = refl;
-      waiting = refl;
-      members = each-to-change Relabelled relabelled-same i _ (s .members) (λ m at. record { id = refl; queue = refl; broken = λ b. b });
-    })
-    (λ g. record { making = refl; peer = refl; send = refl; visit = refl; waiting = refl; members = same }))
-
-frame-then : (s t u : State) → Delivery-frame s t → Delivery-frame t u → Delivery-frame s u
-frame-then s t u h k =
-    record {
-      making = k .making ∙ h .making;
-      peer = k .peer ∙ h .peer;
-      send = k .send ∙ h .send;
-      visit = k .visit ∙ h .visit;
-      waiting = k .waiting ∙ h .waiting;
-      members = each-to-then Relabelled relabelled-then (s .members) (t .members) (u .members) (h .members) (k .members);
-    }
-
-release-all-frame : (ps : List Packet) (s : State) → Delivery-frame s (release-all ps s)
-unfolding release-all
-release-all-frame [] s = record { making = refl; peer = refl; send = refl; visit = refl; waiting = refl; members = each-to-same Relabelled relabelled-same (s .members) }
-release-all-frame (p ∷ ps) s = frame-then s _ _ (release-frame p s) (release-all-frame ps (release-pending-reservation p s))
-
-pub deliver-frame : (base : ℕ) (p : Packet) (s : State) → Delivery-frame s (deliver-packet base p s)
-unfolding deliver-packet advance-legs
-deliver-frame base p s =
-    let released = release-all (covered base (p .content .count) (s .receive .pending)) s in
-    let h = release-all-frame (covered base (p .content .count) (s .receive .pending)) s in
-    record {
-      making = h .making;
-      peer = h .peer;
-      send = h .send;
-      visit = h .visit;
-      waiting = h .waiting;
-      members =
-          each-to-then Relabelled relabelled-then (s .members) (released .members) _ (h .members)
-          (each-to-each Relabelled (on-leg (advance-receive-sequence (sequence-further base (p .content .count)))) (λ m. record { id = refl; queue = refl; broken = λ b. b }) (released .members));
-    }

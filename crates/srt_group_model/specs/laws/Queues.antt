@@ -1,6 +1,6 @@
 -- What a poll can do to the members: take the front of a queue, with the mark of what it collected, and change labels, sums and
 -- sending sides. Walk shows that whatever these keep is kept by the polls.
-use mathlib.Core.Path.{_≡_, refl}
+use mathlib.Core.Path.{_≡_, refl, _∙_}
 use mathlib.Core.Bool.{Bool, true, false}
 use mathlib.Core.List.{List, _∷_}
 use mathlib.Core.Option.{some}
@@ -8,13 +8,11 @@ use Prim.Native.Nat.{ℕ}
 use lib.Dec.{eqb}
 use lib.ListN.{drop}
 use Rattle.srt_group_model.specs.Tools.{at-place, change}
-use Rattle.srt_group_model.specs.laws.Reason.{if-elim, if-some-elim, Each-to, each-to-same, each-to-each, each-to-change, each-to-map}
-use Rattle.srt_group_model.specs.State.{Member, State, on-leg, with-queue, turned, broken-state}
+use Rattle.srt_group_model.specs.laws.Reason.{if-elim, Each-to, each-to-change, each-to-map}
+use Rattle.srt_group_model.specs.State.{Member, State, with-queue, turned, broken-state}
 use Rattle.srt_group_model.specs.Members.{id-of, in-state}
-use Rattle.srt_group_model.specs.Legs.{advance-receive-sequence}
 use Rattle.srt_group_model.specs.Run.{Mark, put, base-set, collected, gap-skipped, delivered}
 use Rattle.srt_group_model.specs.Collecting.{retain-group-packet, report-event, front, packet-from, waiting-from}
-use Rattle.srt_group_model.specs.Delivery.{release-pending-reservation, advance-legs}
 use Rattle.srt_group_model.specs.laws.Frame.{Carried, All-carried, all-same, all-then, all-change, promote-carried, broken-carried}
 use Rattle.srt_group_model.specs.declared.Event.{Event}
 use Rattle.srt_group_model.specs.declared.Packet.{Packet}
@@ -30,6 +28,9 @@ pub record Relabelled (m n : Member) : Type 0 where
 
 pub relabelled-same : (m : Member) → Relabelled m m
 relabelled-same m = record { id = refl; queue = refl; broken = λ h. h }
+
+pub relabelled-then : (a b c : Member) → Relabelled a b → Relabelled b c → Relabelled a c
+relabelled-then a b c h k = record { id = k .id ∙ h .id; queue = k .queue ∙ h .queue; broken = λ e. k .broken (h .broken e) }
 
 pub carried-relabelled : (m n : Member) → Carried m n → Relabelled m n
 carried-relabelled m n h = record { id = h .id; queue = h .queue; broken = h .broken }
@@ -88,19 +89,3 @@ report-carried i w s =
     (λ e.
     if-elim (All-carried (s .members)) _ _ _ (λ g. all-then (s .members) broken _ h (promote-carried broken)) (λ g. h))
     (λ e. all-same (s .members))
-
-pub release-relabelled : (p : Packet) (s : State) → All-relabelled (s .members) (release-pending-reservation p s .members)
-unfolding release-pending-reservation
-release-relabelled p s =
-    if-elim (λ (t : State). All-relabelled (s .members) (t .members)) _ _ _
-    (λ e. each-to-same Relabelled relabelled-same (s .members))
-    (λ e.
-    if-some-elim (λ (t : State). All-relabelled (s .members) (t .members)) _ _ _
-    (λ i g. sums-relabelled i _ (s .members) (λ m. record { id = refl; queue = refl; broken = λ h. h }))
-    (λ g. each-to-same Relabelled relabelled-same (s .members)))
-
-pub advance-relabelled : (sequence : ℕ) (s : State) → All-relabelled (s .members) (advance-legs sequence s .members)
-unfolding advance-legs
-advance-relabelled sequence s =
-    each-to-each Relabelled (on-leg (advance-receive-sequence sequence)) (λ m. record { id = refl; queue = refl; broken = λ k. k })
-    (s .members)

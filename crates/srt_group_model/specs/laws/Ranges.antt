@@ -11,7 +11,7 @@ use lib.Dec.{ltb, eqb}
 use Rattle.srt_protocol.specs.Circle.{further}
 use Rattle.srt_protocol.specs.Sequence.{half, sequence-further}
 use Rattle.srt_group_model.specs.laws.Arrivals.{base-after-elim, peer-after-elim}
-use Rattle.srt_group_model.specs.Tools.{or-else, flagged, first-such, at-place, change, each}
+use Rattle.srt_group_model.specs.Tools.{or-else, flagged, first-such, at-place, change}
 use Rattle.srt_group_model.specs.laws.Reason.{if-elim, if-some-elim, not-both, none-some, some-inj, and-left, and-right}
 use Rattle.srt_group_model.specs.State.{Member, turned, with-leg, on-membership, with-admitted, with-collision}
 use Rattle.srt_group_model.specs.Legs.{is-connected, has-sender, can-send, no-sequence, peer-initial-sequence, send-shared-with-sequence, synchronize-send-sequence, largest-sequence, largest-32, largest-64}
@@ -130,31 +130,12 @@ with-leg-fit l m b h =
       short = h .short;
     }
 
-pub change-fit : (i : ℕ) (f : Member → Member) (ms : List Member) → ((m : Member) → Member-fit m → Member-fit (f m)) → All-fit ms → All-fit (change i f ms)
-unfolding change
-change-fit zero f [] g h = tt
-change-fit (suc i) f [] g h = tt
-change-fit zero f (m ∷ ms) g h = (g m (h .0), h .1)
-change-fit (suc i) f (m ∷ ms) g h = (h .0, change-fit i f ms g (h .1))
-
 pub at-change-fit : (i : ℕ) (f : Member → Member) (ms : List Member) → ((m : Member) → at-place i ms ≡ some m → Member-fit m → Member-fit (f m)) → All-fit ms → All-fit (change i f ms)
 unfolding change at-place
 at-change-fit zero f [] g h = tt
 at-change-fit (suc i) f [] g h = tt
 at-change-fit zero f (m ∷ ms) g h = (g m refl (h .0), h .1)
 at-change-fit (suc i) f (m ∷ ms) g h = (h .0, at-change-fit i f ms g (h .1))
-
-pub each-fit : (f : Member → Member) (ms : List Member) → ((m : Member) → Member-fit m → Member-fit (f m)) → All-fit ms → All-fit (each f ms)
-unfolding each
-each-fit f [] g h = tt
-each-fit f (m ∷ ms) g h = (g m (h .0), each-fit f ms g (h .1))
-
-pub at-fit : (i : ℕ) (m : Member) (ms : List Member) → at-place i ms ≡ some m → All-fit ms → Member-fit m
-unfolding at-place
-at-fit zero m [] at h = none-some at
-at-fit (suc i) m [] at h = none-some at
-at-fit zero m (x ∷ ms) at h = subst Member-fit (some-inj at) (h .0)
-at-fit (suc i) m (x ∷ ms) at h = at-fit i m ms at (h .1)
 
 first-such-fit : (test : Member → Bool) (m : Member) (ms : List Member) → first-such test ms ≡ some m → All-fit ms → Member-fit m
 unfolding first-such

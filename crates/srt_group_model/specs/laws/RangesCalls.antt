@@ -3,7 +3,7 @@ use mathlib.Core.Path.{_≡_, refl, sym, ap, subst, _∙_}
 use mathlib.Core.Bool.{Bool, true, false, not, _&&_}
 use mathlib.Core.List.{List, [], _∷_}
 use mathlib.Core.Option.{Option, none, some}
-use Prim.Native.Nat.{ℕ, zero, suc, _+_, _≤_, _<_}
+use Prim.Native.Nat.{ℕ, zero, suc, _≤_, _<_}
 use native.Mathlib.Omega.{arith}
 use borrow.Author.Tests.{eqb-true, eq-eqb, ltb-false, le-ltb, leb-true, leb-false, not-false}
 use lib.Dec.{leb, eqb}
@@ -12,9 +12,8 @@ use Rattle.srt_protocol.specs.Sequence.{sequence-distance, sequence-further}
 use Rattle.srt_protocol.specs.Cells.{cell-size}
 use Rattle.srt_group_model.specs.Tools.{if_then_else_, if-some_give_otherwise_, at-place, change, each, without-place, All, any}
 use Rattle.srt_group_model.specs.laws.Flag.{bit-most}
-use Rattle.srt_group_model.specs.laws.Reason.{if-elim, by-test, not-both, none-some, some-inj, and-left, and-right, or-left, or-right, no-either, first-such-of, all-append, neither}
+use Rattle.srt_group_model.specs.laws.Reason.{if-elim, by-test, not-both, none-some, some-inj, and-left, and-right, or-left, or-right, no-either, first-such-of, all-append, neither, all-at}
 use Rattle.srt_group_model.specs.State.{Member, Send, State, next-send-sequence, with-receive, with-send, with-members, on-leg, based-at}
-use Rattle.srt_group_model.specs.Accounts.{reserve}
 use Rattle.srt_group_model.specs.Legs.{Reading, readings, reading-of, goes-back, read-state, acknowledge, handed, disconnect-leg, add-reservation, has-sender, is-connected, oldest-unacked-sequence, largest-sequence, largest-16, largest-32, largest-64, no-sequence}
 use Rattle.srt_group_model.specs.Members.{id-of}
 use Rattle.srt_group_model.specs.Nearest.{sequence-of, nearest}
@@ -25,20 +24,20 @@ use Rattle.srt_group_model.specs.Validity.{above, any-above, data-words,
 use Rattle.srt_group_model.specs.Calls.{queue-full, enqueue, data-event, data-unfit, no-data, reading-out-of-range, read-field, state-at-addition, new-member, lifecycle-event}
 use Rattle.srt_group_model.specs.Lent.{Lent, Call, perform}
 use Rattle.srt_group_model.specs.laws.InRange.{in-range-of, of-in-range}
-use Rattle.srt_group_model.specs.laws.Sums.{all-such-that, inserted-all}
 use Rattle.srt_group_model.specs.laws.Queues.{pop, packet-of}
 use Rattle.srt_group_model.specs.laws.Steps.{State-law, state-law-of}
 use Rattle.srt_group_model.specs.laws.CallLaw.{Member-move, unmoved, turn, admission, colliding, alignment, catching-up, leg-send, leg-end, leg-reading, advance, Base-source, first-of, nearest-held, In-front, reported, Poll-law, Call-law}
 use Rattle.srt_group_model.specs.laws.EveryCall.{call-keeps}
 use Rattle.srt_group_model.specs.laws.Acknowledging.{acknowledged-less}
 use Rattle.srt_group_model.specs.Sound.{Leg-fit, Event-fit, Member-fit, All-fit, Packet-fit, Entry-fit, Waiting-fit, Receiving-fit, Sending-fit, Fit}
-use Rattle.srt_group_model.specs.laws.Ranges.{further-fits, synchronize-fit, send-fit, align-leg-fit, turned-fit, with-leg-fit, at-fit, at-change-fit, source-fit, first-fit, admitted-fit, collided-fit}
-use Rattle.srt_group_model.specs.laws.RangesKept.{number-fit, drop-fit, pop-fit, release-leg-fit, advance-leg-fit, account-fit, front-fit, packet-fit, waiting-fit, members-fit, receive-fit, sending-fit, events-fit, peer-fit, visit-fit, delivers-fit, nearest-fit}
+use Rattle.srt_group_model.specs.laws.Ranges.{further-fits, synchronize-fit, send-fit, align-leg-fit, turned-fit, with-leg-fit, at-change-fit, source-fit, first-fit, admitted-fit, collided-fit}
+use Rattle.srt_group_model.specs.laws.RangesKept.{number-fit, drop-fit, pop-fit, advance-leg-fit, front-fit, packet-fit, waiting-fit, members-fit, receive-fit, sending-fit, events-fit, peer-fit, visit-fit, delivers-fit, nearest-fit, counted-fit}
 use Rattle.srt_group_model.specs.declared.Leg.{Leg}
 use Rattle.srt_group_model.specs.declared.Data.{Data}
 use Rattle.srt_group_model.specs.declared.Event.{Event}
 use Rattle.srt_group_model.specs.declared.Packet.{Packet}
 use Rattle.srt_group_model.specs.declared.Entry.{Entry}
+use Rattle.srt_group_model.specs.laws.Weights.{all-such-that, inserted-all}
 
 -- ---- readings
 
@@ -331,7 +330,7 @@ changes-fit s i m f at g h =
     members-fit _ s (at-change-fit i f (s .members) (λ x e. subst (λ (y : Member). Member-fit y → Member-fit (f y)) (some-inj (sym at ∙ e)) g) (h .members)) h
 
 base-fit : (s : State) (b : ℕ) → Base-source s b → Fit s → b ≤ largest-sequence
-base-fit s b (first-of i m at a e) h = first-fit (m .leg) (at-fit i m (s .members) at (h .members) .leg) b e
+base-fit s b (first-of i m at a e) h = first-fit (m .leg) (all-at Member-fit i m (s .members) at (h .members) .leg) b e
 base-fit s b (nearest-held p g e) h = subst (λ (n : ℕ). n ≤ largest-sequence) e (nearest-fit (s .receive .pending) (h .pending) p g .sequence)
 
 -- a base that is set
@@ -349,7 +348,7 @@ trims-fit s l h =
 
 reports-fit : (s : State) (i : ℕ) (m : Member) (e : Event) → In-front s i m e → eqb (e .kind) 0 ≡ false → Fit s → Fit (reported i m e s)
 reports-fit s i m e f d h =
-    let mine = at-fit i m (s .members) (f .stands) (h .members) in
+    let mine = all-at Member-fit i m (s .members) (f .stands) (h .members) in
     events-fit _ _ (all-append Waiting-fit (s .waiting) _ (h .waiting) (waiting-fit m e mine (front-fit (m .queue) e (f .first) (mine .queue)) d, tt))
     (changes-fit s i m pop (f .stands) (pop-fit m) h)
 
@@ -357,17 +356,17 @@ fit-polls : Poll-law (λ hand s log. Fit s)
 fit-polls =
     record {
       moves = λ s i m f at move h. changes-fit s i m f at (move-fit s m (f m) move h) h;
-      binds = λ s i m at a h. peer-fit _ s (at-fit i m (s .members) at (h .members) .leg .peer) h;
+      binds = λ s i m at a h. peer-fit _ s (all-at Member-fit i m (s .members) at (h .members) .leg .peer) h;
       sets-base = λ s b e source h. receive-fit _ s (h .pending) (based-fit (base-fit s b source h)) h;
       continues = λ s b h. visit-fit _ s (bit-most b) h;
       turns = λ s i m at h. visit-fit _ s (h .continuation) h;
       discards =
-          λ s i m e f d g h. changes-fit s i m _ (f .stands) (λ k. release-leg-fit (e .content .count) (pop m) (pop-fit m k)) h;
+          λ s i m e f d g h. changes-fit s i m _ (f .stands) (λ k. counted-fit _ _ (pop m) (pop-fit m k)) h;
       holds =
           λ s i m e f d g h.
-          let mine = at-fit i m (s .members) (f .stands) (h .members) in
+          let mine = all-at Member-fit i m (s .members) (f .stands) (h .members) in
           receive-fit _ _ (inserted-all Packet-fit (packet-of m e) (s .receive .pending) (packet-fit m e mine (front-fit (m .queue) e (f .first) (mine .queue)) d) (h .pending)) (h .receiving)
-          (changes-fit s i m _ (f .stands) (λ k. account-fit (reserve (e .content .count)) (pop m) (pop-fit m k)) h);
+          (changes-fit s i m _ (f .stands) (λ k. counted-fit _ _ (pop m) (pop-fit m k)) h);
       reports = λ s i m e f d few h. reports-fit s i m e f d h;
       gives = λ s h. events-fit _ s (drop-fit Waiting-fit (s .waiting) (h .waiting)) h;
       skips = λ s base p tested time b n near h. skips-fit s base p near h;
@@ -407,8 +406,8 @@ fit-moves c cells =
           λ s i m e at next short fits h.
           sending-fit _ s
           (append-history-fit (id-of m) e (s .send)
-          record { sequence = subst (λ (n : ℕ). n ≤ largest-sequence) (sym next) (at-fit i m (s .members) at (h .members) .leg .next); size = short; source = fits } (h .history))
-          (append-most (id-of m) e (s .send) (h .remembered)) (append-numbers-fit (id-of m) e (s .send) (at-fit i m (s .members) at (h .members) .id) (h .sending)) h;
+          record { sequence = subst (λ (n : ℕ). n ≤ largest-sequence) (sym next) (all-at Member-fit i m (s .members) at (h .members) .leg .next); size = short; source = fits } (h .history))
+          (append-most (id-of m) e (s .send) (h .remembered)) (append-numbers-fit (id-of m) e (s .send) (all-at Member-fit i m (s .members) at (h .members) .id) (h .sending)) h;
       trims = λ s l h. trims-fit s l h;
     }
 

@@ -3,31 +3,31 @@ use mathlib.Core.Path.{_≡_, sym, ap, subst, _∙_}
 use mathlib.Core.Bool.{Bool, true, false, _&&_}
 use mathlib.Core.List.{List, [], _∷_}
 use mathlib.Core.Option.{Option, none, some}
-use Prim.Native.Nat.{ℕ, _-_, _≤_}
+use Prim.Native.Nat.{ℕ, _≤_}
 use native.Mathlib.Omega.{arith}
 use borrow.Author.Tests.{ltb-false}
 use lib.Dec.{eqb}
 use lib.ListN.{length, drop}
 use Rattle.srt_group_model.specs.Tools.{is-set, or-else, at-place, All}
-use Rattle.srt_group_model.specs.laws.Reason.{if-elim, if-some-elim, none-some, some-inj, or-left, or-right}
-use Rattle.srt_group_model.specs.State.{Member, Receive, Send, State, next-send-sequence, with-receive, with-send, with-visit, with-members, with-waiting, with-peer, on-leg, on-membership, on-account}
-use Rattle.srt_group_model.specs.Accounts.{release}
-use Rattle.srt_group_model.specs.Legs.{release-data-reservation, advance-receive-sequence, largest-sequence, largest-32}
-use Rattle.srt_group_model.specs.Nearest.{lowest, nearest, covered}
+use Rattle.srt_group_model.specs.laws.Reason.{if-elim, if-some-elim, none-some, some-inj, or-left, or-right, all-each, each-to-all}
+use Rattle.srt_group_model.specs.State.{Member, Receive, Send, State, next-send-sequence, with-receive, with-send, with-visit, with-members, with-waiting, with-peer, on-leg}
+use Rattle.srt_group_model.specs.Legs.{advance-receive-sequence, largest-sequence, largest-32}
+use Rattle.srt_group_model.specs.Nearest.{lowest, nearest}
 use Rattle.srt_group_model.specs.Collecting.{front}
-use Rattle.srt_group_model.specs.Delivery.{release-pending-reservation, release-all, advance-legs, deliver-packet, pass-run}
+use Rattle.srt_group_model.specs.Delivery.{deliver-packet, pass-run}
 use Rattle.srt_group_model.specs.Backup.{max-history}
 use Rattle.srt_group_model.specs.Validity.{any-above, event-words, is-too-large, data-out-of-range, event-out-of-range}
 use Rattle.srt_group_model.specs.laws.InRange.{in-range-of}
 use Rattle.srt_group_model.specs.laws.Queues.{pop, packet-of, waiting-of}
-use Rattle.srt_group_model.specs.laws.Sums.{all-such-that}
 use Rattle.srt_group_model.specs.Sound.{Event-fit, Member-fit, All-fit, Packet-fit, Entry-fit, Waiting-fit, Receiving-fit, Sending-fit, Fit}
-use Rattle.srt_group_model.specs.laws.Ranges.{further-fits, Option-fit, change-fit, each-fit, flagged-fit}
+use Rattle.srt_group_model.specs.laws.Ranges.{further-fits, Option-fit, flagged-fit}
 use Rattle.srt_group_model.specs.declared.Event.{Event}
 use Rattle.srt_group_model.specs.declared.Packet.{Packet}
 use Rattle.srt_group_model.specs.declared.Account.{Account}
 use Rattle.srt_group_model.specs.declared.Waiting.{Waiting}
 use Rattle.srt_group_model.specs.declared.Visit.{Visit}
+use Rattle.srt_group_model.specs.laws.Released.{recounted, Recounted, Released, run-passed, deliver-released}
+use Rattle.srt_group_model.specs.laws.Weights.{all-such-that}
 
 pub number-fit : (s : State) → Fit s → Option-fit (next-send-sequence (s .send))
 number-fit s h = flagged-fit (is-set (s .send .numbers .numbered)) (s .send .numbers .next) (h .sending .next)
@@ -56,43 +56,9 @@ pop-fit m h =
       short = omega (arith, h .short, drop-short (m .queue));
     }
 
-pub release-leg-fit : (n : ℕ) (m : Member) → Member-fit m → Member-fit (on-leg (release-data-reservation n) m)
-release-leg-fit n m h =
-    let l = h .leg in
-    record {
-      leg =
-          record {
-            state = l .state;
-            peer = l .peer;
-            limit = l .limit;
-            started = l .started;
-            flight = l .flight;
-            no-flight = l .no-flight;
-            window = l .window;
-            oldest = l .oldest;
-            pace = l .pace;
-            receive-window = l .receive-window;
-            latency = l .latency;
-            srtt = l .srtt;
-            rttvar = l .rttvar;
-            heard = l .heard;
-            connects = l .connects;
-            next = l .next;
-            advanced = l .advanced;
-            first = l .first;
-          };
-      id = h .id;
-      weight = h .weight;
-      state = h .state;
-      admitted = h .admitted;
-      expected = h .expected;
-      actual = h .actual;
-      queue = h .queue;
-      short = h .short;
-    }
-
-pub advance-leg-fit : (n : ℕ) (m : Member) → n ≤ largest-sequence → Member-fit m → Member-fit (on-leg (advance-receive-sequence n) m)
-advance-leg-fit n m b h =
+-- of what is counted and recorded of a member, only the number that its leg records has a range
+pub recounted-fit : (account : Account) (reservation n : ℕ) (m : Member) → n ≤ largest-sequence → Member-fit m → Member-fit (on-leg (advance-receive-sequence n) (recounted account reservation m))
+recounted-fit account reservation n m b h =
     let l = h .leg in
     record {
       leg =
@@ -126,19 +92,11 @@ advance-leg-fit n m b h =
       short = h .short;
     }
 
-pub account-fit : (f : Account → Account) (m : Member) → Member-fit m → Member-fit (on-account f m)
-account-fit f m h =
-    record {
-      leg = h .leg;
-      id = h .id;
-      weight = h .weight;
-      state = h .state;
-      admitted = h .admitted;
-      expected = h .expected;
-      actual = h .actual;
-      queue = h .queue;
-      short = h .short;
-    }
+pub advance-leg-fit : (n : ℕ) (m : Member) → n ≤ largest-sequence → Member-fit m → Member-fit (on-leg (advance-receive-sequence n) m)
+advance-leg-fit n m = recounted-fit (m .membership .account) (m .leg .receiver .reserved) n m
+
+pub counted-fit : (account : Account) (reservation : ℕ) (m : Member) → Member-fit m → Member-fit (recounted account reservation m)
+counted-fit account reservation m h = recounted-fit account reservation (m .leg .receiver .advanced) m (h .leg .advanced) h
 
 pub front-fit : (q : List Event) (e : Event) → front q ≡ some e → All Event-fit q → Event-fit e
 unfolding at-place
@@ -192,48 +150,28 @@ visit-fit v s k h =
 
 -- ---- delivery
 
-release-fit : (p : Packet) (s : State) → Fit s → Fit (release-pending-reservation p s)
-unfolding release-pending-reservation
-release-fit p s h =
-    if-elim Fit _ _ _
-    (λ e.
-    record { members = h .members; pending = h .pending; history = h .history; remembered = h .remembered; waiting = h .waiting; receiving = h .receiving; sending = h .sending; continuation = h .continuation; peer = h .peer })
-    (λ e.
-    if-some-elim Fit _ _ _
-    (λ i g.
+released-fit : (s t : State) → Released s t → Fit s → Fit t
+released-fit s t r h =
     record {
-      members = change-fit i _ (s .members) (λ m k. release-leg-fit (p .content .count) _ (account-fit (release (p .content .count)) m k)) (h .members);
-      pending = h .pending;
-      history = h .history;
-      remembered = h .remembered;
-      waiting = h .waiting;
-      receiving = h .receiving;
-      sending = h .sending;
-      continuation = h .continuation;
-      peer = h .peer;
-    })
-    (λ g. h))
-
-release-all-fit : (ps : List Packet) (s : State) → Fit s → Fit (release-all ps s)
-unfolding release-all
-release-all-fit [] s h = h
-release-all-fit (p ∷ ps) s h = release-all-fit ps (release-pending-reservation p s) (release-fit p s h)
+      members =
+          each-to-all Recounted Member-fit (λ m n k f. subst Member-fit (sym (k .is)) (counted-fit (k .account) (k .reservation) m f)) (s .members) (t .members) (r .members) (h .members);
+      pending = subst (λ (x : Receive). All Packet-fit (x .pending)) (sym (r .receive)) (h .pending);
+      history = subst (λ (x : Send). All Entry-fit (x .history)) (sym (r .send)) (h .history);
+      remembered = subst (λ (x : Send). length (x .history) ≤ max-history) (sym (r .send)) (h .remembered);
+      waiting = subst (All Waiting-fit) (sym (r .waiting)) (h .waiting);
+      receiving = subst (λ (x : Receive). Receiving-fit (x .numbers)) (sym (r .receive)) (h .receiving);
+      sending = subst (λ (x : Send). Sending-fit (x .numbers)) (sym (r .send)) (h .sending);
+      continuation = subst (λ (v : Visit). v .continuation ≤ 1) (sym (r .visit)) (h .continuation);
+      peer = subst (λ (n : ℕ). n ≤ largest-32) (sym (r .peer)) (h .peer);
+    }
 
 pub delivers-fit : (s : State) (base : ℕ) (p : Packet) → Fit s → Fit (deliver-packet base p s)
-unfolding deliver-packet advance-legs pass-run
+unfolding pass-run
 delivers-fit s base p h =
-    let r = release-all-fit (covered base (p .content .count) (s .receive .pending)) s h in
-    record {
-      members = each-fit _ _ (λ m k. advance-leg-fit _ m (further-fits base (p .content .count)) k) (r .members);
-      pending = all-such-that Packet-fit _ (s .receive .pending) (h .pending);
-      history = r .history;
-      remembered = r .remembered;
-      waiting = r .waiting;
-      receiving = record { based = omega arith; base = further-fits base (p .content .count) };
-      sending = r .sending;
-      continuation = r .continuation;
-      peer = r .peer;
-    }
+    let further = further-fits base (p .content .count) in
+    released-fit (run-passed base p s) (deliver-packet base p s) (deliver-released base p s)
+    (receive-fit (pass-run base p (s .receive)) _ (all-such-that Packet-fit _ (s .receive .pending) (h .pending)) record { based = omega arith; base = further }
+    (members-fit _ s (all-each Member-fit _ (λ m k. advance-leg-fit _ m further k) (s .members) (h .members)) h))
 
 abbrev Packet-gives : Option Packet → Type 0
 Packet-gives o = (p : Packet) → o ≡ some p → Packet-fit p

@@ -5,7 +5,7 @@ use mathlib.Core.List.{List, [], _∷_, _++_}
 use mathlib.Core.Option.{Option, none, some}
 use Prim.Native.Nat.{ℕ, zero, suc}
 use lib.Dec.{T}
-use Rattle.srt_group_model.specs.Tools.{if_then_else_, if-some_give_otherwise_, any, first-such, at-place, change, each, All}
+use Rattle.srt_group_model.specs.Tools.{if_then_else_, if-some_give_otherwise_, any, first-such, at-place, change, each, All, place-of}
 
 -- ---- a choice
 
@@ -136,6 +136,27 @@ module _ {A : Type 0} where
   any-append test [] m = refl
   any-append test (x ∷ xs) m = ap (λ (b : Bool). test x || b) (any-append test xs m) ∙ sym (or-assoc (test x) _ _)
 
+  pub all-each : (P : A → Type 0) (f : A → A) → ((a : A) → P a → P (f a)) → (l : List A) → All P l → All P (each f l)
+  unfolding each
+  all-each P f g [] h = tt
+  all-each P f g (x ∷ xs) h = (g x (h .0), all-each P f g xs (h .1))
+
+  pub all-at : (P : A → Type 0) (i : ℕ) (a : A) (l : List A) → at-place i l ≡ some a → All P l → P a
+  unfolding at-place
+  all-at P i a [] at h = none-some at
+  all-at P zero a (x ∷ xs) at h = subst P (some-inj at) (h .0)
+  all-at P (suc i) a (x ∷ xs) at h = all-at P i a xs at (h .1)
+
+  -- where a search finds no place, none passes
+  pub place-none : (test : A → Bool) (l : List A) → place-of test l ≡ none → any test l ≡ false
+  unfolding place-of any
+  place-none test [] = λ g. refl
+  place-none test (x ∷ xs) =
+      if-elim (λ (o : Option ℕ). o ≡ none → any test (x ∷ xs) ≡ false) _ _ _ (λ e g. none-some (sym g))
+      (λ e.
+      if-some-elim (λ (o : Option ℕ). o ≡ none → any test (x ∷ xs) ≡ false) _ _ _ (λ k f g. none-some (sym g))
+      (λ f g. no-either _ _ e (place-none test xs f)))
+
   -- the first that passes a test is one of them, and passes it
   pub first-such-of : (P : A → Type 0) (test : A → Bool) (l : List A) (a : A) → first-such test l ≡ some a → All P l → P a × (test a ≡ true)
   unfolding first-such
@@ -188,6 +209,20 @@ module _ {A : Type 0} where
   at-change (suc i) f [] a e = none-some e
   at-change zero f (x ∷ xs) a e = ap {B = Option A} (λ z. some (f z)) (some-inj e)
   at-change (suc i) f (x ∷ xs) a e = at-change i f xs a e
+
+  -- both lists changed alike, and what holds of each of the first
+  pub each-to-both : (R : A → A → Type 0) (f : A → A) → ((a b : A) → R a b → R (f a) (f b)) → (l m : List A) → Each-to R l m → Each-to R (each f l) (each f m)
+  unfolding each
+  each-to-both R f r [] [] h = tt
+  each-to-both R f r [] (y ∷ ys) h = h
+  each-to-both R f r (x ∷ xs) [] h = h
+  each-to-both R f r (x ∷ xs) (y ∷ ys) h = (r x y (h .0), each-to-both R f r xs ys (h .1))
+
+  pub each-to-all : (R : A → A → Type 0) (P : A → Type 0) → ((a b : A) → R a b → P a → P b) → (l m : List A) → Each-to R l m → All P l → All P m
+  each-to-all R P f [] [] h k = tt
+  each-to-all R P f [] (y ∷ ys) h k = absurd h
+  each-to-all R P f (x ∷ xs) [] h k = absurd h
+  each-to-all R P f (x ∷ xs) (y ∷ ys) h k = (f x y (h .0) (k .0), each-to-all R P f xs ys (h .1) (k .1))
 
   pub each-to-map : (R S : A → A → Type 0) → ((a b : A) → R a b → S a b) → (l m : List A) → Each-to R l m → Each-to S l m
   each-to-map R S f [] [] h = tt

@@ -18,7 +18,7 @@ use Rattle.srt_group_model.specs.laws.Queues.{Relabelled, pop}
 use Rattle.srt_group_model.specs.laws.Steps.{State-law, state-law-of}
 use Rattle.srt_group_model.specs.laws.CallLaw.{Poll-law, Call-law}
 use Rattle.srt_group_model.specs.laws.EveryCall.{call-keeps}
-use Rattle.srt_group_model.specs.laws.MemberMoves.{deliver-frame}
+use Rattle.srt_group_model.specs.laws.Released.{deliver-released, deliver-relabelled}
 use Rattle.srt_group_model.specs.declared.Packet.{Packet}
 use Rattle.srt_group_model.specs.declared.Visit.{Visit}
 use Rattle.srt_group_model.specs.Sound.{In-round}
@@ -51,7 +51,7 @@ turn-within i n h = let low : suc i % n < n = mod-lt (suc i) {m = n} h in omega 
 
 deliver-round : (s : State) (base : ℕ) (p : Packet) → In-round s → In-round (deliver-packet base p s)
 deliver-round s base p =
-    let frame = deliver-frame base p s in moved (ap (λ (v : Visit). v .round) (frame .visit)) (each-to-length Relabelled (s .members) _ (frame .members))
+    moved (ap (λ (v : Visit). v .round) (deliver-released base p s .visit)) (each-to-length Relabelled (s .members) _ (deliver-relabelled base p s))
 
 round-polls : Poll-law (λ hand s log. In-round s)
 round-polls =

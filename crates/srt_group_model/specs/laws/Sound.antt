@@ -1,25 +1,25 @@
 -- A law of the steps: a valid state is sound, and stays so between the steps of a poll. And what soundness says of the event in
 -- front of a queue.
-use mathlib.Core.Path.{_≡_, refl, subst}
+use mathlib.Core.Path.{_≡_, refl}
 use mathlib.Core.Bool.{Bool, true, false, _&&_}
 use mathlib.Core.List.{List, [], _∷_}
 use mathlib.Core.Option.{some}
-use Prim.Native.Nat.{ℕ, zero, suc, _+_, _*_, _≤_, _<_}
+use Prim.Native.Nat.{ℕ, suc, _+_, _*_, _≤_, _<_}
 use native.Mathlib.Omega.{arith}
 use borrow.Author.Tests.{ltb-false, ltb-true, not-false}
 use lib.Dec.{ltb, eqb}
 use lib.ListN.{length}
 use Rattle.srt_protocol.specs.Cells.{max-cells}
-use Rattle.srt_group_model.specs.Tools.{if_then_else_, such-that, at-place, each, total, All}
-use Rattle.srt_group_model.specs.laws.Reason.{if-elim, by-test, not-both, none-some, some-inj, or-right}
+use Rattle.srt_group_model.specs.Tools.{at-place, each, total, All}
+use Rattle.srt_group_model.specs.laws.Reason.{if-elim, by-test, not-both, or-right, all-at}
 use Rattle.srt_group_model.specs.State.{Member, State, with-send, with-history}
 use Rattle.srt_group_model.specs.Legs.{largest-sequence, largest-16, largest-32}
 use Rattle.srt_group_model.specs.Members.{id-of}
 use Rattle.srt_group_model.specs.Collecting.{front}
 use Rattle.srt_group_model.specs.Cells.{is-data, is-among, used-cells}
-use Rattle.srt_group_model.specs.Validity.{any-above, event-words, ascends, data-words, data-out-of-range, event-out-of-range, held-sequence-twice, id-twice, cell-twice, cell-beyond-store, is-invalid, queued-count, max-queued, max-pending}
+use Rattle.srt_group_model.specs.Validity.{any-above, event-words, ascends, data-words, data-out-of-range, event-out-of-range, held-sequence-twice, id-twice, cell-twice, cell-beyond-store, is-invalid, queued-count, max-queued, max-pending, is-held-for, held-count}
 use Rattle.srt_group_model.specs.laws.Steps.{State-law}
-use Rattle.srt_group_model.specs.Sound.{Within, room, one, occurs, pending-cells, In-round, Event-fit, Member-fit, Packet-fit, Fit, Summed, held-for, for-member}
+use Rattle.srt_group_model.specs.Sound.{Within, room, one, occurs, pending-cells, In-round, Event-fit, Member-fit, Packet-fit, Fit, Sound}
 use Rattle.srt_group_model.specs.laws.CellsKept.{room-inside, room-most, one-same, present, popped-data, apart-of-rules, uses-used}
 use Rattle.srt_group_model.specs.laws.CellsCalls.{within-law}
 use Rattle.srt_group_model.specs.laws.Counts.{apart-few, pending-length}
@@ -27,13 +27,12 @@ use Rattle.srt_group_model.specs.laws.Rounds.{round-law}
 use Rattle.srt_group_model.specs.laws.RangesKept.{front-fit}
 use Rattle.srt_group_model.specs.laws.InRange.{in-range-of}
 use Rattle.srt_group_model.specs.laws.RangesCalls.{fit-law}
-use Rattle.srt_group_model.specs.laws.SumsRemoval.{Right}
-use Rattle.srt_group_model.specs.laws.SumsKept.{sums-of-rule, right-law}
+use Rattle.srt_group_model.specs.laws.SumsKept.{sums-of-rule, right-law, Right}
 use Rattle.srt_group_model.specs.laws.Valid.{valid-of, counted-of, fit-of}
 use Rattle.srt_group_model.specs.declared.Data.{Data}
 use Rattle.srt_group_model.specs.declared.Event.{Event}
 use Rattle.srt_group_model.specs.declared.Packet.{Packet}
-use Rattle.srt_group_model.specs.Sound.{Sound}
+use Rattle.srt_group_model.specs.laws.Weights.{counted-most}
 
 -- ---- the steps keep it
 
@@ -65,11 +64,11 @@ four-law =
 
 of-sound : (s : State) → Sound s → All-four s
 unfolding All-four
-of-sound s h = (record { sums = h .sums; ascending = h .ascending }, (h .cells, (h .fit, h .round)))
+of-sound s h = (record { accounts = h .sums; ascending = h .ascending }, (h .cells, (h .fit, h .round)))
 
 to-sound : (s : State) → All-four s → Sound s
 unfolding All-four
-to-sound s h = record { ascending = h .0 .ascending; cells = h .1 .0; fit = h .1 .1 .0; sums = h .0 .sums; round = h .1 .1 .1 }
+to-sound s h = record { ascending = h .0 .ascending; cells = h .1 .0; fit = h .1 .1 .0; sums = h .0 .accounts; round = h .1 .1 .1 }
 
 pub sound-law : State-law Sound
 sound-law =
@@ -129,7 +128,7 @@ sound-without-history s h =
             continuation = h .fit .continuation;
             peer = h .fit .peer;
           };
-      sums = record { unique = h .sums .unique; members = h .sums .members; placed = h .sums .placed; own = h .sums .own };
+      sums = h .sums;
       round = h .round;
     }
 
@@ -154,28 +153,16 @@ unfolding data-out-of-range data-words
 count-fits d h = in-range-of _ (or-right (eqb (d .count) 0) _ h) .1 .0
 
 -- the counts of packets held for a member: at most 65,535 each
-held-for-most : (id : ℕ) (ps : List Packet) → All Packet-fit ps → held-for id ps ≤ largest-16 * length ps
-unfolding held-for
-held-for-most id [] h = omega arith
-held-for-most id (p ∷ ps) h =
-    omega (arith, count-for, held-for-most id ps (h .1))
-  where
-    count-most : p .content .count ≤ largest-16
-    count-most = count-fits (p .content) (h .0 .fields)
-
-    count-for : for-member id p ≤ largest-16
-    count-for = if-elim (λ (k : ℕ). k ≤ largest-16) _ _ _ (λ e. count-most) (λ e. omega arith)
-
-all-at : (P : Member → Type 0) (ms : List Member) (i : ℕ) (m : Member) → All P ms → at-place i ms ≡ some m → P m
-unfolding at-place
-all-at P [] i m h at = none-some at
-all-at P (x ∷ ms) zero m h at = subst P (some-inj at) (h .0)
-all-at P (x ∷ ms) (suc i) m h at = all-at P ms i m (h .1) at
+held-most : (id : ℕ) (ps : List Packet) → All Packet-fit ps → held-count id ps ≤ largest-16 * length ps
+unfolding total
+held-most id [] h = omega arith
+held-most id (p ∷ ps) h =
+    omega (arith, counted-most largest-16 (is-held-for id) (λ q. q .content .count) p (λ e. count-fits (p .content) (h .0 .fields)), held-most id ps (h .1))
 
 module _ (s : State) (i : ℕ) (m : Member) (e : Event) (sound : Sound s) (at : at-place i (s .members) ≡ some m)
     (in-front : front (m .queue) ≡ some e) (is-packet : eqb (e .kind) 0 ≡ true) where
   member-fits : Member-fit m
-  member-fits = all-at Member-fit (s .members) i m (sound .fit .members) at
+  member-fits = all-at Member-fit i m (s .members) at (sound .fit .members)
 
   event-fits : Event-fit e
   event-fits = front-fit (m .queue) e in-front (member-fits .queue)
@@ -217,8 +204,8 @@ module _ (s : State) (i : ℕ) (m : Member) (e : Event) (sound : Sound s) (at : 
         reserved =
             omega (
               arith,
-              all-at (Summed (s .receive .pending)) (s .members) i m (sound .sums .members) at .reserved,
-              held-for-most (id-of m) (s .receive .pending) (sound .fit .pending),
+              all-at _ i m (s .members) at (sound .sums .members) .reserved,
+              held-most (id-of m) (s .receive .pending) (sound .fit .pending),
               few,
               pending-length (s .receive .pending),
             );
@@ -228,24 +215,21 @@ module _ (s : State) (i : ℕ) (m : Member) (e : Event) (sound : Sound s) (at : 
 -- ---- a leg's reservation
 
 queued-most : (q : List Event) → All Event-fit q → queued-count q ≤ largest-16 * length q
-unfolding queued-count such-that total event-out-of-range if_then_else_
+unfolding total event-out-of-range
 queued-most [] h = omega arith
 queued-most (e ∷ q) h =
-    by-test (is-data e)
-    (λ d.
-    let fields = right-of (is-data e) _ d (or-right (any-above (event-words e)) _ (h .0 .fields)) in
-    rw d (omega (arith, count-fits (e .content) fields, queued-most q (h .1))))
-    (λ d. rw d (omega (arith, queued-most q (h .1))))
+    let fields = or-right (any-above (event-words e)) _ (h .0 .fields) in
+    omega (arith, counted-most largest-16 is-data (λ x. x .content .count) e (λ d. count-fits (e .content) (right-of (is-data e) _ d fields)), queued-most q (h .1))
 
 -- it is the counts of at most 2,048 held packets and 16 queued ones
 pub reservation-most : (s : State) (i : ℕ) (m : Member) → Sound s → at-place i (s .members) ≡ some m
     → m .leg .receiver .reserved ≤ largest-16 * (max-pending + max-queued)
 reservation-most s i m sound at =
-    let fits = all-at Member-fit (s .members) i m (sound .fit .members) at in
+    let fits = all-at Member-fit i m (s .members) at (sound .fit .members) in
     omega (
       arith,
-      all-at (Summed (s .receive .pending)) (s .members) i m (sound .sums .members) at .reservation,
-      held-for-most (id-of m) (s .receive .pending) (sound .fit .pending),
+      all-at _ i m (s .members) at (sound .sums .members) .reservation,
+      held-most (id-of m) (s .receive .pending) (sound .fit .pending),
       apart-few max-cells (pending-cells (s .receive .pending)) (λ n. omega (arith, sound .cells n)),
       pending-length (s .receive .pending),
       queued-most (m .queue) (fits .queue),

@@ -22,7 +22,8 @@ use Rattle.srt_group_model.specs.Sound.{ids}
 use Rattle.srt_group_model.specs.laws.HonestLog.{relabelled-ids}
 use Rattle.srt_group_model.specs.laws.CallLaw.{Joining, Poll-law, Call-law}
 use Rattle.srt_group_model.specs.laws.EveryCall.{call-keeps}
-use Rattle.srt_group_model.specs.laws.MemberMoves.{moved-relabelled, deliver-frame}
+use Rattle.srt_group_model.specs.laws.MemberMoves.{moved-relabelled}
+use Rattle.srt_group_model.specs.laws.Released.{deliver-relabelled}
 use Rattle.srt_group_model.specs.declared.Leg.{Leg}
 
 -- unique ids, and at most 64 members
@@ -139,7 +140,7 @@ names-polls =
       reports = λ s i m e f d few h. named-same s _ (changed-ids i _ (s .members) (λ x. refl)) h;
       gives = λ s h. named-same s _ refl h;
       skips = λ s base p tested time b n near h. named-same s _ refl h;
-      delivers = λ s base p b e h. named-same s _ (relabelled-ids (s .members) _ (deliver-frame base p s .members)) h;
+      delivers = λ s base p b e h. named-same s _ (relabelled-ids (s .members) _ (deliver-relabelled base p s)) h;
     }
 
 names-law : (c : Call) (cells : ℕ) → Call-law c cells (λ hand s log. Named s)

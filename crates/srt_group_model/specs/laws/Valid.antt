@@ -225,7 +225,7 @@ valid-kept c lent s invalid =
     let apart = cells-kept c lent s (h .cells-once) (h .cells-inside) in
     let right =
     sums-kept c lent s
-    record { sums = sums-of-rule s (h .ids-once) (h .sums); ascending = not-false (ascends (s .receive .pending)) (h .ascending) }
+    record { accounts = sums-of-rule s (h .ids-once) (h .sums); ascending = not-false (ascends (s .receive .pending)) (h .ascending) }
     in
     let fit = fit-kept c lent s (fit-of cells s h) in
     of-valid cells t
@@ -246,7 +246,7 @@ valid-kept c lent s invalid =
       ascending = ascending-kept c lent s (h .ascending);
       cells-once = apart .0;
       cells-inside = apart .1;
-      sums = rule-of-sums t (right .sums);
+      sums = rule-of-sums t (right .accounts);
       words = no-either _ _ (made-kept c lent s (or-left (any-above (making-words (s .making))) _ (h .words))) (words-of t fit);
       fields = fields-of t fit;
     }

@@ -3,10 +3,10 @@
 use mathlib.Core.Path.{refl, subst}
 use mathlib.Core.List.{List, []}
 use mathlib.Core.Option.{Option, none}
-use Prim.Native.Nat.{ℕ, _+_}
+use Prim.Native.Nat.{ℕ}
 use Rattle.srt_protocol.specs.Cells.{cells-of}
 use Rattle.srt_group_model.specs.Tools.{change}
-use Rattle.srt_group_model.specs.State.{Member, Receive, State, on-leg, on-membership, on-account}
+use Rattle.srt_group_model.specs.State.{Member, Receive, State, on-leg, on-account}
 use Rattle.srt_group_model.specs.Accounts.{reserve}
 use Rattle.srt_group_model.specs.Legs.{release-data-reservation}
 use Rattle.srt_group_model.specs.Members.{id-of}
@@ -20,7 +20,8 @@ use Rattle.srt_group_model.specs.laws.Moves.{Law}
 use Rattle.srt_group_model.specs.laws.Queues.{Relabelled, pop, packet-of, sums-relabelled, Queue-law}
 use Rattle.srt_group_model.specs.laws.CallLaw.{Poll-law, Call-law}
 use Rattle.srt_group_model.specs.laws.EveryCall.{change-twice, polls-event, polls-data, step-keeps}
-use Rattle.srt_group_model.specs.laws.MemberMoves.{moved-relabelled, deliver-frame}
+use Rattle.srt_group_model.specs.laws.MemberMoves.{moved-relabelled}
+use Rattle.srt_group_model.specs.laws.Released.{deliver-relabelled}
 
 module _ (I : Receive → List Mark → Type 0) (law : Law I) where
   abbrev pub Keeps : Step → Type 0
@@ -92,7 +93,7 @@ module _ (J : List Member → List Mark → Type 0) (law : Queue-law J) where
         reports = λ s i m e f d few h. law .takes-event (s .members) _ i m e (f .stands) (f .first) d h;
         gives = λ s h. h;
         skips = λ s base p tested time b n near h. law .marks (s .members) _ _ refl h;
-        delivers = λ s base p b e h. law .marks _ _ (delivered p) refl (law .relabels (s .members) _ _ (deliver-frame base p s .members) h);
+        delivers = λ s base p b e h. law .marks _ _ (delivered p) refl (law .relabels (s .members) _ _ (deliver-relabelled base p s) h);
       }
 
   pub poll-event-kept : (time : ℕ) (r : Run) → J (r .state .members) (r .log) → J (poll-event time r .run .state .members) (poll-event time r .run .log)

@@ -7,22 +7,21 @@ use native.Mathlib.Omega.{arith}
 use lib.ListN.{length}
 use Rattle.word_rows.specs.laws.Tab.{tab-length}
 use Rattle.srt_group_model.specs.declared.Core.{Core}
-use Rattle.srt_group_model.specs.declared.Account.{Account}
 use Rattle.srt_group_model.specs.declared.Leg.{Leg}
 use Rattle.srt_group_model.specs.declared.Membership.{Membership}
 use Rattle.srt_group_model.specs.declared.Packet.{Packet}
-use Rattle.srt_group_model.specs.Tools.{if-some_give_otherwise_, each, without-place, All}
-use Rattle.srt_group_model.specs.laws.Reason.{if-elim, by-test}
+use Rattle.srt_group_model.specs.Tools.{if-some_give_otherwise_, each, without-place, counted, total, All}
+use Rattle.srt_group_model.specs.laws.Reason.{by-test}
 use Rattle.srt_group_model.specs.State.{Member, State, with-receive, with-pending, with-round, with-members, with-own}
 use Rattle.srt_group_model.specs.Accounts.{add-account}
 use Rattle.srt_group_model.specs.Legs.{with-reservation, largest-16}
 use Rattle.srt_group_model.specs.Members.{id-of, has-id, find}
 use Rattle.srt_group_model.specs.laws.Frame.{found-at}
 use Rattle.srt_group_model.specs.Removal.{is-owned, own-packet, largest-window, bound-group-owned-pending, retirement-base, take-out, remove-member-at}
-use Rattle.srt_group_model.specs.Validity.{max-pending, max-members, ascends}
+use Rattle.srt_group_model.specs.Validity.{max-pending, max-members, ascends, is-held-for, held-count, own-count}
 use Rattle.srt_group_model.specs.laws.Ascending.{own-ascends}
-use Rattle.srt_group_model.specs.Sound.{Packet-fit, for-member, own-count, held-for, held-own, Summed, Sound}
-use Rattle.srt_group_model.specs.laws.Sums.{for-owned, own-yes, own-no}
+use Rattle.srt_group_model.specs.Sound.{Packet-fit, Summed, Sound}
+use Rattle.srt_group_model.specs.laws.Weights.{counted-yes, counted-no, counted-most, held-owned}
 use Rattle.srt_group_model.specs.Guards.{accept, leg-back}
 use Rattle.srt_group_model.specs.Calls.{remove-body}
 use Rattle.srt_group_model.specs.laws.Sound.{count-fits}
@@ -36,19 +35,21 @@ use Rattle.srt_group_shown.specs.laws.Shown.{held-few}
 use Rattle.srt_group_removal.specs.declared.removal.Removed.{Removed}
 use Rattle.srt_group_removal.specs.Retire.{Held, Retires}
 use Rattle.srt_group_removal.specs.Removal.{Removable, taken-out, TakesOut, Removes}
+use Rattle.srt_group_model.specs.declared.Account.{Account}
 
 -- ---- a sound state gives what a removal relies on
 
--- a packet counts for the group or for a member, not for both
-counted-once : (id : ℕ) (p : Packet) → own-count p + for-member id p ≤ p .content .count
-counted-once id p =
-    by-test (is-owned p) (λ o. omega (arith, own-yes p o, for-owned id p o)) (λ o. omega (arith, own-no p o, for-most))
-  where
-    for-most : for-member id p ≤ p .content .count
-    for-most = if-elim (λ (k : ℕ). k ≤ p .content .count) _ _ _ (λ e. omega arith) (λ e. omega arith)
+abbrev packet-count : Packet → ℕ
+packet-count p = p .content .count
 
-sums-most : (id : ℕ) (ps : List Packet) → All Packet-fit ps → held-own ps + held-for id ps ≤ largest-16 * length ps
-unfolding held-own held-for
+-- a packet counts for the group or for a member, not for both
+counted-once : (id : ℕ) (p : Packet) → counted is-owned packet-count p + counted (is-held-for id) packet-count p ≤ packet-count p
+counted-once id p =
+    by-test (is-owned p) (λ o. omega (arith, counted-yes is-owned packet-count p o, held-owned (λ d. d .count) id p o))
+    (λ o. omega (arith, counted-no is-owned packet-count p o, counted-most (packet-count p) (is-held-for id) packet-count p (λ e. omega arith)))
+
+sums-most : (id : ℕ) (ps : List Packet) → All Packet-fit ps → own-count ps + held-count id ps ≤ largest-16 * length ps
+unfolding total
 sums-most id [] h = omega arith
 sums-most id (p ∷ ps) h = omega (arith, counted-once id p, count-fits (p .content) (h .0 .fields), sums-most id ps (h .1))
 

@@ -1,16 +1,15 @@
 -- What is proved of the definitions in specs/Ids.antt, with what the proofs need.
 use mathlib.Core.Path.{_≡_, refl, ap, sym, _∙_}
-use mathlib.Core.Bool.{Bool, true, false, _||_}
-use mathlib.Core.List.{List, [], _∷_}
-use mathlib.Core.Option.{Option, none, some}
+use mathlib.Core.Bool.{Bool, true, false}
+use mathlib.Core.List.{List}
 use Prim.Native.Nat.{ℕ, zero, suc, _+_, _-_, _*_, _≤_, _<_}
 use native.Mathlib.Decide.{decLt}
 use native.Mathlib.Omega.{arith}
 use borrow.Author.Tests.{eq-eqb, ne-eqb, eqb-true, eqb-false}
 use lib.Dec.{eqb}
 use lib.ListN.{getD}
-use Rattle.srt_group_model.specs.Tools.{if_then_else_, if-some_give_otherwise_, any, each, place-of}
-use Rattle.srt_group_model.specs.laws.Reason.{not-both, or-yes-left, or-yes-right, or-cases, none-some}
+use Rattle.srt_group_model.specs.Tools.{any, each}
+use Rattle.srt_group_model.specs.laws.Reason.{not-both, or-yes-left, or-yes-right, or-cases}
 use Rattle.srt_group_model.specs.Members.{id-of, has-id}
 use Rattle.srt_group_model.specs.Cells.{is-among}
 use Rattle.srt_group_model.specs.Validity.{one-twice}
@@ -25,17 +24,6 @@ use Rattle.srt_group_rules.specs.Ids.{id-at}
 -- ---- a search that finds nothing, and a row that passes
 
 module _ {A : Type 0} (test : A → Bool) where
-  pub place-none : (l : List A) → place-of test l ≡ none → any test l ≡ false
-  unfolding place-of any if_then_else_ if-some_give_otherwise_
-  place-none [] found = refl
-  place-none (x ∷ xs) found = go (test x) (place-of test xs) (λ e. place-none xs e) found
-    where
-      go : (b : Bool) (o : Option ℕ) → (o ≡ none → any test xs ≡ false)
-          → (if b then some 0 else (if-some o give (λ k. some (suc k)) otherwise none)) ≡ none → b || any test xs ≡ false
-      go true o rest e = none-some (sym e)
-      go false none rest e = rest refl
-      go false (some j) rest e = none-some (sym e)
-
   pub any-place : {C : Type 0} (n : ℕ) (f : ℕ → A) → any test (tab n f) ≡ true → ((i : ℕ) → i < n → test (f i) ≡ true → C) → C
   unfolding any tab
   any-place zero f found there = not-both found refl

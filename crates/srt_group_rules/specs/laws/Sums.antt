@@ -2,7 +2,7 @@
 -- are added to the sum of its place, that of its member or the group's own.
 use mathlib.Core.Path.{_≡_, refl, ap, ap₂, sym, subst, _∙_}
 use mathlib.Core.Bool.{Bool, true, false, not, _&&_, _||_}
-use mathlib.Core.List.{List, [], _∷_, _++_}
+use mathlib.Core.List.{List, [], _∷_}
 use mathlib.Core.Logic.{_⊎_, ⊎-elim, inl, inr}
 use Prim.Native.Nat.{ℕ, zero, suc, _+_, _*_, _^_, _≤_, _<_}
 use native.Mathlib.Nat.{add-zero}
@@ -13,15 +13,15 @@ use borrow.Author.Tests.{eq-eqb, ne-eqb, ltb-false}
 use lib.Dec.{eqb, ltb}
 use lib.ListN.{length, getD, set, length-set}
 use lib.Seq.{getD-set-same, getD-set-other}
-use Rattle.srt_group_model.specs.Tools.{if_then_else_, any, such-that, each, total}
-use Rattle.srt_group_model.specs.laws.Reason.{by-test, if-elim, not-both, or-left, or-right, or-yes-left, or-yes-right}
+use Rattle.srt_group_model.specs.Tools.{if_then_else_, any, each, total, counted}
+use Rattle.srt_group_model.specs.laws.Reason.{by-test, not-both, or-left, or-right, or-yes-left, or-yes-right, place-none}
 use Rattle.srt_group_model.specs.laws.Sound.{count-fits}
 use Rattle.srt_group_model.specs.State.{Member, State}
 use Rattle.srt_group_model.specs.Legs.{largest-16}
 use Rattle.srt_group_model.specs.Members.{id-of, has-id, find}
 use Rattle.srt_group_model.specs.Removal.{is-owned}
 use Rattle.srt_group_model.specs.Cells.{is-data}
-use Rattle.srt_group_model.specs.Validity.{max-pending, max-members, above, any-above, max-queued, is-too-large, event-sequence-too-large, one-twice, held-count, queued-count, member-sum-wrong, is-unreserved, reserved-sum-wrong, data-out-of-range, event-words, event-out-of-range, membership-out-of-range, packet-words, packet-out-of-range}
+use Rattle.srt_group_model.specs.Validity.{max-pending, max-members, above, any-above, max-queued, is-too-large, event-sequence-too-large, one-twice, queued-count, member-sum-wrong, is-unreserved, reserved-sum-wrong, data-out-of-range, event-words, event-out-of-range, membership-out-of-range, packet-words, packet-out-of-range, is-held-for}
 use Rattle.srt_group_model.specs.declared.Event.{Event}
 use Rattle.srt_group_model.specs.declared.Membership.{Membership}
 use Rattle.srt_group_model.specs.declared.Packet.{Packet}
@@ -32,14 +32,15 @@ use Rattle.srt_connection_members.specs.declared.Found.the-variants.{At, Nothin
 use Rattle.srt_connection_queue.specs.Rows.{receiver-part, part, ring-of, member-of}
 use Rattle.srt_connection_members.specs.Members.{member-at, members-of, found-of}
 use Rattle.srt_connection_members.specs.laws.Members.{found-below, found-id, found-none}
-use Rattle.srt_group_tables.specs.Packets.{packet-at, packets, is-held-for}
+use Rattle.srt_group_tables.specs.Packets.{packet-at, packets}
 use Rattle.word_rows.specs.Tab.{tab}
 use Rattle.word_rows.specs.laws.Tab.{tab-push}
 use Rattle.srt_group_rules.specs.Rules.{event-breaks-rule, queue-breaks-rule, member-breaks-rule, packet-breaks-rule, leg-breaks-rule}
 use Rattle.srt_group_rules.specs.laws.Walks.{any-there, any-nowhere, any-same, none-there, queued, the-queue, queue-length}
 use Rattle.srt_group_rules.specs.Ids.{id-at}
-use Rattle.srt_group_rules.specs.laws.Ids.{Apart, ids-of, once-apart, place-none}
-use Rattle.srt_group_rules.specs.Sums.{counted, sum-of, packet-count, event-count, own-place, sum-place, differs, sums-wrong, Adding, AddedUp, member-differs, index-of, sums-differ}
+use Rattle.srt_group_rules.specs.laws.Ids.{Apart, ids-of, once-apart}
+use Rattle.srt_group_rules.specs.Sums.{sum-of, packet-count, event-count, own-place, sum-place, differs, sums-wrong, Adding, AddedUp, member-differs, index-of, sums-differ}
+use Rattle.srt_group_model.specs.laws.Weights.{counted-yes, counted-no, counted-most, total-append}
 
 -- ---- definitions
 
@@ -50,42 +51,15 @@ sums-wrong-is s = refl
 -- ---- a sum, one element more
 
 module _ {A : Type 0} (test : A → Bool) (count : A → ℕ) where
-  total-pushed : (l : List A) (x : A) → total count (such-that test (l ++ (x ∷ []))) ≡ total count (such-that test l) + counted test count x
-  unfolding total such-that counted if_then_else_
-  total-pushed [] x = go (test x)
-    where
-      go : (b : Bool) → total count (if b then x ∷ [] else []) ≡ 0 + (if b then count x else 0)
-      go true = omega arith
-      go false = omega arith
-  total-pushed (y ∷ l) x = go (test y) (total-pushed l x)
-    where
-      go : (b : Bool) → total count (such-that test (l ++ (x ∷ []))) ≡ total count (such-that test l) + counted test count x
-          → total count (if b then y ∷ such-that test (l ++ (x ∷ [])) else such-that test (l ++ (x ∷ [])))
-          ≡ total count (if b then y ∷ such-that test l else such-that test l) + counted test count x
-      go true rest = omega (arith, rest)
-      go false rest = rest
-
   pub sum-none : (f : ℕ → A) → sum-of test count 0 f ≡ 0
-  unfolding sum-of tab such-that total
+  unfolding sum-of tab total
   sum-none f = refl
 
   pub sum-more : (n : ℕ) (f : ℕ → A) → sum-of test count (n + 1) f ≡ sum-of test count n f + counted test count (f n)
-  unfolding sum-of
+  unfolding sum-of total
   sum-more n f =
-      ap (λ (l : List A). total count (such-that test l)) (ap (λ (k : ℕ). tab k f) (add-one n) ∙ tab-push n f f (f n) (λ i below. refl) refl)
-      ∙ total-pushed (tab n f) (f n)
-
-  pub counted-yes : (x : A) → test x ≡ true → counted test count x ≡ count x
-  unfolding counted if_then_else_
-  counted-yes x it = rw it
-
-  pub counted-no : (x : A) → test x ≡ false → counted test count x ≡ 0
-  unfolding counted if_then_else_
-  counted-no x it = rw it
-
-  pub counted-small : (x : A) → (test x ≡ true → count x ≤ largest-16) → counted test count x ≤ largest-16
-  unfolding counted
-  counted-small x small = if-elim (λ (n : ℕ). n ≤ largest-16) (test x) (count x) 0 small (λ e. omega arith)
+      let pushed = ap (λ (k : ℕ). tab k f) (add-one n) ∙ tab-push n f f (f n) (λ i below. refl) refl in
+      omega (arith, ap (total (counted test count)) pushed, total-append (counted test count) (tab n f) (f n ∷ []))
 
   pub sum-small : (n : ℕ) (f : ℕ → A) → ((i : ℕ) → i < n → test (f i) ≡ true → count (f i) ≤ largest-16) → sum-of test count n f ≤ largest-16 * n
   sum-small zero f small = omega (arith, sum-none f)
@@ -95,7 +69,7 @@ module _ {A : Type 0} (test : A → Bool) (count : A → ℕ) where
         ap (λ (k : ℕ). sum-of test count k f) (sym (add-one n)),
         sum-more n f,
         sum-small n f (λ i below it. small i (omega arith) it),
-        counted-small (f n) (small n (omega arith)),
+        counted-most largest-16 test count (f n) (small n (omega arith)),
       )
 
 -- ---- counts that a packet or an event can have, from the rows' tests
@@ -154,7 +128,7 @@ module _ (row : List ℕ) (ring : Ring) (read : ring ≡ ring-of (part row recei
             queued-small,
             queue-short,
             n-is ∙ ap (counted is-data event-count) event-is,
-            counted-small is-data event-count (queued row ring at) (event-small (queued row ring at) (event-good at inside)),
+            counted-most largest-16 is-data event-count (queued row ring at) (event-small (queued row ring at) (event-good at inside)),
           )
 
       pub queued-one : Queued row ring (at + 1) (sum + n)
@@ -167,11 +141,11 @@ module _ (row : List ℕ) (ring : Ring) (read : ring ≡ ring-of (part row recei
           }
 
     pub queued-all : ring .length ≤ at → sum ≡ queued-count (member-of row .queue)
-    unfolding queued-count sum-of
+    unfolding sum-of
     queued-all all =
         let whole : at ≡ ring .length = omega (arith, here .within) in
         here .is
-        ∙ ap (λ (q : List Event). total event-count (such-that is-data q))
+        ∙ ap (total (counted is-data event-count))
         (ap (λ (n : ℕ). tab n (queued row ring)) whole ∙ sym (the-queue row ring read))
 
 -- the queued counts stay far below 2^64
@@ -441,7 +415,7 @@ module _ (t : List ℕ) (count : ℕ) (pending : List ℕ) (n owned : ℕ) (answ
 
   module _ (none : answer ≡ false) where
     wrong-is : sums-wrong (members-of count t) (packets n pending) owned ≡ (not (eqb owned (getD sums own-place 0)) || sums-differ t sums count)
-    unfolding sums-wrong sums-differ members-of sum-of member-sum-wrong differs held-count
+    unfolding sums-wrong sums-differ members-of sum-of member-sum-wrong differs
     wrong-is =
         ap₂ _||_
         (any-same (member-sum-wrong (packets n pending)) (member-differs t sums) count (member-at t) index-of (λ i below. member-is i below))

@@ -1,12 +1,12 @@
 -- Laws of the pending packets: a search that halves, a packet put into its place and one taken out, the nearest and the
--- farthest, sums of counts.
+-- farthest.
 use mathlib.Core.Path.{_≡_, refl, ap, sym, subst, _∙_}
 use mathlib.Core.Bool.{Bool, true, false, not, _||_}
 use mathlib.Core.List.{List, [], _∷_, _++_, append-nil, append-assoc}
 use mathlib.Core.Option.{none, some}
 use mathlib.Core.Logic.{⊎-elim}
-use Prim.Native.Nat.{ℕ, zero, suc, _+_, _*_, _-_, _^_, _≤_, _<_}
-use native.Mathlib.Nat.{eq-or-lt-of-le, zero-add}
+use Prim.Native.Nat.{ℕ, zero, suc, _+_, _*_, _-_, _≤_, _<_}
+use native.Mathlib.Nat.{eq-or-lt-of-le}
 use native.Mathlib.Numerals.{add-one}
 use native.Mathlib.Decide.{decLt, ℕ-discrete}
 use native.Mathlib.Omega.{arith}
@@ -21,7 +21,7 @@ use Rattle.srt_protocol.specs.Sequence.{half, sequence-distance}
 use Rattle.srt_protocol.specs.Cells.{max-cells}
 use Rattle.srt_group_model.specs.declared.Packet.{Packet}
 use Rattle.srt_group_model.specs.laws.Reason.{and-left, and-right}
-use Rattle.srt_group_model.specs.Tools.{if_then_else_, if-some_give_otherwise_, or-else, any, place-of, such-that, each, total}
+use Rattle.srt_group_model.specs.Tools.{if_then_else_, if-some_give_otherwise_, or-else, any, place-of, such-that, each}
 use Rattle.srt_group_model.specs.Cells.{is-among}
 use Rattle.srt_group_model.specs.Sound.{pending-cells}
 use Rattle.srt_group_model.specs.Nearest.{sequence-of, has-sequence, is-held, insert, lowest, nearest, is-covered, farther, farthest}
@@ -29,7 +29,7 @@ use Rattle.srt_group_model.specs.Removal.{own-packet, is-owned, by-group}
 use Rattle.srt_group_model.specs.Validity.{max-pending, ascends}
 use Rattle.srt_group_tables.specs.declared.pending.Found.{Found}
 use Rattle.srt_group_tables.specs.declared.pending.Found.the-variants.{At, Nothing}
-use Rattle.srt_group_tables.specs.Packets.{pending-size, packet-row-size, index-rows, packet-at, packets, Placed, Holds, found, place-found, packet-found, in-use, FoundPacket, with-owned-packet, count-if, is-held-for, CountsFit}
+use Rattle.srt_group_tables.specs.Packets.{pending-size, packet-row-size, index-rows, packet-at, packets, Placed, Holds, found, place-found, packet-found, in-use, FoundPacket, with-owned-packet}
 use Rattle.srt_group_tables.specs.laws.PacketIndex.{cell-of, indexed-there, indexed-elsewhere, index-lent, index-back, back-length, closed-low, closed-high, opened-low, opened-high, put-in, put-length, put-there, put-elsewhere, member-word, same-member, owned-same-cell, owned-other-cell}
 
 pub drop-zero : (l : List Packet) → drop 0 l ≡ l
@@ -714,105 +714,3 @@ looking-start words count base =
                 (sym (drop-of-length-le (packets count words) {i = count} (omega (arith, tab-length count (packet-at words)))));
           };
     }
-
--- ---- sums of counts, from the last packet on
-
-pub record Summing (test : Packet → Bool) (count : ℕ) (words : List ℕ) (left sum : ℕ) : Type 0 where
-  pub within : left ≤ count
-  pub small : sum ≤ 65535 * (count - left)
-  pub is : sum ≡ total (λ p. p .content .count) (such-that test (drop left (packets count words)))
-
-count-if-small : (test : Packet → Bool) (p : Packet) → p .content .count ≤ 65535 → count-if test p ≤ 65535
-unfolding count-if if_then_else_
-count-if-small test p small = by-test (test p)
-  where
-    by-test : (b : Bool) → (if b then p .content .count else 0) ≤ 65535
-    by-test true = small
-    by-test false = omega arith
-
-total-more : (test : Packet → Bool) (p : Packet) (ps : List Packet)
-    → total (λ p. p .content .count) (such-that test (p ∷ ps)) ≡ count-if test p + total (λ p. p .content .count) (such-that test ps)
-unfolding total such-that count-if if_then_else_
-total-more test p ps = by-test (test p)
-  where
-    by-test : (b : Bool) → total (λ p. p .content .count) (if b then p ∷ such-that test ps else such-that test ps)
-        ≡ (if b then p .content .count else 0) + total (λ p. p .content .count) (such-that test ps)
-    by-test true = refl
-    by-test false = sym (zero-add (total (λ p. p .content .count) (such-that test ps)))
-
-pub summing-start : (test : Packet → Bool) (count : ℕ) (words : List ℕ) → Summing test count words count 0
-unfolding total such-that
-summing-start test count words =
-    record {
-      within = omega arith;
-      small = omega arith;
-      is =
-          ap (λ (l : List Packet). total (λ p. p .content .count) (such-that test l))
-          (sym (drop-of-length-le (packets count words) {i = count} (omega (arith, tab-length count (packet-at words)))));
-    }
-
-module _ (test : Packet → Bool) (count : ℕ) (words : List ℕ) (left sum : ℕ) (here : Summing test count words left sum)
-    (fit : CountsFit count words) where
-  -- the sum stays far below 2^64
-  pub sum-fits : count ≤ max-pending → (p : Packet) (at n : ℕ) → at ≡ left - 1 → 0 < left → p ≡ packet-at words at → n ≡ count-if test p
-      → sum + n < 2 ^ 64
-  sum-fits most p at n at-is some-left p-is n-is =
-      omega (
-        arith,
-        here .small,
-        here .within,
-        count-if-small test p (subst (λ (q : Packet). q .content .count ≤ 65535) (sym p-is) (fit .fit at (omega (arith, here .within)))),
-      )
-
-  pub summed-one : (p : Packet) (at n : ℕ) → at ≡ left - 1 → 0 < left → p ≡ packet-at words at → n ≡ count-if test p
-      → Summing test count words at (sum + n)
-  summed-one p at n at-is some-left p-is n-is =
-      record {
-        within = omega (arith, here .within);
-        small = omega (arith, here .small, here .within, count-small);
-        is = sum-is ∙ sym (ap (λ (l : List Packet). total (λ p. p .content .count) (such-that test l)) from-at ∙ total-more test (packet-at words at) (drop left (packets count words)));
-      }
-    where
-      inside : at < count
-      inside = omega (arith, here .within)
-
-      next-is : suc at ≡ left
-      next-is = omega arith
-
-      count-small : count-if test p ≤ 65535
-      count-small = count-if-small test p (subst (λ (q : Packet). q .content .count ≤ 65535) (sym p-is) (fit .fit at inside))
-
-      from-at : drop at (packets count words) ≡ packet-at words at ∷ drop left (packets count words)
-      from-at =
-          drop-cons (packets count words) at (packet-at words at) (omega (arith, inside, tab-length count (packet-at words)))
-          ∙ ap (λ (p : Packet). p ∷ drop (suc at) (packets count words)) (tab-at count (packet-at words) at (packet-at words at) inside)
-          ∙ ap (λ (n : ℕ). packet-at words at ∷ drop n (packets count words)) next-is
-
-      sum-is : sum + n ≡ count-if test (packet-at words at) + total (λ p. p .content .count) (such-that test (drop left (packets count words)))
-      sum-is = omega (arith, here .is, n-is ∙ ap (count-if test) p-is)
-
-  pub summed-all : left ≡ 0 → sum ≡ total (λ p. p .content .count) (such-that test (packets count words))
-  summed-all none-left =
-      here .is
-      ∙ ap (λ (l : List Packet). total (λ p. p .content .count) (such-that test l))
-      (ap (λ (n : ℕ). drop n (packets count words)) none-left ∙ drop-zero (packets count words))
-
-pub count-for-is : (id : ℕ) (p : Packet) → p .member ≡ id → (p .owned ≡ 1 → ⊥) → p .content .count ≡ count-if (is-held-for id) p
-unfolding count-if if_then_else_
-count-for-is id p mine other = sym (rw (eq-eqb (p .member) id mine, ne-eqb (p .owned) 1 other))
-
-pub count-for-owned : (id : ℕ) (p : Packet) → p .member ≡ id → p .owned ≡ 1 → 0 ≡ count-if (is-held-for id) p
-unfolding count-if if_then_else_
-count-for-owned id p mine own = sym (rw (eq-eqb (p .member) id mine, eq-eqb (p .owned) 1 own))
-
-pub count-for-other : (id : ℕ) (p : Packet) → (p .member ≡ id → ⊥) → 0 ≡ count-if (is-held-for id) p
-unfolding count-if if_then_else_
-count-for-other id p other = sym (rw (ne-eqb (p .member) id other))
-
-pub count-owned-is : (p : Packet) → p .owned ≡ 1 → p .content .count ≡ count-if is-owned p
-unfolding count-if if_then_else_
-count-owned-is p own = sym (rw (eq-eqb (p .owned) 1 own))
-
-pub count-owned-not : (p : Packet) → (p .owned ≡ 1 → ⊥) → 0 ≡ count-if is-owned p
-unfolding count-if if_then_else_
-count-owned-not p other = sym (rw (ne-eqb (p .owned) 1 other))

@@ -3,20 +3,19 @@ use mathlib.Core.Path.{_≡_, refl, sym, ap, _∙_, subst}
 use mathlib.Core.Bool.{Bool, true, false, not, _&&_}
 use mathlib.Core.List.{List, [], _∷_, _++_, append-assoc}
 use mathlib.Core.Option.{Option, none}
-use Prim.Native.Nat.{ℕ, zero, suc, _+_, _<_}
+use Prim.Native.Nat.{ℕ, _+_, _<_}
 use native.Mathlib.Omega.{arith}
 use lib.Dec.{eqb}
 use lib.ListN.{length}
 use Rattle.srt_protocol.specs.Sequence.{half}
 use Rattle.srt_protocol.specs.Cells.{cells-of}
-use Rattle.srt_group_model.specs.Tools.{if_then_else_, flagged, such-that, change, each, without-place, All}
+use Rattle.srt_group_model.specs.Tools.{if_then_else_, flagged, change, each, without-place, All}
 use Rattle.srt_group_model.specs.State.{Member, State, Receive, is-backup, next-receive-sequence, next-send-sequence, with-members, on-leg, turned, broken-state}
 use Rattle.srt_group_model.specs.Legs.{Reading, readings, reading-of, handed, no-sequence, largest-sequence, largest-16, largest-32, disconnect-leg}
 use Rattle.srt_group_model.specs.Members.{id-of, find, base-after, peer-after, admit-peer-group, align-member-sequence, promote-if-none, has-id, found}
-use Rattle.srt_group_model.specs.Nearest.{farthest}
 use Rattle.srt_group_model.specs.Run.{Mark, put, Run, start, set-base, admit-connected-peer-groups, refresh-pending-states, refresh-states}
 use Rattle.srt_group_model.specs.Polls.{poll-event, poll-data-bounded}
-use Rattle.srt_group_model.specs.Removal.{own-packet, is-owned, retire, bound-group-owned-pending, take-out, remove-member-at}
+use Rattle.srt_group_model.specs.Removal.{own-packet, retire, bound-group-owned-pending, take-out, remove-member-at}
 use Rattle.srt_group_model.specs.Sending.{Flow}
 use Rattle.srt_group_model.specs.Backup.{demote-stale-backup-carrier, trim-by-carrier}
 use Rattle.srt_group_model.specs.Validity.{above, is-too-large, leg-sequence-too-large, leg-out-of-range}
@@ -31,6 +30,7 @@ use Rattle.srt_group_model.specs.declared.Leg.{Leg}
 use Rattle.srt_group_model.specs.laws.Reason.{if-elim, if-some-elim, all-append, or-left, or-right, not-both}
 use Rattle.srt_group_traces.specs.laws.Cases.{and-with-true, and-true-left, Each, each-at, all-change, all-such-that, all-without-place, each-first-such, ge-of}
 use Rattle.srt_group_traces.specs.laws.Sides.{Side, side, sides, all-sides, all-members, each-leaves, carried-sides, Leaves, leaves-all, framed-leaves}
+use Rattle.srt_group_model.specs.laws.Released.{retirements-keep}
 use Rattle.srt_group_model.specs.laws.Frame.{all-then, all-kept-carried, kept-framed, admit-all-carried, promote-if-none-carried, align-kept, demote-carried, trim-framed, broadcast-framed, backup-framed}
 use Rattle.srt_group_traces.specs.laws.Law.{OfContent, ElsewhereThan, owned-by-group, EventOk, SideOk, CallLaw, PutLaw}
 use Rattle.srt_group_model.specs.Lent.{Call, call-add-member, call-mark-member-broken, call-remove-member-connection, call-refresh-member-states, call-disconnect, call-poll-event, call-poll-data-bounded, call-send, call-can-send, call-can-send-with-pacing, Look, look-at, call-look, call-read-leg, call-queue-data, call-queue-event, step-of, with-bytes, perform}
@@ -98,28 +98,12 @@ module _ (Q : Packet → Type 0) (own : (p : Packet) → Q p → Q (owned-by-gro
   own-packets-all id [] h = tt
   own-packets-all id (p ∷ ps) h = (if-elim Q _ _ _ (λ e. own p (h .0)) (λ e. h .0), own-packets-all id ps (h .1))
 
-  bound-all : (left limit base : ℕ) (s : State) → All Q (s .receive .pending)
-      → All Q (bound-group-owned-pending left limit base s .receive .pending)
-  unfolding bound-group-owned-pending retire
-  bound-all zero limit base s h = h
-  bound-all (suc left) limit base s h =
-      if-some-elim (λ (t : State). All Q (t .receive .pending)) (farthest base (such-that is-owned (s .receive .pending))) _ _
-      (λ p e.
-      if-elim (λ (t : State). All Q (t .receive .pending)) _ _ _ (λ e. h)
-      (λ e. bound-all left limit base (retire p s) (all-such-that Q _ (s .receive .pending) h)))
-      (λ e. h)
-
 -- a retirement moves nothing but the held packets and the group's sum
 bound-leaves : (left limit base : ℕ) (s : State)
     → (bound-group-owned-pending left limit base s .members ≡ s .members) × (bound-group-owned-pending left limit base s .receive .numbers ≡ s .receive .numbers)
-unfolding bound-group-owned-pending retire
-bound-leaves zero limit base s = (refl, refl)
-bound-leaves (suc left) limit base s =
-    if-some-elim (λ (t : State). (t .members ≡ s .members) × (t .receive .numbers ≡ s .receive .numbers))
-    (farthest base (such-that is-owned (s .receive .pending))) _ _ (λ p e.
-    if-elim (λ (t : State). (t .members ≡ s .members) × (t .receive .numbers ≡ s .receive .numbers)) _ _ _ (λ e. (refl, refl))
-    (λ e. bound-leaves left limit base (retire p s)))
-    (λ e. (refl, refl))
+unfolding retire
+bound-leaves left limit base s =
+    retirements-keep (λ (t : State). (t .members ≡ s .members) × (t .receive .numbers ≡ s .receive .numbers)) base (λ t p far h. h) left limit s (refl, refl)
 
 -- ---- the refresh moves no held packet
 
@@ -246,7 +230,7 @@ module _ (P : Data → Type 0) (F : ℕ → Type 0) (I : Receive → List Mark �
   -- the member is taken out, its held packets are the group's, and of those the farthest are retired
   removed : (i : ℕ) (m : Member) (left limit base : ℕ) → {answer : Answer}
       → Kept P F I (accept (bound-group-owned-pending left limit base (take-out i m s)) answer)
-  unfolding take-out
+  unfolding take-out retire
   removed i m left limit base =
       record {
         sides-ok =
@@ -262,7 +246,8 @@ module _ (P : Data → Type 0) (F : ℕ → Type 0) (I : Receive → List Mark �
             })
             (law .on-removed (s .receive) [] (bound-group-owned-pending left limit base (take-out i m s) .receive .pending)
             (λ Q own h.
-            bound-all Q own left limit base (take-out i m s) (own-packets-all Q own (id-of m) (s .receive .pending) h))
+            retirements-keep (λ (t : State). All Q (t .receive .pending)) base (λ t p far k. all-such-that Q _ (t .receive .pending) k) left limit (take-out i m s)
+            (own-packets-all Q own (id-of m) (s .receive .pending) h))
             holds);
       }
 

@@ -15,11 +15,11 @@ use Rattle.srt_group_model.specs.Tools.{is-set, bit, flagged, is-empty, place-o
 use Rattle.srt_group_model.specs.State.{Member, State, Receive, next-receive-sequence, next-send-sequence, with-continuation}
 use Rattle.srt_group_model.specs.Core.{continued}
 use Rattle.srt_group_model.specs.Legs.{no-sequence}
-use Rattle.srt_group_model.specs.Members.{find, base-after, align-member-sequence, has-id, found}
-use Rattle.srt_group_model.specs.Nearest.{sequence-of, held-at, is-held, nearest, covered}
+use Rattle.srt_group_model.specs.Members.{base-after, align-member-sequence, has-id, found}
+use Rattle.srt_group_model.specs.Nearest.{sequence-of, held-at, is-held, nearest}
 use Rattle.srt_group_model.specs.Run.{Mark, put, base-set, collected, gap-skipped, delivered, Run, start, set-base, admit-connected-peer-groups, refresh-pending-states, refresh-states}
 use Rattle.srt_group_model.specs.Collecting.{in-turn, front, Visited, take-front, collect-one-event, collect-until-held, Emptied, collect-until-empty}
-use Rattle.srt_group_model.specs.Delivery.{gap-given-up, base-stays, release-pending-reservation, release-all, advance-legs, deliver-packet, pass-run, Polled, nothing, event, packet, Poll, deliver, skip-to, give-waiting, skip-after, max-visits, skip-given-up-gap}
+use Rattle.srt_group_model.specs.Delivery.{gap-given-up, base-stays, deliver-packet, pass-run, Polled, nothing, event, packet, Poll, deliver, skip-to, give-waiting, skip-after, max-visits, skip-given-up-gap}
 use Rattle.srt_group_model.specs.Polls.{delivery-budget, deliver-next, poll-event, DataPoll, pass-events, poll-until-data, poll-data-bounded}
 use Rattle.srt_group_model.specs.Sending.{Flow}
 use Rattle.srt_group_model.specs.laws.Refusals.{guard-passed, look-elim}
@@ -39,6 +39,7 @@ use Rattle.srt_group_traces.specs.laws.PollWalk.{collect-until-held-good
 use Rattle.srt_group_traces.specs.laws.Held.{held-at-sequence, nearest-is-held}
 use Rattle.srt_group_model.specs.Lent.{Call, call-add-member, call-mark-member-broken, call-remove-member-connection, call-refresh-member-states, call-disconnect, call-poll-event, call-poll-data-bounded, call-send, call-can-send, call-can-send-with-pacing, Look, look-at, call-look, call-read-leg, call-queue-data, call-queue-event, delivered-by, step-of, with-bytes, perform}
 use Rattle.srt_group_traces.specs.Calls.{Asked, do-call, time-of}
+use Rattle.srt_group_model.specs.laws.Released.{deliver-released}
 
 -- ---- what the marks of a call can be
 
@@ -269,25 +270,7 @@ collect-until-empty-missing (suc visits) sequence r =
     ap (is-held sequence) (collect-one-event-rests r t)
     ∙ or-right (is-set (r .state .visit .continuation)) (is-held sequence (r .state .receive .pending)) e))
 
--- ---- delivery leaves the waiting events
-
-release-leaves-waiting : (p : Packet) (s : State) → release-pending-reservation p s .waiting ≡ s .waiting
-unfolding release-pending-reservation
-release-leaves-waiting p s =
-    if-elim (λ (t : State). t .waiting ≡ s .waiting) (eqb (p .owned) 1) _ _ (λ e. refl)
-    (λ e. if-some-elim (λ (t : State). t .waiting ≡ s .waiting) (find (p .member) (s .members)) _ _ (λ i e. refl) (λ e. refl))
-
-release-all-leaves-waiting : (ps : List Packet) (s : State) → release-all ps s .waiting ≡ s .waiting
-unfolding release-all
-release-all-leaves-waiting [] s = refl
-release-all-leaves-waiting (p ∷ ps) s =
-    release-all-leaves-waiting ps (release-pending-reservation p s) ∙ release-leaves-waiting p s
-
-deliver-leaves-waiting : (base : ℕ) (p : Packet) (s : State) → deliver-packet base p s .waiting ≡ s .waiting
-unfolding deliver-packet advance-legs
-deliver-leaves-waiting base p s = release-all-leaves-waiting (covered base (p .content .count) (s .receive .pending)) s
-
--- and moves the base past the run
+-- ---- a delivery moves the base past the run
 deliver-moves-base : (base : ℕ) (p : Packet) (s : State) → held-at base (s .receive .pending) ≡ some p
     → next-receive-sequence (deliver-packet base p s .receive) ≡ some (sequence-further (sequence-of p) (p .content .count))
 unfolding deliver-packet pass-run flagged
@@ -343,7 +326,7 @@ deliver-after-skip when base p r found h =
             empty =
                 subst (All (λ (v : Side). v .queue ≡ [])) (sym (deliver-packet-leaves-sides base q (r .state)))
                 (h .empty);
-            none-waiting = deliver-leaves-waiting base q (r .state) ∙ h .none-waiting;
+            none-waiting = deliver-released base q (r .state) .waiting ∙ h .none-waiting;
           };
       past = deliver-moves-base base q (r .state) e;
     })

@@ -7,16 +7,16 @@ use Prim.Native.Nat.{ℕ, zero, suc}
 use Rattle.srt_group_model.specs.Tools.{at-place, change, each, All}
 use Rattle.srt_group_model.specs.State.{Member, State, on-leg, turned, broken-state}
 use Rattle.srt_group_model.specs.Legs.{advance-receive-sequence}
-use Rattle.srt_group_model.specs.Members.{find, promote-backup-member}
+use Rattle.srt_group_model.specs.Members.{promote-backup-member}
 use Rattle.srt_group_model.specs.laws.Frame.{Carried, All-carried, Framed, promote-carried}
 use Rattle.srt_group_model.specs.Collecting.{retain-group-packet, report-event}
 use Rattle.srt_protocol.specs.Sequence.{sequence-further}
-use Rattle.srt_group_model.specs.Nearest.{covered}
-use Rattle.srt_group_model.specs.Delivery.{release-pending-reservation, release-all, advance-legs, deliver-packet, pass-run}
+use Rattle.srt_group_model.specs.Delivery.{deliver-packet, pass-run}
 use Rattle.srt_group_model.specs.declared.Event.{Event}
 use Rattle.srt_group_model.specs.declared.Packet.{Packet}
 use Rattle.srt_group_model.specs.declared.Waiting.{Waiting}
-use Rattle.srt_group_model.specs.laws.Reason.{if-elim, if-some-elim, some-inj}
+use Rattle.srt_group_model.specs.laws.Reason.{if-elim, some-inj, Each-to}
+use Rattle.srt_group_model.specs.laws.Released.{Recounted, run-passed, deliver-released}
 use Rattle.srt_group_model.specs.laws.MemberMoves.{Same-account}
 
 pub record Side : Type 0 where
@@ -75,14 +75,16 @@ SameSides ms ns = sides ns ≡ sides ms
 same-side : (m n : Member) → n .queue ≡ m .queue → n .leg .receiver ≡ m .leg .receiver → side n ≡ side m
 same-side m n e f = λ i. record { queue = e i; first = f i .first }
 
-pub carried-sides : (ms ns : List Member) → All-carried ms ns → SameSides ms ns
+each-to-sides : (R : Member → Member → Type 0) → ((m n : Member) → R m n → side n ≡ side m) → (ms ns : List Member) → Each-to R ms ns → SameSides ms ns
 unfolding sides
-carried-sides [] [] h = refl
-carried-sides [] (n ∷ ns) h = absurd h
-carried-sides (m ∷ ms) [] h = absurd h
-carried-sides (m ∷ ms) (n ∷ ns) h =
-    ap (λ (v : Side). v ∷ sides ns) (same-side m n (h .0 .queue) (h .0 .receiver)) ∙ ap {B = List Side}
-    (λ (vs : List Side). side m ∷ vs) (carried-sides ms ns (h .1))
+each-to-sides R f [] [] h = refl
+each-to-sides R f [] (n ∷ ns) h = absurd h
+each-to-sides R f (m ∷ ms) [] h = absurd h
+each-to-sides R f (m ∷ ms) (n ∷ ns) h =
+    ap (λ (v : Side). v ∷ sides ns) (f m n (h .0)) ∙ ap {B = List Side} (λ (vs : List Side). side m ∷ vs) (each-to-sides R f ms ns (h .1))
+
+pub carried-sides : (ms ns : List Member) → All-carried ms ns → SameSides ms ns
+carried-sides = each-to-sides Carried (λ m n h. same-side m n (h .queue) (h .receiver))
 
 -- ---- the receiving side of a state
 
@@ -94,37 +96,16 @@ pub record Leaves (s t : State) : Type 0 where
 pub leaves-all : (s : State) → Leaves s s
 leaves-all s = record { receive = refl; sides = refl }
 
-leaves-then : (s t u : State) → Leaves s t → Leaves t u → Leaves s u
-leaves-then s t u h k = record { receive = k .receive ∙ h .receive; sides = k .sides ∙ h .sides }
-
 -- what the model's Frame says of a send
 pub framed-leaves : (s t : State) → Framed Carried s t → Leaves s t
 framed-leaves s t h = record { receive = h .receive; sides = carried-sides (s .members) (t .members) (h .members) }
 
-release-leaves : (p : Packet) (s : State) → Leaves s (release-pending-reservation p s)
-unfolding release-pending-reservation
-release-leaves p s =
-    if-elim (Leaves s) _ _ _ (λ e. record { receive = refl; sides = refl })
-    (λ e.
-    if-some-elim (Leaves s) (find (p .member) (s .members)) _ _
-    (λ i e. record { receive = refl; sides = change-leaves i _ (s .members) (λ m. refl) })
-    (λ e. leaves-all s))
-
-pub release-all-leaves : (ps : List Packet) (s : State) → Leaves s (release-all ps s)
-unfolding release-all
-release-all-leaves [] s = leaves-all s
-release-all-leaves (p ∷ ps) s =
-    leaves-then s (release-pending-reservation p s) (release-all ps (release-pending-reservation p s)) (release-leaves p s)
-    (release-all-leaves ps (release-pending-reservation p s))
-
 -- a delivery moves reservations and what the legs record, and of receiving what `pass-run` says
 pub deliver-packet-leaves-sides : (base : ℕ) (p : Packet) (s : State)
     → sides (deliver-packet base p s .members) ≡ sides (s .members)
-unfolding deliver-packet advance-legs
 deliver-packet-leaves-sides base p s =
-    each-leaves (on-leg (advance-receive-sequence (sequence-further base (p .content .count))))
-    (release-all (covered base (p .content .count) (s .receive .pending)) s .members) (λ m. refl)
-    ∙ release-all-leaves (covered base (p .content .count) (s .receive .pending)) s .sides
+    each-to-sides Recounted (λ m n h. ap side (h .is)) (run-passed base p s .members) _ (deliver-released base p s .members)
+    ∙ each-leaves (on-leg (advance-receive-sequence (sequence-further base (p .content .count)))) (s .members) (λ m. refl)
 
 pub deliver-packet-receive : (base : ℕ) (p : Packet) (s : State) → deliver-packet base p s .receive ≡ pass-run base p (s .receive)
 unfolding deliver-packet

@@ -3,7 +3,7 @@ use mathlib.Core.Path.{sym}
 use borrow.Author.Tests.{eq-eqb, ne-eqb}
 use Rattle.srt_group_model.specs.Cells.{is-data}
 use Rattle.srt_group_rules.specs.Sums.{event-count}
-use Rattle.srt_group_rules.specs.laws.Sums.{counted-yes, counted-no}
+use Rattle.srt_group_model.specs.laws.Weights.{counted-yes, counted-no}
 use Rattle.srt_group_rules.proofs.sums.data_count.Statement.{statement}
 use Rattle.srt_group_rules.proofs.sums.data_count.Tie as tie
 
