@@ -41,6 +41,7 @@ pub mod RangesCalls
 pub mod Counts
 pub mod Rounds
 pub mod CallLaw
+pub mod InHand
 pub mod Waits
 pub mod EveryCall
 pub mod MemberMoves

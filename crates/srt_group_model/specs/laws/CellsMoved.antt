@@ -27,7 +27,7 @@ use Rattle.srt_group_model.specs.laws.Queues.{All-relabelled, pop, packe
 use Rattle.srt_group_model.specs.laws.Steps.{popped}
 use Rattle.srt_group_model.specs.Sound.{one, occurs, uses, pending-cells, history-cells}
 use Rattle.srt_group_model.specs.laws.CellsKept.{occurs-append, uses-used, relabelled-cells, popped-data, popped-event, inserted, own-cells, set-base-parts, retain-send, release-cells, release-all-send, advance-send}
-use Rattle.srt_group_model.specs.laws.CellsCalls.{enqueued, history-append}
+use Rattle.srt_group_model.specs.laws.InHand.{enqueued, history-append}
 use Rattle.srt_group_model.specs.declared.Data.{Data}
 use Rattle.srt_group_model.specs.declared.Event.{Event}
 use Rattle.srt_group_model.specs.declared.Packet.{Packet}

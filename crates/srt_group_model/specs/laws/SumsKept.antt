@@ -25,9 +25,9 @@ use Rattle.srt_group_model.specs.Sound.{ids, for-member, held-for, Summe
 use Rattle.srt_group_model.specs.laws.Unique.{among-any, ids-append, among-append, once-append}
 use Rattle.srt_group_model.specs.laws.Ascending.{insert-ascends, such-that-ascends}
 use Rattle.srt_group_model.specs.laws.Steps.{State-law, state-law-of}
-use Rattle.srt_group_model.specs.laws.CallLaw.{Joining, Poll-law, Call-law}
+use Rattle.srt_group_model.specs.laws.CallLaw.{Joining, Calling, Collect-law, Poll-law, Call-law}
 use Rattle.srt_group_model.specs.laws.EveryCall.{call-keeps}
-use Rattle.srt_group_model.specs.laws.CellsCalls.{data-append}
+use Rattle.srt_group_model.specs.laws.InHand.{data-append}
 use Rattle.srt_group_model.specs.laws.Sums.{for-other, for-owned, held-for-is, held-own-is, moves-sums, changes-sums, discards-sums, holds-sums, reports-sums, delivers-sums, same-sums}
 use Rattle.srt_group_model.specs.laws.SumsRemoval.{Right, retire-right, take-out-right}
 use Rattle.srt_group_model.specs.declared.Leg.{Leg}
@@ -101,9 +101,9 @@ right-same s t a b c h = record { sums = same-sums s t a b c (h .sums); ascendin
 deliver-right : (s : State) (base : ℕ) (p : Packet) → Right s → Right (deliver-packet base p s)
 deliver-right s base p h = record { sums = delivers-sums s base p (h .sums); ascending = unfold deliver-packet pass-run in (such-that-ascends _ (s .receive .pending) (h .ascending)) }
 
-right-polls : Poll-law (λ hand s log. Right s)
+right-collects : Collect-law (λ hand s log. Right s)
 unfolding skip-to is-discarded
-right-polls =
+right-collects =
     record {
       moves = λ s i m f at move h. record { sums = moves-sums s i m f at move (h .sums); ascending = h .ascending };
       binds = λ s i m at a h. right-same s _ refl refl refl h;
@@ -118,23 +118,30 @@ right-polls =
             ascending = insert-ascends _ (s .receive .pending) (or-right (is-late _ (s .receive)) (is-held (e .content .sequence) (s .receive .pending)) g) (h .ascending);
           };
       reports = λ s i m e f d few h. record { sums = reports-sums s i m e _ f d (h .sums); ascending = h .ascending };
+    }
+
+right-polls : Poll-law (λ hand s log. Right s)
+unfolding skip-to is-discarded
+right-polls =
+    record {
       gives = λ s h. right-same s _ refl refl refl h;
       skips = λ s base p tested time b n near h. right-same s _ refl refl refl h;
       delivers = λ s base p b e h. deliver-right s base p h;
     }
 
-right-moves : (c : Call) (cells : ℕ) → Call-law c cells (λ hand s log. Right s)
-right-moves c cells =
+right-moves : (k : Calling) → Call-law k (λ hand s log. Right s)
+right-moves k =
     record {
-      polling = right-polls;
+      collecting = right-collects;
+      polling = λ poll. right-polls;
       joins = λ s id weight l queue is j h. record { sums = joins-sums s id weight l j (h .sums); ascending = h .ascending };
       leaves = λ s i m is at h. take-out-right i m s at h;
       retires = λ s base p e h. retire-right base p s e h;
-      takes = λ s e h. h;
-      puts = λ s cell payload h. h;
+      takes = λ payload takes free h. h;
+      puts = λ s cell payload takes accepted short unused h. h;
       lets-go = λ s cell h. h;
       queues-data =
-          λ s i m id cell d payload is at full unfit short h.
+          λ s i m cell d payload is accepted at full unfit short h.
           let more = queued-append (m .queue) (data-event cell (length payload) d) in
           record {
             sums =
@@ -159,13 +166,13 @@ right-moves c cells =
 pub right-law : State-law Right
 unfolding skip-to
 right-law =
-    state-law-of (λ hand s log. Right s) Right right-polls (λ s log h. h) (λ s log h. h)
+    state-law-of (λ hand s log. Right s) Right right-collects right-polls (λ s log h. h) (λ s log h. h)
     (λ s i m e f d h. record { sums = reports-sums s i m e _ f d (h .sums); ascending = h .ascending }) deliver-right
     (λ s base p g h. right-same s _ refl refl refl h) (λ s p g h. right-same s _ refl refl refl h)
 
 -- The reserved sums are the sums, and stay so over every call.
 pub sums-kept : (c : Call) (lent : Lent) (s : State) → Right s → Right (perform c lent s .state)
-sums-kept c lent s h = call-keeps (λ hand s log. Right s) c lent s (right-moves c _) h
+sums-kept c lent s h = call-keeps (λ hand s log. Right s) c lent s (right-moves _) h
 
 -- ---- the rule and the statement
 

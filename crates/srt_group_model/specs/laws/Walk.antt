@@ -4,7 +4,6 @@ use mathlib.Core.Path.{refl, subst}
 use mathlib.Core.List.{List, []}
 use mathlib.Core.Option.{Option, none}
 use Prim.Native.Nat.{ℕ, _+_}
-use Rattle.srt_protocol.specs.Cells.{cells-of}
 use Rattle.srt_group_model.specs.Tools.{change}
 use Rattle.srt_group_model.specs.State.{Member, Receive, State, on-leg, on-membership, with-reserved}
 use Rattle.srt_group_model.specs.Legs.{release-data-reservation}
@@ -17,7 +16,7 @@ use Rattle.srt_group_model.specs.Guards.{Step}
 use Rattle.srt_group_model.specs.Lent.{Call, step-of}
 use Rattle.srt_group_model.specs.laws.Moves.{Law}
 use Rattle.srt_group_model.specs.laws.Queues.{Relabelled, pop, packet-of, sums-relabelled, Queue-law}
-use Rattle.srt_group_model.specs.laws.CallLaw.{Poll-law, Call-law}
+use Rattle.srt_group_model.specs.laws.CallLaw.{Calling, Collect-law, Poll-law, Call-law}
 use Rattle.srt_group_model.specs.laws.EveryCall.{change-twice, polls-event, polls-data, step-keeps}
 use Rattle.srt_group_model.specs.laws.MemberMoves.{moved-relabelled, deliver-frame}
 
@@ -25,9 +24,8 @@ module _ (I : Receive → List Mark → Type 0) (law : Law I) where
   abbrev pub Keeps : Step → Type 0
   Keeps x = I (x .state .receive) (x .log)
 
-  pub receive-polls : Poll-law (λ hand s log. I (s .receive) log)
-  unfolding deliver-packet
-  receive-polls =
+  pub receive-collects : Collect-law (λ hand s log. I (s .receive) log)
+  receive-collects =
       record {
         moves = λ s i m f at move h. h;
         binds = λ s i m at a h. h;
@@ -37,23 +35,30 @@ module _ (I : Receive → List Mark → Type 0) (law : Law I) where
         discards = λ s i m e f d g h. law .discards (s .receive) _ (packet-of m e) g h;
         holds = λ s i m e f d g h. law .retains (s .receive) _ (packet-of m e) g h;
         reports = λ s i m e f d few h. h;
+      }
+
+  pub receive-polls : Poll-law (λ hand s log. I (s .receive) log)
+  unfolding deliver-packet
+  receive-polls =
+      record {
         gives = λ s h. h;
         skips = λ s base p tested time b n near h. law .skips (s .receive) _ base p tested time b n near h;
         delivers = λ s base p b e h. law .delivers (s .receive) _ base p b e h;
       }
 
-  pub receive-law : (c : Call) (cells : ℕ) → Call-law c cells (λ hand s log. I (s .receive) log)
+  pub receive-law : (k : Calling) → Call-law k (λ hand s log. I (s .receive) log)
   unfolding take-out retire
-  receive-law c cells =
+  receive-law k =
       record {
-        polling = receive-polls;
+        collecting = receive-collects;
+        polling = λ poll. receive-polls;
         joins = λ s id weight l queue is j h. h;
         leaves = λ s i m is at h. law .owns (s .receive) _ (id-of m) h;
         retires = λ s base p e h. law .retires (s .receive) _ p h;
-        takes = λ s e h. h;
-        puts = λ s cell payload h. law .puts (s .receive) _ cell payload h;
+        takes = λ payload takes free h. h;
+        puts = λ s cell payload takes accepted short unused h. law .puts (s .receive) _ cell payload h;
         lets-go = λ s cell h. h;
-        queues-data = λ s i m id cell d payload is at full unfit short h. h;
+        queues-data = λ s i m cell d payload is accepted at full unfit short h. h;
         queues-event = λ s i m id kind reason is at full some-kind known fits h. h;
         numbers = λ s sequence h. h;
         remembers = λ s i m e at next short fits h. h;
@@ -61,7 +66,7 @@ module _ (I : Receive → List Mark → Type 0) (law : Law I) where
       }
 
   pub call-keeps : (store output list : ℕ) (c : Call) (s : State) → I (s .receive) [] → Keeps (step-of store output list c s)
-  call-keeps store output list c s h = step-keeps (λ hand s log. I (s .receive) log) store output list c s (receive-law c (cells-of store)) h
+  call-keeps store output list c s h = step-keeps (λ hand s log. I (s .receive) log) store output list c s (receive-law _) h
 
 module _ (J : List Member → List Mark → Type 0) (law : Queue-law J) where
   abbrev Kept-by : Option ℕ → State → List Mark → Type 0
@@ -72,8 +77,8 @@ module _ (J : List Member → List Mark → Type 0) (law : Queue-law J) where
   counts-after ms log i f g h =
       subst (λ (l : List Member). J l log) (change-twice i f pop ms) (law .relabels (change i pop ms) _ log (sums-relabelled i f (change i pop ms) g) h)
 
-  pub queue-polls : Poll-law Kept-by
-  queue-polls =
+  pub queue-collects : Collect-law Kept-by
+  queue-collects =
       record {
         moves = λ s i m f at move h. law .relabels (s .members) _ _ (moved-relabelled i m f (s .members) at move) h;
         binds = λ s i m at a h. h;
@@ -89,14 +94,19 @@ module _ (J : List Member → List Mark → Type 0) (law : Queue-law J) where
             counts-after (s .members) _ i (on-membership (λ y. with-reserved (y .reserved + e .content .count) y)) (λ x. record { id = refl; queue = refl; broken = λ b. b })
             (law .takes-data (s .members) _ i m e (f .stands) (f .first) d h);
         reports = λ s i m e f d few h. law .takes-event (s .members) _ i m e (f .stands) (f .first) d h;
+      }
+
+  pub queue-polls : Poll-law Kept-by
+  queue-polls =
+      record {
         gives = λ s h. h;
         skips = λ s base p tested time b n near h. law .marks (s .members) _ _ refl h;
         delivers = λ s base p b e h. law .marks _ _ (delivered p) refl (law .relabels (s .members) _ _ (deliver-frame base p s .members) h);
       }
 
   pub poll-event-kept : (time : ℕ) (r : Run) → J (r .state .members) (r .log) → J (poll-event time r .run .state .members) (poll-event time r .run .log)
-  poll-event-kept time r h = polls-event Kept-by queue-polls none time r h
+  poll-event-kept time r h = polls-event Kept-by queue-collects queue-polls none time r h
 
   pub poll-data-kept : (time max-events : ℕ) (r : Run) → J (r .state .members) (r .log)
       → J (poll-data-bounded time max-events r .run .state .members) (poll-data-bounded time max-events r .run .log)
-  poll-data-kept time max-events r h = polls-data Kept-by queue-polls none time max-events r h
+  poll-data-kept time max-events r h = polls-data Kept-by queue-collects queue-polls none time max-events r h
