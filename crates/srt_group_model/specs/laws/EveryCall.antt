@@ -15,7 +15,7 @@ use Rattle.srt_group_model.specs.laws.Reason.{if-elim, if-some-elim, by-
 use Rattle.srt_group_model.specs.State.{Member, Receive, Send, State, is-backup, next-receive-sequence, next-send-sequence, with-receive, with-send, with-members, with-peer, with-base, with-round, with-leg, on-leg, turned, pending-state, active-state, standby-state, unstable-state, broken-state}
 use Rattle.srt_group_model.specs.Legs.{largest-16, largest-32, largest-64, handed, goes-back, is-connected, can-send, disconnect-leg, peer-initial-sequence, send-shared-with-sequence}
 use Rattle.srt_group_model.specs.Members.{id-of, has-id, find, in-state, is-active, is-standby, promote-backup-member, promote-if-none, arrives, base-after, peer-after, admit-peer-group, align-member-sequence, steps-from, turn-aligned, settle, requalify, settle-members, break-disconnected, requalify-members}
-use Rattle.srt_group_model.specs.Nearest.{sequence-of, nearest}
+use Rattle.srt_group_model.specs.Nearest.{sequence-of, insert, nearest}
 use Rattle.srt_group_model.specs.laws.Arrivals.{base-after-elim, peer-after-elim}
 use Rattle.srt_group_model.specs.Run.{Mark, put, base-set, collected, Run, start, set-base, admit-connected-peer-groups, refresh-pending-states, refresh-states}
 use Rattle.srt_group_model.specs.Collecting.{retain-group-packet, report-event, collect-member-event, Visited, take-front, collect-one-event, collect-until-held, Emptied, collect-until-empty}
@@ -30,7 +30,7 @@ use Rattle.srt_group_model.specs.Guards.{Step, Check, guard}
 use Rattle.srt_group_model.specs.Calls.{breaks-rule, of-member, change-member, no-free-cell, taken-cell, new-member, add-body, add-member, mark-member-broken, remove-body, remove-member-connection, refresh-member-states, disconnect, event-poll-body, poll-event-call, data-poll-body, poll-data-call, left-by-send, send-flow, send-body, send, can-send-body, can-send-call, can-send-with-pacing-body, can-send-with-pacing-call, read-leg, queue-full, data-unfit, queue-data-body, queue-data, queue-event}
 use Rattle.srt_group_model.specs.Lent.{Lent, Call, call-add-member, call-mark-member-broken, call-remove-member-connection, call-refresh-member-states, call-disconnect, call-poll-event, call-poll-data-bounded, call-send, call-can-send, call-can-send-with-pacing, call-look, call-read-leg, call-queue-data, call-queue-event, with-bytes, step-of, perform}
 use Rattle.srt_group_model.specs.laws.Refusals.{guard-elim, guard-passed, look-elim}
-use Rattle.srt_group_model.specs.laws.Frame.{Kept, align-kept, promotion-standby, not-broken, place-passes, active-not-broken, Active-at, first-active-at, take-over-framed, take-over-active, found-stands}
+use Rattle.srt_group_model.specs.laws.Frame.{Kept, align-kept, promotion-standby, not-broken, place-passes, active-not-broken, Active-at, first-active-at, trim-members, take-over-kept, take-over-active, found-stands}
 use Rattle.srt_group_model.specs.laws.Moves.{At-base, Not-held, until-empty-base, until-empty-not-held, skip-base, set-base-base}
 use Rattle.srt_group_model.specs.laws.Queues.{pop, packet-of}
 use Rattle.srt_group_model.specs.laws.Waits.{waits, Few-wait, none-waits, collect-one-waits, refresh-waits}
@@ -297,7 +297,7 @@ module _ (P : Option ℕ → State → List Mark → Type 0) (law : Collect-law 
       (law .holds s i m e f d g h))
     where
       law-receive : State → Packet → Receive
-      law-receive s p = record { numbers = s .receive .numbers; pending = Rattle.srt_group_model.specs.Nearest.insert p (s .receive .pending) }
+      law-receive s p = record { numbers = s .receive .numbers; pending = insert p (s .receive .pending) }
 
   -- a member whose error or end is reported breaks, and in Backup another is promoted
   pub breaks : (hand : Option ℕ) (log : List Mark) (s : State) (i : ℕ) (m : Member) (e : Event) → P hand (reported i m e s) log
@@ -521,7 +521,7 @@ module _ (c : Calling) (P : Option ℕ → State → List Mark → Type 0) (law 
           if-elim In-flow _ _ _
           (λ e.
           if-some-elim In-flow _ _ _
-          (λ x g. replays-flight i m x (trim-by-carrier s) (ap (at-place i) (Rattle.srt_group_model.specs.laws.Frame.trim-members s) ∙ at) g trimmed)
+          (λ x g. replays-flight i m x (trim-by-carrier s) (ap (at-place i) (trim-members s) ∙ at) g trimmed)
           (λ g. aligns-carrier i (trim-by-carrier s) trimmed))
           (λ e. aligns-carrier i s h))
           (λ at. h)
@@ -593,7 +593,7 @@ module _ (c : Calling) (P : Option ℕ → State → List Mark → Type 0) (law 
         if-some-elim Ended _ _ _
         (λ i g.
         then-ends (take-over-backup-flight time i ready) (send-at-place time (length payload) cell i) (takes-over-flight (some cell) log time fits i ready begun)
-        (λ k. sends-at-place i _ (take-over-active i ready _ (take-over-framed time i ready) (first-active-at ready i g)) k))
+        (λ k. sends-at-place i _ (take-over-active i ready (take-over-backup-flight time i ready .state) (take-over-kept time i ready) (first-active-at ready i g)) k))
         (λ g. fails-with 24 ready refl begun)
 
   -- ---- bodies

@@ -1,6 +1,5 @@
--- What a refresh and a send leave alone. A member is carried on: its id, its sums, its queue, its leg's receiving side and link
--- stay, and once Broken it stays Broken. Sends also leave the base, the held packets and all else of receiving: the frame that demand 3
--- asks of them.
+-- What a refresh and a take-over leave alone. A member is carried on: its id, its sums, its queue, its leg's receiving side and link
+-- stay, and once Broken it stays Broken.
 use mathlib.Core.Path.{_≡_, refl, sym, ap, ap₂, subst, _∙_}
 use mathlib.Core.Bool.{Bool, true, false, _&&_}
 use mathlib.Core.List.{List, [], _∷_}
@@ -11,11 +10,11 @@ use lib.Dec.{eqb}
 use lib.ListN.{length}
 use Rattle.srt_group_model.specs.Tools.{if_then_else_, if-some_give_otherwise_, at-place, change, each, place-of}
 use Rattle.srt_group_model.specs.laws.Reason.{if-elim, if-some-elim, not-both, and-left, none-some, some-inj, Each-to, each-to-same, each-to-then, each-to-each, each-to-change, each-to-map, each-to-at, each-to-none, each-to-before}
-use Rattle.srt_group_model.specs.State.{Member, Send, State, turned, with-leg, with-members, with-send, pending-state, active-state, standby-state, unstable-state, broken-state}
+use Rattle.srt_group_model.specs.State.{Member, State, turned, with-leg, pending-state, active-state, standby-state, unstable-state, broken-state}
 use Rattle.srt_group_model.specs.Legs.{connected, send-shared-with-sequence, synchronize-send-sequence}
 use Rattle.srt_group_model.specs.Members.{id-of, in-state, is-active, is-standby, Placed, first-in-rank, promotion, promote-backup-member, promote-if-none, admit-peer-group, align-leg, align-member-sequence, steps-from, turn-aligned, settle, requalify, settle-members, break-disconnected, requalify-members, found}
-use Rattle.srt_group_model.specs.Sending.{Flow, _and-then_, mark-send-failure, attempt-send, send-broadcast}
-use Rattle.srt_group_model.specs.Backup.{demote-stale-backup-carrier, trim-by-carrier, Replayed, replay-entries, put-leg, replay-on, replay-flight, align-carrier, take-over-backup-flight, send-own, send-after-promotion, send-at-place, send-backup}
+use Rattle.srt_group_model.specs.Sending.{Flow}
+use Rattle.srt_group_model.specs.Backup.{trim-by-carrier, Replayed, replay-entries, replay-on, replay-flight, align-carrier, take-over-backup-flight}
 use Rattle.srt_group_model.specs.declared.Leg.{Leg}
 use Rattle.srt_group_model.specs.declared.Link.{Link}
 use Rattle.srt_group_model.specs.declared.Entry.{Entry}
@@ -325,56 +324,6 @@ requalify-carried mode number ms =
 
 -- ---- sends
 
--- what a send leaves alone, and what the rest of receiving needs of it
-pub record Framed (R : Member → Member → Type 0) (s t : State) : Type 0 where
-  pub identity : t .identity ≡ s .identity
-  pub mode : t .mode ≡ s .mode
-  pub peer : t .peer ≡ s .peer
-  pub receive : t .receive ≡ s .receive
-  pub visit : t .visit ≡ s .visit
-  pub owned : t .owned ≡ s .owned
-  pub waiting : t .waiting ≡ s .waiting
-  pub members : Each-to R (s .members) (t .members)
-
-module _ (R : Member → Member → Type 0) (r : (m : Member) → R m m) (r-then : (a b c : Member) → R a b → R b c → R a c) where
-  pub framed-same : (s : State) → Framed R s s
-  framed-same s =
-      record { identity = refl; mode = refl; peer = refl; receive = refl; visit = refl; owned = refl; waiting = refl; members = each-to-same R r (s .members) }
-
-  pub framed-then : (s t u : State) → Framed R s t → Framed R t u → Framed R s u
-  framed-then s t u h k =
-      record {
-        identity = k .identity ∙ h .identity;
-        mode = k .mode ∙ h .mode;
-        peer = k .peer ∙ h .peer;
-        receive = k .receive ∙ h .receive;
-        visit = k .visit ∙ h .visit;
-        owned = k .owned ∙ h .owned;
-        waiting = k .waiting ∙ h .waiting;
-        members = each-to-then R r-then (s .members) (t .members) (u .members) (h .members) (k .members);
-      }
-
-  pub send-framed : (x : Send) (s : State) → Framed R s (with-send x s)
-  send-framed x s =
-      record { identity = refl; mode = refl; peer = refl; receive = refl; visit = refl; owned = refl; waiting = refl; members = each-to-same R r (s .members) }
-
-pub members-framed : (R : Member → Member → Type 0) (s : State) (ms : List Member) → Each-to R (s .members) ms → Framed R s (with-members ms s)
-members-framed R s ms h =
-    record { identity = refl; mode = refl; peer = refl; receive = refl; visit = refl; owned = refl; waiting = refl; members = h }
-
-pub kept-framed : (s t : State) → Framed Kept s t → Framed Carried s t
-kept-framed s t h =
-    record {
-      identity = h .identity;
-      mode = h .mode;
-      peer = h .peer;
-      receive = h .receive;
-      visit = h .visit;
-      owned = h .owned;
-      waiting = h .waiting;
-      members = all-kept-carried (s .members) (t .members) (h .members);
-    }
-
 -- the place that `place-of` finds holds one that passes the test
 pub place-passes : (test : Member → Bool) (ms : List Member) (i : ℕ) → place-of test ms ≡ some i → (m : Member) → at-place i ms ≡ some m → test m ≡ true
 unfolding place-of at-place
@@ -393,78 +342,12 @@ pub active-not-broken : (m : Member) → is-active m ≡ true → in-state broke
 unfolding is-active
 active-not-broken m h = not-broken m active-state (and-left _ _ h) refl
 
-pub failure-carried : (m : Member) → is-active m ≡ true → Carried m (mark-send-failure m)
-unfolding mark-send-failure
-failure-carried m h = turned-carried _ m (active-not-broken m h)
+-- a take-over moves the legs' sending sides only
+abbrev Takes-over : State → Flow → Type 0
+Takes-over s f = All-kept (s .members) (f .state .members)
 
-pub demote-carried : (time : ℕ) (ms : List Member) → All-carried ms (demote-stale-backup-carrier time ms)
-unfolding demote-stale-backup-carrier
-demote-carried time ms =
-    if-some-elim (All-carried ms) _ _ _
-    (λ i g.
-    all-change i _ ms
-    (λ m at.
-    if-elim (Carried m) _ _ _
-    (λ e. turned-carried unstable-state m (active-not-broken m (place-passes is-active ms i g m at)))
-    (λ e. carried-same m)))
-    (λ g. all-same ms)
-
-attempt-carried : (time size sequence : ℕ) (m : Member) → Carried m (attempt-send time size sequence m)
-unfolding attempt-send
-attempt-carried time size sequence m =
-    if-elim (Carried m) _ _ _
-    (λ e.
-    if-some-elim (Carried m) _ _ _
-    (λ l g. kept-carried m _ (leg-kept m l (send-gives time size sequence (m .leg) l g)))
-    (λ g. failure-carried m e))
-    (λ e. carried-same m)
-
-abbrev pub Flows : State → Flow → Type 0
-Flows s f = Framed Carried s (f .state)
-
-abbrev flows-same : (s : State) → Framed Carried s s
-flows-same = framed-same Carried carried-same carried-then
-
-abbrev flows-then : (s t u : State) → Framed Carried s t → Framed Carried t u → Framed Carried s u
-flows-then = framed-then Carried carried-same carried-then
-
-abbrev kept-frame : (s : State) → Framed Kept s s
-kept-frame = framed-same Kept kept-same kept-then
-
-pub broadcast-framed : (time size : ℕ) (s : State) → Flows s (send-broadcast time size s)
-unfolding send-broadcast
-broadcast-framed time size s =
-    let tried : (sequence : ℕ) → Framed Carried s (with-members (each (attempt-send time size sequence) (s .members)) s) =
-    λ sequence.
-    members-framed Carried s _
-    (each-to-each Carried (attempt-send time size sequence) (attempt-carried time size sequence) (s .members))
-    in
-    if-elim (Flows s) _ _ _ (λ h. flows-same s)
-    (λ h.
-    if-elim (Flows s) _ _ _ (λ k. flows-same s)
-    (λ k.
-    if-elim (Flows s) _ _ _ (λ g. tried _)
-    (λ g. flows-then s _ _ (tried _) (send-framed Carried carried-same carried-then _ _))))
-
--- a take-over moves the sending side only
-abbrev pub Takes-over : State → Flow → Type 0
-Takes-over s f = Framed Kept s (f .state)
-
-put-leg-framed : (i : ℕ) (l : Leg) (m : Member) (s : State) → at-place i (s .members) ≡ some m → Same-leg (m .leg) l → Framed Kept s (put-leg i l s)
-put-leg-framed i l m s at h = members-framed Kept s _ (put-leg-kept i l m (s .members) at h)
-
-pub trim-framed : (s : State) → Framed Kept s (trim-by-carrier s)
-unfolding trim-by-carrier
-trim-framed s =
-    if-some-elim (Framed Kept s) _ _ _
-    (λ id e.
-    if-some-elim (Framed Kept s) _ _ _
-    (λ i g. if-some-elim (Framed Kept s) _ _ _ (λ m at. send-framed Kept kept-same kept-then _ s) (λ at. kept-frame s))
-    (λ g. kept-frame s))
-    (λ e. kept-frame s)
-
-pub trim-receive : (s : State) → trim-by-carrier s .receive ≡ s .receive
-trim-receive s = trim-framed s .receive
+all-kept-same : (s : State) → All-kept (s .members) (s .members)
+all-kept-same s = each-to-same Kept kept-same (s .members)
 
 pub trim-members : (s : State) → trim-by-carrier s .members ≡ s .members
 unfolding trim-by-carrier
@@ -487,47 +370,47 @@ replay-entries-leg time id (e ∷ es) l =
     (λ k g. same-leg-then l k _ (send-gives time (e .length) (e .sequence) l k g) (replay-entries-leg time id es k))
     (λ g. same-leg l)
 
-replay-on-framed : (time i : ℕ) (m : Member) (l : Leg) (s : State) → at-place i (s .members) ≡ some m → Same-leg (m .leg) l → Takes-over s (replay-on time i m l s)
+replay-on-kept : (time i : ℕ) (m : Member) (l : Leg) (s : State) → at-place i (s .members) ≡ some m → Same-leg (m .leg) l → Takes-over s (replay-on time i m l s)
 unfolding replay-on
-replay-on-framed time i m l s at h =
-    if-elim (Takes-over s) _ _ _ (λ e. put-leg-framed i l m s at h)
-    (λ e. put-leg-framed i _ m s at (same-leg-then (m .leg) l _ h (replay-entries-leg time (id-of m) (s .send .history) l)))
+replay-on-kept time i m l s at h =
+    if-elim (Takes-over s) _ _ _ (λ e. put-leg-kept i l m (s .members) at h)
+    (λ e. put-leg-kept i _ m (s .members) at (same-leg-then (m .leg) l _ h (replay-entries-leg time (id-of m) (s .send .history) l)))
 
-replay-flight-framed : (time i : ℕ) (m : Member) (e : Entry) (s : State) → at-place i (s .members) ≡ some m → Takes-over s (replay-flight time i m e s)
+replay-flight-kept : (time i : ℕ) (m : Member) (e : Entry) (s : State) → at-place i (s .members) ≡ some m → Takes-over s (replay-flight time i m e s)
 unfolding replay-flight
-replay-flight-framed time i m e s at =
-    if-elim (Takes-over s) _ _ _ (λ h. kept-frame s)
+replay-flight-kept time i m e s at =
+    if-elim (Takes-over s) _ _ _ (λ h. all-kept-same s)
     (λ h.
-    if-elim (Takes-over s) _ _ _ (λ k. replay-on-framed time i m (m .leg) s at (same-leg (m .leg)))
+    if-elim (Takes-over s) _ _ _ (λ k. replay-on-kept time i m (m .leg) s at (same-leg (m .leg)))
     (λ k.
     if-some-elim (Takes-over s) _ _ _
-    (λ l g. replay-on-framed time i m l s at (synchronize-gives (e .sequence) (m .leg) l g))
-    (λ g. kept-frame s)))
+    (λ l g. replay-on-kept time i m l s at (synchronize-gives (e .sequence) (m .leg) l g))
+    (λ g. all-kept-same s)))
 
-align-carrier-framed : (i : ℕ) (s : State) → Takes-over s (align-carrier i s)
+align-carrier-kept : (i : ℕ) (s : State) → Takes-over s (align-carrier i s)
 unfolding align-carrier
-align-carrier-framed i s =
+align-carrier-kept i s =
     if-elim (Takes-over s) _ _ _
     (λ h.
     if-some-elim (Takes-over s) _ _ _
-    (λ ms g. members-framed Kept s ms (align-kept _ i (s .members) ms g))
-    (λ g. kept-frame s))
-    (λ h. kept-frame s)
+    (λ ms g. align-kept _ i (s .members) ms g)
+    (λ g. all-kept-same s))
+    (λ h. all-kept-same s)
 
-pub take-over-framed : (time i : ℕ) (s : State) → Takes-over s (take-over-backup-flight time i s)
+pub take-over-kept : (time i : ℕ) (s : State) → Takes-over s (take-over-backup-flight time i s)
 unfolding take-over-backup-flight
-take-over-framed time i s =
+take-over-kept time i s =
     if-some-elim (Takes-over s) _ _ _
     (λ m at.
     if-elim (Takes-over s) _ _ _
     (λ h.
     if-some-elim (Takes-over s) _ _ _
     (λ e k.
-    framed-then Kept kept-same kept-then s _ _ (trim-framed s)
-    (replay-flight-framed time i m e (trim-by-carrier s) (ap (at-place i) (trim-members s) ∙ at)))
-    (λ k. framed-then Kept kept-same kept-then s _ _ (trim-framed s) (align-carrier-framed i (trim-by-carrier s))))
-    (λ h. align-carrier-framed i s))
-    (λ at. kept-frame s)
+    subst (λ (ms : List Member). All-kept ms (replay-flight time i m e (trim-by-carrier s) .state .members)) (trim-members s)
+    (replay-flight-kept time i m e (trim-by-carrier s) (ap (at-place i) (trim-members s) ∙ at)))
+    (λ k. subst (λ (ms : List Member). All-kept ms (align-carrier i (trim-by-carrier s) .state .members)) (trim-members s) (align-carrier-kept i (trim-by-carrier s))))
+    (λ h. align-carrier-kept i s))
+    (λ at. all-kept-same s)
 
 -- ---- one Backup send
 
@@ -538,10 +421,10 @@ pub first-active-at : (s : State) (i : ℕ) → place-of is-active (s .members) 
 first-active-at s i e m at = place-passes is-active (s .members) i e m at
 
 -- a take-over leaves the member active
-pub take-over-active : (i : ℕ) (s t : State) → Framed Kept s t → Active-at i s → Active-at i t
+pub take-over-active : (i : ℕ) (s t : State) → All-kept (s .members) (t .members) → Active-at i s → Active-at i t
 unfolding is-active
 take-over-active i s t h active n at =
-    each-to-before Kept (s .members) (t .members) (h .members) i n at
+    each-to-before Kept (s .members) (t .members) h i n at
     (λ m before kept.
     ap₂ (λ (x : Membership) (y : Link). eqb (x .state) active-state && eqb (y .state) connected) (kept .membership) (kept .link)
     ∙ active m before)
@@ -562,74 +445,4 @@ pub searched-place-taken : (test : Member → Bool) (time i : ℕ) (s : State) �
     → (at-place i (s .members) ≡ none → ⊥) × (at-place i (take-over-backup-flight time i s .state .members) ≡ none → ⊥)
 searched-place-taken test time i s searched =
     let before = place-taken test (s .members) i searched in
-    (before, λ at. before (each-to-none Kept (s .members) _ (take-over-framed time i s .members) i at))
-
-and-then-framed : (s : State) (x : Flow) (f : State → Flow) → Flows s x → Flows (x .state) (f (x .state)) → Flows s (x and-then f)
-unfolding _and-then_
-and-then-framed s x f h k = if-elim (Flows s) _ _ _ (λ e. flows-then s (x .state) _ h k) (λ e. h)
-
-send-own-framed : (time size cell sequence i : ℕ) (failed : Member → State → Flow) (s : State)
-    → ((m : Member) → at-place i (s .members) ≡ some m → Flows s (failed m s)) → Flows s (send-own time size cell sequence i failed s)
-unfolding send-own
-send-own-framed time size cell sequence i failed s h =
-    if-some-elim (Flows s) _ _ _
-    (λ m at.
-    if-some-elim (Flows s) _ _ _
-    (λ l g.
-    record {
-      identity = refl;
-      mode = refl;
-      peer = refl;
-      receive = refl;
-      visit = refl;
-      owned = refl;
-      waiting = refl;
-      members =
-          all-kept-carried (s .members) _
-          (put-leg-kept i l m (s .members) at (send-gives time size sequence (m .leg) l g));
-    })
-    (λ g. h m at))
-    (λ at. flows-same s)
-
-send-after-promotion-framed : (time size cell sequence i : ℕ) (failed : Member) (s : State) → Active-at i s → Flows s (send-after-promotion time size cell sequence i failed s)
-unfolding send-after-promotion
-send-after-promotion-framed time size cell sequence i failed s active =
-    let marked = change i mark-send-failure (s .members) in
-    let promoted =
-    members-framed Carried s (promote-backup-member marked)
-    (all-then (s .members) marked _ (all-change i mark-send-failure (s .members) (λ m at. failure-carried m (active m at)))
-    (promote-carried marked))
-    in
-    if-some-elim (Flows s) _ _ _
-    (λ j g.
-    and-then-framed s _ _
-    (flows-then s _ _ promoted (kept-framed _ _ (take-over-framed time j _)))
-    (send-own-framed time size cell sequence j _ _ (λ m at. flows-same _)))
-    (λ g. promoted)
-
-send-at-place-framed : (time size cell i : ℕ) (s : State) → Active-at i s → Flows s (send-at-place time size cell i s)
-unfolding send-at-place
-send-at-place-framed time size cell i s active =
-    if-some-elim (Flows s) _ _ _
-    (λ m at.
-    if-elim (Flows s) _ _ _ (λ h. flows-same s)
-    (λ h.
-    send-own-framed time size cell _ i _ s (λ n there. send-after-promotion-framed time size cell _ i n s active)))
-    (λ at. flows-same s)
-
-pub backup-framed : (time size cell : ℕ) (s : State) → Flows s (send-backup time size cell s)
-unfolding send-backup
-backup-framed time size cell s =
-    let silent = demote-stale-backup-carrier time (s .members) in
-    let ready : State = with-members (promote-if-none (s .mode) silent) s in
-    let h =
-    members-framed Carried s (promote-if-none (s .mode) silent)
-    (all-then (s .members) silent _ (demote-carried time (s .members)) (promote-if-none-carried (s .mode) silent))
-    in
-    if-some-elim (Flows s) _ _ _
-    (λ i g.
-    let taken = take-over-framed time i ready in
-    and-then-framed s (take-over-backup-flight time i ready) (send-at-place time size cell i)
-    (flows-then s ready _ h (kept-framed ready _ taken))
-    (send-at-place-framed time size cell i _ (take-over-active i ready _ taken (first-active-at ready i g))))
-    (λ g. h)
+    (before, λ at. before (each-to-none Kept (s .members) _ (take-over-kept time i s) i at))

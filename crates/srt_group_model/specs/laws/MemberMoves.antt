@@ -91,6 +91,9 @@ moved-relabelled i m f ms at move = moved-at Relabelled relabelled-same i m f ms
 relabelled-then : (a b c : Member) → Relabelled a b → Relabelled b c → Relabelled a c
 relabelled-then a b c h k = record { id = k .id ∙ h .id; queue = k .queue ∙ h .queue; broken = λ e. k .broken (h .broken e) }
 
+abbrev pub Same-first : Member → Member → Type 0
+Same-first m n = n .leg .receiver .first ≡ m .leg .receiver .first
+
 pub record Delivery-frame (s t : State) : Type 0 where
   pub identity : t .identity ≡ s .identity
   pub mode : t .mode ≡ s .mode
@@ -99,12 +102,14 @@ pub record Delivery-frame (s t : State) : Type 0 where
   pub visit : t .visit ≡ s .visit
   pub waiting : t .waiting ≡ s .waiting
   pub members : All-relabelled (s .members) (t .members)
+  pub firsts : Each-to Same-first (s .members) (t .members)
 
 release-frame : (p : Packet) (s : State) → Delivery-frame s (release-pending-reservation p s)
 unfolding release-pending-reservation
 release-frame p s =
     let same = each-to-same Relabelled relabelled-same (s .members) in
-    if-elim (Delivery-frame s) _ _ _ (λ e. record { identity = refl; mode = refl; peer = refl; send = refl; visit = refl; waiting = refl; members = same })
+    let first = each-to-same Same-first (λ m. refl) (s .members) in
+    if-elim (Delivery-frame s) _ _ _ (λ e. record { identity = refl; mode = refl; peer = refl; send = refl; visit = refl; waiting = refl; members = same; firsts = first })
     (λ e.
     if-some-elim (Delivery-frame s) _ _ _
     (λ i g.
@@ -116,8 +121,9 @@ release-frame p s =
       visit = refl;
       waiting = refl;
       members = each-to-change Relabelled relabelled-same i _ (s .members) (λ m at. record { id = refl; queue = refl; broken = λ b. b });
+      firsts = each-to-change Same-first (λ m. refl) i _ (s .members) (λ m at. refl);
     })
-    (λ g. record { identity = refl; mode = refl; peer = refl; send = refl; visit = refl; waiting = refl; members = same }))
+    (λ g. record { identity = refl; mode = refl; peer = refl; send = refl; visit = refl; waiting = refl; members = same; firsts = first }))
 
 frame-then : (s t u : State) → Delivery-frame s t → Delivery-frame t u → Delivery-frame s u
 frame-then s t u h k =
@@ -129,11 +135,12 @@ frame-then s t u h k =
       visit = k .visit ∙ h .visit;
       waiting = k .waiting ∙ h .waiting;
       members = each-to-then Relabelled relabelled-then (s .members) (t .members) (u .members) (h .members) (k .members);
+      firsts = each-to-then Same-first (λ a b c f g. g ∙ f) (s .members) (t .members) (u .members) (h .firsts) (k .firsts);
     }
 
 release-all-frame : (ps : List Packet) (s : State) → Delivery-frame s (release-all ps s)
 unfolding release-all
-release-all-frame [] s = record { identity = refl; mode = refl; peer = refl; send = refl; visit = refl; waiting = refl; members = each-to-same Relabelled relabelled-same (s .members) }
+release-all-frame [] s = record { identity = refl; mode = refl; peer = refl; send = refl; visit = refl; waiting = refl; members = each-to-same Relabelled relabelled-same (s .members); firsts = each-to-same Same-first (λ m. refl) (s .members) }
 release-all-frame (p ∷ ps) s = frame-then s _ _ (release-frame p s) (release-all-frame ps (release-pending-reservation p s))
 
 pub deliver-frame : (base : ℕ) (p : Packet) (s : State) → Delivery-frame s (deliver-packet base p s)
@@ -151,4 +158,7 @@ deliver-frame base p s =
       members =
           each-to-then Relabelled relabelled-then (s .members) (released .members) _ (h .members)
           (each-to-each Relabelled (on-leg (advance-receive-sequence (sequence-further base (p .content .count)))) (λ m. record { id = refl; queue = refl; broken = λ b. b }) (released .members));
+      firsts =
+          each-to-then Same-first (λ a b c f g. g ∙ f) (s .members) (released .members) _ (h .firsts)
+          (each-to-each Same-first (on-leg (advance-receive-sequence (sequence-further base (p .content .count)))) (λ m. refl) (released .members));
     }

@@ -1,23 +1,17 @@
--- What receiving sees of a member: its queue and the first sequence of its leg's peer. All that promotion, admission,
--- alignment, the refresh, reservations and sends do to the members leaves that alone: the model's Frame carries them on.
-use mathlib.Core.Path.{_≡_, refl, sym, ap, subst, _∙_}
+-- What receiving sees of a member: its queue and the first sequence of its leg's peer. All that a refresh, a send, a reading and a
+-- delivery do to the members leaves that alone.
+use mathlib.Core.Path.{_≡_, refl, sym, ap, subst}
 use mathlib.Core.List.{List, [], _∷_}
 use mathlib.Core.Option.{some}
 use Prim.Native.Nat.{ℕ, zero, suc}
-use Rattle.srt_group_model.specs.Tools.{at-place, change, each, All}
-use Rattle.srt_group_model.specs.State.{Member, State, on-leg, turned, broken-state}
-use Rattle.srt_group_model.specs.Legs.{advance-receive-sequence}
-use Rattle.srt_group_model.specs.Members.{find, promote-backup-member}
-use Rattle.srt_group_model.specs.laws.Frame.{Carried, All-carried, Framed, promote-carried}
-use Rattle.srt_group_model.specs.Collecting.{retain-group-packet, report-event}
-use Rattle.srt_protocol.specs.Sequence.{sequence-further}
-use Rattle.srt_group_model.specs.Nearest.{covered}
-use Rattle.srt_group_model.specs.Delivery.{release-pending-reservation, release-all, advance-legs, deliver-packet, pass-run}
+use Rattle.srt_group_model.specs.Tools.{at-place, change, All}
+use Rattle.srt_group_model.specs.State.{Member, State}
+use Rattle.srt_group_model.specs.Delivery.{deliver-packet}
 use Rattle.srt_group_model.specs.declared.Event.{Event}
 use Rattle.srt_group_model.specs.declared.Packet.{Packet}
-use Rattle.srt_group_model.specs.declared.Waiting.{Waiting}
-use Rattle.srt_group_model.specs.laws.Reason.{if-elim, if-some-elim, some-inj}
-use Rattle.srt_group_model.specs.laws.MemberMoves.{Same-account}
+use Rattle.srt_group_model.specs.laws.Reason.{some-inj, Each-to}
+use Rattle.srt_group_model.specs.laws.Queues.{All-relabelled}
+use Rattle.srt_group_model.specs.laws.MemberMoves.{Same-account, Same-first, deliver-frame}
 
 pub record Side : Type 0 where
   pub queue : List Event
@@ -44,19 +38,6 @@ all-members Q (m ∷ ms) h = (h .0, all-members Q ms (h .1))
 
 -- ---- changes that leave the sides
 
-pub change-leaves : (i : ℕ) (f : Member → Member) (ms : List Member) → ((m : Member) → side (f m) ≡ side m)
-    → sides (change i f ms) ≡ sides ms
-unfolding sides change
-change-leaves i f [] e = refl
-change-leaves zero f (m ∷ ms) e = ap (λ (v : Side). v ∷ sides ms) (e m)
-change-leaves (suc i) f (m ∷ ms) e = ap {B = List Side} (λ (vs : List Side). side m ∷ vs) (change-leaves i f ms e)
-
-pub each-leaves : (f : Member → Member) (ms : List Member) → ((m : Member) → side (f m) ≡ side m) → sides (each f ms) ≡ sides ms
-unfolding sides each
-each-leaves f [] e = refl
-each-leaves f (m ∷ ms) e =
-    ap (λ (v : Side). v ∷ sides (each f ms)) (e m) ∙ ap {B = List Side} (λ (vs : List Side). side m ∷ vs) (each-leaves f ms e)
-
 -- the member at a place is changed, and its side is not
 pub moved-sides : (i : ℕ) (m : Member) (f : Member → Member) (ms : List Member) → at-place i ms ≡ some m → side (f m) ≡ side m → sides (change i f ms) ≡ sides ms
 unfolding sides change at-place
@@ -68,89 +49,14 @@ moved-sides (suc i) m f (x ∷ ms) at e = ap {B = List Side} (λ (vs : List Side
 pub account-side : (m n : Member) → Same-account m n → side n ≡ side m
 account-side m n h = λ i. record { queue = h .queue i; first = h .first i }
 
--- members that are carried on, as the model's Frame has it, keep their sides
-abbrev pub SameSides : List Member → List Member → Type 0
-SameSides ms ns = sides ns ≡ sides ms
-
-same-side : (m n : Member) → n .queue ≡ m .queue → n .leg .receiver ≡ m .leg .receiver → side n ≡ side m
-same-side m n e f = λ i. record { queue = e i; first = f i .first }
-
-pub carried-sides : (ms ns : List Member) → All-carried ms ns → SameSides ms ns
+-- a delivery moves reservations and what the legs record
+relabelled-sides : (ms ns : List Member) → All-relabelled ms ns → Each-to Same-first ms ns → sides ns ≡ sides ms
 unfolding sides
-carried-sides [] [] h = refl
-carried-sides [] (n ∷ ns) h = absurd h
-carried-sides (m ∷ ms) [] h = absurd h
-carried-sides (m ∷ ms) (n ∷ ns) h =
-    ap (λ (v : Side). v ∷ sides ns) (same-side m n (h .0 .queue) (h .0 .receiver)) ∙ ap {B = List Side}
-    (λ (vs : List Side). side m ∷ vs) (carried-sides ms ns (h .1))
+relabelled-sides [] [] h k = refl
+relabelled-sides [] (n ∷ ns) h k = absurd h
+relabelled-sides (m ∷ ms) [] h k = absurd h
+relabelled-sides (m ∷ ms) (n ∷ ns) h k = λ i. record { queue = h .0 .queue i; first = k .0 i } ∷ relabelled-sides ms ns (h .1) (k .1) i
 
--- ---- the receiving side of a state
-
--- the state after is the state before, as far as receiving sees it
-pub record Leaves (s t : State) : Type 0 where
-  pub receive : t .receive ≡ s .receive
-  pub sides : sides (t .members) ≡ sides (s .members)
-
-pub leaves-all : (s : State) → Leaves s s
-leaves-all s = record { receive = refl; sides = refl }
-
-leaves-then : (s t u : State) → Leaves s t → Leaves t u → Leaves s u
-leaves-then s t u h k = record { receive = k .receive ∙ h .receive; sides = k .sides ∙ h .sides }
-
--- what the model's Frame says of a send
-pub framed-leaves : (s t : State) → Framed Carried s t → Leaves s t
-framed-leaves s t h = record { receive = h .receive; sides = carried-sides (s .members) (t .members) (h .members) }
-
-release-leaves : (p : Packet) (s : State) → Leaves s (release-pending-reservation p s)
-unfolding release-pending-reservation
-release-leaves p s =
-    if-elim (Leaves s) _ _ _ (λ e. record { receive = refl; sides = refl })
-    (λ e.
-    if-some-elim (Leaves s) (find (p .member) (s .members)) _ _
-    (λ i e. record { receive = refl; sides = change-leaves i _ (s .members) (λ m. refl) })
-    (λ e. leaves-all s))
-
-pub release-all-leaves : (ps : List Packet) (s : State) → Leaves s (release-all ps s)
-unfolding release-all
-release-all-leaves [] s = leaves-all s
-release-all-leaves (p ∷ ps) s =
-    leaves-then s (release-pending-reservation p s) (release-all ps (release-pending-reservation p s)) (release-leaves p s)
-    (release-all-leaves ps (release-pending-reservation p s))
-
--- a delivery moves reservations and what the legs record, and of receiving what `pass-run` says
 pub deliver-packet-leaves-sides : (base : ℕ) (p : Packet) (s : State)
     → sides (deliver-packet base p s .members) ≡ sides (s .members)
-unfolding deliver-packet advance-legs
-deliver-packet-leaves-sides base p s =
-    each-leaves (on-leg (advance-receive-sequence (sequence-further base (p .content .count))))
-    (release-all (covered base (p .content .count) (s .receive .pending)) s .members) (λ m. refl)
-    ∙ release-all-leaves (covered base (p .content .count) (s .receive .pending)) s .sides
-
-pub deliver-packet-receive : (base : ℕ) (p : Packet) (s : State) → deliver-packet base p s .receive ≡ pass-run base p (s .receive)
-unfolding deliver-packet
-deliver-packet-receive base p s = refl
-
--- a packet retained or discarded moves reservations only
-pub retain-leaves-sides : (i : ℕ) (p : Packet) (s : State) → sides (retain-group-packet i p s .members) ≡ sides (s .members)
-unfolding retain-group-packet
-retain-leaves-sides i p s =
-    if-elim (λ (t : State). sides (t .members) ≡ sides (s .members)) _ _ _ (λ e. change-leaves i _ (s .members) (λ m. refl))
-    (λ e. change-leaves i _ (s .members) (λ m. refl))
-
-pub report-event-leaves : (i : ℕ) (w : Waiting) (s : State) → Leaves s (report-event i w s)
-unfolding report-event
-report-event-leaves i w s =
-    record {
-      receive = refl;
-      sides =
-          if-elim (SameSides (s .members)) _ _ _
-          (λ e.
-          if-elim (SameSides (s .members)) _ _ _
-          (λ e. carried-sides broken (promote-backup-member broken) (promote-carried broken) ∙ change-leaves i (turned broken-state)
-          (s .members) (λ m. refl))
-          (λ e. change-leaves i (turned broken-state) (s .members) (λ m. refl)))
-          (λ e. refl);
-    }
-  where
-    broken : List Member
-    broken = change i (turned broken-state) (s .members)
+deliver-packet-leaves-sides base p s = let frame = deliver-frame base p s in relabelled-sides (s .members) _ (frame .members) (frame .firsts)
