@@ -14,7 +14,7 @@ use Rattle.srt_group_model.specs.Members.{id-of, has-id, in-state}
 use Rattle.srt_group_model.specs.Removal.{retire, take-out}
 use Rattle.srt_group_model.specs.Lent.{Lent, Call, call-remove-member-connection, perform}
 use Rattle.srt_group_model.specs.laws.Queues.{Relabelled, pop, Queue-law}
-use Rattle.srt_group_model.specs.laws.Walk.{queue-collects, queue-polls}
+use Rattle.srt_group_model.specs.laws.Walk.{queue-refreshes, queue-collects, queue-polls}
 use Rattle.srt_group_model.specs.laws.CallLaw.{Calling, Call-law}
 use Rattle.srt_group_model.specs.laws.EveryCall.{call-keeps}
 use Rattle.srt_group_model.specs.declared.Membership.{Membership}
@@ -99,7 +99,8 @@ broken-moves : (id : ℕ) (k : Calling) → (k .call ≡ call-remove-member-conn
 unfolding take-out retire
 broken-moves id k other =
     record {
-      collecting = queue-collects _ (broken-law id);
+      refreshing = queue-refreshes _ (broken-law id);
+      collecting = λ poll. queue-collects _ (broken-law id);
       polling = λ poll. queue-polls _ (broken-law id);
       joins = λ s k weight l queue is j h. append-keeps id (s .members) _ h;
       leaves = λ s i m is at h. without-keeps id i m (s .members) at (by-test (has-id id m) (λ e. absurd (other (is ∙ ap (λ (x : ℕ). call-remove-member-connection x) (eqb-true (id-of m) id e)))) (λ e. e)) h;

@@ -80,8 +80,8 @@ reported i m e s =
 
 -- ---- the moves
 
--- A cell in hand is one that the call has taken and nothing names yet. What a refresh does, and collecting:
-pub record Collect-law (P : Option ℕ → State → List Mark → Type 0) : Type 0 where
+-- A cell in hand is one that the call has taken and nothing names yet. What a refresh does, and sends, readings and marks do to members:
+pub record Refresh-law (P : Option ℕ → State → List Mark → Type 0) : Type 0 where
   -- a member's label or leg moves
   pub moves : {hand : Option ℕ} {log : List Mark} (s : State) (i : ℕ) (m : Member) (f : Member → Member) → at-place i (s .members) ≡ some m
       → Member-move s m (f m) → P hand s log → P hand (with-members (change i f (s .members)) s) log
@@ -91,6 +91,9 @@ pub record Collect-law (P : Option ℕ → State → List Mark → Type 0) : Typ
   -- the base is set, once
   pub sets-base : {hand : Option ℕ} {log : List Mark} (s : State) (b : ℕ) → next-receive-sequence (s .receive) ≡ none → Base-source s b
       → P hand s log → P hand (with-receive (with-base b (s .receive)) s) (base-set b ∷ log)
+
+-- what collecting does besides
+pub record Collect-law (P : Option ℕ → State → List Mark → Type 0) : Type 0 where
   -- the continuation is asked for, or not; the round turns to the next member
   pub continues : {hand : Option ℕ} {log : List Mark} (s : State) (b : Bool) → P hand s log → P hand (with-continuation b s) log
   pub turns : {hand : Option ℕ} {log : List Mark} (s : State) (i : ℕ) (m : Member) → at-place i (s .members) ≡ some m
@@ -109,7 +112,7 @@ pub record Collect-law (P : Option ℕ → State → List Mark → Type 0) : Typ
       → P hand s log
       → P hand (reported i m e s) log
 
--- what a poll does besides
+-- and what a poll does
 pub record Poll-law (P : Option ℕ → State → List Mark → Type 0) : Type 0 where
   -- the first event that waits is given
   pub gives : {hand : Option ℕ} {log : List Mark} (s : State) → P hand s log → P hand (with-waiting (drop 1 (s .waiting)) s) log
@@ -136,7 +139,7 @@ calling store output list c s = record { call = c; cells = cells-of store; from 
 abbrev pub called : Call → Lent → State → Calling
 called c lent s = calling (length (lent .store)) (length (lent .output)) (length (lent .list)) c s
 
--- the calls that give, skip and deliver
+-- the calls that collect, give, skip and deliver
 pub data Polls (c : Call) : Type 0 where
   polls-events : (time : ℕ) → c ≡ call-poll-event time → Polls c
   polls-packets : (time max-events : ℕ) → c ≡ call-poll-data-bounded time max-events → Polls c
@@ -148,7 +151,8 @@ pub data Takes-cell (c : Call) (payload : List ℕ) : Type 0 where
 
 -- what a call does besides
 pub record Call-law (k : Calling) (P : Option ℕ → State → List Mark → Type 0) : Type 0 where
-  pub collecting : Collect-law P
+  pub refreshing : Refresh-law P
+  pub collecting : Polls (k .call) → Collect-law P
   pub polling : Polls (k .call) → Poll-law P
   -- a member joins
   pub joins : {hand : Option ℕ} {log : List Mark} (s : State) (id weight : ℕ) (l : Leg) (queue : List Event) → k .call ≡ call-add-member id weight l queue → Joining id weight l s

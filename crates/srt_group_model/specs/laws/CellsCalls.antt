@@ -18,7 +18,7 @@ use Rattle.srt_group_model.specs.Validity.{cell-twice, cell-beyond-store
 use Rattle.srt_group_model.specs.Calls.{no-free-cell, taken-cell}
 use Rattle.srt_group_model.specs.Lent.{Lent, Call, perform}
 use Rattle.srt_group_model.specs.laws.Steps.{State-law, state-law-of}
-use Rattle.srt_group_model.specs.laws.InHand.{used, taken-lowest, deliver-cells, fewer-collects, fewer-polls, fewer-moves}
+use Rattle.srt_group_model.specs.laws.InHand.{used, taken-lowest, deliver-cells, fewer-refreshes, fewer-collects, fewer-polls, fewer-moves}
 use Rattle.srt_group_model.specs.laws.EveryCall.{call-keeps}
 use Rattle.srt_group_model.specs.Sound.{room, uses, Within, one, occurs}
 use Rattle.srt_group_model.specs.laws.CellsKept.{Apart, apart-of-rules, once-of-apart, inside-of-apart, uses-used, one-same, one-other, absent, popped-event}
@@ -51,7 +51,7 @@ fewer-holding cells hand log later s t fewer h n = omega (arith, fewer n, h n)
 pub within-law : (cells : ℕ) → State-law (Within (room cells))
 unfolding skip-to
 within-law cells =
-    state-law-of (Holding (room cells)) (Within (room cells)) (fewer-collects _ (fewer-holding cells)) (fewer-polls _ (fewer-holding cells)) (λ s log h n. omega (arith, h n)) (λ s log h n. omega (arith, h n))
+    state-law-of (Holding (room cells)) (Within (room cells)) (fewer-refreshes _ (fewer-holding cells)) (fewer-collects _ (fewer-holding cells)) (fewer-polls _ (fewer-holding cells)) (λ s log h n. omega (arith, h n)) (λ s log h n. omega (arith, h n))
     (λ s i m e f d h n. omega (arith, h n, ap (occurs n) (popped-event i m e (s .members) (f .stands) (f .first) d)))
     (λ s base p h n. omega (arith, h n, deliver-cells n s base p)) (λ s base p g h. h) (λ s p g h. h)
 

@@ -16,7 +16,7 @@ use Rattle.srt_group_model.specs.Members.{id-of}
 use Rattle.srt_group_model.specs.Cells.{used-cells}
 use Rattle.srt_group_model.specs.Validity.{max-waiting}
 use Rattle.srt_group_model.specs.Lent.{Lent, Call, perform}
-use Rattle.srt_group_model.specs.laws.CallLaw.{Calling, Collect-law, Poll-law, Call-law}
+use Rattle.srt_group_model.specs.laws.CallLaw.{Calling, Refresh-law, Collect-law, Poll-law, Call-law}
 use Rattle.srt_group_model.specs.laws.EveryCall.{call-keeps}
 use Rattle.srt_group_model.specs.laws.MemberMoves.{deliver-frame}
 use Rattle.srt_group_model.specs.Sound.{one, occurs, pending-cells}
@@ -81,12 +81,17 @@ pending-few cells s h =
 abbrev Few : State → Type 0
 Few s = length (s .waiting) ≤ max-waiting
 
-waiting-collects : Collect-law (λ hand s log. Few s)
-waiting-collects =
+waiting-refreshes : Refresh-law (λ hand s log. Few s)
+waiting-refreshes =
     record {
       moves = λ s i m f at move h. h;
       binds = λ s i m at a h. h;
       sets-base = λ s b e source h. h;
+    }
+
+waiting-collects : Collect-law (λ hand s log. Few s)
+waiting-collects =
+    record {
       continues = λ s b h. h;
       turns = λ s i m at h. h;
       discards = λ s i m e f d g h. h;
@@ -106,7 +111,8 @@ waiting-moves : (k : Calling) → Call-law k (λ hand s log. Few s)
 unfolding take-out retire
 waiting-moves k =
     record {
-      collecting = waiting-collects;
+      refreshing = waiting-refreshes;
+      collecting = λ poll. waiting-collects;
       polling = λ poll. waiting-polls;
       joins = λ s id weight l queue is j h. h;
       leaves = λ s i m is at h. h;

@@ -7,7 +7,7 @@ use Rattle.srt_group_model.specs.State.{State}
 use Rattle.srt_group_model.specs.Run.{Mark}
 use Rattle.srt_group_model.specs.Removal.{retire, take-out}
 use Rattle.srt_group_model.specs.Lent.{Lent, Call, perform}
-use Rattle.srt_group_model.specs.laws.CallLaw.{Calling, Collect-law, Poll-law, Call-law}
+use Rattle.srt_group_model.specs.laws.CallLaw.{Calling, Refresh-law, Collect-law, Poll-law, Call-law}
 use Rattle.srt_group_model.specs.laws.EveryCall.{call-keeps}
 use Rattle.srt_group_model.specs.laws.MemberMoves.{deliver-frame}
 use Rattle.srt_group_model.specs.declared.Identity.{Identity}
@@ -15,12 +15,17 @@ use Rattle.srt_group_model.specs.declared.Identity.{Identity}
 abbrev pub Given : Identity → (mode : ℕ) → Option ℕ → State → List Mark → Type 0
 Given x mode hand s log = (s .identity ≡ x) × (s .mode ≡ mode)
 
-pub given-collects : (x : Identity) (mode : ℕ) → Collect-law (Given x mode)
-given-collects x mode =
+pub given-refreshes : (x : Identity) (mode : ℕ) → Refresh-law (Given x mode)
+given-refreshes x mode =
     record {
       moves = λ s i m f at move h. h;
       binds = λ s i m at a h. h;
       sets-base = λ s b e source h. h;
+    }
+
+pub given-collects : (x : Identity) (mode : ℕ) → Collect-law (Given x mode)
+given-collects x mode =
+    record {
       continues = λ s b h. h;
       turns = λ s i m at h. h;
       discards = λ s i m e f d g h. h;
@@ -41,7 +46,8 @@ pub given-law : (x : Identity) (mode : ℕ) (k : Calling) → Call-law k (Given 
 unfolding take-out retire
 given-law x mode k =
     record {
-      collecting = given-collects x mode;
+      refreshing = given-refreshes x mode;
+      collecting = λ poll. given-collects x mode;
       polling = λ poll. given-polls x mode;
       joins = λ s id weight l queue is j h. h;
       leaves = λ s i m is at h. h;

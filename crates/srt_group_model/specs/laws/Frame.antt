@@ -1,18 +1,16 @@
--- What a refresh and a take-over leave alone. A member is carried on: its id, its sums, its queue, its leg's receiving side and link
--- stay, and once Broken it stays Broken.
+-- What alignment and a take-over leave of a member: its label, its queue, its leg's receiving side and link. And where searches stand.
 use mathlib.Core.Path.{_≡_, refl, sym, ap, ap₂, subst, _∙_}
 use mathlib.Core.Bool.{Bool, true, false, _&&_}
 use mathlib.Core.List.{List, [], _∷_}
 use mathlib.Core.Option.{Option, none, some}
-use Prim.Native.Nat.{ℕ, zero, suc}
+use Prim.Native.Nat.{ℕ, suc}
 use borrow.Author.Tests.{eqb-true}
 use lib.Dec.{eqb}
-use lib.ListN.{length}
-use Rattle.srt_group_model.specs.Tools.{if_then_else_, if-some_give_otherwise_, at-place, change, each, place-of}
-use Rattle.srt_group_model.specs.laws.Reason.{if-elim, if-some-elim, not-both, and-left, none-some, some-inj, Each-to, each-to-same, each-to-then, each-to-each, each-to-change, each-to-map, each-to-at, each-to-none, each-to-before}
-use Rattle.srt_group_model.specs.State.{Member, State, turned, with-leg, pending-state, active-state, standby-state, unstable-state, broken-state}
+use Rattle.srt_group_model.specs.Tools.{if_then_else_, if-some_give_otherwise_, at-place, change, place-of}
+use Rattle.srt_group_model.specs.laws.Reason.{if-elim, if-some-elim, and-left, none-some, some-inj, Each-to, each-to-same, each-to-change, each-to-none, each-to-before}
+use Rattle.srt_group_model.specs.State.{Member, State, with-leg, active-state, broken-state}
 use Rattle.srt_group_model.specs.Legs.{connected, send-shared-with-sequence, synchronize-send-sequence}
-use Rattle.srt_group_model.specs.Members.{id-of, in-state, is-active, is-standby, Placed, first-in-rank, promotion, promote-backup-member, promote-if-none, admit-peer-group, align-leg, align-member-sequence, steps-from, turn-aligned, settle, requalify, settle-members, break-disconnected, requalify-members, found}
+use Rattle.srt_group_model.specs.Members.{id-of, in-state, is-active, is-standby, Placed, first-in-rank, promotion, align-leg, align-member-sequence, found}
 use Rattle.srt_group_model.specs.Sending.{Flow}
 use Rattle.srt_group_model.specs.Backup.{trim-by-carrier, Replayed, replay-entries, replay-on, replay-flight, align-carrier, take-over-backup-flight}
 use Rattle.srt_group_model.specs.declared.Leg.{Leg}
@@ -20,29 +18,7 @@ use Rattle.srt_group_model.specs.declared.Link.{Link}
 use Rattle.srt_group_model.specs.declared.Entry.{Entry}
 use Rattle.srt_group_model.specs.declared.Membership.{Membership}
 
--- ---- a member carried on
-
-pub record Carried (m n : Member) : Type 0 where
-  pub id : id-of n ≡ id-of m
-  pub reserved : n .membership .reserved ≡ m .membership .reserved
-  pub queue : n .queue ≡ m .queue
-  pub receiver : n .leg .receiver ≡ m .leg .receiver
-  pub link : n .leg .link ≡ m .leg .link
-  pub broken : in-state broken-state m ≡ true → in-state broken-state n ≡ true
-
-pub carried-same : (m : Member) → Carried m m
-carried-same m = record { id = refl; reserved = refl; queue = refl; receiver = refl; link = refl; broken = λ h. h }
-
-pub carried-then : (a b c : Member) → Carried a b → Carried b c → Carried a c
-carried-then a b c h k =
-    record {
-      id = k .id ∙ h .id;
-      reserved = k .reserved ∙ h .reserved;
-      queue = k .queue ∙ h .queue;
-      receiver = k .receiver ∙ h .receiver;
-      link = k .link ∙ h .link;
-      broken = λ e. k .broken (h .broken e);
-    }
+-- ---- a member kept
 
 -- a member of which only the leg's sending side has moved
 pub record Kept (m n : Member) : Type 0 where
@@ -63,41 +39,8 @@ kept-then a b c h k =
       link = k .link ∙ h .link;
     }
 
-pub kept-carried : (m n : Member) → Kept m n → Carried m n
-kept-carried m n h =
-    record {
-      id = ap (λ (x : Membership). x .id) (h .membership);
-      reserved = ap (λ (x : Membership). x .reserved) (h .membership);
-      queue = h .queue;
-      receiver = h .receiver;
-      link = h .link;
-      broken = λ e. ap (λ (x : Membership). eqb (x .state) broken-state) (h .membership) ∙ e;
-    }
-
 abbrev pub All-kept : List Member → List Member → Type 0
 All-kept = Each-to Kept
-
-abbrev pub All-carried : List Member → List Member → Type 0
-All-carried = Each-to Carried
-
-pub all-kept-carried : (ms ns : List Member) → All-kept ms ns → All-carried ms ns
-all-kept-carried = each-to-map Kept Carried kept-carried
-
-pub all-same : (ms : List Member) → All-carried ms ms
-all-same = each-to-same Carried carried-same
-
-pub all-then : (l m n : List Member) → All-carried l m → All-carried m n → All-carried l n
-all-then = each-to-then Carried carried-then
-
-pub all-change : (i : ℕ) (f : Member → Member) (ms : List Member) → ((m : Member) → at-place i ms ≡ some m → Carried m (f m)) → All-carried ms (change i f ms)
-all-change = each-to-change Carried carried-same
-
--- a member that is not Broken may take any state
-pub turned-carried : (n : ℕ) (m : Member) → in-state broken-state m ≡ false → Carried m (turned n m)
-turned-carried n m e = record { id = refl; reserved = refl; queue = refl; receiver = refl; link = refl; broken = λ h. not-both h e }
-
-pub broken-carried : (m : Member) → Carried m (turned broken-state m)
-broken-carried m = record { id = refl; reserved = refl; queue = refl; receiver = refl; link = refl; broken = λ h. refl }
 
 -- a member in another state is not Broken
 pub not-broken : (m : Member) (n : ℕ) → in-state n m ≡ true → eqb n broken-state ≡ false → in-state broken-state m ≡ false
@@ -240,87 +183,6 @@ promotion-standby ms i =
     let here : at-place (r .place) ms ≡ some m = ap (λ (k : ℕ). at-place k ms) place ∙ at in
     ap is-standby (some-inj (sym here ∙ stands .at)) ∙ stands .is)
     (λ g e. none-some e)
-
-pub promote-carried : (ms : List Member) → All-carried ms (promote-backup-member ms)
-unfolding promote-backup-member is-standby
-promote-carried ms =
-    if-some-elim (All-carried ms) _ _ _
-    (λ i g.
-    all-change i (turned active-state) ms
-    (λ m at. turned-carried active-state m (not-broken m standby-state (and-left _ _ (promotion-standby ms i g m at)) refl)))
-    (λ g. all-same ms)
-
-pub promote-if-none-carried : (mode : ℕ) (ms : List Member) → All-carried ms (promote-if-none mode ms)
-unfolding promote-if-none
-promote-if-none-carried mode ms = if-elim (All-carried ms) _ _ _ (λ e. promote-carried ms) (λ e. all-same ms)
-
--- ---- the refresh
-
-admit-carried : (peer : ℕ) (m : Member) → Carried m (admit-peer-group peer m)
-unfolding admit-peer-group
-admit-carried peer m =
-    if-elim (Carried m) _ _ _
-    (λ e.
-    if-elim (Carried m) _ _ _
-    (λ g. record { id = refl; reserved = refl; queue = refl; receiver = refl; link = refl; broken = λ h. h })
-    (λ g. record { id = refl; reserved = refl; queue = refl; receiver = refl; link = refl; broken = λ h. refl }))
-    (λ e. carried-same m)
-
-pub admit-all-carried : (peer : ℕ) (ms : List Member) → All-carried ms (each (admit-peer-group peer) ms)
-admit-all-carried peer = each-to-each Carried (admit-peer-group peer) (admit-carried peer)
-
-steps-carried : (step : ℕ → List Member → List Member) → ((i : ℕ) (ms : List Member) → All-carried ms (step i ms)) → (k i : ℕ) (ms : List Member) → All-carried ms (steps-from step k i ms)
-unfolding steps-from
-steps-carried step h zero i ms = all-same ms
-steps-carried step h (suc k) i ms = all-then ms (step i ms) _ (h i ms) (steps-carried step h k (suc i) (step i ms))
-
-turn-aligned-carried : (test : Member → Bool) (state : List Member → ℕ) (number : Option ℕ)
-    → ((m : Member) → test m ≡ true → in-state broken-state m ≡ false)
-    → (i : ℕ) (ms : List Member) → All-carried ms (turn-aligned test state number i ms)
-unfolding turn-aligned
-turn-aligned-carried test state number h i ms =
-    if-some-elim (All-carried ms) _ _ _
-    (λ m at.
-    if-elim (All-carried ms) _ _ _
-    (λ t.
-    if-some-elim (All-carried ms) _ _ _
-    (λ ns g.
-    let kept = align-kept number i ms ns g in
-    all-then ms ns _ (all-kept-carried ms ns kept)
-    (all-change i _ ns
-    (λ n there.
-    turned-carried _ n
-    (ap (λ (x : Membership). eqb (x .state) broken-state) (each-to-at Kept ms ns kept i m n at there .membership) ∙ h m t))))
-    (λ g. all-same ms))
-    (λ t. all-same ms))
-    (λ at. all-same ms)
-
-pub settle-carried : (mode : ℕ) (number : Option ℕ) (ms : List Member) → All-carried ms (settle-members mode number ms)
-unfolding settle-members settle
-settle-carried mode number ms =
-    let settled =
-    steps-carried (settle mode number)
-    (turn-aligned-carried _ _ number (λ m t. not-broken m pending-state (and-left _ _ t) refl))
-    (length ms) 0 ms
-    in
-    all-then ms _ _ settled (promote-if-none-carried mode (steps-from (settle mode number) (length ms) 0 ms))
-
-break-carried : (m : Member) → Carried m (break-disconnected m)
-unfolding break-disconnected
-break-carried m = if-elim (Carried m) _ _ _ (λ e. broken-carried m) (λ e. carried-same m)
-
-pub requalify-carried : (mode : ℕ) (number : Option ℕ) (ms : List Member) → All-carried ms (requalify-members mode number ms)
-unfolding requalify-members requalify
-requalify-carried mode number ms =
-    let parted = each break-disconnected ms in
-    let qualified =
-    steps-carried (requalify mode number)
-    (turn-aligned-carried _ _ number (λ m t. not-broken m unstable-state (and-left _ _ t) refl))
-    (length parted) 0 parted
-    in
-    all-then ms parted _ (each-to-each Carried break-disconnected break-carried ms)
-    (all-then parted _ _ qualified
-    (promote-if-none-carried mode (steps-from (requalify mode number) (length parted) 0 parted)))
 
 -- ---- sends
 

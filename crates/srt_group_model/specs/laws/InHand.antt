@@ -22,7 +22,7 @@ use Rattle.srt_group_model.specs.Cells.{is-data, queue-cells, queued-cel
 use Rattle.srt_group_model.specs.Calls.{new-member, enqueue, no-data, data-event, no-free-cell, taken-cell}
 use Rattle.srt_group_model.specs.laws.CellLaws.{Lowest, free-cell-is-lowest}
 use Rattle.srt_group_model.specs.laws.Queues.{pop, packet-of}
-use Rattle.srt_group_model.specs.laws.CallLaw.{Calling, Collect-law, Poll-law, Call-law}
+use Rattle.srt_group_model.specs.laws.CallLaw.{Calling, Refresh-law, Collect-law, Poll-law, Call-law}
 use Rattle.srt_group_model.specs.laws.MemberMoves.{moved-relabelled, deliver-frame}
 use Rattle.srt_group_model.specs.Sound.{uses, one, occurs, history-cells}
 use Rattle.srt_group_model.specs.laws.CellsKept.{uses-used, occurs-append, absent, present, relabelled-cells, popped-data, popped-event, inserted, fewer-held, own-cells}
@@ -166,12 +166,17 @@ new-member-cells n id weight l s = refl
 -- what fewer uses keep, whatever else moves
 module _ (P : Option ℕ → State → List Mark → Type 0)
     (fewer : (hand : Option ℕ) (log later : List Mark) (s t : State) → ((n : ℕ) → used n t ≤ used n s) → P hand s log → P hand t later) where
-  pub fewer-collects : Collect-law P
-  fewer-collects =
+  pub fewer-refreshes : Refresh-law P
+  fewer-refreshes =
       record {
         moves = λ s i m f at move. fewer _ _ _ s _ (λ n. omega (arith, ap (occurs n) (relabelled-cells (s .members) _ (moved-relabelled i m f (s .members) at move))));
         binds = λ s i m at a. fewer _ _ _ s _ (λ n. omega arith);
         sets-base = λ s b e source. fewer _ _ _ s _ (λ n. omega arith);
+      }
+
+  pub fewer-collects : Collect-law P
+  fewer-collects =
+      record {
         continues = λ s b. fewer _ _ _ s _ (λ n. omega arith);
         turns = λ s i m at. fewer _ _ _ s _ (λ n. omega arith);
         discards =
@@ -207,7 +212,8 @@ module _ (P : Option ℕ → State → List Mark → Type 0)
   unfolding take-out retire queue-cells
   fewer-moves k takes names =
       record {
-        collecting = fewer-collects;
+        refreshing = fewer-refreshes;
+        collecting = λ poll. fewer-collects;
         polling = λ poll. fewer-polls;
         joins =
             λ s id weight l queue is j.

@@ -27,7 +27,7 @@ use Rattle.srt_group_model.specs.laws.InRange.{in-range-of, of-in-range}
 use Rattle.srt_group_model.specs.laws.Sums.{all-such-that, inserted-all}
 use Rattle.srt_group_model.specs.laws.Queues.{pop, packet-of}
 use Rattle.srt_group_model.specs.laws.Steps.{State-law, state-law-of}
-use Rattle.srt_group_model.specs.laws.CallLaw.{Member-move, unmoved, turn, admission, colliding, alignment, catching-up, leg-send, leg-end, leg-reading, advance, Base-source, first-of, nearest-held, In-front, reported, Calling, Collect-law, Poll-law, Call-law}
+use Rattle.srt_group_model.specs.laws.CallLaw.{Member-move, unmoved, turn, admission, colliding, alignment, catching-up, leg-send, leg-end, leg-reading, advance, Base-source, first-of, nearest-held, In-front, reported, Calling, Refresh-law, Collect-law, Poll-law, Call-law}
 use Rattle.srt_group_model.specs.laws.EveryCall.{call-keeps}
 use Rattle.srt_group_model.specs.laws.Acknowledging.{acknowledged-less}
 use Rattle.srt_group_model.specs.Sound.{Leg-fit, Event-fit, Member-fit, All-fit, Packet-fit, Entry-fit, Waiting-fit, Receiving-fit, Sending-fit, Fit}
@@ -365,12 +365,17 @@ reports-fit s i m e f d h =
     events-fit _ _ (all-append Waiting-fit (s .waiting) _ (h .waiting) (waiting-fit m e mine (front-fit (m .queue) e (f .first) (mine .queue)) d, tt))
     (changes-fit s i m pop (f .stands) (pop-fit m) h)
 
-fit-collects : Collect-law (λ hand s log. Fit s)
-fit-collects =
+fit-refreshes : Refresh-law (λ hand s log. Fit s)
+fit-refreshes =
     record {
       moves = λ s i m f at move h. changes-fit s i m f at (move-fit s m (f m) move h) h;
       binds = λ s i m at a h. peer-fit _ s (at-fit i m (s .members) at (h .members) .leg .peer) h;
       sets-base = λ s b e source h. receive-fit _ s (h .pending) (based-fit (base-fit s b source h)) h;
+    }
+
+fit-collects : Collect-law (λ hand s log. Fit s)
+fit-collects =
+    record {
       continues = λ s b h. visit-fit _ s (bit-most b) h;
       turns = λ s i m at h. visit-fit _ s (h .continuation) h;
       discards =
@@ -395,7 +400,8 @@ fit-moves : (k : Calling) → Call-law k (λ hand s log. Fit s)
 unfolding take-out retire
 fit-moves k =
     record {
-      collecting = fit-collects;
+      refreshing = fit-refreshes;
+      collecting = λ poll. fit-collects;
       polling = λ poll. fit-polls;
       joins =
           λ s id weight l queue is j h.
@@ -432,7 +438,7 @@ fit-moves k =
 
 pub fit-law : State-law Fit
 fit-law =
-    state-law-of (λ hand s log. Fit s) Fit fit-collects fit-polls (λ s log h. h) (λ s log h. h) reports-fit delivers-fit skips-fit
+    state-law-of (λ hand s log. Fit s) Fit fit-refreshes fit-collects fit-polls (λ s log h. h) (λ s log h. h) reports-fit delivers-fit skips-fit
     (λ s p near h. receive-fit _ s (h .pending) (based-fit (nearest-fit (s .receive .pending) (h .pending) p near .sequence)) h)
 
 pub fit-kept : (c : Call) (lent : Lent) (s : State) → Fit s → Fit (perform c lent s .state)

@@ -16,7 +16,7 @@ use Rattle.srt_group_model.specs.Calls.{new-member}
 use Rattle.srt_group_model.specs.Lent.{Lent, Call, perform}
 use Rattle.srt_group_model.specs.laws.Queues.{Relabelled, pop}
 use Rattle.srt_group_model.specs.laws.Steps.{State-law, state-law-of}
-use Rattle.srt_group_model.specs.laws.CallLaw.{Calling, Collect-law, Poll-law, Call-law}
+use Rattle.srt_group_model.specs.laws.CallLaw.{Calling, Refresh-law, Collect-law, Poll-law, Call-law}
 use Rattle.srt_group_model.specs.laws.EveryCall.{call-keeps}
 use Rattle.srt_group_model.specs.laws.MemberMoves.{deliver-frame}
 use Rattle.srt_group_model.specs.declared.Packet.{Packet}
@@ -53,12 +53,17 @@ deliver-round : (s : State) (base : ℕ) (p : Packet) → In-round s → In-roun
 deliver-round s base p =
     let frame = deliver-frame base p s in moved (ap (λ (v : Visit). v .round) (frame .visit)) (each-to-length Relabelled (s .members) _ (frame .members))
 
-round-collects : Collect-law (λ hand s log. In-round s)
-round-collects =
+round-refreshes : Refresh-law (λ hand s log. In-round s)
+round-refreshes =
     record {
       moves = λ s i m f at move h. moved refl (change-length i f (s .members)) h;
       binds = λ s i m at a h. h;
       sets-base = λ s b e source h. h;
+    }
+
+round-collects : Collect-law (λ hand s log. In-round s)
+round-collects =
+    record {
       continues = λ s b h. h;
       turns = λ s i m at h. turn-within i (length (s .members)) (at-length i m (s .members) at);
       discards = λ s i m e f d g h. moved refl (change-length i _ (s .members)) h;
@@ -78,7 +83,8 @@ round-moves : (k : Calling) → Call-law k (λ hand s log. In-round s)
 unfolding take-out retire
 round-moves k =
     record {
-      collecting = round-collects;
+      refreshing = round-refreshes;
+      collecting = λ poll. round-collects;
       polling = λ poll. round-polls;
       joins = λ s id weight l queue is j h. omega (arith, h, length-append (s .members) (new-member id weight (handed l) s ∷ []));
       leaves = λ s i m is at h. omega arith;
@@ -96,7 +102,7 @@ round-moves k =
 pub round-law : State-law In-round
 unfolding skip-to
 round-law =
-    state-law-of (λ hand s log. In-round s) In-round round-collects round-polls (λ s log h. h) (λ s log h. h) (λ s i m e f d h. moved refl (change-length i pop (s .members)) h) deliver-round (λ s base p g h. h) (λ s p g h. h)
+    state-law-of (λ hand s log. In-round s) In-round round-refreshes round-collects round-polls (λ s log h. h) (λ s log h. h) (λ s i m e f d h. moved refl (change-length i pop (s .members)) h) deliver-round (λ s base p g h. h) (λ s p g h. h)
 
 pub round-kept : (c : Call) (lent : Lent) (s : State) → In-round s → In-round (perform c lent s .state)
 round-kept c lent s h = call-keeps (λ hand s log. In-round s) c lent s (round-moves _) h

@@ -25,7 +25,7 @@ use Rattle.srt_group_model.specs.Sound.{ids, for-member, held-for, Summe
 use Rattle.srt_group_model.specs.laws.Unique.{among-any, ids-append, among-append, once-append}
 use Rattle.srt_group_model.specs.laws.Ascending.{insert-ascends, such-that-ascends}
 use Rattle.srt_group_model.specs.laws.Steps.{State-law, state-law-of}
-use Rattle.srt_group_model.specs.laws.CallLaw.{Joining, Calling, Collect-law, Poll-law, Call-law}
+use Rattle.srt_group_model.specs.laws.CallLaw.{Joining, Calling, Refresh-law, Collect-law, Poll-law, Call-law}
 use Rattle.srt_group_model.specs.laws.EveryCall.{call-keeps}
 use Rattle.srt_group_model.specs.laws.InHand.{data-append}
 use Rattle.srt_group_model.specs.laws.Sums.{for-other, for-owned, held-for-is, held-own-is, moves-sums, changes-sums, discards-sums, holds-sums, reports-sums, delivers-sums, same-sums}
@@ -101,13 +101,19 @@ right-same s t a b c h = record { sums = same-sums s t a b c (h .sums); ascendin
 deliver-right : (s : State) (base : ℕ) (p : Packet) → Right s → Right (deliver-packet base p s)
 deliver-right s base p h = record { sums = delivers-sums s base p (h .sums); ascending = unfold deliver-packet pass-run in (such-that-ascends _ (s .receive .pending) (h .ascending)) }
 
-right-collects : Collect-law (λ hand s log. Right s)
+right-refreshes : Refresh-law (λ hand s log. Right s)
 unfolding skip-to is-discarded
-right-collects =
+right-refreshes =
     record {
       moves = λ s i m f at move h. record { sums = moves-sums s i m f at move (h .sums); ascending = h .ascending };
       binds = λ s i m at a h. right-same s _ refl refl refl h;
       sets-base = λ s b e source h. right-same s _ refl refl refl h;
+    }
+
+right-collects : Collect-law (λ hand s log. Right s)
+unfolding skip-to is-discarded
+right-collects =
+    record {
       continues = λ s b h. right-same s _ refl refl refl h;
       turns = λ s i m at h. right-same s _ refl refl refl h;
       discards = λ s i m e f d g h. record { sums = discards-sums s i m e f d (h .sums); ascending = h .ascending };
@@ -132,7 +138,8 @@ right-polls =
 right-moves : (k : Calling) → Call-law k (λ hand s log. Right s)
 right-moves k =
     record {
-      collecting = right-collects;
+      refreshing = right-refreshes;
+      collecting = λ poll. right-collects;
       polling = λ poll. right-polls;
       joins = λ s id weight l queue is j h. record { sums = joins-sums s id weight l j (h .sums); ascending = h .ascending };
       leaves = λ s i m is at h. take-out-right i m s at h;
@@ -166,7 +173,7 @@ right-moves k =
 pub right-law : State-law Right
 unfolding skip-to
 right-law =
-    state-law-of (λ hand s log. Right s) Right right-collects right-polls (λ s log h. h) (λ s log h. h)
+    state-law-of (λ hand s log. Right s) Right right-refreshes right-collects right-polls (λ s log h. h) (λ s log h. h)
     (λ s i m e f d h. record { sums = reports-sums s i m e _ f d (h .sums); ascending = h .ascending }) deliver-right
     (λ s base p g h. right-same s _ refl refl refl h) (λ s p g h. right-same s _ refl refl refl h)
 

@@ -20,7 +20,7 @@ use Rattle.srt_group_model.specs.Calls.{new-member}
 use Rattle.srt_group_model.specs.Lent.{Lent, Call, perform}
 use Rattle.srt_group_model.specs.Sound.{ids}
 use Rattle.srt_group_model.specs.laws.HonestLog.{relabelled-ids}
-use Rattle.srt_group_model.specs.laws.CallLaw.{Joining, Calling, Collect-law, Poll-law, Call-law}
+use Rattle.srt_group_model.specs.laws.CallLaw.{Joining, Calling, Refresh-law, Collect-law, Poll-law, Call-law}
 use Rattle.srt_group_model.specs.laws.EveryCall.{call-keeps}
 use Rattle.srt_group_model.specs.laws.MemberMoves.{moved-relabelled, deliver-frame}
 use Rattle.srt_group_model.specs.declared.Leg.{Leg}
@@ -126,12 +126,17 @@ take-out-named : (s : State) (i : ℕ) (m : Member) → Named s → Named (take-
 unfolding take-out
 take-out-named s i m h = record { unique = without-once i (s .members) (h .unique); few = omega (arith, h .few, without-length i (s .members)) }
 
-names-collects : Collect-law (λ hand s log. Named s)
-names-collects =
+names-refreshes : Refresh-law (λ hand s log. Named s)
+names-refreshes =
     record {
       moves = λ s i m f at move h. named-same s _ (relabelled-ids (s .members) _ (moved-relabelled i m f (s .members) at move)) h;
       binds = λ s i m at a h. named-same s _ refl h;
       sets-base = λ s b e source h. named-same s _ refl h;
+    }
+
+names-collects : Collect-law (λ hand s log. Named s)
+names-collects =
+    record {
       continues = λ s b h. named-same s _ refl h;
       turns = λ s i m at h. named-same s _ refl h;
       discards = λ s i m e f d g h. named-same s _ (changed-ids i _ (s .members) (λ x. refl)) h;
@@ -151,7 +156,8 @@ names-law : (k : Calling) → Call-law k (λ hand s log. Named s)
 unfolding retire
 names-law k =
     record {
-      collecting = names-collects;
+      refreshing = names-refreshes;
+      collecting = λ poll. names-collects;
       polling = λ poll. names-polls;
       joins = λ s id weight l queue is j h. join-named s id weight l j h;
       leaves = λ s i m is at h. take-out-named s i m h;

@@ -16,7 +16,7 @@ use Rattle.srt_group_model.specs.Guards.{Step}
 use Rattle.srt_group_model.specs.Lent.{Call, step-of}
 use Rattle.srt_group_model.specs.laws.Moves.{Law}
 use Rattle.srt_group_model.specs.laws.Queues.{Relabelled, pop, packet-of, sums-relabelled, Queue-law}
-use Rattle.srt_group_model.specs.laws.CallLaw.{Calling, Collect-law, Poll-law, Call-law}
+use Rattle.srt_group_model.specs.laws.CallLaw.{Calling, Refresh-law, Collect-law, Poll-law, Call-law}
 use Rattle.srt_group_model.specs.laws.EveryCall.{change-twice, polls-event, polls-data, step-keeps}
 use Rattle.srt_group_model.specs.laws.MemberMoves.{moved-relabelled, deliver-frame}
 
@@ -24,12 +24,17 @@ module _ (I : Receive → List Mark → Type 0) (law : Law I) where
   abbrev pub Keeps : Step → Type 0
   Keeps x = I (x .state .receive) (x .log)
 
-  pub receive-collects : Collect-law (λ hand s log. I (s .receive) log)
-  receive-collects =
+  pub receive-refreshes : Refresh-law (λ hand s log. I (s .receive) log)
+  receive-refreshes =
       record {
         moves = λ s i m f at move h. h;
         binds = λ s i m at a h. h;
         sets-base = λ s b e source h. law .sets-base (s .receive) _ b e h;
+      }
+
+  pub receive-collects : Collect-law (λ hand s log. I (s .receive) log)
+  receive-collects =
+      record {
         continues = λ s b h. h;
         turns = λ s i m at h. h;
         discards = λ s i m e f d g h. law .discards (s .receive) _ (packet-of m e) g h;
@@ -50,7 +55,8 @@ module _ (I : Receive → List Mark → Type 0) (law : Law I) where
   unfolding take-out retire
   receive-law k =
       record {
-        collecting = receive-collects;
+        refreshing = receive-refreshes;
+        collecting = λ poll. receive-collects;
         polling = λ poll. receive-polls;
         joins = λ s id weight l queue is j h. h;
         leaves = λ s i m is at h. law .owns (s .receive) _ (id-of m) h;
@@ -77,12 +83,17 @@ module _ (J : List Member → List Mark → Type 0) (law : Queue-law J) where
   counts-after ms log i f g h =
       subst (λ (l : List Member). J l log) (change-twice i f pop ms) (law .relabels (change i pop ms) _ log (sums-relabelled i f (change i pop ms) g) h)
 
-  pub queue-collects : Collect-law Kept-by
-  queue-collects =
+  pub queue-refreshes : Refresh-law Kept-by
+  queue-refreshes =
       record {
         moves = λ s i m f at move h. law .relabels (s .members) _ _ (moved-relabelled i m f (s .members) at move) h;
         binds = λ s i m at a h. h;
         sets-base = λ s b e source h. law .marks (s .members) _ _ refl h;
+      }
+
+  pub queue-collects : Collect-law Kept-by
+  queue-collects =
+      record {
         continues = λ s b h. h;
         turns = λ s i m at h. h;
         discards =
@@ -105,8 +116,8 @@ module _ (J : List Member → List Mark → Type 0) (law : Queue-law J) where
       }
 
   pub poll-event-kept : (time : ℕ) (r : Run) → J (r .state .members) (r .log) → J (poll-event time r .run .state .members) (poll-event time r .run .log)
-  poll-event-kept time r h = polls-event Kept-by queue-collects queue-polls none time r h
+  poll-event-kept time r h = polls-event Kept-by queue-refreshes queue-collects queue-polls none time r h
 
   pub poll-data-kept : (time max-events : ℕ) (r : Run) → J (r .state .members) (r .log)
       → J (poll-data-bounded time max-events r .run .state .members) (poll-data-bounded time max-events r .run .log)
-  poll-data-kept time max-events r h = polls-data Kept-by queue-collects queue-polls none time max-events r h
+  poll-data-kept time max-events r h = polls-data Kept-by queue-refreshes queue-collects queue-polls none time max-events r h

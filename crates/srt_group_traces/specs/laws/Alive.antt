@@ -24,7 +24,7 @@ use Rattle.srt_group_model.specs.declared.Event.{Event}
 use Rattle.srt_group_model.specs.declared.Packet.{Packet}
 use Rattle.srt_group_model.specs.laws.Reason.{all-append, not-both}
 use Rattle.srt_group_model.specs.laws.Queues.{Relabelled, All-relabelled, pop, packet-of}
-use Rattle.srt_group_model.specs.laws.CallLaw.{In-front, Collect-law, Poll-law, Calling, called, Takes-cell, queues-it, Call-law}
+use Rattle.srt_group_model.specs.laws.CallLaw.{In-front, Refresh-law, Collect-law, Poll-law, Calling, called, Takes-cell, queues-it, Call-law}
 use Rattle.srt_group_model.specs.laws.EveryCall.{call-keeps}
 use Rattle.srt_group_model.specs.laws.MemberMoves.{moved-relabelled, deliver-frame}
 use Rattle.srt_group_traces.specs.laws.Cases.{each-at, each-at-place, all-change, all-change-at, all-drop, all-such-that, all-without-place, each-to-all}
@@ -117,12 +117,17 @@ module _ (k : Calling) (Q : List Mark → ℕ → Data → Type 0) (X : List Mar
         (each-at-place (λ (e : Event). is-data e ≡ true → R (id-of m) (e .content)) 0 (m .queue)
         (each-at (Queued R) _ m (f .stands) (each-at-place (Queued R) i (s .members) h))) d
 
-    live-collects : Collect-law Lives
-    live-collects =
+    live-refreshes : Refresh-law Lives
+    live-refreshes =
         record {
           moves = λ {hand} {log} s i m f at move h. (h .0, (relabelled (Q log) (s .members) _ (moved-relabelled i m f (s .members) at move) (h .1 .0), h .1 .1), h .2);
           binds = λ s i m at a h. h;
           sets-base = λ s b e source h. (h .0, again _ (base-set b) s tt (h .1), law .marks _ (base-set b) tt (h .2));
+        }
+
+    live-collects : Collect-law Lives
+    live-collects =
+        record {
           continues = λ s b h. h;
           turns = λ s i m at h. h;
           discards =
@@ -171,7 +176,8 @@ module _ (k : Calling) (Q : List Mark → ℕ → Data → Type 0) (X : List Mar
     unfolding take-out retire new-member
     live-moves =
         record {
-          collecting = live-collects;
+          refreshing = live-refreshes;
+          collecting = λ poll. live-collects;
           polling = λ poll. live-polls;
           joins = λ {hand} {log} s id weight l queue is j h. (h .0, (all-append (Queued (Q log)) (s .members) _ (h .1 .0) (tt, tt), h .1 .1), h .2);
           leaves =

@@ -31,7 +31,7 @@ use Rattle.srt_group_traces.specs.laws.Cases.{ge-of, and-true-left, eqb-
 use Rattle.srt_group_traces.specs.laws.Calls.{step, Kind, event-poll, data-poll, sending, queueing-data, lent-no-store, kind-of, unlent-puts-nothing, polls-of, polls-is-poll, takes-cell-lent, others-give-none}
 use Rattle.srt_group_traces.specs.laws.Marks.{last-put-elsewhere, last-put-there}
 use Rattle.srt_group_traces.specs.laws.Law.{ElsewhereThan, LiveAt}
-use Rattle.srt_group_traces.specs.laws.CallMarks.{Only, only-collects, Putting, step-marks}
+use Rattle.srt_group_traces.specs.laws.CallMarks.{Only, only-refreshes, Putting, step-marks}
 use Rattle.srt_group_traces.specs.laws.FreeCells.{taken-cell-within}
 use Rattle.srt_group_traces.specs.laws.Shape.{Shape, call-shape}
 use Rattle.srt_group_traces.specs.laws.Alive.{Puts-in, Known, Live-law, call-lives}
@@ -219,7 +219,7 @@ module _ (bytes : List ℕ) where
   marked-by store output list s (data-poll time max-events) =
       puts-nothing store output list (call-poll-data-bounded time max-events) s (λ payload takes. not-both {t = true} refl (takes-cell-lent takes .1)) (guard-elim (λ (x : Step). x .put ≡ none) _ s _ (λ code. refl) refl)
   marked-by store output list s (sending time payload) =
-      let fresh = refreshes (λ hand t m. All (Only ⊥ (Unit {0})) m) (only-collects ⊥ (Unit {0})) none (start s) tt in
+      let fresh = refreshes (λ hand t m. All (Only ⊥ (Unit {0})) m) (only-refreshes ⊥ (Unit {0})) none (start s) tt in
       guard-elim PutsAsMarked _ s _ (λ code. refl)
       (if-elim PutsAsMarked _ _ _ (λ e. sent-as-marked (is-backup (refresh-states (start s) .state .mode)) _ payload (refresh-states (start s) .log) fresh)
       (λ e. sym (unput (refresh-states (start s) .log) bytes fresh)))

@@ -7,7 +7,7 @@ use Rattle.srt_group_model.specs.Tools.{All}
 use Rattle.srt_group_model.specs.State.{State}
 use Rattle.srt_group_model.specs.Run.{Mark, put, base-set, collected, gap-skipped, delivered}
 use Rattle.srt_group_model.specs.Lent.{Call, step-of}
-use Rattle.srt_group_model.specs.laws.CallLaw.{Collect-law, Calling, calling, Polls, Takes-cell, Call-law}
+use Rattle.srt_group_model.specs.laws.CallLaw.{Refresh-law, Collect-law, Calling, calling, Polls, Takes-cell, Call-law}
 use Rattle.srt_group_model.specs.laws.EveryCall.{step-keeps}
 
 -- payloads are put only where `Puts` holds, and only where `Delivers` holds is skipped and delivered
@@ -19,12 +19,17 @@ Only Puts Delivers (gap-skipped tested time distance) = Delivers
 Only Puts Delivers (delivered p) = Delivers
 
 -- a refresh and collecting put, skip and deliver nothing
-pub only-collects : (Puts Delivers : Type 0) → Collect-law (λ hand s m. All (Only Puts Delivers) m)
-only-collects Puts Delivers =
+pub only-refreshes : (Puts Delivers : Type 0) → Refresh-law (λ hand s m. All (Only Puts Delivers) m)
+only-refreshes Puts Delivers =
     record {
       moves = λ s i m f at move h. h;
       binds = λ s i m at a h. h;
       sets-base = λ s b e source h. (tt, h);
+    }
+
+pub only-collects : (Puts Delivers : Type 0) → Collect-law (λ hand s m. All (Only Puts Delivers) m)
+only-collects Puts Delivers =
+    record {
       continues = λ s b h. h;
       turns = λ s i m at h. h;
       discards = λ s i m e f d g h. (tt, h);
@@ -38,7 +43,8 @@ Putting k = (payload : List ℕ) × Takes-cell (k .call) payload × (k .code ≡
 only-moves : (k : Calling) → Call-law k (λ hand s m. All (Only (Putting k) (Polls (k .call))) m)
 only-moves k =
     record {
-      collecting = only-collects (Putting k) (Polls (k .call));
+      refreshing = only-refreshes (Putting k) (Polls (k .call));
+      collecting = λ poll. only-collects (Putting k) (Polls (k .call));
       polling = λ poll. record { gives = λ s h. h; skips = λ s base p tested time b n near h. (poll, h); delivers = λ s base p b there h. (poll, h) };
       joins = λ s id weight l queue is j h. h;
       leaves = λ s i m is at h. h;

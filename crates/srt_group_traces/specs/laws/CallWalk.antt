@@ -25,7 +25,7 @@ use Rattle.srt_group_model.specs.declared.Leg.{Leg}
 use Rattle.srt_group_model.specs.laws.InRange.{in-range-of}
 use Rattle.srt_group_model.specs.laws.Reason.{if-elim, all-append, or-right, not-both}
 use Rattle.srt_group_model.specs.laws.Queues.{pop, packet-of}
-use Rattle.srt_group_model.specs.laws.CallLaw.{Base-source, first-of, nearest-held, In-front, Collect-law, Poll-law, Calling, Call-law}
+use Rattle.srt_group_model.specs.laws.CallLaw.{Base-source, first-of, nearest-held, In-front, Refresh-law, Collect-law, Poll-law, Calling, Call-law}
 use Rattle.srt_group_model.specs.laws.EveryCall.{call-keeps}
 use Rattle.srt_group_model.specs.laws.MemberMoves.{moved-account}
 use Rattle.srt_group_traces.specs.laws.Cases.{and-with-true, Each, each-at, each-at-place, all-change, all-drop, all-such-that, all-without-place, ge-of}
@@ -106,12 +106,17 @@ module _ (P : Data → Type 0) (F : ℕ → Type 0) (I : Receive → List Mark �
     abbrev Goes-on : Option ℕ → State → List Mark → Type 0
     Goes-on hand s m = SidesOk (s .members) × I (s .receive) (m ++ log)
 
-    receiving-collects : Collect-law Goes-on
-    receiving-collects =
+    receiving-refreshes : Refresh-law Goes-on
+    receiving-refreshes =
         record {
           moves = λ s i m f at move h. (subst (All (SideOk P F)) (sym (moved-sides i m f (s .members) at (account-side m (f m) (moved-account move)))) (h .0), h .1);
           binds = λ s i m at a h. h;
           sets-base = λ s b e source h. (h .0, sets-base-ok s _ b e source (h .0) (h .1));
+        }
+
+    receiving-collects : Collect-law Goes-on
+    receiving-collects =
+        record {
           continues = λ s b h. h;
           turns = λ s i m at h. h;
           discards =
@@ -144,7 +149,8 @@ module _ (P : Data → Type 0) (F : ℕ → Type 0) (I : Receive → List Mark �
     unfolding take-out retire new-member
     receiving-moves k =
         record {
-          collecting = receiving-collects;
+          refreshing = receiving-refreshes;
+          collecting = λ poll. receiving-collects;
           polling = λ poll. receiving-polls;
           joins =
               λ s id weight l queue is j h. (

@@ -22,7 +22,7 @@ use Rattle.srt_group_model.specs.laws.Refusals.{guard-elim}
 use Rattle.srt_group_model.specs.laws.Moves.{until-empty-not-held}
 use Rattle.srt_group_model.specs.laws.MemberMoves.{deliver-frame}
 use Rattle.srt_group_model.specs.laws.Waits.{waits, none-waits, refresh-waits}
-use Rattle.srt_group_model.specs.laws.CallLaw.{Collect-law, calling, Polls, polls-events, polls-packets}
+use Rattle.srt_group_model.specs.laws.CallLaw.{Refresh-law, Collect-law, calling, Polls, polls-events, polls-packets}
 use Rattle.srt_group_model.specs.laws.EveryCall.{collects-until-held, collects-until-empty, refreshes-pending, refreshes}
 use Rattle.srt_group_model.specs.Guards.{polled, Step}
 use Rattle.srt_group_model.specs.Calls.{event-poll-body, poll-event-call, data-poll-body, poll-data-call}
@@ -33,7 +33,7 @@ use Rattle.srt_group_traces.specs.Statement.{When, run-at-test, after-po
 use Rattle.srt_group_traces.specs.laws.Cases.{Each, each-at}
 use Rattle.srt_group_traces.specs.laws.Sides.{Side, sides, deliver-packet-leaves-sides}
 use Rattle.srt_group_traces.specs.laws.Calls.{others-give-none, polls-of, polls-is-poll}
-use Rattle.srt_group_traces.specs.laws.CallMarks.{Only, only-collects, Putting, step-marks}
+use Rattle.srt_group_traces.specs.laws.CallMarks.{Only, only-refreshes, only-collects, Putting, step-marks}
 use Rattle.srt_group_traces.specs.laws.Held.{held-at-sequence, nearest-is-held}
 use Rattle.srt_group_model.specs.Lent.{Call, delivered-by, step-of, with-bytes, perform}
 use Rattle.srt_group_traces.specs.Calls.{Asked, do-call, is-poll, time-of}
@@ -88,8 +88,11 @@ Shape when none s log = Quiet log
 Shape when (some p) s log = Given when p s log
 
 -- collecting and the refresh are quiet
-abbrev quiet : Collect-law (λ hand s log. Quiet log)
-quiet = only-collects (Unit {0}) ⊥
+abbrev refresh-quiet : Refresh-law (λ hand s log. Quiet log)
+refresh-quiet = only-refreshes (Unit {0}) ⊥
+
+abbrev collect-quiet : Collect-law (λ hand s log. Quiet log)
+collect-quiet = only-collects (Unit {0}) ⊥
 
 set-base-quiet : (base : Option ℕ) (r : Run) → Quiet (r .log) → Quiet (set-base base r .log)
 unfolding set-base
@@ -326,7 +329,7 @@ skip-given-up-gap-shape when base r under none-waits based h =
     (test-was-true (is-held base (r .state .receive .pending)) (is-set (r .state .visit .continuation))
     (gap-given-up (when .time) (r .state)) e)
     (collect-until-empty-empties max-visits base r) (until-empty-not-held max-visits base r)
-    (collects-until-empty (λ hand s log. Quiet log) quiet none max-visits base r (omega (arith, none-waits)) h))
+    (collects-until-empty (λ hand s log. Quiet log) refresh-quiet collect-quiet none max-visits base r (omega (arith, none-waits)) h))
 
 deliver-next-shape : (when : When) (r : Run) → UnderTest when r → waits r ≡ 0 → Quiet (r .log)
     → PollShape when (deliver-next (when .time) r)
@@ -349,13 +352,13 @@ unfolding poll-event run-at-test
 poll-event-shape-after when polls r here h =
     if-elim (PollShape when) _ _ _ (λ e. give-waiting-shape when _ gathered)
     (λ e.
-    deliver-next-shape when _ (polls, ap run-at-test here) (refresh-waits _ ∙ none-waits _ e) (refreshes (λ hand s log. Quiet log) quiet none _ gathered))
+    deliver-next-shape when _ (polls, ap run-at-test here) (refresh-waits _ ∙ none-waits _ e) (refreshes (λ hand s log. Quiet log) refresh-quiet none _ gathered))
   where
     gathered : Quiet
         (collect-until-held max-visits
         (refresh-pending-states record { state = with-continuation false (r .state); log = r .log; budget = delivery-budget }) .log)
     gathered =
-        collects-until-held (λ hand s log. Quiet log) quiet none max-visits _ (refreshes-pending (λ hand s log. Quiet log) quiet none _ h)
+        collects-until-held (λ hand s log. Quiet log) refresh-quiet collect-quiet none max-visits _ (refreshes-pending (λ hand s log. Quiet log) refresh-quiet none _ h)
 
 poll-event-shape : (when : When) → PollShape when (poll-event (when .time) (start (when .from)))
 unfolding after-polls
