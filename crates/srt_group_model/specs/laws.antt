@@ -45,6 +45,7 @@ pub mod InHand
 pub mod Waits
 pub mod EveryCall
 pub mod MemberMoves
+pub mod SendLeaves
 pub mod Valid
 pub mod Sound
 -- What a poll gives lies in the store.

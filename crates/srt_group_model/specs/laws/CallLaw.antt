@@ -160,7 +160,7 @@ pub record Call-law (k : Calling) (P : Option ℕ → State → List Mark → Ty
   -- a member leaves, and its held packets become the group's; one of the group's own packets is retired
   pub leaves : {hand : Option ℕ} {log : List Mark} (s : State) (i : ℕ) (m : Member) → k .call ≡ call-remove-member-connection (id-of m) → at-place i (s .members) ≡ some m
       → P hand s log → P hand (take-out i m s) log
-  pub retires : {hand : Option ℕ} {log : List Mark} (s : State) (base : ℕ) (p : Packet) → farthest base (such-that is-owned (s .receive .pending)) ≡ some p
+  pub retires : {hand : Option ℕ} {log : List Mark} (s : State) (id base : ℕ) (p : Packet) → k .call ≡ call-remove-member-connection id → farthest base (such-that is-owned (s .receive .pending)) ≡ some p
       → P hand s log → P hand (retire p s) log
   -- at the beginning a cell is taken in hand; the payload of an accepted call is put into it, while nothing uses it; it is let go
   pub takes : (payload : List ℕ) → Takes-cell (k .call) payload → no-free-cell (k .cells) (k .from) ≡ false

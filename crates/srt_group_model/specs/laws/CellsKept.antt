@@ -207,15 +207,6 @@ release-cells [] s = refl
 release-cells (p ∷ ps) s =
     release-cells ps (release-pending-reservation p s) ∙ relabelled-cells (s .members) _ (release-relabelled p s)
 
-pub set-base-parts : (o : Option ℕ) (r : Run) → (set-base o r .state .receive .pending ≡ r .state .receive .pending) × (set-base o r .state .send ≡ r .state .send)
-unfolding set-base
-set-base-parts o r =
-    if-some-elim (λ (x : Run). (x .state .receive .pending ≡ r .state .receive .pending) × (x .state .send ≡ r .state .send)) _ _ _
-    (λ b e. (refl, refl))
-    (λ e.
-    if-some-elim (λ (x : Run). (x .state .receive .pending ≡ r .state .receive .pending) × (x .state .send ≡ r .state .send)) _ _ _
-    (λ b g. (refl, refl)) (λ g. (refl, refl)))
-
 pub retain-send : (i : ℕ) (p : Packet) (s : State) → retain-group-packet i p s .send ≡ s .send
 unfolding retain-group-packet
 retain-send i p s = if-elim (λ (t : State). t .send ≡ s .send) _ _ _ (λ e. refl) (λ e. refl)

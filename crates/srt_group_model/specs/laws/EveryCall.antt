@@ -656,12 +656,12 @@ module _ (c : Calling) (P : Option ℕ → State → List Mark → Type 0) (law 
       (λ g. added))
       (λ e. added)
 
-  retires-all : (log : List Mark) (left limit base : ℕ) (s : State) → P none s log → P none (bound-group-owned-pending left limit base s) log
+  retires-all : (id left limit base : ℕ) (s : State) → c .call ≡ call-remove-member-connection id → P none s [] → P none (bound-group-owned-pending left limit base s) []
   unfolding bound-group-owned-pending
-  retires-all log zero limit base s h = h
-  retires-all log (suc left) limit base s h =
-      if-some-elim (λ (t : State). P none t log) _ _ _
-      (λ p e. if-elim (λ (t : State). P none t log) _ _ _ (λ g. h) (λ g. retires-all log left limit base (retire p s) (law .retires s base p e h)))
+  retires-all id zero limit base s is h = h
+  retires-all id (suc left) limit base s is h =
+      if-some-elim (λ (t : State). P none t []) _ _ _
+      (λ p e. if-elim (λ (t : State). P none t []) _ _ _ (λ g. h) (λ g. retires-all id left limit base (retire p s) is (law .retires s id base p is e h)))
       (λ e. h)
 
   removes : (id : ℕ) (s : State) → c .call ≡ call-remove-member-connection id → P none s [] → Keeps (remove-body id s)
@@ -670,7 +670,7 @@ module _ (c : Calling) (P : Option ℕ → State → List Mark → Type 0) (law 
       if-some-elim Keeps _ _ _
       (λ f e.
       let there = found-stands (has-id id) (s .members) f e in
-      retires-all [] _ _ _ (take-out (f .place) (f .member) s)
+      retires-all id _ _ _ (take-out (f .place) (f .member) s) is
       (law .leaves s (f .place) (f .member)
       (is ∙ ap (λ (k : ℕ). call-remove-member-connection k) (sym (eqb-true (id-of (f .member)) id (there .is)))) (there .at) h))
       (λ e. h)
@@ -779,7 +779,7 @@ module _ (P Q : Option ℕ → State → List Mark → Type 0) where
         polling = λ poll. both-poll (a .polling poll) (b .polling poll);
         joins = λ s id weight l queue is j h. (a .joins s id weight l queue is j (h .0), b .joins s id weight l queue is j (h .1));
         leaves = λ s i m is at h. (a .leaves s i m is at (h .0), b .leaves s i m is at (h .1));
-        retires = λ s base p e h. (a .retires s base p e (h .0), b .retires s base p e (h .1));
+        retires = λ s id base p is e h. (a .retires s id base p is e (h .0), b .retires s id base p is e (h .1));
         takes = λ payload is free h. (a .takes payload is free (h .0), b .takes payload is free (h .1));
         puts = λ s cell payload is accepted short unused h. (a .puts s cell payload is accepted short unused (h .0), b .puts s cell payload is accepted short unused (h .1));
         lets-go = λ s cell h. (a .lets-go s cell (h .0), b .lets-go s cell (h .1));

@@ -30,15 +30,6 @@ pub record Kept (m n : Member) : Type 0 where
 pub kept-same : (m : Member) → Kept m m
 kept-same m = record { membership = refl; queue = refl; receiver = refl; link = refl }
 
-pub kept-then : (a b c : Member) → Kept a b → Kept b c → Kept a c
-kept-then a b c h k =
-    record {
-      membership = k .membership ∙ h .membership;
-      queue = k .queue ∙ h .queue;
-      receiver = k .receiver ∙ h .receiver;
-      link = k .link ∙ h .link;
-    }
-
 abbrev pub All-kept : List Member → List Member → Type 0
 All-kept = Each-to Kept
 

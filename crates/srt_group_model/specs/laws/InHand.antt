@@ -219,7 +219,7 @@ module _ (P : Option ℕ → State → List Mark → Type 0)
             λ s id weight l queue is j.
             fewer _ _ _ s _ (λ n. omega (arith, queued-append n (s .members) (new-member id weight (handed l) s ∷ []), new-member-cells n id weight (handed l) s));
         leaves = λ s i m is at. fewer _ _ _ s _ (λ n. omega (arith, without-fewer n i (s .members), ap (occurs n) (own-cells (id-of m) (s .receive .pending))));
-        retires = λ s base p e. fewer _ _ _ s _ (λ n. omega (arith, fewer-held n (λ q. not (has-sequence (sequence-of p) q)) (s .receive .pending)));
+        retires = λ s id base p is e. fewer _ _ _ s _ (λ n. omega (arith, fewer-held n (λ q. not (has-sequence (sequence-of p) q)) (s .receive .pending)));
         takes = λ payload is free. takes free;
         puts = λ s cell payload is accepted short unused. fewer _ _ _ s s (λ n. omega arith);
         lets-go = λ s cell. names _ s s cell (λ n. omega arith);

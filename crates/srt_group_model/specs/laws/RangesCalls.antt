@@ -412,7 +412,7 @@ fit-moves k =
           λ s i m is at h.
           record { members = without-fit i (s .members) (h .members); pending = own-fit (id-of m) (s .receive .pending) (h .pending); history = h .history; remembered = h .remembered; waiting = h .waiting; receiving = h .receiving; sending = h .sending; continuation = h .continuation; peer = h .peer };
       retires =
-          λ s base p e h.
+          λ s id base p is e h.
           record { members = h .members; pending = all-such-that Packet-fit _ (s .receive .pending) (h .pending); history = h .history; remembered = h .remembered; waiting = h .waiting; receiving = h .receiving; sending = h .sending; continuation = h .continuation; peer = h .peer };
       takes = λ payload takes free h. h;
       puts = λ s cell payload takes accepted short unused h. h;

@@ -143,7 +143,7 @@ right-moves k =
       polling = λ poll. right-polls;
       joins = λ s id weight l queue is j h. record { sums = joins-sums s id weight l j (h .sums); ascending = h .ascending };
       leaves = λ s i m is at h. take-out-right i m s at h;
-      retires = λ s base p e h. retire-right base p s e h;
+      retires = λ s id base p is e h. retire-right base p s e h;
       takes = λ payload takes free h. h;
       puts = λ s cell payload takes accepted short unused h. h;
       lets-go = λ s cell h. h;

@@ -60,7 +60,7 @@ module _ (I : Receive → List Mark → Type 0) (law : Law I) where
         polling = λ poll. receive-polls;
         joins = λ s id weight l queue is j h. h;
         leaves = λ s i m is at h. law .owns (s .receive) _ (id-of m) h;
-        retires = λ s base p e h. law .retires (s .receive) _ p h;
+        retires = λ s id base p is e h. law .retires (s .receive) _ p h;
         takes = λ payload takes free h. h;
         puts = λ s cell payload takes accepted short unused h. law .puts (s .receive) _ cell payload h;
         lets-go = λ s cell h. h;

@@ -183,7 +183,7 @@ module _ (k : Calling) (Q : List Mark → ℕ → Data → Type 0) (X : List Mar
           leaves =
               λ {hand} {log} s i m is at h.
               (h .0, (all-without-place (Queued (Q log)) i (s .members) (h .1 .0), own-packets-all (Of (Q log)) (λ p q. q) (id-of m) (s .receive .pending) (h .1 .1)), h .2);
-          retires = λ {hand} {log} s base p e h. (h .0, (h .1 .0, all-such-that (Of (Q log)) _ (s .receive .pending) (h .1 .1)), h .2);
+          retires = λ {hand} {log} s id base p is e h. (h .0, (h .1 .0, all-such-that (Of (Q log)) _ (s .receive .pending) (h .1 .1)), h .2);
           takes = λ payload takes free h. ((refl, free), h .1, h .2);
           puts =
               λ {log} s cell payload takes accepted short unused h.

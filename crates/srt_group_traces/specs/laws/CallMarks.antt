@@ -48,7 +48,7 @@ only-moves k =
       polling = λ poll. record { gives = λ s h. h; skips = λ s base p tested time b n near h. (poll, h); delivers = λ s base p b there h. (poll, h) };
       joins = λ s id weight l queue is j h. h;
       leaves = λ s i m is at h. h;
-      retires = λ s base p e h. h;
+      retires = λ s id base p is e h. h;
       takes = λ payload takes free h. h;
       puts = λ s cell payload takes accepted short unused h. ((payload, takes, accepted), h);
       lets-go = λ s cell h. h;

@@ -164,7 +164,7 @@ module _ (P : Data → Type 0) (F : ℕ → Type 0) (I : Receive → List Mark �
                     (all-without-place (λ (m : Member). SideOk P F (side m)) i (s .members) (all-members (SideOk P F) (s .members) (h .0))),
                 law .calling .on-removed (s .receive) _ _ (λ Q own. own-packets-all Q own (id-of m) (s .receive .pending)) (h .1),
               );
-          retires = λ s base p e h. (h .0, law .calling .on-removed (s .receive) _ _ (λ Q own. all-such-that Q _ (s .receive .pending)) (h .1));
+          retires = λ s id base p is e h. (h .0, law .calling .on-removed (s .receive) _ _ (λ Q own. all-such-that Q _ (s .receive .pending)) (h .1));
           takes = λ payload takes free h. h;
           puts = λ s cell payload takes accepted short unused h. (h .0, law .on-put (s .receive) _ cell payload (unused-elsewhere cell s unused .1) (h .1));
           lets-go = λ s cell h. h;
