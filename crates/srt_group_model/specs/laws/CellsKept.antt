@@ -3,7 +3,7 @@
 use mathlib.Core.Path.{_≡_, refl, sym, ap, ap₂, _∙_}
 use mathlib.Core.Bool.{Bool, true, false, _||_}
 use mathlib.Core.List.{List, [], _∷_, _++_}
-use mathlib.Core.Option.{Option, some}
+use mathlib.Core.Option.{some}
 use Prim.Native.Nat.{ℕ, zero, suc, _+_, _≤_, _<_}
 use native.Mathlib.Omega.{arith}
 use borrow.Author.Tests.{eqb-true, ltb-true, ltb-false, leb-true, leb-false, lt-leb, eq-eqb}
@@ -13,7 +13,6 @@ use Rattle.srt_group_model.specs.Tools.{any, such-that, at-place, change
 use Rattle.srt_group_model.specs.laws.Reason.{if-elim, if-some-elim, by-test, not-both, none-some, some-inj, or-left, or-right}
 use Rattle.srt_group_model.specs.State.{Member, State}
 use Rattle.srt_group_model.specs.Nearest.{insert}
-use Rattle.srt_group_model.specs.Run.{Run, set-base}
 use Rattle.srt_group_model.specs.Collecting.{front, retain-group-packet}
 use Rattle.srt_group_model.specs.Delivery.{release-all, release-pending-reservation, advance-legs}
 use Rattle.srt_group_model.specs.Removal.{own-packet}

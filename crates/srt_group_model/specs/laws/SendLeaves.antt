@@ -1,9 +1,9 @@
 -- A send leaves all of receiving, its refresh included, but that the refresh may set the base: the frame that demand 3 asks of sends. An
 -- instance of the law of calls.
-use mathlib.Core.Path.{_≡_, refl, sym, ap, _∙_}
+use mathlib.Core.Path.{_≡_, refl, sym, _∙_}
 use mathlib.Core.Bool.{true}
 use mathlib.Core.List.{List}
-use mathlib.Core.Option.{Option, none, some}
+use mathlib.Core.Option.{Option, some}
 use Prim.Native.Nat.{ℕ}
 use Rattle.srt_group_model.specs.State.{State, next-receive-sequence}
 use Rattle.srt_group_model.specs.Run.{Mark}
@@ -12,7 +12,6 @@ use Rattle.srt_group_model.specs.laws.Reason.{not-both, none-some, Each-
 use Rattle.srt_group_model.specs.laws.CallLaw.{Calling, Polls, polls-events, polls-packets, Refresh-law, Call-law}
 use Rattle.srt_group_model.specs.laws.EveryCall.{call-keeps}
 use Rattle.srt_group_model.specs.laws.MemberMoves.{Same-account, same-account, account-then, moved-accounts}
-use Rattle.srt_group_model.specs.declared.Packet.{Packet}
 
 pub record Leaves-receiving (s t : State) : Type 0 where
   pub base : (b : ℕ) → next-receive-sequence (s .receive) ≡ some b → next-receive-sequence (t .receive) ≡ some b

@@ -1,6 +1,6 @@
 -- The calls by what they are lent, and what a call leaves besides its state and its marks: the packet that it gives, the payload that
 -- it puts. The definitions are in specs/Calls.antt.
-use mathlib.Core.Path.{_≡_, refl, ap, _∙_}
+use mathlib.Core.Path.{_≡_, refl, sym, ap, _∙_}
 use mathlib.Core.Bool.{true, false}
 use mathlib.Core.List.{List}
 use mathlib.Core.Option.{none}
@@ -96,6 +96,10 @@ unlent-by (lent-no-store c lent poll h) e = h
 
 pub unlent : (c : Call) → takes-store c ≡ false → Unlent c
 unlent c = unlent-by (kind-of c)
+
+pub same-whatever-lent : (store output list store′ output′ list′ : ℕ) (c : Call) (s : State) → takes-store c ≡ false
+    → step-of store output list c s ≡ step-of store′ output′ list′ c s
+same-whatever-lent store output list store′ output′ list′ c s e = unlent c e .is store output list s ∙ sym (unlent c e .is store′ output′ list′ s)
 
 pub unlent-puts-nothing : (store output list : ℕ) (c : Call) (s : State) → takes-store c ≡ false → step-of store output list c s .put ≡ none
 unlent-puts-nothing store output list c s e = ap (λ (x : Step). x .put) (unlent c e .is store output list s) ∙ unlent c e .silent s .no-put

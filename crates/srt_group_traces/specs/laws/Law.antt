@@ -1,7 +1,7 @@
 -- The few moves that receiving makes: a packet is collected (and discarded or retained), the base is set, a gap is skipped, a
 -- packet is delivered, held packets are given to the group or retired, a payload is put into a free cell. A law says that an
--- invariant of the receiving side and the marks survives each of them. CallWalk proves that it then survives
--- every call and every list of calls: base arithmetic and the schedule are two such invariants.
+-- invariant of the receiving side and the marks survives each of them. CallWalk proves that it then survives every call and every
+-- list of calls: base arithmetic and the schedule are two such invariants.
 use mathlib.Core.Path.{_≡_}
 use mathlib.Core.Bool.{true, false, not}
 use mathlib.Core.List.{List, _∷_}

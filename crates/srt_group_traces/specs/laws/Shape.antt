@@ -226,39 +226,16 @@ deliver-shape when base r h =
     if-some-elim (PollShape when) (held-at base (r .state .receive .pending)) _ _
     (λ p e. record { before = r .log; is = refl; how = inl h; past = deliver-moves-base base p (r .state) e }) (λ e. h)
 
--- delivery moves no queue
 deliver-after-skip : (when : When) (base : ℕ) (p : Packet) (r : Run) → held-at base (r .state .receive .pending) ≡ some p
-    → Skip when p (r .state) (r .log) → PollShape when (deliver base r)
+    → Skip when p (deliver-packet base p (r .state)) (r .log) → PollShape when (deliver base r)
 unfolding deliver
 deliver-after-skip when base p r found h =
-    if-some-elim (PollShape when) (held-at base (r .state .receive .pending)) _ _ (λ q e.
-    let same : p ≡ q = some-inj (sym found ∙ e) in
+    if-some-elim (PollShape when) (held-at base (r .state .receive .pending)) _ _
+    (λ q e.
     record {
       before = r .log;
       is = refl;
-      how =
-          inr
-          record {
-            tested = h .tested;
-            gathered = h .gathered;
-            base = h .base;
-            distance = h .distance;
-            before = h .before;
-            is = h .is;
-            quiet = h .quiet;
-            at-test = h .at-test;
-            based = h .based;
-            missing = h .missing;
-            complete = h .complete;
-            given-up = h .given-up;
-            still-missing = h .still-missing;
-            nearest-now = h .nearest-now ∙ ap {B = Option Packet} some same;
-            far = h .far ∙ ap (λ (x : Packet). sequence-distance (h .base) (sequence-of x)) same;
-            empty =
-                subst (All (λ (v : Side). v .queue ≡ [])) (sym (deliver-packet-leaves-sides base q (r .state)))
-                (h .empty);
-            none-waiting = deliver-frame base q (r .state) .waiting ∙ h .none-waiting;
-          };
+      how = inr (subst (λ (x : Packet). Skip when x (deliver-packet base x (r .state)) (r .log)) (some-inj (sym found ∙ e)) h);
       past = deliver-moves-base base q (r .state) e;
     })
     (λ e. none-some (sym e ∙ found))
@@ -297,8 +274,8 @@ skip-after-shape when tested base c at-test based missing complete given-up empt
       still-missing = still-missing e;
       nearest-now = near;
       far = refl;
-      empty = empty e;
-      none-waiting = is-empty-nil (c .run .state .waiting) none-waits;
+      empty = subst (All (λ (v : Side). v .queue ≡ [])) (sym (deliver-packet-leaves-sides (sequence-of p) p _)) (empty e);
+      none-waiting = deliver-frame (sequence-of p) p _ .waiting ∙ is-empty-nil (c .run .state .waiting) none-waits;
     })
     (λ e. h))
     (λ e. deliver-shape when base (c .run) h))
@@ -367,30 +344,21 @@ poll-event-shape when = poll-event-shape-after when 0 (start (when .from)) refl 
 abbrev DataShape : When → DataPoll → Type 0
 DataShape when q = Shape when (q .gave) (q .run .state) (q .run .log)
 
+passes-shape : (when : When) (gave : Polled) (r : Run) (later : DataPoll) → Shape when (packet-of gave) (r .state) (r .log)
+    → (Quiet (r .log) → DataShape when later) → DataShape when (pass-events gave r later)
+unfolding pass-events
+passes-shape when nothing r later h k = h
+passes-shape when (event w) r later h k = k h
+passes-shape when (packet p) r later h k = h
+
 poll-until-data-shape : (when : When) (visits polls : ℕ) (r : Run) → AfterPolls when polls r → Quiet (r .log)
     → DataShape when (poll-until-data (when .time) visits r)
-unfolding poll-until-data pass-events after-polls
+unfolding poll-until-data after-polls
 poll-until-data-shape when zero polls r here h = h
 poll-until-data-shape when (suc visits) polls r here h =
-    go (poll-event (when .time) r .gave) refl (poll-event-shape-after when polls r here h)
-    (λ q.
-    poll-until-data-shape when visits (suc polls) (poll-event (when .time) r .run)
-    (ap (λ (x : Run). poll-event (when .time) x .run) here) q)
-  where
-    go : (gave : Polled) → poll-event (when .time) r .gave ≡ gave → PollShape when (poll-event (when .time) r)
-        → (Quiet (poll-event (when .time) r .run .log)
-        → DataShape when (poll-until-data (when .time) visits (poll-event (when .time) r .run)))
-        → DataShape when
-        (pass-events gave (poll-event (when .time) r .run) (poll-until-data (when .time) visits (poll-event (when .time) r .run)))
-    go nothing e x y =
-        subst (λ (a : Polled). Shape when (packet-of a) (poll-event (when .time) r .run .state)
-        (poll-event (when .time) r .run .log)) e x
-    go (event w) e x y =
-        y (subst (λ (a : Polled). Shape when (packet-of a) (poll-event (when .time) r .run .state)
-        (poll-event (when .time) r .run .log)) e x)
-    go (packet p) e x y =
-        subst (λ (a : Polled). Shape when (packet-of a) (poll-event (when .time) r .run .state)
-        (poll-event (when .time) r .run .log)) e x
+    let x = poll-event (when .time) r in
+    passes-shape when (x .gave) (x .run) (poll-until-data (when .time) visits (x .run)) (poll-event-shape-after when polls r here h)
+    (λ q. poll-until-data-shape when visits (suc polls) (x .run) (ap (λ (y : Run). poll-event (when .time) y .run) here) q)
 
 poll-data-bounded-shape : (when : When) (max-events : ℕ)
     → DataShape when (poll-data-bounded (when .time) max-events (start (when .from)))
