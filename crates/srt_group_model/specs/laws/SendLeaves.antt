@@ -18,7 +18,7 @@ pub record Leaves-receiving (s t : State) : Type 0 where
   pub skipped : t .receive .numbers .skipped ≡ s .receive .numbers .skipped
   pub pending : t .receive .pending ≡ s .receive .pending
   pub visit : t .visit ≡ s .visit
-  pub owned : t .owned ≡ s .owned
+  pub own : t .own ≡ s .own
   pub waiting : t .waiting ≡ s .waiting
   -- of each member id, queue, sums, the peer's first sequence; and Broken stays
   pub members : Each-to Same-account (s .members) (t .members)
@@ -37,13 +37,13 @@ module _ (s : State) where
               skipped = h .skipped;
               pending = h .pending;
               visit = h .visit;
-              owned = h .owned;
+              own = h .own;
               waiting = h .waiting;
               members = each-to-then Same-account account-then (s .members) (t .members) _ (h .members) (moved-accounts i m f (t .members) at move);
             };
         binds =
             λ t i m at a h.
-            record { base = h .base; skipped = h .skipped; pending = h .pending; visit = h .visit; owned = h .owned; waiting = h .waiting; members = h .members };
+            record { base = h .base; skipped = h .skipped; pending = h .pending; visit = h .visit; own = h .own; waiting = h .waiting; members = h .members };
         sets-base =
             λ t b unset source h.
             record {
@@ -51,7 +51,7 @@ module _ (s : State) where
               skipped = h .skipped;
               pending = h .pending;
               visit = h .visit;
-              owned = h .owned;
+              own = h .own;
               waiting = h .waiting;
               members = h .members;
             };
@@ -78,16 +78,16 @@ module _ (s : State) where
           queues-event = λ t i m id kind reason is at full some-kind known fits h. not-both {t = true} refl cc;
           numbers =
               λ t sequence h.
-              record { base = h .base; skipped = h .skipped; pending = h .pending; visit = h .visit; owned = h .owned; waiting = h .waiting; members = h .members };
+              record { base = h .base; skipped = h .skipped; pending = h .pending; visit = h .visit; own = h .own; waiting = h .waiting; members = h .members };
           remembers =
               λ t i m e at next short fits h.
-              record { base = h .base; skipped = h .skipped; pending = h .pending; visit = h .visit; owned = h .owned; waiting = h .waiting; members = h .members };
+              record { base = h .base; skipped = h .skipped; pending = h .pending; visit = h .visit; own = h .own; waiting = h .waiting; members = h .members };
           trims =
               λ t l h.
-              record { base = h .base; skipped = h .skipped; pending = h .pending; visit = h .visit; owned = h .owned; waiting = h .waiting; members = h .members };
+              record { base = h .base; skipped = h .skipped; pending = h .pending; visit = h .visit; own = h .own; waiting = h .waiting; members = h .members };
         }
 
 pub send-leaves-receiving : (time : ℕ) (payload : List ℕ) (lent : Lent) (s : State) → Leaves-receiving s (perform (call-send time payload) lent s .state)
 send-leaves-receiving time payload lent s =
     call-keeps (Left s) (call-send time payload) lent s (left-moves s _ time payload refl)
-    record { base = λ b e. e; skipped = refl; pending = refl; visit = refl; owned = refl; waiting = refl; members = each-to-same Same-account same-account (s .members) }
+    record { base = λ b e. e; skipped = refl; pending = refl; visit = refl; own = refl; waiting = refl; members = each-to-same Same-account same-account (s .members) }

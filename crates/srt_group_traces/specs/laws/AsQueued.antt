@@ -11,7 +11,7 @@ use Prim.Native.Nat.{ℕ}
 use lib.ListN.{length}
 use Rattle.srt_protocol.specs.Cells.{cells-of}
 use Rattle.srt_group_model.specs.Tools.{All}
-use Rattle.srt_group_model.specs.State.{State}
+use Rattle.srt_group_model.specs.State.{State, Making}
 use Rattle.srt_group_model.specs.Run.{Mark, put, base-set, collected, gap-skipped, delivered}
 use Rattle.srt_group_model.specs.Calls.{new, data-event, taken-cell}
 use Rattle.srt_group_model.specs.Lent.{Call, call-queue-data, Lent, delivered-by, with-bytes, step-of, perform}
@@ -20,7 +20,7 @@ use Rattle.srt_group_model.specs.declared.Packet.{Packet}
 use Rattle.srt_group_model.specs.laws.Reason.{not-both, all-append}
 use Rattle.srt_group_model.specs.laws.CallLaw.{Calling, called}
 use Rattle.srt_group_traces.specs.Statement.{last-put, OneStore, When, when-of}
-use Rattle.srt_group_traces.specs.Calls.{Asked, do-call, is-poll, Making, made, state-after, log-after, Delivery, deliveries}
+use Rattle.srt_group_traces.specs.Calls.{Asked, do-call, is-poll, made, state-after, log-after, Delivery, deliveries}
 use Rattle.srt_group_traces.specs.laws.Calls.{takes-cell-lent}
 use Rattle.srt_group_traces.specs.laws.Marks.{last-put-elsewhere, last-put-there}
 use Rattle.srt_group_traces.specs.laws.Law.{LiveAt}

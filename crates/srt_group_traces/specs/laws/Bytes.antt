@@ -14,7 +14,7 @@ use lib.ListN.{length, take, drop, length-take, length-drop}
 use Rattle.srt_protocol.specs.Cells.{cell-size, head-size, cells-of, overwritten, cell-bytes}
 use Rattle.srt_protocol.specs.laws.CellLaws.{overwritten-length, overwritten-there, overwritten-run}
 use Rattle.srt_group_model.specs.Tools.{if_then_else_, if-some_give_otherwise_, All}
-use Rattle.srt_group_model.specs.State.{State, is-backup}
+use Rattle.srt_group_model.specs.State.{State, is-backup, Making}
 use Rattle.srt_group_model.specs.Run.{Mark, put, base-set, collected, gap-skipped, delivered, start, refresh-states}
 use Rattle.srt_group_model.specs.Guards.{Put, Step}
 use Rattle.srt_group_model.specs.Calls.{new, event-poll-body, poll-event-call, data-poll-body, poll-data-call, left-by-send, send-body, send, taken-cell, store-unfit, output-unfit, queue-data-body, queue-data}
@@ -26,7 +26,7 @@ use Rattle.srt_group_model.specs.laws.Refusals.{Ends, untouched, accepted, midw
 use Rattle.srt_group_model.specs.laws.CallLaw.{Calling, calling, called, Polls, polls-events, polls-packets, Takes-cell}
 use Rattle.srt_group_model.specs.laws.EveryCall.{refreshes}
 use Rattle.srt_group_traces.specs.Statement.{last-put, LendsThis, OneStore, when-of}
-use Rattle.srt_group_traces.specs.Calls.{Asked, do-call, takes-store, is-poll, store-left, Delivery, delivery-of, given-by, deliveries, Making, made, state-after, log-after}
+use Rattle.srt_group_traces.specs.Calls.{Asked, do-call, takes-store, is-poll, store-left, Delivery, delivery-of, given-by, deliveries, made, state-after, log-after}
 use Rattle.srt_group_traces.specs.laws.Cases.{ge-of, and-true-left, eqb-yes, eq-of}
 use Rattle.srt_group_traces.specs.laws.Calls.{step, Kind, event-poll, data-poll, sending, queueing-data, lent-no-store, kind-of, unlent-puts-nothing, polls-of, polls-is-poll, takes-cell-lent, others-give-none}
 use Rattle.srt_group_traces.specs.laws.Marks.{last-put-elsewhere, last-put-there}
@@ -221,7 +221,7 @@ module _ (bytes : List ℕ) where
   marked-by store output list s (sending time payload) =
       let fresh = refreshes (λ hand t m. All (Only ⊥ (Unit {0})) m) (only-refreshes ⊥ (Unit {0})) none (start s) tt in
       guard-elim PutsAsMarked _ s _ (λ code. refl)
-      (if-elim PutsAsMarked _ _ _ (λ e. sent-as-marked (is-backup (refresh-states (start s) .state .mode)) _ payload (refresh-states (start s) .log) fresh)
+      (if-elim PutsAsMarked _ _ _ (λ e. sent-as-marked (is-backup (refresh-states (start s) .state .making .mode)) _ payload (refresh-states (start s) .log) fresh)
       (λ e. sym (unput (refresh-states (start s) .log) bytes fresh)))
   marked-by store output list s (queueing-data id d payload) = guard-elim PutsAsMarked _ s _ (λ code. refl) refl
   marked-by store output list s (lent-no-store c lent poll h) =
