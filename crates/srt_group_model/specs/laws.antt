@@ -41,10 +41,12 @@ pub mod RangesCalls
 pub mod Counts
 pub mod Rounds
 pub mod CallLaw
+pub mod InHand
 pub mod Waits
 pub mod EveryCall
 pub mod MemberMoves
 pub mod Released
+pub mod SendLeaves
 pub mod Valid
 pub mod Sound
 -- What a poll gives lies in the store.

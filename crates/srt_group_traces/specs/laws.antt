@@ -4,10 +4,11 @@ pub mod Calls
 pub mod Marks
 pub mod Sides
 pub mod Law
-pub mod PollWalk
 pub mod FreeCells
 pub mod CallWalk
+pub mod CallMarks
 pub mod Held
+pub mod Alive
 pub mod Shape
 pub mod Base
 pub mod Skips

@@ -31,7 +31,7 @@ use Rattle.srt_group_model.specs.laws.Unique.{among-any, ids-append, amo
 use Rattle.srt_group_model.specs.laws.Ascending.{insert-ascends, such-that-ascends, own-ascends}
 use Rattle.srt_group_model.specs.laws.Queues.{Relabelled, pop, packet-of}
 use Rattle.srt_group_model.specs.laws.MemberMoves.{Same-account, moved-account}
-use Rattle.srt_group_model.specs.laws.CallLaw.{In-front, reported, Joining, Poll-law, Call-law}
+use Rattle.srt_group_model.specs.laws.CallLaw.{In-front, reported, Joining, Poll-law, Call-law, Refresh-law, Collect-law, Calling}
 use Rattle.srt_group_model.specs.laws.EveryCall.{found, call-keeps}
 use Rattle.srt_group_model.specs.laws.Steps.{State-law, state-law-of}
 use Rattle.srt_group_model.specs.laws.Weights.{for-member, for-group, in-queue, counted-yes, counted-no, total-append, total-parted, total-inserted, inserted-all, all-passing, all-such-that, Alone, each-alone, farthest-of, held-other, held-owned, held-mine, none-held, others-hold, group-holds, front-weighs, without-all, change-all, ids-at, all-placed-after}
@@ -269,13 +269,18 @@ module _ (rule : Account-rule) (law : Account-law rule) where
   deliver-kept s base p h =
       record { accounts = delivers base p s (h .accounts); ascending = unfold deliver-packet pass-run in (such-that-ascends _ (s .receive .pending) (h .ascending)) }
 
-  polls : Poll-law (λ hand s log. Kept s)
-  unfolding skip-to is-discarded
-  polls =
+  refreshes : Refresh-law (λ hand s log. Kept s)
+  refreshes =
       record {
         moves = λ s i m f at move h. let c = moved-account move in changes s i m f at (c .id) (moved-row _ m (f m) c) h;
         binds = λ s i m at a h. h;
         sets-base = λ s b e source h. h;
+      }
+
+  collects : Collect-law (λ hand s log. Kept s)
+  unfolding is-discarded
+  collects =
+      record {
         continues = λ s b h. h;
         turns = λ s i m at h. h;
         discards = λ s i m e f d g h. changes s i m _ (f .stands) refl (λ k. law .discards _ _ _ _ (e .content) (collected s i m e f d k)) h;
@@ -286,24 +291,32 @@ module _ (rule : Account-rule) (law : Account-law rule) where
               ascending = insert-ascends _ (s .receive .pending) (or-right (is-late _ (s .receive)) (is-held (e .content .sequence) (s .receive .pending)) g) (h .ascending);
             };
         reports = λ s i m e f d few h. reports s i m e f d h;
+      }
+
+  polls : Poll-law (λ hand s log. Kept s)
+  unfolding skip-to
+  polls =
+      record {
         gives = λ s h. h;
         skips = λ s base p tested time b n near h. h;
         delivers = λ s base p b e h. deliver-kept s base p h;
       }
 
-  calls : (c : Call) (cells : ℕ) → Call-law c cells (λ hand s log. Kept s)
+  calls : (k : Calling) → Call-law k (λ hand s log. Kept s)
   unfolding take-out retire total
-  calls c cells =
+  calls k =
       record {
-        polling = polls;
+        refreshing = refreshes;
+        collecting = λ poll. collects;
+        polling = λ poll. polls;
         joins = λ s id rank l queue is j h. record { accounts = joins id rank l s j (h .accounts); ascending = h .ascending };
         leaves = λ s i m is at h. record { accounts = leaves i m _ (s .members) (s .own) at (h .accounts); ascending = own-ascends (id-of m) (s .receive .pending) ∙ h .ascending };
-        retires = λ s base p far h. record { accounts = retires base p _ (s .members) (s .own) far (h .ascending) (h .accounts); ascending = such-that-ascends _ (s .receive .pending) (h .ascending) };
-        takes = λ s e h. h;
-        puts = λ s cell payload h. h;
+        retires = λ s id base p is far h. record { accounts = retires base p _ (s .members) (s .own) far (h .ascending) (h .accounts); ascending = such-that-ascends _ (s .receive .pending) (h .ascending) };
+        takes = λ payload takes free h. h;
+        puts = λ s cell payload takes accepted short unused h. h;
         lets-go = λ s cell h. h;
         queues-data =
-            λ s i m id cell d payload is at full unfit short h.
+            λ s i m cell d payload is accepted at full unfit short h.
             let e = data-event cell (length payload) d in
             let more = total-append (in-queue weight) (m .queue) (e ∷ []) in
             changes s i m _ at refl (λ k. same-row (omega (arith, more, counted-yes is-data (λ x. weight (x .content)) e refl)) refl (law .queues _ _ _ _ (e .content) k)) h;
@@ -319,8 +332,8 @@ module _ (rule : Account-rule) (law : Account-law rule) where
 
   -- An account that keeps these moves is kept by every call, and between the steps of a poll.
   pub account-kept : (c : Call) (lent : Lent) (s : State) → Kept s → Kept (perform c lent s .state)
-  account-kept c lent s h = call-keeps (λ hand s log. Kept s) c lent s (calls c _) h
+  account-kept c lent s h = call-keeps (λ hand s log. Kept s) c lent s (calls _) h
 
   pub account-steps : State-law Kept
   unfolding skip-to
-  account-steps = state-law-of (λ hand s log. Kept s) Kept polls (λ s log h. h) (λ s log h. h) reports deliver-kept (λ s base p g h. h) (λ s p g h. h)
+  account-steps = state-law-of (λ hand s log. Kept s) Kept refreshes collects polls (λ s log h. h) (λ s log h. h) reports deliver-kept (λ s base p g h. h) (λ s p g h. h)

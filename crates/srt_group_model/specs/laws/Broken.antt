@@ -1,20 +1,21 @@
 -- A Broken member stays Broken until its removal, over every call. Document 01 gives the states; the Rust's `Broken`: "permanently
 -- excluded from the group".
-use mathlib.Core.Path.{_≡_, refl, sym, ap, _∙_}
+use mathlib.Core.Path.{_≡_, refl, ap, _∙_}
 use mathlib.Core.Bool.{Bool, true, false, _&&_}
 use mathlib.Core.List.{List, [], _∷_, _++_}
 use mathlib.Core.Option.{some}
 use Prim.Native.Nat.{ℕ, zero, suc}
+use borrow.Author.Tests.{eqb-true}
 use lib.Dec.{eqb}
 use Rattle.srt_group_model.specs.Tools.{any, at-place, change, without-place}
-use Rattle.srt_group_model.specs.laws.Reason.{not-both, none-some, some-inj, and-left, and-right, and-yes, or-cases, or-yes-left, or-yes-right, Each-to, each-to-change, each-to-map}
+use Rattle.srt_group_model.specs.laws.Reason.{by-test, not-both, none-some, some-inj, and-left, and-right, and-yes, or-cases, or-yes-left, or-yes-right, Each-to, each-to-change, each-to-map}
 use Rattle.srt_group_model.specs.State.{Member, State, broken-state}
 use Rattle.srt_group_model.specs.Members.{id-of, has-id, in-state}
 use Rattle.srt_group_model.specs.Removal.{retire, take-out}
-use Rattle.srt_group_model.specs.Lent.{Lent, Call, call-add-member, call-mark-member-broken, call-remove-member-connection, call-refresh-member-states, call-disconnect, call-poll-event, call-poll-data-bounded, call-send, call-can-send, call-can-send-with-pacing, call-look, call-read-leg, call-queue-data, call-queue-event, perform}
+use Rattle.srt_group_model.specs.Lent.{Lent, Call, call-remove-member-connection, perform}
 use Rattle.srt_group_model.specs.laws.Queues.{Relabelled, pop, Queue-law}
-use Rattle.srt_group_model.specs.laws.Walk.{queue-polls}
-use Rattle.srt_group_model.specs.laws.CallLaw.{Call-law}
+use Rattle.srt_group_model.specs.laws.Walk.{queue-refreshes, queue-collects, queue-polls}
+use Rattle.srt_group_model.specs.laws.CallLaw.{Calling, Call-law}
 use Rattle.srt_group_model.specs.laws.EveryCall.{call-keeps}
 use Rattle.srt_group_model.specs.declared.Membership.{Membership}
 
@@ -87,23 +88,6 @@ without-keeps id (suc i) m (x ∷ ms) at h e =
     or-cases (is-broken id x) _ e (λ b. or-yes-left (is-broken id x) _ b)
     (λ b. or-yes-right (is-broken id x) _ (without-keeps id i m ms at h b))
 
--- the call removes the member with this id
-abbrev pub removes : Call → ℕ → Bool
-removes (call-add-member k weight l queue) id = false
-removes (call-mark-member-broken k) id = false
-removes (call-remove-member-connection k) id = eqb k id
-removes call-refresh-member-states id = false
-removes (call-disconnect time) id = false
-removes (call-poll-event time) id = false
-removes (call-poll-data-bounded time max-events) id = false
-removes (call-send time payload) id = false
-removes call-can-send id = false
-removes (call-can-send-with-pacing time) id = false
-removes (call-look look) id = false
-removes (call-read-leg k field n) id = false
-removes (call-queue-data k d payload) id = false
-removes (call-queue-event k kind reason) id = false
-
 -- a change of one member that leaves its label
 still-at : (id i : ℕ) (f : Member → Member) (ms : List Member) → ((m : Member) → f m .membership ≡ m .membership) → Broken-in id ms → Broken-in id (change i f ms)
 still-at id i f ms h =
@@ -111,18 +95,20 @@ still-at id i f ms h =
     (each-to-change Still still-same i f ms
     (λ m at. record { id = ap (λ (x : Membership). x .id) (h m); broken = λ b. ap (λ (x : Membership). eqb (x .state) broken-state) (h m) ∙ b }))
 
-broken-moves : (id : ℕ) (c : Call) (cells : ℕ) → removes c id ≡ false → Call-law c cells (λ hand s log. Broken-in id (s .members))
+broken-moves : (id : ℕ) (k : Calling) → (k .call ≡ call-remove-member-connection id → ⊥) → Call-law k (λ hand s log. Broken-in id (s .members))
 unfolding take-out retire
-broken-moves id c cells other =
+broken-moves id k other =
     record {
-      polling = queue-polls _ (broken-law id);
+      refreshing = queue-refreshes _ (broken-law id);
+      collecting = λ poll. queue-collects _ (broken-law id);
+      polling = λ poll. queue-polls _ (broken-law id);
       joins = λ s k weight l queue is j h. append-keeps id (s .members) _ h;
-      leaves = λ s i m is at h. without-keeps id i m (s .members) at (ap (λ (x : Call). removes x id) (sym is) ∙ other) h;
-      retires = λ s base p e h. h;
-      takes = λ s e h. h;
-      puts = λ s cell payload h. h;
+      leaves = λ s i m is at h. without-keeps id i m (s .members) at (by-test (has-id id m) (λ e. absurd (other (is ∙ ap (λ (x : ℕ). call-remove-member-connection x) (eqb-true (id-of m) id e)))) (λ e. e)) h;
+      retires = λ s id base p is e h. h;
+      takes = λ payload takes free h. h;
+      puts = λ s cell payload takes accepted short unused h. h;
       lets-go = λ s cell h. h;
-      queues-data = λ s i m k cell d payload is at full unfit short h. still-at id i _ (s .members) (λ x. refl) h;
+      queues-data = λ s i m cell d payload is accepted at full unfit short h. still-at id i _ (s .members) (λ x. refl) h;
       queues-event = λ s i m k kind reason is at full some-kind known fits h. still-at id i _ (s .members) (λ x. refl) h;
       numbers = λ s sequence h. h;
       remembers = λ s i m e at next short fits h. h;
@@ -130,5 +116,5 @@ broken-moves id c cells other =
     }
 
 -- A Broken member stays Broken until its removal.
-pub broken-stays : (id : ℕ) (c : Call) (lent : Lent) (s : State) → removes c id ≡ false → Broken-in id (s .members) → Broken-in id (perform c lent s .state .members)
-broken-stays id c lent s other h = call-keeps (λ hand s log. Broken-in id (s .members)) c lent s (broken-moves id c _ other) h
+pub broken-stays : (id : ℕ) (c : Call) (lent : Lent) (s : State) → (c ≡ call-remove-member-connection id → ⊥) → Broken-in id (s .members) → Broken-in id (perform c lent s .state .members)
+broken-stays id c lent s other h = call-keeps (λ hand s log. Broken-in id (s .members)) c lent s (broken-moves id _ other) h

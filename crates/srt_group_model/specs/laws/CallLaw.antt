@@ -7,7 +7,7 @@ use mathlib.Core.Option.{Option, none, some}
 use Prim.Native.Nat.{ℕ, suc, _+_, _%_, _≤_, _<_}
 use lib.Dec.{eqb}
 use lib.ListN.{length, drop}
-use Rattle.srt_protocol.specs.Cells.{cell-size}
+use Rattle.srt_protocol.specs.Cells.{cell-size, cells-of}
 use Rattle.srt_protocol.specs.Sequence.{sequence-distance, sequence-further}
 use Rattle.srt_group_model.specs.Tools.{any, such-that, at-place, change}
 use Rattle.srt_group_model.specs.State.{Member, State, next-receive-sequence, next-send-sequence, with-receive, with-send, with-members, with-waiting, with-peer, with-base, with-pending, with-continuation, with-round, with-leg, on-leg, on-membership, turned, with-admitted, with-collision, broken-state, on-account}
@@ -23,13 +23,14 @@ use Rattle.srt_group_model.specs.Sending.{with-send-number}
 use Rattle.srt_group_model.specs.Backup.{trim-backup-history, append-history}
 use Rattle.srt_group_model.specs.Validity.{above, max-members, max-waiting, leg-out-of-range, leg-sequence-too-large}
 use Rattle.srt_group_model.specs.Calls.{no-free-cell, taken-cell, new-member, reading-out-of-range, read-field, queue-full, enqueue, data-event, data-unfit, lifecycle-event}
-use Rattle.srt_group_model.specs.Lent.{Call, call-add-member, call-remove-member-connection, call-queue-data, call-queue-event}
+use Rattle.srt_group_model.specs.Lent.{Call, call-add-member, call-remove-member-connection, call-queue-data, call-queue-event, Lent, call-poll-event, call-poll-data-bounded, call-send, step-of}
 use Rattle.srt_group_model.specs.laws.Queues.{pop, packet-of, waiting-of}
 use Rattle.srt_group_model.specs.declared.Data.{Data}
 use Rattle.srt_group_model.specs.declared.Event.{Event}
 use Rattle.srt_group_model.specs.declared.Entry.{Entry}
 use Rattle.srt_group_model.specs.declared.Packet.{Packet}
 use Rattle.srt_group_model.specs.declared.Leg.{Leg}
+use Rattle.srt_group_model.specs.Cells.{used-cells, is-among}
 
 -- ---- what can become of one member's label or leg: its id, its queue and its sums stay
 
@@ -80,8 +81,8 @@ reported i m e s =
 
 -- ---- the moves
 
--- A cell in hand is one that the call has taken and nothing names yet. What a refresh and a poll do:
-pub record Poll-law (P : Option ℕ → State → List Mark → Type 0) : Type 0 where
+-- A cell in hand is one that the call has taken and nothing names yet. What a refresh does, and sends, readings and marks do to members:
+pub record Refresh-law (P : Option ℕ → State → List Mark → Type 0) : Type 0 where
   -- a member's label or leg moves
   pub moves : {hand : Option ℕ} {log : List Mark} (s : State) (i : ℕ) (m : Member) (f : Member → Member) → at-place i (s .members) ≡ some m
       → Member-move s m (f m) → P hand s log → P hand (with-members (change i f (s .members)) s) log
@@ -91,6 +92,9 @@ pub record Poll-law (P : Option ℕ → State → List Mark → Type 0) : Type 0
   -- the base is set, once
   pub sets-base : {hand : Option ℕ} {log : List Mark} (s : State) (b : ℕ) → next-receive-sequence (s .receive) ≡ none → Base-source s b
       → P hand s log → P hand (with-receive (with-base b (s .receive)) s) (base-set b ∷ log)
+
+-- what collecting does besides
+pub record Collect-law (P : Option ℕ → State → List Mark → Type 0) : Type 0 where
   -- the continuation is asked for, or not; the round turns to the next member
   pub continues : {hand : Option ℕ} {log : List Mark} (s : State) (b : Bool) → P hand s log → P hand (with-continuation b s) log
   pub turns : {hand : Option ℕ} {log : List Mark} (s : State) (i : ℕ) (m : Member) → at-place i (s .members) ≡ some m
@@ -104,10 +108,14 @@ pub record Poll-law (P : Option ℕ → State → List Mark → Type 0) : Type 0
       → P hand s log
       → P hand (with-receive (with-pending (insert (packet-of m e) (s .receive .pending)) (s .receive))
       (with-members (change i (λ x. on-account (reserve (e .content .count)) (pop x)) (s .members)) s)) (collected (packet-of m e) ∷ log)
-  -- an event is collected and waits, while fewer than 64 do; the first that waits is given
+  -- an event is collected and waits, while fewer than 64 do
   pub reports : {hand : Option ℕ} {log : List Mark} (s : State) (i : ℕ) (m : Member) (e : Event) → In-front s i m e → eqb (e .kind) 0 ≡ false → length (s .waiting) < max-waiting
       → P hand s log
       → P hand (reported i m e s) log
+
+-- and what a poll does
+pub record Poll-law (P : Option ℕ → State → List Mark → Type 0) : Type 0 where
+  -- the first event that waits is given
   pub gives : {hand : Option ℕ} {log : List Mark} (s : State) → P hand s log → P hand (with-waiting (drop 1 (s .waiting)) s) log
   -- a gap before the nearest packet is skipped, the base not being held
   pub skips : {hand : Option ℕ} {log : List Mark} (s : State) (base : ℕ) (p : Packet) (tested : State) (time : ℕ)
@@ -119,26 +127,53 @@ pub record Poll-law (P : Option ℕ → State → List Mark → Type 0) : Type 0
       → held-at base (s .receive .pending) ≡ some p
       → P hand s log → P hand (deliver-packet base p s) (delivered p ∷ log)
 
--- what the call c does besides
-pub record Call-law (c : Call) (cells : ℕ) (P : Option ℕ → State → List Mark → Type 0) : Type 0 where
-  pub polling : Poll-law P
+-- a call as it begins: how many cells it has, the state that it begins with, and the code with which it will end
+pub record Calling : Type 0 where
+  pub call : Call
+  pub cells : ℕ
+  pub from : State
+  pub code : ℕ
+
+abbrev pub calling : (store output list : ℕ) → Call → State → Calling
+calling store output list c s = record { call = c; cells = cells-of store; from = s; code = step-of store output list c s .code }
+
+abbrev pub called : Call → Lent → State → Calling
+called c lent s = calling (length (lent .store)) (length (lent .output)) (length (lent .list)) c s
+
+-- the calls that collect, give, skip and deliver
+pub data Polls (c : Call) : Type 0 where
+  polls-events : (time : ℕ) → c ≡ call-poll-event time → Polls c
+  polls-packets : (time max-events : ℕ) → c ≡ call-poll-data-bounded time max-events → Polls c
+
+-- the calls that take a cell for a payload: data is queued, or sent in Backup
+pub data Takes-cell (c : Call) (payload : List ℕ) : Type 0 where
+  queues-it : (id : ℕ) (d : Data) → c ≡ call-queue-data id d payload → Takes-cell c payload
+  sends-it : (time : ℕ) → c ≡ call-send time payload → Takes-cell c payload
+
+-- what a call does besides
+pub record Call-law (k : Calling) (P : Option ℕ → State → List Mark → Type 0) : Type 0 where
+  pub refreshing : Refresh-law P
+  pub collecting : Polls (k .call) → Collect-law P
+  pub polling : Polls (k .call) → Poll-law P
   -- a member joins
-  pub joins : {hand : Option ℕ} {log : List Mark} (s : State) (id weight : ℕ) (l : Leg) (queue : List Event) → c ≡ call-add-member id weight l queue → Joining id weight l s
+  pub joins : {hand : Option ℕ} {log : List Mark} (s : State) (id weight : ℕ) (l : Leg) (queue : List Event) → k .call ≡ call-add-member id weight l queue → Joining id weight l s
       → P hand s log → P hand (with-members (s .members ++ (new-member id weight (handed l) s ∷ [])) s) log
   -- a member leaves, and its held packets become the group's; one of the group's own packets is retired
-  pub leaves : {hand : Option ℕ} {log : List Mark} (s : State) (i : ℕ) (m : Member) → c ≡ call-remove-member-connection (id-of m) → at-place i (s .members) ≡ some m
+  pub leaves : {hand : Option ℕ} {log : List Mark} (s : State) (i : ℕ) (m : Member) → k .call ≡ call-remove-member-connection (id-of m) → at-place i (s .members) ≡ some m
       → P hand s log → P hand (take-out i m s) log
-  pub retires : {hand : Option ℕ} {log : List Mark} (s : State) (base : ℕ) (p : Packet) → farthest base (such-that is-owned (s .receive .pending)) ≡ some p
+  pub retires : {hand : Option ℕ} {log : List Mark} (s : State) (id base : ℕ) (p : Packet) → k .call ≡ call-remove-member-connection id → farthest base (such-that is-owned (s .receive .pending)) ≡ some p
       → P hand s log → P hand (retire p s) log
-  -- a cell is taken in hand; a payload is put into it; it is let go
-  pub takes : {log : List Mark} (s : State) → no-free-cell cells s ≡ false → P none s log → P (some (taken-cell cells s)) s log
-  pub puts : {log : List Mark} (s : State) (cell : ℕ) (payload : List ℕ) → P (some cell) s log → P (some cell) s (put cell payload ∷ log)
+  -- at the beginning a cell is taken in hand; the payload of an accepted call is put into it, while nothing uses it; it is let go
+  pub takes : (payload : List ℕ) → Takes-cell (k .call) payload → no-free-cell (k .cells) (k .from) ≡ false
+      → P none (k .from) [] → P (some (taken-cell (k .cells) (k .from))) (k .from) []
+  pub puts : {log : List Mark} (s : State) (cell : ℕ) (payload : List ℕ) → Takes-cell (k .call) payload → k .code ≡ 0 → length payload ≤ cell-size → is-among cell (used-cells s) ≡ false
+      → P (some cell) s log → P (some cell) s (put cell payload ∷ log)
   pub lets-go : {log : List Mark} (s : State) (cell : ℕ) → P (some cell) s log → P none s log
-  -- a packet in the cell in hand is queued; an event is queued
-  pub queues-data : {log : List Mark} (s : State) (i : ℕ) (m : Member) (id cell : ℕ) (d : Data) (payload : List ℕ) → c ≡ call-queue-data id d payload → at-place i (s .members) ≡ some m
-      → queue-full m ≡ false → data-unfit id d ≡ false → length payload ≤ cell-size → P (some cell) s log
-      → P none (with-members (change i (λ x. on-leg (add-reservation (d .count)) (enqueue (data-event cell (length payload) d) x)) (s .members)) s) log
-  pub queues-event : {hand : Option ℕ} {log : List Mark} (s : State) (i : ℕ) (m : Member) (id kind reason : ℕ) → c ≡ call-queue-event id kind reason → at-place i (s .members) ≡ some m
+  -- the packet whose payload was put is queued; an event is queued
+  pub queues-data : {log : List Mark} (s : State) (i : ℕ) (m : Member) (cell : ℕ) (d : Data) (payload : List ℕ) → k .call ≡ call-queue-data (id-of m) d payload → k .code ≡ 0
+      → at-place i (s .members) ≡ some m → queue-full m ≡ false → data-unfit (id-of m) d ≡ false → length payload ≤ cell-size → P (some cell) s (put cell payload ∷ log)
+      → P none (with-members (change i (λ x. on-leg (add-reservation (d .count)) (enqueue (data-event cell (length payload) d) x)) (s .members)) s) (put cell payload ∷ log)
+  pub queues-event : {hand : Option ℕ} {log : List Mark} (s : State) (i : ℕ) (m : Member) (id kind reason : ℕ) → k .call ≡ call-queue-event id kind reason → at-place i (s .members) ≡ some m
       → queue-full m ≡ false → eqb kind 0 ≡ false → above 3 kind ≡ false → above largest-32 reason ≡ false → P hand s log
       → P hand (with-members (change i (enqueue (lifecycle-event kind reason)) (s .members)) s) log
   -- the group's send number is set; the history takes the payload in hand, at its carrier's next number; it loses what a leg has had acknowledged

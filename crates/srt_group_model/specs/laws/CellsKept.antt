@@ -3,7 +3,7 @@
 use mathlib.Core.Path.{_≡_, refl, sym, ap, ap₂, _∙_}
 use mathlib.Core.Bool.{Bool, true, false, _||_}
 use mathlib.Core.List.{List, [], _∷_, _++_}
-use mathlib.Core.Option.{Option, some}
+use mathlib.Core.Option.{some}
 use Prim.Native.Nat.{ℕ, zero, suc, _+_, _≤_, _<_}
 use native.Mathlib.Omega.{arith}
 use borrow.Author.Tests.{eqb-true, ltb-true, ltb-false, leb-true, leb-false, lt-leb, eq-eqb}
@@ -13,7 +13,6 @@ use Rattle.srt_group_model.specs.Tools.{any, such-that, at-place, change
 use Rattle.srt_group_model.specs.laws.Reason.{if-elim, if-some-elim, by-test, not-both, none-some, some-inj, or-left, or-right}
 use Rattle.srt_group_model.specs.State.{Member, State}
 use Rattle.srt_group_model.specs.Nearest.{insert}
-use Rattle.srt_group_model.specs.Run.{Run, set-base}
 use Rattle.srt_group_model.specs.Collecting.{front, retain-group-packet}
 use Rattle.srt_group_model.specs.Removal.{own-packet}
 use Rattle.srt_group_model.specs.Cells.{is-data, queue-cells, queued-cells, used-cells, is-among}
@@ -199,15 +198,6 @@ own-cells id (p ∷ ps) =
     ap₂ {C = List ℕ} (λ a b. a ∷ b)
     (if-elim (λ (q : Packet). q .content .cell ≡ p .content .cell) _ _ _ (λ e. refl) (λ e. refl))
     (own-cells id ps)
-
-pub set-base-parts : (o : Option ℕ) (r : Run) → (set-base o r .state .receive .pending ≡ r .state .receive .pending) × (set-base o r .state .send ≡ r .state .send)
-unfolding set-base
-set-base-parts o r =
-    if-some-elim (λ (x : Run). (x .state .receive .pending ≡ r .state .receive .pending) × (x .state .send ≡ r .state .send)) _ _ _
-    (λ b e. (refl, refl))
-    (λ e.
-    if-some-elim (λ (x : Run). (x .state .receive .pending ≡ r .state .receive .pending) × (x .state .send ≡ r .state .send)) _ _ _
-    (λ b g. (refl, refl)) (λ g. (refl, refl)))
 
 pub retain-send : (i : ℕ) (p : Packet) (s : State) → retain-group-packet i p s .send ≡ s .send
 unfolding retain-group-packet

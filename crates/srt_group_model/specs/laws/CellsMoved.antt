@@ -13,28 +13,30 @@ use Rattle.srt_group_model.specs.Tools.{if_then_else_, such-that, at-pla
 use Rattle.srt_group_model.specs.laws.Reason.{if-elim, by-test, not-both, none-some, some-inj}
 use Rattle.srt_group_model.specs.State.{Member, Send, State, with-members, with-send, on-leg}
 use Rattle.srt_group_model.specs.Legs.{has-sender, oldest-unacked-sequence, add-reservation}
-use Rattle.srt_group_model.specs.Members.{id-of, base-after, peer-after, admit-peer-group}
+use Rattle.srt_group_model.specs.Members.{id-of}
 use Rattle.srt_group_model.specs.Nearest.{sequence-of, has-sequence, is-covered, covered}
-use Rattle.srt_group_model.specs.Run.{Run, admit-connected-peer-groups, refresh-pending-states, refresh-states}
+use Rattle.srt_group_model.specs.Run.{Run, refresh-pending-states, refresh-states}
 use Rattle.srt_group_model.specs.Collecting.{front, is-discarded, retain-group-packet, report-event}
 use Rattle.srt_group_model.specs.Delivery.{deliver-packet, pass-run}
 use Rattle.srt_group_model.specs.Backup.{max-history, drop-before, trim-backup-history, append-history}
 use Rattle.srt_group_model.specs.Removal.{retire, take-out}
 use Rattle.srt_group_model.specs.Cells.{queue-cells, queued-cells, used-cells}
 use Rattle.srt_group_model.specs.Calls.{enqueue, data-event}
-use Rattle.srt_group_model.specs.laws.Frame.{admit-all-carried, settle-carried, requalify-carried}
-use Rattle.srt_group_model.specs.laws.Queues.{All-relabelled, pop, packet-of, all-carried-relabelled, retain-relabelled, report-carried}
+use Rattle.srt_group_model.specs.laws.Queues.{All-relabelled, pop, packet-of, retain-relabelled}
 use Rattle.srt_group_model.specs.laws.Steps.{popped}
 use Rattle.srt_group_model.specs.Sound.{one, occurs, uses, pending-cells, history-cells}
 use Rattle.srt_group_model.specs.laws.Released.{deliver-released, deliver-relabelled}
-use Rattle.srt_group_model.specs.laws.CellsKept.{occurs-append, uses-used, relabelled-cells, popped-data, popped-event, inserted, own-cells, set-base-parts, retain-send}
-use Rattle.srt_group_model.specs.laws.CellsCalls.{enqueued, history-append}
+use Rattle.srt_group_model.specs.laws.CellsKept.{occurs-append, uses-used, relabelled-cells, popped-data, popped-event, inserted, own-cells, retain-send}
 use Rattle.srt_group_model.specs.declared.Data.{Data}
 use Rattle.srt_group_model.specs.declared.Event.{Event}
 use Rattle.srt_group_model.specs.declared.Packet.{Packet}
 use Rattle.srt_group_model.specs.declared.Waiting.{Waiting}
 use Rattle.srt_group_model.specs.declared.Leg.{Leg}
 use Rattle.srt_group_model.specs.declared.Entry.{Entry}
+use Rattle.srt_group_model.specs.laws.CallLaw.{Refresh-law}
+use Rattle.srt_group_model.specs.laws.EveryCall.{refreshes-pending, refreshes, breaks}
+use Rattle.srt_group_model.specs.laws.MemberMoves.{moved-relabelled}
+use Rattle.srt_group_model.specs.laws.InHand.{enqueued, history-append}
 
 -- from one state to the other these cells are taken, and those are freed
 pub record Moves (taken freed : List ℕ) (s t : State) : Type 0 where
@@ -53,6 +55,16 @@ parts-move taken freed s t h = record { cells = λ n. omega (arith, h n, uses-us
 relabelled-keeps : (s : State) (ms : List Member) → All-relabelled (s .members) ms → Keeps s (with-members ms s)
 unfolding occurs
 relabelled-keeps s ms h = parts-move [] [] s (with-members ms s) (λ n. omega (arith, ap (occurs n) (relabelled-cells (s .members) ms h)))
+
+-- what moves a label or a leg, and sets the base, keeps them
+keeps-refresh : (s : State) → Refresh-law (λ hand t log. Keeps s t)
+unfolding used-cells
+keeps-refresh s =
+    record {
+      moves = λ t i m f at move h. record { cells = λ n. omega (arith, h .cells n, relabelled-keeps t _ (moved-relabelled i m f (t .members) at move) .cells n) };
+      binds = λ t i m at a h. record { cells = h .cells };
+      sets-base = λ t b e source h. record { cells = h .cells };
+    }
 
 -- ---- a collected event
 
@@ -91,12 +103,10 @@ module _ (s : State) (i : ℕ) (m : Member) (e : Event) (at : at-place i (s .mem
       omega (arith, pending, retained-queued n, retained-history n, popped-data n i m e (s .members) at f d))
 
   pub reported-keeps : (w : Waiting) → eqb (e .kind) 0 ≡ false → Keeps s (report-event i w (popped i s))
-  unfolding report-event occurs
+  unfolding occurs
   reported-keeps w d =
-      parts-move [] [] s (report-event i w (popped i s))
-      (λ n.
-      let queued = ap (occurs n) (relabelled-cells (change i pop (s .members)) _ (all-carried-relabelled (change i pop (s .members)) _ (report-carried i w (popped i s)))) in
-      omega (arith, queued, ap (occurs n) (popped-event i m e (s .members) at f d)))
+      breaks (λ hand t log. Keeps s t) (keeps-refresh s) none [] s i w
+      (parts-move [] [] s _ (λ n. omega (arith, ap (occurs n) (popped-event i m e (s .members) at f d))))
 
 -- ---- a delivery
 
@@ -216,27 +226,11 @@ retire-frees p s =
 
 -- ---- the refresh of the members' states names the same cells
 
-admit-keeps : (r : Run) → Keeps (r .state) (admit-connected-peer-groups r .state)
-unfolding admit-connected-peer-groups occurs
-admit-keeps r =
-    let parts = set-base-parts (base-after none (r .state .members)) r in
-    let peer = peer-after (r .state .peer) (r .state .members) in
-    let carried = all-carried-relabelled (r .state .members) (each (admit-peer-group peer) (r .state .members)) (admit-all-carried peer (r .state .members)) in
-    parts-move [] [] (r .state) (admit-connected-peer-groups r .state)
-    (λ n.
-    omega (arith, ap (occurs n) (relabelled-cells (r .state .members) (each (admit-peer-group peer) (r .state .members)) carried), ap (λ (q : List Packet). occurs n (pending-cells q)) (parts .0), ap (λ (x : Send). occurs n (history-cells (x .history))) (parts .1)))
+same-cells : (s : State) → Keeps s s
+same-cells s = record { cells = λ n. refl }
 
 pub refresh-pending-keeps : (r : Run) → Keeps (r .state) (refresh-pending-states r .state)
-unfolding refresh-pending-states
-refresh-pending-keeps r =
-    let admitted = admit-connected-peer-groups r .state in
-    let settled = refresh-pending-states r .state in
-    let second = relabelled-keeps admitted (settled .members) (all-carried-relabelled (admitted .members) (settled .members) (settle-carried _ _ (admitted .members))) in
-    record { cells = λ n. omega (arith, admit-keeps r .cells n, second .cells n) }
+refresh-pending-keeps r = refreshes-pending (λ hand t log. Keeps (r .state) t) (keeps-refresh (r .state)) none r (same-cells (r .state))
 
 pub refresh-keeps : (r : Run) → Keeps (r .state) (refresh-states r .state)
-unfolding refresh-states
-refresh-keeps r =
-    let settled = refresh-pending-states r .state in
-    let third = relabelled-keeps settled (refresh-states r .state .members) (all-carried-relabelled (settled .members) (refresh-states r .state .members) (requalify-carried _ _ (settled .members))) in
-    record { cells = λ n. omega (arith, refresh-pending-keeps r .cells n, third .cells n) }
+refresh-keeps r = refreshes (λ hand t log. Keeps (r .state) t) (keeps-refresh (r .state)) none r (same-cells (r .state))

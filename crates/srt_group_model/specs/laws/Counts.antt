@@ -15,7 +15,7 @@ use Rattle.srt_group_model.specs.Removal.{retire, take-out}
 use Rattle.srt_group_model.specs.Cells.{used-cells}
 use Rattle.srt_group_model.specs.Validity.{max-waiting}
 use Rattle.srt_group_model.specs.Lent.{Lent, Call, perform}
-use Rattle.srt_group_model.specs.laws.CallLaw.{Poll-law, Call-law}
+use Rattle.srt_group_model.specs.laws.CallLaw.{Poll-law, Call-law, Calling, Refresh-law, Collect-law}
 use Rattle.srt_group_model.specs.laws.EveryCall.{call-keeps}
 use Rattle.srt_group_model.specs.laws.Released.{deliver-released}
 use Rattle.srt_group_model.specs.Sound.{one, occurs, pending-cells}
@@ -81,34 +81,46 @@ pending-few cells s h =
 abbrev Few : State → Type 0
 Few s = length (s .waiting) ≤ max-waiting
 
-waiting-polls : Poll-law (λ hand s log. Few s)
-waiting-polls =
+waiting-refreshes : Refresh-law (λ hand s log. Few s)
+waiting-refreshes =
     record {
       moves = λ s i m f at move h. h;
       binds = λ s i m at a h. h;
       sets-base = λ s b e source h. h;
+    }
+
+waiting-collects : Collect-law (λ hand s log. Few s)
+waiting-collects =
+    record {
       continues = λ s b h. h;
       turns = λ s i m at h. h;
       discards = λ s i m e f d g h. h;
       holds = λ s i m e f d g h. h;
       reports = λ s i m e f d few h. omega (arith, few, length-append (s .waiting) (waiting-of m e ∷ []));
+    }
+
+waiting-polls : Poll-law (λ hand s log. Few s)
+waiting-polls =
+    record {
       gives = λ s h. omega (arith, h, drop-short (s .waiting));
       skips = λ s base p tested time b n near h. h;
       delivers = λ s base p b e h. omega (arith, h, ap (λ (l : List Waiting). length l) (deliver-released base p s .waiting));
     }
 
-waiting-moves : (c : Call) (cells : ℕ) → Call-law c cells (λ hand s log. Few s)
+waiting-moves : (k : Calling) → Call-law k (λ hand s log. Few s)
 unfolding take-out retire
-waiting-moves c cells =
+waiting-moves k =
     record {
-      polling = waiting-polls;
+      refreshing = waiting-refreshes;
+      collecting = λ poll. waiting-collects;
+      polling = λ poll. waiting-polls;
       joins = λ s id weight l queue is j h. h;
       leaves = λ s i m is at h. h;
-      retires = λ s base p e h. h;
-      takes = λ s e h. h;
-      puts = λ s cell payload h. h;
+      retires = λ s id base p is e h. h;
+      takes = λ payload takes free h. h;
+      puts = λ s cell payload takes accepted short unused h. h;
       lets-go = λ s cell h. h;
-      queues-data = λ s i m id cell d payload is at full unfit short h. h;
+      queues-data = λ s i m cell d payload is accepted at full unfit short h. h;
       queues-event = λ s i m id kind reason is at full some-kind known fits h. h;
       numbers = λ s sequence h. h;
       remembers = λ s i m e at next short fits h. h;
@@ -116,4 +128,4 @@ waiting-moves c cells =
     }
 
 pub waiting-kept : (c : Call) (lent : Lent) (s : State) → length (s .waiting) ≤ max-waiting → length (perform c lent s .state .waiting) ≤ max-waiting
-waiting-kept c lent s h = call-keeps (λ hand s log. Few s) c lent s (waiting-moves c _) h
+waiting-kept c lent s h = call-keeps (λ hand s log. Few s) c lent s (waiting-moves _) h

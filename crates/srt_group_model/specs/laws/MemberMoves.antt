@@ -47,8 +47,19 @@ pub record Same-account (m n : Member) : Type 0 where
   pub first : n .leg .receiver .first ≡ m .leg .receiver .first
   pub broken : in-state broken-state m ≡ true → in-state broken-state n ≡ true
 
-same-account : (m : Member) → Same-account m m
+pub same-account : (m : Member) → Same-account m m
 same-account m = record { id = refl; queue = refl; account = refl; reservation = refl; first = refl; broken = λ b. b }
+
+pub account-then : (a b c : Member) → Same-account a b → Same-account b c → Same-account a c
+account-then a b c h k =
+    record {
+      id = k .id ∙ h .id;
+      queue = k .queue ∙ h .queue;
+      account = k .account ∙ h .account;
+      reservation = k .reservation ∙ h .reservation;
+      first = k .first ∙ h .first;
+      broken = λ e. k .broken (h .broken e);
+    }
 
 same-legs : (m : Member) (l : Leg) → Same-leg (m .leg) l → Same-account m (with-leg l m)
 same-legs m l h = record { id = refl; queue = refl; account = refl; reservation = ap (λ (x : Receiver). x .reserved) (h .receiver); first = ap (λ (x : Receiver). x .first) (h .receiver); broken = λ b. b }

@@ -8,12 +8,11 @@ use Prim.Native.Nat.{ℕ}
 use lib.Dec.{eqb}
 use lib.ListN.{drop}
 use Rattle.srt_group_model.specs.Tools.{at-place, change}
-use Rattle.srt_group_model.specs.laws.Reason.{if-elim, Each-to, each-to-change, each-to-map}
-use Rattle.srt_group_model.specs.State.{Member, State, with-queue, turned, broken-state}
+use Rattle.srt_group_model.specs.laws.Reason.{if-elim, Each-to, each-to-change}
+use Rattle.srt_group_model.specs.State.{Member, State, with-queue, broken-state}
 use Rattle.srt_group_model.specs.Members.{id-of, in-state}
 use Rattle.srt_group_model.specs.Run.{Mark, put, base-set, collected, gap-skipped, delivered}
-use Rattle.srt_group_model.specs.Collecting.{retain-group-packet, report-event, front, packet-from, waiting-from}
-use Rattle.srt_group_model.specs.laws.Frame.{Carried, All-carried, all-same, all-then, all-change, promote-carried, broken-carried}
+use Rattle.srt_group_model.specs.Collecting.{retain-group-packet, front, packet-from, waiting-from}
 use Rattle.srt_group_model.specs.declared.Event.{Event}
 use Rattle.srt_group_model.specs.declared.Packet.{Packet}
 use Rattle.srt_group_model.specs.declared.Waiting.{Waiting}
@@ -32,14 +31,8 @@ relabelled-same m = record { id = refl; queue = refl; broken = λ h. h }
 pub relabelled-then : (a b c : Member) → Relabelled a b → Relabelled b c → Relabelled a c
 relabelled-then a b c h k = record { id = k .id ∙ h .id; queue = k .queue ∙ h .queue; broken = λ e. k .broken (h .broken e) }
 
-pub carried-relabelled : (m n : Member) → Carried m n → Relabelled m n
-carried-relabelled m n h = record { id = h .id; queue = h .queue; broken = h .broken }
-
 abbrev pub All-relabelled : List Member → List Member → Type 0
 All-relabelled = Each-to Relabelled
-
-pub all-carried-relabelled : (ms ns : List Member) → All-carried ms ns → All-relabelled ms ns
-all-carried-relabelled = each-to-map Carried Relabelled carried-relabelled
 
 -- a change of sums and sending sides at one place
 pub sums-relabelled : (i : ℕ) (f : Member → Member) (ms : List Member) → ((m : Member) → Relabelled m (f m)) → All-relabelled ms (change i f ms)
@@ -80,12 +73,3 @@ retain-relabelled i p s =
     (λ e. sums-relabelled i _ (s .members) (λ m. record { id = refl; queue = refl; broken = λ h. h }))
     (λ e. sums-relabelled i _ (s .members) (λ m. record { id = refl; queue = refl; broken = λ h. h }))
 
-pub report-carried : (i : ℕ) (w : Waiting) (s : State) → All-carried (s .members) (report-event i w s .members)
-unfolding report-event
-report-carried i w s =
-    let broken = change i (turned broken-state) (s .members) in
-    let h = all-change i (turned broken-state) (s .members) (λ m at. broken-carried m) in
-    if-elim (All-carried (s .members)) _ _ _
-    (λ e.
-    if-elim (All-carried (s .members)) _ _ _ (λ g. all-then (s .members) broken _ h (promote-carried broken)) (λ g. h))
-    (λ e. all-same (s .members))

@@ -26,7 +26,7 @@ use Rattle.srt_group_model.specs.Lent.{Lent, Call, perform}
 use Rattle.srt_group_model.specs.laws.InRange.{in-range-of, of-in-range}
 use Rattle.srt_group_model.specs.laws.Queues.{pop, packet-of}
 use Rattle.srt_group_model.specs.laws.Steps.{State-law, state-law-of}
-use Rattle.srt_group_model.specs.laws.CallLaw.{Member-move, unmoved, turn, admission, colliding, alignment, catching-up, leg-send, leg-end, leg-reading, advance, Base-source, first-of, nearest-held, In-front, reported, Poll-law, Call-law}
+use Rattle.srt_group_model.specs.laws.CallLaw.{Member-move, unmoved, turn, admission, colliding, alignment, catching-up, leg-send, leg-end, leg-reading, advance, Base-source, first-of, nearest-held, In-front, reported, Calling, Refresh-law, Collect-law, Poll-law, Call-law}
 use Rattle.srt_group_model.specs.laws.EveryCall.{call-keeps}
 use Rattle.srt_group_model.specs.laws.Acknowledging.{acknowledged-less}
 use Rattle.srt_group_model.specs.Sound.{Leg-fit, Event-fit, Member-fit, All-fit, Packet-fit, Entry-fit, Waiting-fit, Receiving-fit, Sending-fit, Fit}
@@ -352,12 +352,17 @@ reports-fit s i m e f d h =
     events-fit _ _ (all-append Waiting-fit (s .waiting) _ (h .waiting) (waiting-fit m e mine (front-fit (m .queue) e (f .first) (mine .queue)) d, tt))
     (changes-fit s i m pop (f .stands) (pop-fit m) h)
 
-fit-polls : Poll-law (λ hand s log. Fit s)
-fit-polls =
+fit-refreshes : Refresh-law (λ hand s log. Fit s)
+fit-refreshes =
     record {
       moves = λ s i m f at move h. changes-fit s i m f at (move-fit s m (f m) move h) h;
       binds = λ s i m at a h. peer-fit _ s (all-at Member-fit i m (s .members) at (h .members) .leg .peer) h;
       sets-base = λ s b e source h. receive-fit _ s (h .pending) (based-fit (base-fit s b source h)) h;
+    }
+
+fit-collects : Collect-law (λ hand s log. Fit s)
+fit-collects =
+    record {
       continues = λ s b h. visit-fit _ s (bit-most b) h;
       turns = λ s i m at h. visit-fit _ s (h .continuation) h;
       discards =
@@ -368,16 +373,23 @@ fit-polls =
           receive-fit _ _ (inserted-all Packet-fit (packet-of m e) (s .receive .pending) (packet-fit m e mine (front-fit (m .queue) e (f .first) (mine .queue)) d) (h .pending)) (h .receiving)
           (changes-fit s i m _ (f .stands) (λ k. counted-fit _ _ (pop m) (pop-fit m k)) h);
       reports = λ s i m e f d few h. reports-fit s i m e f d h;
+    }
+
+fit-polls : Poll-law (λ hand s log. Fit s)
+fit-polls =
+    record {
       gives = λ s h. events-fit _ s (drop-fit Waiting-fit (s .waiting) (h .waiting)) h;
       skips = λ s base p tested time b n near h. skips-fit s base p near h;
       delivers = λ s base p b e h. delivers-fit s base p h;
     }
 
-fit-moves : (c : Call) (cells : ℕ) → Call-law c cells (λ hand s log. Fit s)
+fit-moves : (k : Calling) → Call-law k (λ hand s log. Fit s)
 unfolding take-out retire
-fit-moves c cells =
+fit-moves k =
     record {
-      polling = fit-polls;
+      refreshing = fit-refreshes;
+      collecting = λ poll. fit-collects;
+      polling = λ poll. fit-polls;
       joins =
           λ s id weight l queue is j h.
           members-fit _ s
@@ -387,14 +399,14 @@ fit-moves c cells =
           λ s i m is at h.
           record { members = without-fit i (s .members) (h .members); pending = own-fit (id-of m) (s .receive .pending) (h .pending); history = h .history; remembered = h .remembered; waiting = h .waiting; receiving = h .receiving; sending = h .sending; continuation = h .continuation; peer = h .peer };
       retires =
-          λ s base p e h.
+          λ s id base p is e h.
           record { members = h .members; pending = all-such-that Packet-fit _ (s .receive .pending) (h .pending); history = h .history; remembered = h .remembered; waiting = h .waiting; receiving = h .receiving; sending = h .sending; continuation = h .continuation; peer = h .peer };
-      takes = λ s e h. h;
-      puts = λ s cell payload h. h;
+      takes = λ payload takes free h. h;
+      puts = λ s cell payload takes accepted short unused h. h;
       lets-go = λ s cell h. h;
       queues-data =
-          λ s i m id cell d payload is at full unfit short h.
-          changes-fit s i m _ at (λ k. reserve-fit (d .count) _ (enqueue-fit _ m (data-event-fit id cell (length payload) d unfit short) full k)) h;
+          λ s i m cell d payload is accepted at full unfit short h.
+          changes-fit s i m _ at (λ k. reserve-fit (d .count) _ (enqueue-fit _ m (data-event-fit (id-of m) cell (length payload) d unfit short) full k)) h;
       queues-event =
           λ s i m id kind reason is at full some-kind known fits h. changes-fit s i m _ at (enqueue-fit _ m (event-event-fit kind reason some-kind known fits) full) h;
       numbers =
@@ -413,8 +425,8 @@ fit-moves c cells =
 
 pub fit-law : State-law Fit
 fit-law =
-    state-law-of (λ hand s log. Fit s) Fit fit-polls (λ s log h. h) (λ s log h. h) reports-fit delivers-fit skips-fit
+    state-law-of (λ hand s log. Fit s) Fit fit-refreshes fit-collects fit-polls (λ s log h. h) (λ s log h. h) reports-fit delivers-fit skips-fit
     (λ s p near h. receive-fit _ s (h .pending) (based-fit (nearest-fit (s .receive .pending) (h .pending) p near .sequence)) h)
 
 pub fit-kept : (c : Call) (lent : Lent) (s : State) → Fit s → Fit (perform c lent s .state)
-fit-kept c lent s h = call-keeps (λ hand s log. Fit s) c lent s (fit-moves c _) h
+fit-kept c lent s h = call-keeps (λ hand s log. Fit s) c lent s (fit-moves _) h

@@ -16,7 +16,7 @@ use Rattle.srt_group_model.specs.Calls.{new-member}
 use Rattle.srt_group_model.specs.Lent.{Lent, Call, perform}
 use Rattle.srt_group_model.specs.laws.Queues.{Relabelled, pop}
 use Rattle.srt_group_model.specs.laws.Steps.{State-law, state-law-of}
-use Rattle.srt_group_model.specs.laws.CallLaw.{Poll-law, Call-law}
+use Rattle.srt_group_model.specs.laws.CallLaw.{Calling, Refresh-law, Collect-law, Poll-law, Call-law}
 use Rattle.srt_group_model.specs.laws.EveryCall.{call-keeps}
 use Rattle.srt_group_model.specs.laws.Released.{deliver-released, deliver-relabelled}
 use Rattle.srt_group_model.specs.declared.Packet.{Packet}
@@ -53,34 +53,46 @@ deliver-round : (s : State) (base : ℕ) (p : Packet) → In-round s → In-roun
 deliver-round s base p =
     moved (ap (λ (v : Visit). v .round) (deliver-released base p s .visit)) (each-to-length Relabelled (s .members) _ (deliver-relabelled base p s))
 
-round-polls : Poll-law (λ hand s log. In-round s)
-round-polls =
+round-refreshes : Refresh-law (λ hand s log. In-round s)
+round-refreshes =
     record {
       moves = λ s i m f at move h. moved refl (change-length i f (s .members)) h;
       binds = λ s i m at a h. h;
       sets-base = λ s b e source h. h;
+    }
+
+round-collects : Collect-law (λ hand s log. In-round s)
+round-collects =
+    record {
       continues = λ s b h. h;
       turns = λ s i m at h. turn-within i (length (s .members)) (at-length i m (s .members) at);
       discards = λ s i m e f d g h. moved refl (change-length i _ (s .members)) h;
       holds = λ s i m e f d g h. moved refl (change-length i _ (s .members)) h;
       reports = λ s i m e f d few h. moved refl (change-length i _ (s .members)) h;
+    }
+
+round-polls : Poll-law (λ hand s log. In-round s)
+round-polls =
+    record {
       gives = λ s h. h;
       skips = λ s base p tested time b n near h. h;
       delivers = λ s base p b e h. deliver-round s base p h;
     }
 
-round-moves : (c : Call) (cells : ℕ) → Call-law c cells (λ hand s log. In-round s)
+round-moves : (k : Calling) → Call-law k (λ hand s log. In-round s)
 unfolding take-out retire
-round-moves c cells =
+round-moves k =
     record {
-      polling = round-polls;
+      refreshing = round-refreshes;
+      collecting = λ poll. round-collects;
+      polling = λ poll. round-polls;
       joins = λ s id weight l queue is j h. omega (arith, h, length-append (s .members) (new-member id weight (handed l) s ∷ []));
       leaves = λ s i m is at h. omega arith;
-      retires = λ s base p e h. h;
-      takes = λ s e h. h;
-      puts = λ s cell payload h. h;
+      retires = λ s id base p is e h. h;
+      takes = λ payload takes free h. h;
+      puts = λ s cell payload takes accepted short unused h. h;
       lets-go = λ s cell h. h;
-      queues-data = λ s i m id cell d payload is at full unfit short h. moved refl (change-length i _ (s .members)) h;
+      queues-data = λ s i m cell d payload is accepted at full unfit short h. moved refl (change-length i _ (s .members)) h;
       queues-event = λ s i m id kind reason is at full some-kind known fits h. moved refl (change-length i _ (s .members)) h;
       numbers = λ s sequence h. h;
       remembers = λ s i m e at next short fits h. h;
@@ -90,7 +102,7 @@ round-moves c cells =
 pub round-law : State-law In-round
 unfolding skip-to
 round-law =
-    state-law-of (λ hand s log. In-round s) In-round round-polls (λ s log h. h) (λ s log h. h) (λ s i m e f d h. moved refl (change-length i pop (s .members)) h) deliver-round (λ s base p g h. h) (λ s p g h. h)
+    state-law-of (λ hand s log. In-round s) In-round round-refreshes round-collects round-polls (λ s log h. h) (λ s log h. h) (λ s i m e f d h. moved refl (change-length i pop (s .members)) h) deliver-round (λ s base p g h. h) (λ s p g h. h)
 
 pub round-kept : (c : Call) (lent : Lent) (s : State) → In-round s → In-round (perform c lent s .state)
-round-kept c lent s h = call-keeps (λ hand s log. In-round s) c lent s (round-moves c _) h
+round-kept c lent s h = call-keeps (λ hand s log. In-round s) c lent s (round-moves _) h

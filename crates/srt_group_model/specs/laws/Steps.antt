@@ -17,7 +17,7 @@ use Rattle.srt_group_model.specs.Collecting.{retain-group-packet, report
 use Rattle.srt_group_model.specs.Delivery.{Polled, nothing, event, packet, Poll, deliver-packet, deliver, skip-to, give-waiting, skip-after, max-visits, skip-given-up-gap}
 use Rattle.srt_group_model.specs.Polls.{deliver-next, poll-event, DataPoll, pass-events, poll-until-data, poll-data-bounded}
 use Rattle.srt_group_model.specs.laws.Queues.{pop, packet-of, waiting-of}
-use Rattle.srt_group_model.specs.laws.CallLaw.{In-front, reported, Poll-law}
+use Rattle.srt_group_model.specs.laws.CallLaw.{In-front, reported, Poll-law, Refresh-law, Collect-law}
 use Rattle.srt_group_model.specs.laws.EveryCall.{admits-all, settles, requalifies, retains, breaks}
 use Rattle.srt_group_model.specs.declared.Event.{Event}
 use Rattle.srt_group_model.specs.declared.Packet.{Packet}
@@ -43,7 +43,7 @@ pub record State-law (Good : State → Type 0) : Type 0 where
 
 -- What every move of a poll keeps, these steps keep. A report is asked for however many wait; a delivery, a skip and a first base
 -- at any base.
-module _ (P : Option ℕ → State → List Mark → Type 0) (Good : State → Type 0) (law : Poll-law P)
+module _ (P : Option ℕ → State → List Mark → Type 0) (Good : State → Type 0) (law : Refresh-law P) (collects : Collect-law P) (polls : Poll-law P)
     (to : (s : State) (log : List Mark) → Good s → P none s log) (from : (s : State) (log : List Mark) → P none s log → Good s) where
   pub state-law-of : ((s : State) (i : ℕ) (m : Member) (e : Event) → In-front s i m e → eqb (e .kind) 0 ≡ false → Good s → Good (reported i m e s))
       → ((s : State) (base : ℕ) (p : Packet) → Good s → Good (deliver-packet base p s))
@@ -55,14 +55,14 @@ module _ (P : Option ℕ → State → List Mark → Type 0) (Good : State → T
         admits = λ r h. from _ _ (admits-all P law none r (to _ _ h));
         settles = λ s h. from _ [] (settles P law none [] s (s .making .mode) (s .members) (to s [] h));
         requalifies = λ s h. from _ [] (requalifies P law none [] s (s .making .mode) (s .members) (to s [] h));
-        continues = λ s b h. from _ [] (law .continues s b (to s [] h));
-        turns = λ s i m at h. from _ [] (law .turns s i m at (to s [] h));
-        takes = λ s i m e at f d h. from _ _ (retains P law none [] s i m e record { stands = at; first = f } d (to s [] h));
-        reports = λ s i m e at f d h. from _ [] (breaks P law none [] s i m e (to _ [] (reports s i m e record { stands = at; first = f } d h)));
+        continues = λ s b h. from _ [] (collects .continues s b (to s [] h));
+        turns = λ s i m at h. from _ [] (collects .turns s i m at (to s [] h));
+        takes = λ s i m e at f d h. from _ _ (retains P law collects none [] s i m e record { stands = at; first = f } d (to s [] h));
+        reports = λ s i m e at f d h. from _ [] (breaks P law none [] s i _ (to _ [] (reports s i m e record { stands = at; first = f } d h)));
         delivers = λ s base p g h. delivers s base p h;
         skips = skips;
         bases = bases;
-        gives = λ s h. from _ [] (law .gives s (to s [] h));
+        gives = λ s h. from _ [] (polls .gives s (to s [] h));
       }
 
 module _ (Good : State → Type 0) (law : State-law Good) where

@@ -20,7 +20,7 @@ use Rattle.srt_group_model.specs.Calls.{new-member}
 use Rattle.srt_group_model.specs.Lent.{Lent, Call, perform}
 use Rattle.srt_group_model.specs.Sound.{ids}
 use Rattle.srt_group_model.specs.laws.HonestLog.{relabelled-ids}
-use Rattle.srt_group_model.specs.laws.CallLaw.{Joining, Poll-law, Call-law}
+use Rattle.srt_group_model.specs.laws.CallLaw.{Joining, Calling, Refresh-law, Collect-law, Poll-law, Call-law}
 use Rattle.srt_group_model.specs.laws.EveryCall.{call-keeps}
 use Rattle.srt_group_model.specs.laws.MemberMoves.{moved-relabelled}
 use Rattle.srt_group_model.specs.laws.Released.{deliver-relabelled}
@@ -127,34 +127,46 @@ take-out-named : (s : State) (i : ℕ) (m : Member) → Named s → Named (take-
 unfolding take-out
 take-out-named s i m h = record { unique = without-once i (s .members) (h .unique); few = omega (arith, h .few, without-length i (s .members)) }
 
-names-polls : Poll-law (λ hand s log. Named s)
-names-polls =
+names-refreshes : Refresh-law (λ hand s log. Named s)
+names-refreshes =
     record {
       moves = λ s i m f at move h. named-same s _ (relabelled-ids (s .members) _ (moved-relabelled i m f (s .members) at move)) h;
       binds = λ s i m at a h. named-same s _ refl h;
       sets-base = λ s b e source h. named-same s _ refl h;
+    }
+
+names-collects : Collect-law (λ hand s log. Named s)
+names-collects =
+    record {
       continues = λ s b h. named-same s _ refl h;
       turns = λ s i m at h. named-same s _ refl h;
       discards = λ s i m e f d g h. named-same s _ (changed-ids i _ (s .members) (λ x. refl)) h;
       holds = λ s i m e f d g h. named-same s _ (changed-ids i _ (s .members) (λ x. refl)) h;
       reports = λ s i m e f d few h. named-same s _ (changed-ids i _ (s .members) (λ x. refl)) h;
+    }
+
+names-polls : Poll-law (λ hand s log. Named s)
+names-polls =
+    record {
       gives = λ s h. named-same s _ refl h;
       skips = λ s base p tested time b n near h. named-same s _ refl h;
       delivers = λ s base p b e h. named-same s _ (relabelled-ids (s .members) _ (deliver-relabelled base p s)) h;
     }
 
-names-law : (c : Call) (cells : ℕ) → Call-law c cells (λ hand s log. Named s)
+names-law : (k : Calling) → Call-law k (λ hand s log. Named s)
 unfolding retire
-names-law c cells =
+names-law k =
     record {
-      polling = names-polls;
+      refreshing = names-refreshes;
+      collecting = λ poll. names-collects;
+      polling = λ poll. names-polls;
       joins = λ s id weight l queue is j h. join-named s id weight l j h;
       leaves = λ s i m is at h. take-out-named s i m h;
-      retires = λ s base p e h. named-same s _ refl h;
-      takes = λ s e h. h;
-      puts = λ s cell payload h. h;
+      retires = λ s id base p is e h. named-same s _ refl h;
+      takes = λ payload takes free h. h;
+      puts = λ s cell payload takes accepted short unused h. h;
       lets-go = λ s cell h. h;
-      queues-data = λ s i m id cell d payload is at full unfit short h. named-same s _ (changed-ids i _ (s .members) (λ x. refl)) h;
+      queues-data = λ s i m cell d payload is accepted at full unfit short h. named-same s _ (changed-ids i _ (s .members) (λ x. refl)) h;
       queues-event = λ s i m id kind reason is at full some-kind known fits h. named-same s _ (changed-ids i _ (s .members) (λ x. refl)) h;
       numbers = λ s sequence h. named-same s _ refl h;
       remembers = λ s i m e at next short fits h. named-same s _ refl h;
@@ -163,4 +175,4 @@ names-law c cells =
 
 -- Over every call ids stay unique, and members stay at most 64.
 pub names-kept : (c : Call) (lent : Lent) (s : State) → Named s → Named (perform c lent s .state)
-names-kept c lent s h = call-keeps (λ hand s log. Named s) c lent s (names-law c _) h
+names-kept c lent s h = call-keeps (λ hand s log. Named s) c lent s (names-law _) h

@@ -8,7 +8,7 @@ use Prim.Native.Nat.{ℕ, zero, suc, _≤_, _<_}
 use lib.Dec.{T, leb, ltb, eqb, leb→le, nleb→lt, nltb→le, eqb→eq, eqb-refl, le→leb}
 use lib.ListN.{drop}
 use Rattle.srt_group_model.specs.Tools.{All, or-else, such-that, first-such, at-place, change, without-place, each}
-use Rattle.srt_group_model.specs.laws.Reason.{if-elim, not-both}
+use Rattle.srt_group_model.specs.laws.Reason.{if-elim, not-both, some-inj, Each-to}
 
 -- ---- a choice and an option
 
@@ -128,6 +128,20 @@ module _ {A : Type 0} where
   all-change P i f [] k h = tt
   all-change P zero f (x ∷ xs) k h = (k x (h .0), h .1)
   all-change P (suc i) f (x ∷ xs) k h = (h .0, all-change P i f xs k (h .1))
+
+  -- at the place where a stands
+  pub all-change-at : (P : A → Type 0) (i : ℕ) (f : A → A) (l : List A) (a : A) → at-place i l ≡ some a → (P a → P (f a)) → All P l → All P (change i f l)
+  unfolding change at-place
+  all-change-at P i f [] a at k h = tt
+  all-change-at P zero f (x ∷ xs) a at k h = (subst (λ (y : A). P (f y)) (sym (some-inj at)) (k (subst P (some-inj at) (h .0))), h .1)
+  all-change-at P (suc i) f (x ∷ xs) a at k h = (h .0, all-change-at P i f xs a at k (h .1))
+
+  -- of a list that answers to another, one by one
+  pub each-to-all : (R : A → A → Type 0) (P : A → Type 0) → ((a b : A) → R a b → P a → P b) → (l m : List A) → Each-to R l m → All P l → All P m
+  each-to-all R P k [] [] r h = tt
+  each-to-all R P k [] (y ∷ m) r h = absurd r
+  each-to-all R P k (x ∷ l) [] r h = absurd r
+  each-to-all R P k (x ∷ l) (y ∷ m) r h = (k x y (r .0) (h .0), each-to-all R P k l m (r .1) (h .1))
 
   pub all-without-place : (P : A → Type 0) (i : ℕ) (l : List A) → All P l → All P (without-place i l)
   unfolding without-place

@@ -2,7 +2,7 @@
 -- exactly what it marks as collected from it, in order: the packets of the premise `FromSchedule` are those that were got by
 -- polling a leg. And the payload that the premise reads, last put into the packet's cell, is the one it was queued with: a
 -- call that queues data puts its payload into that cell, and until the packet is gone no call puts another there
--- (`AfterCall.stays` of Bytes). From the model's HonestLog.
+-- (`collected-was-queued` of AsQueued). From the model's HonestLog.
 use mathlib.Core.Path.{_≡_}
 use mathlib.Core.Bool.{false}
 use mathlib.Core.List.{List, _++_}

@@ -1,7 +1,7 @@
 -- The few moves that receiving makes: a packet is collected (and discarded or retained), the base is set, a gap is skipped, a
 -- packet is delivered, held packets are given to the group or retired, a payload is put into a free cell. A law says that an
--- invariant of the receiving side and the marks survives each of them. PollWalk and CallWalk prove that it then survives
--- every poll, every call and every list of calls: base arithmetic, the schedule and the bytes are three such invariants.
+-- invariant of the receiving side and the marks survives each of them. CallWalk proves that it then survives every call and every
+-- list of calls: base arithmetic and the schedule are two such invariants.
 use mathlib.Core.Path.{_≡_}
 use mathlib.Core.Bool.{true, false, not}
 use mathlib.Core.List.{List, _∷_}
@@ -10,8 +10,9 @@ use Prim.Native.Nat.{ℕ}
 use lib.Dec.{eqb}
 use Rattle.srt_protocol.specs.Sequence.{sequence-distance}
 use Rattle.srt_group_model.specs.Tools.{flagged, All}
-use Rattle.srt_group_model.specs.State.{State, Receive, next-receive-sequence, with-base, with-pending}
+use Rattle.srt_group_model.specs.State.{Member, State, Receive, next-receive-sequence, with-base, with-pending}
 use Rattle.srt_group_model.specs.Legs.{no-sequence}
+use Rattle.srt_group_model.specs.Members.{id-of}
 use Rattle.srt_group_model.specs.Nearest.{sequence-of, held-at, insert, nearest}
 use Rattle.srt_group_model.specs.Run.{Mark, put, base-set, collected, gap-skipped, delivered}
 use Rattle.srt_group_model.specs.Collecting.{is-discarded}
@@ -31,6 +32,13 @@ OfContent P p = P (p .content)
 -- a packet whose payload stands in another cell
 abbrev pub ElsewhereThan : ℕ → Data → Type 0
 ElsewhereThan cell d = d .cell ≡ cell → ⊥
+
+-- What is alive: the packets queued at a leg and those held from it. What holds of each, by its leg and its data.
+abbrev pub Queued : (ℕ → Data → Type 0) → Member → Type 0
+Queued Q m = All (λ (e : Event). is-data e ≡ true → Q (id-of m) (e .content)) (m .queue)
+
+abbrev pub LiveAt : (ℕ → Data → Type 0) → State → Type 0
+LiveAt Q s = All (Queued Q) (s .members) × All (λ (p : Packet). Q (p .member) (p .content)) (s .receive .pending)
 
 -- a packet as the group's own, and all else as it was
 abbrev pub owned-by-group : Packet → Packet

@@ -8,50 +8,41 @@ use mathlib.Core.List.{List, [], _∷_}
 use mathlib.Core.Option.{Option, none, some}
 use Prim.Native.Nat.{ℕ, zero, suc, _+_, min}
 use native.Mathlib.Omega.{arith}
-use lib.Dec.{eqb}
 use lib.ListN.{length, drop}
 use Rattle.srt_protocol.specs.Sequence.{sequence-distance, sequence-further}
 use Rattle.srt_group_model.specs.Tools.{is-set, bit, flagged, is-empty, place-of, at-place, All}
-use Rattle.srt_group_model.specs.State.{Member, State, Receive, next-receive-sequence, next-send-sequence, with-continuation}
+use Rattle.srt_group_model.specs.State.{Member, State, next-receive-sequence, with-continuation}
 use Rattle.srt_group_model.specs.Core.{continued}
-use Rattle.srt_group_model.specs.Legs.{no-sequence}
-use Rattle.srt_group_model.specs.Members.{base-after, align-member-sequence, has-id, found}
+use Rattle.srt_group_model.specs.Members.{found}
 use Rattle.srt_group_model.specs.Nearest.{sequence-of, held-at, is-held, nearest}
-use Rattle.srt_group_model.specs.Run.{Mark, put, base-set, collected, gap-skipped, delivered, Run, start, set-base, admit-connected-peer-groups, refresh-pending-states, refresh-states}
+use Rattle.srt_group_model.specs.Run.{Mark, put, base-set, collected, gap-skipped, delivered, Run, start, set-base, refresh-pending-states}
 use Rattle.srt_group_model.specs.Collecting.{in-turn, front, Visited, take-front, collect-one-event, collect-until-held, Emptied, collect-until-empty}
 use Rattle.srt_group_model.specs.Delivery.{gap-given-up, base-stays, deliver-packet, pass-run, Polled, nothing, event, packet, Poll, deliver, skip-to, give-waiting, skip-after, max-visits, skip-given-up-gap}
 use Rattle.srt_group_model.specs.Polls.{delivery-budget, deliver-next, poll-event, DataPoll, pass-events, poll-until-data, poll-data-bounded}
-use Rattle.srt_group_model.specs.Sending.{Flow}
-use Rattle.srt_group_model.specs.laws.Refusals.{guard-passed, look-elim}
-use Rattle.srt_group_model.specs.Guards.{polled, Step, refuse}
-use Rattle.srt_group_model.specs.Calls.{add-body, add-member, mark-member-broken, remove-body, remove-member-connection, refresh-member-states, disconnect, event-poll-body, poll-event-call, data-poll-body, poll-data-call, left-by-send, send-body, send, can-send-body, can-send-call, can-send-with-pacing-body, can-send-with-pacing-call, read-leg, queue-data-body, queue-data, queue-event}
-use Rattle.srt_group_model.specs.declared.Data.{Data}
+use Rattle.srt_group_model.specs.laws.Refusals.{guard-elim}
+use Rattle.srt_group_model.specs.Guards.{polled, Step}
+use Rattle.srt_group_model.specs.Calls.{event-poll-body, poll-event-call, data-poll-body, poll-data-call}
 use Rattle.srt_group_model.specs.declared.Event.{Event}
 use Rattle.srt_group_model.specs.declared.Packet.{Packet}
-use Rattle.srt_group_model.specs.declared.Leg.{Leg}
-use Rattle.srt_group_model.specs.laws.Reason.{if-elim, if-some-elim, not-both, or-left, or-right, none-some, some-inj}
+use Rattle.srt_group_model.specs.laws.Reason.{if-elim, if-some-elim, not-both, or-left, or-right, none-some, some-inj, by-test, all-map}
 use Rattle.srt_group_traces.specs.Statement.{When, run-at-test, after-polls, AtTest, when-of}
 use Rattle.srt_group_traces.specs.laws.Cases.{Each, each-at}
 use Rattle.srt_group_traces.specs.laws.Sides.{Side, sides, deliver-packet-leaves-sides}
-use Rattle.srt_group_traces.specs.laws.Law.{EventOk, SideOk, CollectLaw}
-use Rattle.srt_group_traces.specs.laws.FreeCells.{AnyNumber, any-number}
-use Rattle.srt_group_traces.specs.laws.PollWalk.{collect-until-held-good, collect-until-empty-good}
 use Rattle.srt_group_traces.specs.laws.Held.{held-at-sequence, nearest-is-held}
-use Rattle.srt_group_model.specs.Lent.{Call, call-add-member, call-mark-member-broken, call-remove-member-connection, call-refresh-member-states, call-disconnect, call-poll-event, call-poll-data-bounded, call-send, call-can-send, call-can-send-with-pacing, Look, look-at, call-look, call-read-leg, call-queue-data, call-queue-event, delivered-by, step-of, with-bytes, perform}
-use Rattle.srt_group_traces.specs.Calls.{Asked, do-call, time-of}
+use Rattle.srt_group_model.specs.Lent.{Call, delivered-by, step-of, with-bytes, perform}
+use Rattle.srt_group_traces.specs.Calls.{Asked, do-call, time-of, is-poll}
 use Rattle.srt_group_model.specs.laws.Released.{deliver-released}
+use Rattle.srt_group_model.specs.laws.Moves.{until-empty-not-held}
+use Rattle.srt_group_model.specs.laws.Waits.{waits, none-waits, refresh-waits}
+use Rattle.srt_group_model.specs.laws.CallLaw.{Refresh-law, Collect-law, calling, Polls, polls-events, polls-packets}
+use Rattle.srt_group_model.specs.laws.EveryCall.{collects-until-held, collects-until-empty, refreshes-pending, refreshes}
+use Rattle.srt_group_traces.specs.laws.Calls.{others-give-none, polls-of, polls-is-poll}
+use Rattle.srt_group_traces.specs.laws.CallMarks.{Only, only-refreshes, only-collects, Putting, step-marks}
 
 -- ---- what the marks of a call can be
 
-abbrev pub QuietMark : Mark → Type 0
-QuietMark (put cell payload) = Unit {0}
-QuietMark (base-set base) = Unit {0}
-QuietMark (collected p) = Unit {0}
-QuietMark (gap-skipped tested time distance) = ⊥
-QuietMark (delivered p) = ⊥
-
 abbrev pub Quiet : List Mark → Type 0
-Quiet log = All QuietMark log
+Quiet log = All (Only (Unit {0}) ⊥) log
 
 -- every leg's queue is empty
 abbrev pub EmptyQueues : State → Type 0
@@ -97,44 +88,18 @@ abbrev pub Shape : When → Option Packet → State → List Mark → Type 0
 Shape when none s log = Quiet log
 Shape when (some p) s log = Given when p s log
 
--- ---- collecting and the refresh are quiet
+-- collecting and the refresh are quiet
+abbrev refresh-quiet : Refresh-law (λ hand s log. Quiet log)
+refresh-quiet = only-refreshes (Unit {0}) ⊥
 
-any-queue : (q : List Event) → All (EventOk (λ (d : Data). Unit {0}) AnyNumber) q
-any-queue [] = tt
-any-queue (e ∷ q) = ((λ t. tt), any-queue q)
+abbrev collect-quiet : Collect-law (λ hand s log. Quiet log)
+collect-quiet = only-collects (Unit {0}) ⊥
 
-any-sides : (vs : List Side) → All (SideOk (λ (d : Data). Unit {0}) AnyNumber) vs
-any-sides [] = tt
-any-sides (v ∷ vs) = ((any-queue (v .queue), any-number (flagged (not (eqb (v .first) no-sequence)) (v .first))), any-sides vs)
-
-quiet-law : CollectLaw (λ (d : Data). Unit {0}) AnyNumber (λ (x : Receive) (log : List Mark). Quiet log)
-quiet-law = record { on-discarded = λ x log p ok e h. (tt, h); on-retained = λ x log p ok e h. (tt, h) }
-
-collect-until-held-quiet : (visits : ℕ) (r : Run) → Quiet (r .log) → Quiet (collect-until-held visits r .log)
-collect-until-held-quiet visits r h =
-    collect-until-held-good (λ (d : Data). Unit {0}) AnyNumber (λ (x : Receive) (log : List Mark). Quiet log) quiet-law visits r
-    record { sides-ok = any-sides (sides (r .state .members)); kept = h } .kept
-
-collect-until-empty-quiet : (visits sequence : ℕ) (r : Run) → Quiet (r .log)
-    → Quiet (collect-until-empty visits sequence r .run .log)
-collect-until-empty-quiet visits sequence r h =
-    collect-until-empty-good (λ (d : Data). Unit {0}) AnyNumber
-    (λ (x : Receive) (log : List Mark). Quiet log) quiet-law visits sequence r
-    record { sides-ok = any-sides (sides (r .state .members)); kept = h } .kept
-
-pub set-base-quiet : (base : Option ℕ) (r : Run) → Quiet (r .log) → Quiet (set-base base r .log)
+set-base-quiet : (base : Option ℕ) (r : Run) → Quiet (r .log) → Quiet (set-base base r .log)
 unfolding set-base
 set-base-quiet base r h =
     if-some-elim (λ (q : Run). Quiet (q .log)) (next-receive-sequence (r .state .receive)) _ _
     (λ b e. h) (λ e. if-some-elim (λ (q : Run). Quiet (q .log)) base _ _ (λ b e. (tt, h)) (λ e. h))
-
-refresh-pending-states-quiet : (r : Run) → Quiet (r .log) → Quiet (refresh-pending-states r .log)
-unfolding refresh-pending-states admit-connected-peer-groups
-refresh-pending-states-quiet r h = set-base-quiet (base-after none (r .state .members)) r h
-
-pub refresh-states-quiet : (r : Run) → Quiet (r .log) → Quiet (refresh-states r .log)
-unfolding refresh-states
-refresh-states-quiet r h = refresh-pending-states-quiet r h
 
 -- ---- where collecting found nothing and asks for no continuation, every queue is empty
 
@@ -236,41 +201,8 @@ collect-until-empty-empties (suc visits) sequence r =
     if-elim (λ (v : Emptied). v .emptied ≡ true → EmptyQueues (v .run .state)) (collect-one-event r .took) _ _
     (λ e. collect-until-empty-empties visits sequence (collect-one-event r .run)) (λ e f. collect-one-event-finds r e f))
 
--- ---- where collecting ended empty, the base is still not held
-
--- a visit that collected nothing leaves what is held
-abbrev Rests : List Packet → Visited → Type 0
-Rests held v = v .took ≡ false → v .run .state .receive .pending ≡ held
-
-collect-one-event-rests : (r : Run) → Rests (r .state .receive .pending) (collect-one-event r)
-unfolding collect-one-event take-front
-collect-one-event-rests r =
-    if-some-elim (Rests (r .state .receive .pending)) (in-turn (r .state .visit .round) (r .state .members)) _ _
-    (λ i e.
-    if-some-elim (Rests (r .state .receive .pending)) (at-place i (r .state .members)) _ _
-    (λ m there.
-    if-some-elim (Rests (r .state .receive .pending)) (front (m .queue)) _ _
-    (λ e there. if-elim (Rests (r .state .receive .pending)) _ _ _ (λ e f. refl) (λ e f. not-both {t = true} refl f))
-    (λ e f. refl))
-    (λ e f. refl))
-    (λ e f. refl)
-
-collect-until-empty-missing : (visits sequence : ℕ) (r : Run) → collect-until-empty visits sequence r .emptied ≡ true
-    → is-held sequence (collect-until-empty visits sequence r .run .state .receive .pending) ≡ false
-unfolding collect-until-empty
-collect-until-empty-missing zero sequence r = λ e. not-both {t = true} refl (sym e)
-collect-until-empty-missing (suc visits) sequence r =
-    if-elim (λ (v : Emptied). v .emptied ≡ true → is-held sequence (v .run .state .receive .pending) ≡ false) _ _ _
-    (λ e f. not-both {t = true} refl (sym f))
-    (λ e.
-    if-elim (λ (v : Emptied). v .emptied ≡ true → is-held sequence (v .run .state .receive .pending) ≡ false)
-    (collect-one-event r .took) _ _
-    (λ t. collect-until-empty-missing visits sequence (collect-one-event r .run))
-    (λ t f.
-    ap (is-held sequence) (collect-one-event-rests r t)
-    ∙ or-right (is-set (r .state .visit .continuation)) (is-held sequence (r .state .receive .pending)) e))
-
 -- ---- a delivery moves the base past the run
+
 deliver-moves-base : (base : ℕ) (p : Packet) (s : State) → held-at base (s .receive .pending) ≡ some p
     → next-receive-sequence (deliver-packet base p s .receive) ≡ some (sequence-further (sequence-of p) (p .content .count))
 unfolding deliver-packet pass-run flagged
@@ -295,39 +227,16 @@ deliver-shape when base r h =
     if-some-elim (PollShape when) (held-at base (r .state .receive .pending)) _ _
     (λ p e. record { before = r .log; is = refl; how = inl h; past = deliver-moves-base base p (r .state) e }) (λ e. h)
 
--- delivery moves no queue
 deliver-after-skip : (when : When) (base : ℕ) (p : Packet) (r : Run) → held-at base (r .state .receive .pending) ≡ some p
-    → Skip when p (r .state) (r .log) → PollShape when (deliver base r)
+    → Skip when p (deliver-packet base p (r .state)) (r .log) → PollShape when (deliver base r)
 unfolding deliver
 deliver-after-skip when base p r found h =
-    if-some-elim (PollShape when) (held-at base (r .state .receive .pending)) _ _ (λ q e.
-    let same : p ≡ q = some-inj (sym found ∙ e) in
+    if-some-elim (PollShape when) (held-at base (r .state .receive .pending)) _ _
+    (λ q e.
     record {
       before = r .log;
       is = refl;
-      how =
-          inr
-          record {
-            tested = h .tested;
-            gathered = h .gathered;
-            base = h .base;
-            distance = h .distance;
-            before = h .before;
-            is = h .is;
-            quiet = h .quiet;
-            at-test = h .at-test;
-            based = h .based;
-            missing = h .missing;
-            complete = h .complete;
-            given-up = h .given-up;
-            still-missing = h .still-missing;
-            nearest-now = h .nearest-now ∙ ap {B = Option Packet} some same;
-            far = h .far ∙ ap (λ (x : Packet). sequence-distance (h .base) (sequence-of x)) same;
-            empty =
-                subst (All (λ (v : Side). v .queue ≡ [])) (sym (deliver-packet-leaves-sides base q (r .state)))
-                (h .empty);
-            none-waiting = deliver-released base q (r .state) .waiting ∙ h .none-waiting;
-          };
+      how = inr (subst (λ (x : Packet). Skip when x (deliver-packet base x (r .state)) (r .log)) (some-inj (sym found ∙ e)) h);
       past = deliver-moves-base base q (r .state) e;
     })
     (λ e. none-some (sym e ∙ found))
@@ -366,8 +275,8 @@ skip-after-shape when tested base c at-test based missing complete given-up empt
       still-missing = still-missing e;
       nearest-now = near;
       far = refl;
-      empty = empty e;
-      none-waiting = is-empty-nil (c .run .state .waiting) none-waits;
+      empty = subst (All (λ (v : Side). v .queue ≡ [])) (sym (deliver-packet-leaves-sides (sequence-of p) p _)) (empty e);
+      none-waiting = deliver-released (sequence-of p) p _ .waiting ∙ is-empty-nil (c .run .state .waiting) none-waits;
     })
     (λ e. h))
     (λ e. deliver-shape when base (c .run) h))
@@ -379,11 +288,11 @@ test-was-true false true c e = not-both {t = true} refl e
 test-was-true false false true e = refl
 test-was-true false false false e = not-both {t = true} refl e
 
-skip-given-up-gap-shape : (when : When) (base : ℕ) (r : Run) → UnderTest when r
+skip-given-up-gap-shape : (when : When) (base : ℕ) (r : Run) → UnderTest when r → waits r ≡ 0
     → next-receive-sequence (r .state .receive) ≡ some base → Quiet (r .log)
     → PollShape when (skip-given-up-gap (when .time) base r)
 unfolding skip-given-up-gap base-stays
-skip-given-up-gap-shape when base r under based h =
+skip-given-up-gap-shape when base r under none-waits based h =
     if-elim (PollShape when) _ _ _ (λ e. deliver-shape when base r h)
     (λ e.
     skip-after-shape when (r .state) base (collect-until-empty max-visits base r)
@@ -397,15 +306,15 @@ skip-given-up-gap-shape when base r under based h =
     (or-left (is-set (r .state .visit .continuation)) _ (or-right (is-held base (r .state .receive .pending)) _ e))
     (test-was-true (is-held base (r .state .receive .pending)) (is-set (r .state .visit .continuation))
     (gap-given-up (when .time) (r .state)) e)
-    (collect-until-empty-empties max-visits base r) (collect-until-empty-missing max-visits base r)
-    (collect-until-empty-quiet max-visits base r h))
+    (collect-until-empty-empties max-visits base r) (until-empty-not-held max-visits base r)
+    (collects-until-empty (λ hand s log. Quiet log) refresh-quiet collect-quiet none max-visits base r (omega (arith, none-waits)) h))
 
-deliver-next-shape : (when : When) (r : Run) → UnderTest when r → Quiet (r .log)
+deliver-next-shape : (when : When) (r : Run) → UnderTest when r → waits r ≡ 0 → Quiet (r .log)
     → PollShape when (deliver-next (when .time) r)
 unfolding deliver-next
-deliver-next-shape when r under h =
+deliver-next-shape when r under none-waits h =
     if-some-elim (PollShape when) (next-receive-sequence (r .state .receive)) _ _
-    (λ base e. skip-given-up-gap-shape when base r under e h)
+    (λ base e. skip-given-up-gap-shape when base r under none-waits e h)
     (λ e.
     if-some-elim (PollShape when) (nearest (r .state .receive .pending)) _ _
     (λ p e. deliver-shape when (sequence-of p) (set-base (some (sequence-of p)) r) (set-base-quiet (some (sequence-of p)) r h))
@@ -420,46 +329,39 @@ poll-event-shape-after : (when : When) (polls : ℕ) (r : Run) → AfterPolls wh
 unfolding poll-event run-at-test
 poll-event-shape-after when polls r here h =
     if-elim (PollShape when) _ _ _ (λ e. give-waiting-shape when _ gathered)
-    (λ e. deliver-next-shape when _ (polls, ap run-at-test here) (refresh-states-quiet _ gathered))
+    (λ e.
+    deliver-next-shape when _ (polls, ap run-at-test here) (refresh-waits _ ∙ none-waits _ e) (refreshes (λ hand s log. Quiet log) refresh-quiet none _ gathered))
   where
     gathered : Quiet
         (collect-until-held max-visits
         (refresh-pending-states record { state = with-continuation false (r .state); log = r .log; budget = delivery-budget }) .log)
-    gathered = collect-until-held-quiet max-visits _ (refresh-pending-states-quiet _ h)
+    gathered =
+        collects-until-held (λ hand s log. Quiet log) refresh-quiet collect-quiet none max-visits _ (refreshes-pending (λ hand s log. Quiet log) refresh-quiet none _ h)
 
-pub poll-event-shape : (when : When) → PollShape when (poll-event (when .time) (start (when .from)))
+poll-event-shape : (when : When) → PollShape when (poll-event (when .time) (start (when .from)))
 unfolding after-polls
 poll-event-shape when = poll-event-shape-after when 0 (start (when .from)) refl tt
 
 abbrev DataShape : When → DataPoll → Type 0
 DataShape when q = Shape when (q .gave) (q .run .state) (q .run .log)
 
+passes-shape : (when : When) (gave : Polled) (r : Run) (later : DataPoll) → Shape when (packet-of gave) (r .state) (r .log)
+    → (Quiet (r .log) → DataShape when later) → DataShape when (pass-events gave r later)
+unfolding pass-events
+passes-shape when nothing r later h k = h
+passes-shape when (event w) r later h k = k h
+passes-shape when (packet p) r later h k = h
+
 poll-until-data-shape : (when : When) (visits polls : ℕ) (r : Run) → AfterPolls when polls r → Quiet (r .log)
     → DataShape when (poll-until-data (when .time) visits r)
-unfolding poll-until-data pass-events after-polls
+unfolding poll-until-data after-polls
 poll-until-data-shape when zero polls r here h = h
 poll-until-data-shape when (suc visits) polls r here h =
-    go (poll-event (when .time) r .gave) refl (poll-event-shape-after when polls r here h)
-    (λ q.
-    poll-until-data-shape when visits (suc polls) (poll-event (when .time) r .run)
-    (ap (λ (x : Run). poll-event (when .time) x .run) here) q)
-  where
-    go : (gave : Polled) → poll-event (when .time) r .gave ≡ gave → PollShape when (poll-event (when .time) r)
-        → (Quiet (poll-event (when .time) r .run .log)
-        → DataShape when (poll-until-data (when .time) visits (poll-event (when .time) r .run)))
-        → DataShape when
-        (pass-events gave (poll-event (when .time) r .run) (poll-until-data (when .time) visits (poll-event (when .time) r .run)))
-    go nothing e x y =
-        subst (λ (a : Polled). Shape when (packet-of a) (poll-event (when .time) r .run .state)
-        (poll-event (when .time) r .run .log)) e x
-    go (event w) e x y =
-        y (subst (λ (a : Polled). Shape when (packet-of a) (poll-event (when .time) r .run .state)
-        (poll-event (when .time) r .run .log)) e x)
-    go (packet p) e x y =
-        subst (λ (a : Polled). Shape when (packet-of a) (poll-event (when .time) r .run .state)
-        (poll-event (when .time) r .run .log)) e x
+    let x = poll-event (when .time) r in
+    passes-shape when (x .gave) (x .run) (poll-until-data (when .time) visits (x .run)) (poll-event-shape-after when polls r here h)
+    (λ q. poll-until-data-shape when visits (suc polls) (x .run) (ap (λ (y : Run). poll-event (when .time) y .run) here) q)
 
-pub poll-data-bounded-shape : (when : When) (max-events : ℕ)
+poll-data-bounded-shape : (when : When) (max-events : ℕ)
     → DataShape when (poll-data-bounded (when .time) max-events (start (when .from)))
 unfolding poll-data-bounded after-polls
 poll-data-bounded-shape when max-events =
@@ -471,88 +373,43 @@ poll-data-bounded-shape when max-events =
 abbrev pub StepShape : When → Step → Type 0
 StepShape when step = Shape when (delivered-by (step .answer)) (step .state) (step .log)
 
-refusal-shape : (when : When) (s : State) (code : ℕ) → StepShape when (refuse code s)
-unfolding delivered-by
-refusal-shape when s code = tt
-
-pub polled-shape : (when : When) (gave : Polled) (s : State) (log : List Mark) → Shape when (packet-of gave) s log
+polled-shape : (when : When) (gave : Polled) (s : State) (log : List Mark) → Shape when (packet-of gave) s log
     → Shape when (delivered-by (polled gave)) s log
 unfolding delivered-by
 polled-shape when nothing s log h = h
 polled-shape when (event w) s log h = h
 polled-shape when (packet p) s log h = h
 
-add-body-shape : (when : When) (id weight : ℕ) (leg : Leg) (s : State) → StepShape when (add-body id weight leg s)
-unfolding add-body delivered-by
-add-body-shape when id weight leg s =
-    if-elim (StepShape when) _ _ _
-    (λ e.
-    if-some-elim (StepShape when) (align-member-sequence (next-send-sequence (s .send)) (length (s .members)) _) _ _
-    (λ ms e. set-base-quiet _ (start s) tt) (λ e. set-base-quiet _ (start s) tt))
-    (λ e. set-base-quiet _ (start s) tt)
+-- what is no poll is quiet and gives nothing
+unpolled-shape : (store output list : ℕ) (c : Call) (s : State) → is-poll c ≡ false → StepShape (when-of c s) (step-of store output list c s)
+unpolled-shape store output list c s no-poll =
+    subst (λ (o : Option Packet). Shape (when-of c s) o (step-of store output list c s .state) (step-of store output list c s .log))
+    (sym (others-give-none store output list c s no-poll)) (quiet-of (step-of store output list c s .log) (step-marks store output list c s))
+  where
+    quiet-of : (log : List Mark) → All (Only (Putting (calling store output list c s)) (Polls c)) log → Quiet log
+    quiet-of log = all-map _ (Only (Unit {0}) ⊥) quiet-mark log
+      where
+        quiet-mark : (mark : Mark) → Only (Putting (calling store output list c s)) (Polls c) mark → Only (Unit {0}) ⊥ mark
+        quiet-mark (put cell payload) h = tt
+        quiet-mark (base-set base) h = tt
+        quiet-mark (collected p) h = tt
+        quiet-mark (gap-skipped tested time distance) h = not-both (polls-is-poll h .0) no-poll
+        quiet-mark (delivered p) h = not-both (polls-is-poll h .0) no-poll
 
-remove-body-shape : (when : When) (id : ℕ) (s : State) → StepShape when (remove-body id s)
-unfolding remove-body delivered-by
-remove-body-shape when id s =
-    if-some-elim (StepShape when) (found (has-id id) (s .members)) _ _ (λ f e. tt) (λ e. tt)
-
-left-by-send-shape : (when : When) (cell : ℕ) (payload : List ℕ) (r : Run) (flow : Flow) → Quiet (r .log)
-    → StepShape when (left-by-send cell payload r flow)
-unfolding left-by-send delivered-by
-left-by-send-shape when cell payload r flow h =
-    if-elim (StepShape when) _ _ _ (λ e. if-elim Quiet _ _ _ (λ e. (tt, h)) (λ e. h)) (λ e. h)
-
--- a look gives no packet and marks nothing
-look-shape : (when : When) (look : Look) (s : State) → StepShape when (look-at look s)
-look-shape when look s =
-    look-elim (StepShape when) look s (refusal-shape when s)
-    (λ answer none-given. subst (λ (o : Option Packet). Shape when o s []) (sym none-given) tt)
-
-abbrev at-time : ℕ → State → When
-at-time time s = record { time = time; from = s }
-
-abbrev at-no-time : State → When
-at-no-time = at-time 0
+polled-by : (store output list : ℕ) (c : Call) (s : State) → Polls c → StepShape (when-of c s) (step-of store output list c s)
+unfolding step-of time-of delivered-by event-poll-body poll-event-call data-poll-body poll-data-call
+polled-by store output list c s (polls-events time is) =
+    subst (λ (x : Call). StepShape (when-of x s) (step-of store output list x s)) (sym is)
+    (guard-elim (StepShape record { time = time; from = s }) _ s _ (λ code. tt)
+    (polled-shape record { time = time; from = s } (poll-event time (start s) .gave) _ _ (poll-event-shape record { time = time; from = s })))
+polled-by store output list c s (polls-packets time max-events is) =
+    subst (λ (x : Call). StepShape (when-of x s) (step-of store output list x s)) (sym is)
+    (guard-elim (StepShape record { time = time; from = s }) _ s _ (λ code. tt) (poll-data-bounded-shape record { time = time; from = s } max-events))
 
 -- every call, lent a store, an output and a list of these lengths
-pub step-of-shape : (store output list : ℕ) (call : Call) (s : State)
-    → StepShape (when-of call s) (step-of store output list call s)
-unfolding step-of time-of delivered-by add-member mark-member-broken remove-member-connection refresh-member-states disconnect event-poll-body poll-event-call data-poll-body poll-data-call send send-body can-send-body can-send-call can-send-with-pacing-body can-send-with-pacing-call read-leg queue-data-body queue-data queue-event
-step-of-shape store output list (call-add-member id weight leg queue) s =
-    guard-passed (StepShape (at-no-time s)) _ s _ (refusal-shape (at-no-time s) s)
-    (λ c. add-body-shape (at-no-time s) id weight leg s)
-step-of-shape store output list (call-mark-member-broken id) s =
-    guard-passed (StepShape (at-no-time s)) _ s _ (refusal-shape (at-no-time s) s) (λ c. tt)
-step-of-shape store output list (call-remove-member-connection id) s =
-    guard-passed (StepShape (at-no-time s)) _ s _ (refusal-shape (at-no-time s) s) (λ c. remove-body-shape (at-no-time s) id s)
-step-of-shape store output list call-refresh-member-states s =
-    guard-passed (StepShape (at-no-time s)) _ s _ (refusal-shape (at-no-time s) s) (λ c. refresh-states-quiet (start s) tt)
-step-of-shape store output list (call-disconnect time) s =
-    guard-passed (StepShape (at-no-time s)) _ s _ (refusal-shape (at-no-time s) s) (λ c. tt)
-step-of-shape store output list (call-poll-event time) s =
-    guard-passed (StepShape (at-time time s)) _ s _ (refusal-shape (at-time time s) s)
-    (λ c. polled-shape (at-time time s) (poll-event time (start s) .gave) _ _ (poll-event-shape (at-time time s)))
-step-of-shape store output list (call-poll-data-bounded time max-events) s =
-    guard-passed (StepShape (at-time time s)) _ s _ (refusal-shape (at-time time s) s)
-    (λ c. poll-data-bounded-shape (at-time time s) max-events)
-step-of-shape store output list (call-send time payload) s =
-    guard-passed (StepShape (at-no-time s)) _ s _ (refusal-shape (at-no-time s) s)
-    (λ c. left-by-send-shape (at-no-time s) _ payload (refresh-states (start s)) _ (refresh-states-quiet (start s) tt))
-step-of-shape store output list call-can-send s =
-    guard-passed (StepShape (at-no-time s)) _ s _ (refusal-shape (at-no-time s) s)
-    (λ c. if-elim (StepShape (at-no-time s)) _ _ _ (λ e. refresh-states-quiet (start s) tt)
-    (λ e. refresh-states-quiet (start s) tt))
-step-of-shape store output list (call-can-send-with-pacing time) s =
-    guard-passed (StepShape (at-no-time s)) _ s _ (refusal-shape (at-no-time s) s)
-    (λ c. if-elim (StepShape (at-no-time s)) _ _ _ (λ e. refresh-states-quiet (start s) tt)
-    (λ e. refresh-states-quiet (start s) tt))
-step-of-shape store output list (call-look look) s = look-shape (at-no-time s) look s
-step-of-shape store output list (call-read-leg id field n) s =
-    guard-passed (StepShape (at-no-time s)) _ s _ (refusal-shape (at-no-time s) s) (λ c. tt)
-step-of-shape store output list (call-queue-data id content payload) s =
-    guard-passed (StepShape (at-no-time s)) _ s _ (refusal-shape (at-no-time s) s) (λ c. (tt, tt))
-step-of-shape store output list (call-queue-event id kind reason) s =
-    guard-passed (StepShape (at-no-time s)) _ s _ (refusal-shape (at-no-time s) s) (λ c. tt)
+pub step-of-shape : (store output list : ℕ) (call : Call) (s : State) → StepShape (when-of call s) (step-of store output list call s)
+step-of-shape store output list call s =
+    by-test (is-poll call) (λ poll. polled-by store output list call s (polls-of call poll)) (unpolled-shape store output list call s)
 
 -- as it is asked for
 pub call-shape : (call : Asked) (s : State)

@@ -16,36 +16,17 @@ use Rattle.srt_group_model.specs.State.{State, Making}
 use Rattle.srt_group_model.specs.Validity.{is-invalid}
 use Rattle.srt_group_model.specs.Guards.{Step, refuse, Check, guard}
 use Rattle.srt_group_model.specs.Calls.{store-unfit, cells-given, breaks-rule, new, new-code, poll-event-call, poll-data-call, send, queue-data}
-use Rattle.srt_group_model.specs.Lent.{Lent, Call, call-add-member, call-mark-member-broken, call-remove-member-connection, call-refresh-member-states, call-disconnect, call-poll-event, call-poll-data-bounded, call-send, call-can-send, call-can-send-with-pacing, call-look, call-read-leg, call-queue-data, call-queue-event, step-of, with-bytes, perform}
+use Rattle.srt_group_model.specs.Lent.{Lent, Call, step-of, with-bytes, perform}
 use Rattle.srt_group_model.specs.laws.Refusals.{changes-nothing, refusal-leaves-everything}
 use Rattle.srt_group_model.specs.laws.Fixed.{making-kept}
 use Rattle.srt_group_model.specs.laws.Valid.{valid-kept, valid-wider, new-valid}
+use Rattle.srt_group_traces.specs.laws.Calls.{Kind, event-poll, data-poll, sending, queueing-data, lent-no-store, kind-of, same-whatever-lent}
 use Rattle.srt_group_traces.specs.laws.Cases.{eq-of, eqb-yes}
 use Rattle.srt_group_traces.specs.Calls.{Asked, do-call, takes-store, made, state-after}
 
 pub store-length-stays : (call : Asked) (s : State) → do-call call s .state .making .length ≡ s .making .length
 unfolding do-call
 store-length-stays call s = ap (λ (x : Making). x .length) (making-kept (call .call) (call .lent) s)
-
--- ---- a call that is lent no store leaves the same, whatever else is lent
-
-unlent-same : (store output list store′ output′ list′ : ℕ) (call : Call) (s : State) → takes-store call ≡ false
-    → step-of store output list call s ≡ step-of store′ output′ list′ call s
-unfolding step-of takes-store
-unlent-same store output list store′ output′ list′ (call-add-member id weight leg queue) s e = refl
-unlent-same store output list store′ output′ list′ (call-mark-member-broken id) s e = refl
-unlent-same store output list store′ output′ list′ (call-remove-member-connection id) s e = refl
-unlent-same store output list store′ output′ list′ call-refresh-member-states s e = refl
-unlent-same store output list store′ output′ list′ (call-disconnect time) s e = refl
-unlent-same store output list store′ output′ list′ (call-poll-event time) s e = not-both {t = true} refl e
-unlent-same store output list store′ output′ list′ (call-poll-data-bounded time max-events) s e = not-both {t = true} refl e
-unlent-same store output list store′ output′ list′ (call-send time payload) s e = not-both {t = true} refl e
-unlent-same store output list store′ output′ list′ call-can-send s e = refl
-unlent-same store output list store′ output′ list′ (call-can-send-with-pacing time) s e = refl
-unlent-same store output list store′ output′ list′ (call-look look) s e = refl
-unlent-same store output list store′ output′ list′ (call-read-leg id field m) s e = refl
-unlent-same store output list store′ output′ list′ (call-queue-data id content payload) s e = not-both {t = true} refl e
-unlent-same store output list store′ output′ list′ (call-queue-event id kind reason) s e = refl
 
 -- ---- validity along a list
 
@@ -70,9 +51,9 @@ call-stays-valid n call s lent h =
     (λ nothing.
     subst (ValidAt n) (sym (refusal-leaves-everything (call .call) (call .lent) s nothing .state)) h)
     (λ something. at-length (call .lent) (lent takes something)))
-    (λ unlent.
+    (λ lent-none.
     subst (λ (step : Step). ValidAt n (step .state))
-    (unlent-same (length (replicate n 0)) 0 0 (length (call .lent .store)) (length (call .lent .output)) (length (call .lent .list)) (call .call) s unlent)
+    (same-whatever-lent (length (replicate n 0)) 0 0 (length (call .lent .store)) (length (call .lent .output)) (length (call .lent .list)) (call .call) s lent-none)
     (at-length record { store = replicate n 0; output = []; list = [] } (length-replicate n 0)))
   where
     at-length : (l : Lent) → length (l .store) ≡ n → ValidAt n (step-of (length (l .store)) (length (l .output)) (length (l .list)) (call .call) s .state)
@@ -128,33 +109,24 @@ unfit-refused n fails checks s body store unfit given some-length e =
     ∙ five-changes-nothing)
     e)
 
-given-lends : (n : ℕ) (store output list : ℕ) (call : Call) (s : State) → Given n s → (n ≡ 0 → ⊥) → takes-store call ≡ true
-    → changes-nothing (step-of store output list call s .code) ≡ false → store ≡ n
-unfolding step-of takes-store poll-event-call poll-data-call send queue-data
-given-lends n store output list (call-add-member id weight leg queue) s given some-length takes e = not-both takes refl
-given-lends n store output list (call-mark-member-broken id) s given some-length takes e = not-both takes refl
-given-lends n store output list (call-remove-member-connection id) s given some-length takes e = not-both takes refl
-given-lends n store output list call-refresh-member-states s given some-length takes e = not-both takes refl
-given-lends n store output list (call-disconnect time) s given some-length takes e = not-both takes refl
-given-lends n store output list (call-poll-event time) s given some-length takes e =
+lends-by : {c : Call} (n : ℕ) (store output list : ℕ) (s : State) → Kind c → Given n s → (n ≡ 0 → ⊥) → takes-store c ≡ true
+    → changes-nothing (step-of store output list c s .code) ≡ false → store ≡ n
+unfolding step-of poll-event-call poll-data-call send queue-data
+lends-by n store output list s (event-poll time) given some-length takes e =
     unfit-refused n _ _ s _ store (λ t. or-yes-left (store-unfit store s) _ t) given some-length e
-given-lends n store output list (call-poll-data-bounded time max-events) s given some-length takes e =
+lends-by n store output list s (data-poll time max-events) given some-length takes e =
     unfit-refused n _ _ s _ store (λ t. or-yes-left (store-unfit store s) _ t) given some-length e
-given-lends n store output list (call-send time payload) s given some-length takes e =
+lends-by n store output list s (sending time payload) given some-length takes e =
     unfit-refused n _ _ s _ store (λ t. or-yes-left (store-unfit store s) _ t) given some-length e
-given-lends n store output list call-can-send s given some-length takes e = not-both takes refl
-given-lends n store output list (call-can-send-with-pacing time) s given some-length takes e = not-both takes refl
-given-lends n store output list (call-look look) s given some-length takes e = not-both takes refl
-given-lends n store output list (call-read-leg id field m) s given some-length takes e = not-both takes refl
-given-lends n store output list (call-queue-data id content payload) s given some-length takes e =
+lends-by n store output list s (queueing-data id d payload) given some-length takes e =
     unfit-refused n _ _ s _ store (λ t. t) given some-length e
-given-lends n store output list (call-queue-event id kind reason) s given some-length takes e = not-both takes refl
+lends-by n store output list s (lent-no-store c lent poll h) given some-length takes e = not-both takes lent
 
 given-length-lends : (n : ℕ) (calls : List Asked) (s : State) → Given n s → (n ≡ 0 → ⊥) → OneLength n calls s
 unfolding do-call perform with-bytes
 given-length-lends n [] s given some-length = tt
 given-length-lends n (call ∷ more) s given some-length = (
-  (λ takes e. given-lends n _ _ _ (call .call) s given some-length takes e),
+  (λ takes e. lends-by n _ _ _ s (kind-of (call .call)) given some-length takes e),
   given-length-lends n more _ (store-length-stays call s ∙ given) some-length,
 )
 

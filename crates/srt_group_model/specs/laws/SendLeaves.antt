@@ -1,0 +1,93 @@
+-- A send leaves all of receiving, its refresh included, but that the refresh may set the base: the frame that demand 3 asks of sends. An
+-- instance of the law of calls.
+use mathlib.Core.Path.{_≡_, refl, sym, _∙_}
+use mathlib.Core.Bool.{true}
+use mathlib.Core.List.{List}
+use mathlib.Core.Option.{Option, some}
+use Prim.Native.Nat.{ℕ}
+use Rattle.srt_group_model.specs.State.{State, next-receive-sequence}
+use Rattle.srt_group_model.specs.Run.{Mark}
+use Rattle.srt_group_model.specs.Lent.{Lent, call-send, perform}
+use Rattle.srt_group_model.specs.laws.Reason.{not-both, none-some, Each-to, each-to-same, each-to-then}
+use Rattle.srt_group_model.specs.laws.CallLaw.{Calling, Polls, polls-events, polls-packets, Refresh-law, Call-law}
+use Rattle.srt_group_model.specs.laws.EveryCall.{call-keeps}
+use Rattle.srt_group_model.specs.laws.MemberMoves.{Same-account, same-account, account-then, moved-accounts}
+
+pub record Leaves-receiving (s t : State) : Type 0 where
+  pub base : (b : ℕ) → next-receive-sequence (s .receive) ≡ some b → next-receive-sequence (t .receive) ≡ some b
+  pub skipped : t .receive .numbers .skipped ≡ s .receive .numbers .skipped
+  pub pending : t .receive .pending ≡ s .receive .pending
+  pub visit : t .visit ≡ s .visit
+  pub own : t .own ≡ s .own
+  pub waiting : t .waiting ≡ s .waiting
+  -- of each member id, queue, sums, the peer's first sequence; and Broken stays
+  pub members : Each-to Same-account (s .members) (t .members)
+
+module _ (s : State) where
+  abbrev Left : Option ℕ → State → List Mark → Type 0
+  Left hand t log = Leaves-receiving s t
+
+  left-refresh : Refresh-law Left
+  left-refresh =
+      record {
+        moves =
+            λ t i m f at move h.
+            record {
+              base = h .base;
+              skipped = h .skipped;
+              pending = h .pending;
+              visit = h .visit;
+              own = h .own;
+              waiting = h .waiting;
+              members = each-to-then Same-account account-then (s .members) (t .members) _ (h .members) (moved-accounts i m f (t .members) at move);
+            };
+        binds =
+            λ t i m at a h.
+            record { base = h .base; skipped = h .skipped; pending = h .pending; visit = h .visit; own = h .own; waiting = h .waiting; members = h .members };
+        sets-base =
+            λ t b unset source h.
+            record {
+              base = λ c e. none-some (sym unset ∙ h .base c e);
+              skipped = h .skipped;
+              pending = h .pending;
+              visit = h .visit;
+              own = h .own;
+              waiting = h .waiting;
+              members = h .members;
+            };
+      }
+
+  module _ (k : Calling) (time : ℕ) (payload : List ℕ) (send : k .call ≡ call-send time payload) where
+    no-poll : Polls (k .call) → ⊥
+    no-poll (polls-events t is) = not-both {t = true} refl cc
+    no-poll (polls-packets t n is) = not-both {t = true} refl cc
+
+    left-moves : Call-law k Left
+    left-moves =
+        record {
+          refreshing = left-refresh;
+          collecting = λ poll. absurd (no-poll poll);
+          polling = λ poll. absurd (no-poll poll);
+          joins = λ t id weight l queue is j h. not-both {t = true} refl cc;
+          leaves = λ t i m is at h. not-both {t = true} refl cc;
+          retires = λ t id base p is e h. not-both {t = true} refl cc;
+          takes = λ payload takes free h. h;
+          puts = λ t cell payload takes accepted short unused h. h;
+          lets-go = λ t cell h. h;
+          queues-data = λ t i m cell d payload is accepted at full unfit short h. not-both {t = true} refl cc;
+          queues-event = λ t i m id kind reason is at full some-kind known fits h. not-both {t = true} refl cc;
+          numbers =
+              λ t sequence h.
+              record { base = h .base; skipped = h .skipped; pending = h .pending; visit = h .visit; own = h .own; waiting = h .waiting; members = h .members };
+          remembers =
+              λ t i m e at next short fits h.
+              record { base = h .base; skipped = h .skipped; pending = h .pending; visit = h .visit; own = h .own; waiting = h .waiting; members = h .members };
+          trims =
+              λ t l h.
+              record { base = h .base; skipped = h .skipped; pending = h .pending; visit = h .visit; own = h .own; waiting = h .waiting; members = h .members };
+        }
+
+pub send-leaves-receiving : (time : ℕ) (payload : List ℕ) (lent : Lent) (s : State) → Leaves-receiving s (perform (call-send time payload) lent s .state)
+send-leaves-receiving time payload lent s =
+    call-keeps (Left s) (call-send time payload) lent s (left-moves s _ time payload refl)
+    record { base = λ b e. e; skipped = refl; pending = refl; visit = refl; own = refl; waiting = refl; members = each-to-same Same-account same-account (s .members) }
