@@ -146,16 +146,22 @@ module _ (schedule : List Delivery) where
     pub not-far-ahead : place < base + half
     pub not-far-behind : base < place + half
 
-  -- THE PREMISE, of all marks of a list of calls, newest first. The base is set to `first`, where the schedule starts, before a
-  -- packet is collected; each collected packet, as it was queued, is of the schedule and near the base's place.
-  abbrev pub FromSchedule : ℕ → List Mark → Type 0
-  FromSchedule first [] = Unit {0}
-  FromSchedule first (put cell payload ∷ log) = FromSchedule first log
-  FromSchedule first (base-set base ∷ log) = (base ≡ first) × FromSchedule first log
-  FromSchedule first (collected p ∷ log) =
-      (first-base log ≡ some first) × Near (last-put log) (place-after log) (p .content) × FromSchedule first log
-  FromSchedule first (gap-skipped tested time distance ∷ log) = FromSchedule first log
-  FromSchedule first (delivered p ∷ log) = FromSchedule first log
+-- Of each packet that was collected, with the marks before it.
+abbrev pub EachCollected : (List Mark → Packet → Type 0) → List Mark → Type 0
+EachCollected P [] = Unit {0}
+EachCollected P (put cell payload ∷ log) = EachCollected P log
+EachCollected P (base-set base ∷ log) = EachCollected P log
+EachCollected P (collected p ∷ log) = P log p × EachCollected P log
+EachCollected P (gap-skipped tested time distance ∷ log) = EachCollected P log
+EachCollected P (delivered p ∷ log) = EachCollected P log
+
+-- THE PREMISE on the base: before a packet was collected the base was set, to `first`.
+abbrev pub SetBefore : ℕ → List Mark → Type 0
+SetBefore first = EachCollected (λ log p. first-base log ≡ some first)
+
+-- THE PREMISE on the packets: each was near when it was collected, taken as it was queued.
+abbrev pub AllNear : List Delivery → List Mark → Type 0
+AllNear schedule = EachCollected (λ log p. Near schedule (last-put log) (place-after log) (p .content))
 
 -- an accepted call that is lent a store is lent this one
 abbrev pub LendsThis : List ℕ → Asked → State → Type 0
@@ -166,11 +172,12 @@ abbrev pub OneStore : List ℕ → List Asked → State → Type 0
 OneStore store [] s = Unit {0}
 OneStore store (call ∷ more) s = LendsThis store call s × OneStore (store-left store call s) more (do-call call s .state)
 
--- The premises of the second claim: the packets collected come from the schedule, near the base; the skipped count is below its
--- ceiling; and there is one store.
+-- The premises of the second claim: the base was set, to where the schedule starts, before a packet was collected; the packets
+-- collected come from the schedule, near the base; the skipped count is below its ceiling; and there is one store.
 pub record Fair (schedule : List Delivery) (first : ℕ) (g : Making) (calls : List Asked) : Type 0 where
   pub store : List ℕ
-  pub from : FromSchedule schedule first (log-after calls (made g))
+  pub set-before : SetBefore first (log-after calls (made g))
+  pub near : AllNear schedule (log-after calls (made g))
   pub below : skipped-in (state-after calls (made g)) < largest-64
   pub one-store : OneStore store calls (made g)
 

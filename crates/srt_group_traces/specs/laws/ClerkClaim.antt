@@ -14,12 +14,12 @@ use Rattle.srt_group_model.specs.Run.{Mark, put, base-set, collected, gap-skipp
 use Rattle.srt_group_model.specs.Calls.{new}
 use Rattle.srt_group_model.specs.declared.Packet.{Packet}
 use Rattle.srt_group_model.specs.Lent.{delivered-by}
-use Rattle.srt_group_traces.specs.Statement.{total-skipped, total-delivered, place-after, last-put, Consecutive, pass-to, Told, told-by, give-next, clerk, AtPlace, FromSchedule, When, when-of}
+use Rattle.srt_group_traces.specs.Statement.{total-skipped, total-delivered, place-after, last-put, Consecutive, pass-to, Told, told-by, give-next, clerk, AtPlace, EachCollected, SetBefore, AllNear, When, when-of}
 use Rattle.srt_group_traces.specs.laws.Marks.{total-skipped-append}
 use Rattle.srt_group_traces.specs.laws.Shape.{Quiet, Given, Shape, call-shape}
 use Rattle.srt_group_traces.specs.laws.Base.{sums-after, quiet-delivers-nothing, quiet-skips-nothing, before-delivery}
 use Rattle.srt_group_traces.specs.laws.Schedule.{pass-to-zero, pass-to-next, pass-to-further, sequence-at-place}
-use Rattle.srt_group_traces.specs.laws.Follows.{AtPlaces, Follows, Following, call-following, new-following}
+use Rattle.srt_group_traces.specs.laws.Follows.{AtPlaces, FromSchedule, Follows, Following, call-following, new-following}
 use Rattle.srt_group_traces.specs.Calls.{Asked, do-call, skipped-in, Making, made, state-after, log-after, Delivery}
 
 -- ---- what was delivered, as it was queued
@@ -39,15 +39,18 @@ delivered-as-queued log (call ∷ more) s =
 
 -- ---- small laws
 
--- the premise of a list is that of its beginning
+-- the premises of a list are those of its beginning
+each-collected-before : (P : List Mark → Packet → Type 0) (m log : List Mark) → EachCollected P (m ++ log) → EachCollected P log
+each-collected-before P [] log h = h
+each-collected-before P (put cell payload ∷ m) log h = each-collected-before P m log h
+each-collected-before P (base-set base ∷ m) log h = each-collected-before P m log h
+each-collected-before P (collected p ∷ m) log h = each-collected-before P m log (h .1)
+each-collected-before P (gap-skipped tested time distance ∷ m) log h = each-collected-before P m log h
+each-collected-before P (delivered p ∷ m) log h = each-collected-before P m log h
+
 pub from-schedule-before : (schedule : List Delivery) (first : ℕ) (m log : List Mark) → FromSchedule schedule first (m ++ log)
     → FromSchedule schedule first log
-from-schedule-before schedule first [] log h = h
-from-schedule-before schedule first (put cell payload ∷ m) log h = from-schedule-before schedule first m log h
-from-schedule-before schedule first (base-set base ∷ m) log h = from-schedule-before schedule first m log (h .1)
-from-schedule-before schedule first (collected p ∷ m) log h = from-schedule-before schedule first m log (h .2)
-from-schedule-before schedule first (gap-skipped tested time distance ∷ m) log h = from-schedule-before schedule first m log h
-from-schedule-before schedule first (delivered p ∷ m) log h = from-schedule-before schedule first m log h
+from-schedule-before schedule first m log h = (each-collected-before _ m log (h .0), each-collected-before _ m log (h .1))
 
 pub skipped-rises : (m log : List Mark) → total-skipped log ≤ total-skipped (m ++ log)
 skipped-rises m log = omega (arith, total-skipped-append m log)
@@ -184,10 +187,10 @@ module _ (schedule : List Delivery) (first : ℕ) (runs : Consecutive first sche
       below-after : total-skipped (log-after more (do-call call s .state) ++ (do-call call s .log ++ log)) < largest-64
       below-after = rw append-assoc at below
 
-  pub clerk-as-queued : (g : Making) (calls : List Asked) → FromSchedule schedule first (log-after calls (made g))
+  pub clerk-as-queued : (g : Making) (calls : List Asked) → SetBefore first (log-after calls (made g)) → AllNear schedule (log-after calls (made g))
       → skipped-in (state-after calls (made g)) < largest-64
       → clerk schedule 0 (told-by calls (made g)) ≡ some (delivered-as-queued [] calls (made g))
   unfolding total-delivered total-skipped new
-  clerk-as-queued g calls from below =
-      clerk-of-calls calls (made g) [] schedule (pass-to-zero schedule) (new-following schedule first runs g) (rw append-nil from)
+  clerk-as-queued g calls set-before near below =
+      clerk-of-calls calls (made g) [] schedule (pass-to-zero schedule) (new-following schedule first runs g) (rw append-nil set-before, rw append-nil near)
       (rw append-nil (omega (arith, below, sums-after g calls .skipped)))

@@ -1,5 +1,5 @@
 -- The marks are honest along a list. In every state that a list of calls reaches, what a poll takes off the queue of a leg is
--- exactly what it marks as collected from it, in order: the packets of the premise `FromSchedule` are those that were got by
+-- exactly what it marks as collected from it, in order: the packets of the premise `AllNear` are those that were got by
 -- polling a leg. And the payload that the premise reads, last put into the packet's cell, is the one it was queued with: a
 -- call that queues data puts its payload into that cell, and until the packet is gone no call puts another there
 -- (`AfterCall.stays` of Bytes). From the model's HonestLog.

@@ -16,7 +16,7 @@ use Rattle.srt_group_model.specs.laws.Computed.{definitions}
 use Rattle.srt_group_model.specs.Lent.{Call, call-add-member, call-mark-member-broken, call-remove-member-connection, call-poll-event, call-send, call-read-leg, call-queue-data, call-queue-event, call-poll-data}
 use Rattle.srt_group_model.specs.declared.Data.{Data}
 use Rattle.srt_group_model.specs.declared.Leg.{Leg}
-use Rattle.srt_group_traces.specs.Statement.{first-base, total-skipped, total-delivered, last-put, Consecutive, pass-to, told-by, clerk, FromSchedule, OneStore, Fair}
+use Rattle.srt_group_traces.specs.Statement.{first-base, total-skipped, total-delivered, last-put, Consecutive, pass-to, told-by, clerk, SetBefore, AllNear, OneStore, Fair}
 use Rattle.srt_group_traces.specs.Calls.{Asked, Delivery, Making, made, do-call, takes-store, given-by, state-after, log-after, deliveries, store-left}
 use Rattle.srt_group_model.specs.laws.Reason.{not-both}
 use Rattle.srt_group_model.specs.Sending.{list-size}
@@ -113,11 +113,14 @@ codes = refl
 
 -- ---- the premises are met
 
--- the packet at a place of the schedule, not far from the base's
-pub from : FromSchedule schedule 100 (log-after calls (made group))
-unfolding definitions group store-0 store-1 store-2 store-3 output sends calls schedule do-call log-after first-base total-skipped total-delivered last-put pass-to
-from = (
-  refl,
+pub set-before : SetBefore 100 (log-after calls (made group))
+unfolding definitions group store-0 store-1 store-2 store-3 output sends calls do-call log-after first-base
+set-before = (refl, (refl, (refl, tt)))
+
+-- each packet at its place of the schedule, not far from the base's
+pub near : AllNear schedule (log-after calls (made group))
+unfolding definitions group store-0 store-1 store-2 store-3 output sends calls schedule do-call log-after total-skipped total-delivered last-put pass-to
+near = (
   record {
     place = 4;
     at = record { scheduled = planned 104 1 (68 ∷ []); rest = []; here = refl; sequence = refl; count = refl; payload = refl };
@@ -125,7 +128,6 @@ from = (
     not-far-behind = lit< tt;
   },
   (
-    refl,
     record {
       place = 1;
       at =
@@ -141,7 +143,6 @@ from = (
       not-far-behind = lit< tt;
     },
     (
-      refl,
       record {
         place = 0;
         at =
@@ -156,7 +157,7 @@ from = (
         not-far-ahead = lit< tt;
         not-far-behind = lit< tt;
       },
-      (refl, tt),
+      tt,
     ),
   ),
 )
@@ -225,7 +226,7 @@ one-store = (
 
 pub fair : Fair schedule 100 group calls
 unfolding definitions group store-0 store-1 store-2 store-3 output sends calls do-call state-after
-fair = record { store = store-0; from = from; below = lit< tt; one-store = one-store }
+fair = record { store = store-0; set-before = set-before; near = near; below = lit< tt; one-store = one-store }
 
 -- ---- so the delivered list is the clerk's, and here it is
 

@@ -11,7 +11,7 @@ use Rattle.srt_protocol.specs.Cells.{overwritten, cell-size}
 use Rattle.srt_group_model.specs.laws.State.{backup-mode}
 use Rattle.srt_group_model.specs.laws.Computed.{definitions}
 use Rattle.srt_group_model.specs.Lent.{call-add-member, call-send, call-queue-data, call-poll-data}
-use Rattle.srt_group_traces.specs.Statement.{first-base, total-skipped, total-delivered, last-put, pass-to, FromSchedule, OneStore, Prefix, until-skip, Gateway, stands-at, delivers}
+use Rattle.srt_group_traces.specs.Statement.{first-base, total-skipped, total-delivered, last-put, pass-to, SetBefore, AllNear, OneStore, Prefix, until-skip, Gateway, stands-at, delivers}
 use Rattle.srt_group_traces.specs.Calls.{Asked, Making, made, do-call, takes-store, given-by, state-after, log-after, deliveries, counts-of, store-left}
 use Rattle.srt_group_traces.specs.laws.HistoryTheorem.{history-theorem}
 use Rattle.srt_group_traces.specs.laws.Example.{leg, content, plain, over, output, sends, planned, schedule, runs, never, store-0, store-1, store-2, store-3, group, calls, fair}
@@ -58,10 +58,14 @@ after-b =
     ∷ over cells-3 (call-queue-data 3 (content 103 1 0) (67 ∷ [])) ∷ over cells-4 (call-queue-data 3 (content 104 1 0) (68 ∷ []))
     ∷ over cells-5 (call-poll-data 0) ∷ over cells-5 (call-poll-data 0) ∷ over cells-5 (call-poll-data 0) ∷ []
 
-pub from-b : FromSchedule schedule 100 (log-after (before-b ++ after-b) (made backup-group))
-unfolding definitions backup-group cells-0 cells-1 cells-2 cells-3 cells-4 cells-5 output sends before-b after-b schedule do-call log-after first-base total-skipped total-delivered last-put pass-to
-from-b = (
-  refl,
+pub set-before-b : SetBefore 100 (log-after (before-b ++ after-b) (made backup-group))
+unfolding definitions backup-group cells-0 cells-1 cells-2 cells-3 cells-4 cells-5 output sends before-b after-b do-call log-after first-base
+set-before-b = (refl, (refl, (refl, (refl, tt))))
+
+-- each packet at its place of the schedule, not far from the base's
+pub near-b : AllNear schedule (log-after (before-b ++ after-b) (made backup-group))
+unfolding definitions backup-group cells-0 cells-1 cells-2 cells-3 cells-4 cells-5 output sends before-b after-b schedule do-call log-after total-skipped total-delivered last-put pass-to
+near-b = (
   record {
     place = 4;
     at = record { scheduled = planned 104 1 (68 ∷ []); rest = []; here = refl; sequence = refl; count = refl; payload = refl };
@@ -69,7 +73,6 @@ from-b = (
     not-far-behind = lit< tt;
   },
   (
-    refl,
     record {
       place = 3;
       at =
@@ -85,7 +88,6 @@ from-b = (
       not-far-behind = lit< tt;
     },
     (
-      refl,
       record {
         place = 1;
         at =
@@ -101,7 +103,6 @@ from-b = (
         not-far-behind = lit< tt;
       },
       (
-        refl,
         record {
           place = 0;
           at =
@@ -116,7 +117,7 @@ from-b = (
           not-far-ahead = lit< tt;
           not-far-behind = lit< tt;
         },
-        (refl, tt),
+        tt,
       ),
     ),
   ),
@@ -142,7 +143,7 @@ gateway-b =
       making = backup-group;
       before = before-b;
       after = after-b;
-      fair = record { store = cells-0; from = from-b; below = lit< tt; one-store = one-store-b };
+      fair = record { store = cells-0; set-before = set-before-b; near = near-b; below = lit< tt; one-store = one-store-b };
     }
 
 -- ---- both stand at place 1

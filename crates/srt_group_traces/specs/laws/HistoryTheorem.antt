@@ -16,7 +16,7 @@ history-theorem =
       base = base-claim;
       schedule =
           λ schedule first runs g calls fair.
-          clerk-as-queued schedule first runs g calls (fair .from) (fair .below)
+          clerk-as-queued schedule first runs g calls (fair .set-before) (fair .near) (fair .below)
           ∙ ap {B = Option (List Delivery)} some
           (sym (delivered-is-as-queued calls (made g) (fair .store) [] (new-alive g (fair .store)) (fair .one-store)));
       skips = λ g calls. skips-claim calls (made g);
