@@ -8,16 +8,15 @@ use mathlib.Core.Path.{_≡_}
 use mathlib.Core.Bool.{true, false}
 use mathlib.Core.List.{List, [], _∷_, _++_}
 use mathlib.Core.Option.{Option, none, some}
-use Prim.Native.Nat.{ℕ, _+_, min}
+use Prim.Native.Nat.{ℕ, _+_}
 use lib.Dec.{eqb}
 use Rattle.srt_protocol.specs.Sequence.{sequence-distance}
-use Rattle.srt_group_model.specs.Legs.{largest-64}
 use Rattle.srt_group_model.specs.Tools.{if_then_else_, if-some_give_otherwise_}
 use Rattle.srt_group_model.specs.State.{State, next-receive-sequence}
 use Rattle.srt_group_model.specs.Guards.{Answer, no-answer}
 use Rattle.srt_group_model.specs.Lent.{Lent, Result, delivered-by}
-use Rattle.srt_group_traces.specs.Statement.{Told, Fair, when-of, RightSkip}
-use Rattle.srt_group_traces.specs.Calls.{Asked, do-call, is-poll, time-of, Making, made, counts-of, skipped-in, Delivery, delivery-of}
+use Rattle.srt_group_traces.specs.Statement.{Told, Fair, Raised}
+use Rattle.srt_group_traces.specs.Calls.{Asked, do-call, Making, made, counts-of, skipped-in, Delivery, delivery-of}
 
 -- ---- what a port shows of a call
 
@@ -108,19 +107,9 @@ first-shown (x ∷ xs) =
 
 -- ---- skips
 
--- What a port shows of a skip: the state that the step began with, the call and what is shown of it. The call was a poll; the
--- give-up test was true, as a right skip has it; it delivers the packet then nearest; every leg's queue is empty and no
--- event waits in the state that is shown; and the count rises by the distance the base went, up to its ceiling.
-pub record ShownSkip (s : State) (call : Asked) (x : Shown) : Type 0 where
-  pub poll : is-poll (call .call) ≡ true
-  pub tested : State
-  pub distance : ℕ
-  pub right : RightSkip (when-of (call .call) s) (delivered-by (x .answer)) (x .state) tested (time-of (call .call)) distance
-  pub rise : skipped-in (x .state) ≡ min (skipped-in s + distance) largest-64
-
 -- a step that raises the skipped count made a right skip; a refusal raises nothing
 abbrev pub SkipShown : State → Taken → Type 0
-SkipShown s (did call x) = (skipped-in (x .state) ≡ skipped-in s → ⊥) → ShownSkip s call x
+SkipShown s (did call x) = (skipped-in (x .state) ≡ skipped-in s → ⊥) → Raised s (call .call) (delivered-by (x .answer)) (x .state)
 SkipShown s (refused-short call x) = skipped-in (x .state) ≡ skipped-in s
 
 -- each step of a list

@@ -14,12 +14,13 @@ use Rattle.srt_group_traces.specs.Port.{Taken, all-shown, calls-of, Perf
 use Rattle.srt_group_traces.specs.Calls.{Making, made, counts-of, skipped-in, Delivery}
 
 pub record PortTheorem : Type 0 where
-  -- the base less its first value is the delivered packet counts plus the skipped count, modulo 2^31
+  -- a base that is shown has a first value by what is shown; the base less that is the delivered packet counts plus the skipped
+  -- count, modulo 2^31
   pub base : (g : Making) (steps : List Taken) → Performed (made g) steps
       → skipped-in (last-shown (made g) (all-shown steps)) < largest-64
-      → (first : ℕ) → first-shown (all-shown steps) ≡ some first
-      → (base : ℕ)
-      × (next-receive-sequence (last-shown (made g) (all-shown steps) .receive) ≡ some base)
+      → (base : ℕ) → next-receive-sequence (last-shown (made g) (all-shown steps) .receive) ≡ some base
+      → (first : ℕ)
+      × (first-shown (all-shown steps) ≡ some first)
       × (sequence-distance first base
       ≡ (counts-of (shown-deliveries (all-shown steps)) + skipped-in (last-shown (made g) (all-shown steps))) % (half + half))
   -- the delivered list is the clerk's, byte for byte

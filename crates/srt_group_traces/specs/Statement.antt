@@ -4,7 +4,7 @@ use mathlib.Core.Path.{_≡_}
 use mathlib.Core.Bool.{Bool, true, false, _||_}
 use mathlib.Core.List.{List, [], _∷_, _++_}
 use mathlib.Core.Option.{Option, none, some}
-use Prim.Native.Nat.{ℕ, zero, suc, _+_, _-_, _%_, _≤_, _<_}
+use Prim.Native.Nat.{ℕ, zero, suc, _+_, _-_, _%_, _≤_, _<_, min}
 use lib.Dec.{leb, eqb}
 use Rattle.srt_protocol.specs.Sequence.{half, sequence-distance, sequence-further}
 use Rattle.srt_group_model.specs.Tools.{if_then_else_, if-some_give_otherwise_, is-set, or-else, all, All}
@@ -18,7 +18,7 @@ use Rattle.srt_group_model.specs.Polls.{delivery-budget, poll-event}
 use Rattle.srt_group_model.specs.Lent.{Call, delivered-by}
 use Rattle.srt_group_model.specs.declared.Data.{Data}
 use Rattle.srt_group_model.specs.declared.Packet.{Packet}
-use Rattle.srt_group_traces.specs.Calls.{Asked, do-call, takes-store, time-of, Delivery, deliveries, Making, made, state-after, log-after, counts-of, skipped-in, store-left}
+use Rattle.srt_group_traces.specs.Calls.{Asked, do-call, takes-store, is-poll, time-of, Delivery, deliveries, Making, made, state-after, log-after, counts-of, skipped-in, store-left}
 
 -- ---- the marks of a list of calls, newest first
 
@@ -62,15 +62,27 @@ last-put (collected p ∷ log) cell = last-put log cell
 last-put (gap-skipped tested time distance ∷ log) cell = last-put log cell
 last-put (delivered p ∷ log) cell = last-put log cell
 
+-- how many packets were collected
+unfoldable pub packets-collected : List Mark → ℕ
+packets-collected [] = 0
+packets-collected (put cell payload ∷ log) = packets-collected log
+packets-collected (base-set base ∷ log) = packets-collected log
+packets-collected (collected p ∷ log) = suc (packets-collected log)
+packets-collected (gap-skipped tested time distance ∷ log) = packets-collected log
+packets-collected (delivered p ∷ log) = packets-collected log
+
 -- ---- the first claim
 
--- Modulo 2^31, the receive base less its first value is the delivered packet counts plus the skipped count.
-pub record BaseClaim (g : Making) (calls : List Asked) (first : ℕ) : Type 0 where
-  pub base : ℕ
-  pub is : next-receive-sequence (state-after calls (made g) .receive) ≡ some base
-  pub moved :
-      sequence-distance first base
-      ≡ (counts-of (deliveries calls (made g)) + skipped-in (state-after calls (made g))) % (half + half)
+-- the place at which a list of calls leaves the base, the clerk's place, counted unreduced
+abbrev pub place-of-base : Making → List Asked → ℕ
+place-of-base g calls = counts-of (deliveries calls (made g)) + skipped-in (state-after calls (made g))
+
+-- A base that is set has a first value. Modulo 2^31, the base less its first value is the delivered packet counts plus the
+-- skipped count.
+pub record BaseClaim (g : Making) (calls : List Asked) (base : ℕ) : Type 0 where
+  pub first : ℕ
+  pub is-first : first-base (log-after calls (made g)) ≡ some first
+  pub moved : skipped-in (state-after calls (made g)) < largest-64 → sequence-distance first base ≡ place-of-base g calls % (half + half)
 
 -- ---- a schedule
 
@@ -126,6 +138,20 @@ clerk ahead known (told ∷ more) =
     if told .delivered
     then give-next (pass-to ahead (told .skipped - known)) (λ xs. clerk xs (told .skipped) more)
     else clerk ahead (told .skipped) more
+
+-- he goes past the next packet
+unfoldable pub go-past : Option (List Delivery) → (List Delivery → Option (List Delivery)) → Option (List Delivery)
+go-past none go-on = none
+go-past (some []) go-on = none
+go-past (some (x ∷ xs)) go-on = go-on xs
+
+-- The packets that are then before him: he goes as he goes when he gives.
+unfoldable pub clerk-left : List Delivery → ℕ → List Told → Option (List Delivery)
+clerk-left ahead known [] = some ahead
+clerk-left ahead known (told ∷ more) =
+    if told .delivered
+    then go-past (pass-to ahead (told .skipped - known)) (λ xs. clerk-left xs (told .skipped) more)
+    else clerk-left ahead (told .skipped) more
 
 -- ---- the premises of the second claim
 
@@ -245,6 +271,15 @@ pub record RightSkip (when : When) (gave : Option Packet) (s : State) (tested : 
   pub empty : QueuesEmpty s
   pub none-waiting : s .waiting ≡ []
 
+-- A call from s that raised the skipped count, by what it gave and what it left: it was a poll, made a right skip at its own time,
+-- and the count rose by the distance that the base went, up to its ceiling.
+pub record Raised (s : State) (call : Call) (gave : Option Packet) (after : State) : Type 0 where
+  pub poll : is-poll call ≡ true
+  pub tested : State
+  pub distance : ℕ
+  pub right : RightSkip (when-of call s) gave after tested (time-of call) distance
+  pub rise : skipped-in after ≡ min (skipped-in s + distance) largest-64
+
 -- of a mark: if it is a skip, it is right
 abbrev pub Right : When → Option Packet → State → Mark → Type 0
 Right when gave s (put cell payload) = Unit {0}
@@ -279,10 +314,6 @@ pub record Gateway (schedule : List Delivery) (first : ℕ) : Type 0 where
   pub before : List Asked
   pub after : List Asked
   pub fair : Fair schedule first making (before ++ after)
-
--- the place at which a list of calls leaves the base, the clerk's place, counted unreduced
-abbrev pub place-of-base : Making → List Asked → ℕ
-place-of-base g calls = counts-of (deliveries calls (made g)) + skipped-in (state-after calls (made g))
 
 module _ (schedule : List Delivery) (first : ℕ) where
   -- the place at which it stands then

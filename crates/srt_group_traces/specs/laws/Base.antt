@@ -29,7 +29,7 @@ use Rattle.srt_group_traces.specs.laws.Held.{insert-all, nearest-all, no
 use Rattle.srt_group_traces.specs.laws.Sides.{sides}
 use Rattle.srt_group_traces.specs.laws.Shape.{Quiet, Skip, Shape, call-shape}
 use Rattle.srt_group_model.specs.Lent.{Result, delivered-by}
-use Rattle.srt_group_traces.specs.Calls.{Asked, do-call, Making, made, state-after, log-after, skipped-in, Delivery, delivery-of, given-by, deliveries, counts-of}
+use Rattle.srt_group_traces.specs.Calls.{Asked, do-call, Making, made, state-after, log-after, Delivery, delivery-of, given-by, deliveries, counts-of}
 
 pub half-above-zero : 0 < half
 unfolding half
@@ -238,19 +238,36 @@ delivered-counts (call ∷ more) s =
 
 -- ---- the first claim
 
-pub base-claim : (g : Making) (calls : List Asked) (first : ℕ) → first-base (log-after calls (made g)) ≡ some first
-    → skipped-in (state-after calls (made g)) < largest-64 → BaseClaim g calls first
-base-claim g calls first e below =
+stands-where : (o b : Option ℕ) (place base : ℕ) → b ≡ some base → Stands o b place
+    → (first : ℕ) × (o ≡ some first) × (base ≡ sequence-further first place)
+stands-where none b place base e h = none-some (sym (h .0) ∙ e)
+stands-where (some first) b place base e h = (first, refl, some-inj (sym e ∙ h .1))
+
+pub sums-first : (x : Receive) (log : List Mark) (base : ℕ) → next-receive-sequence x ≡ some base → Sums x log
+    → (first : ℕ) × (first-base log ≡ some first) × (base ≡ sequence-further first (place-after log))
+sums-first x log base e h = stands-where (first-base log) (next-receive-sequence x) (place-after log) base e (h .stands)
+
+-- Where the base is set, it has a first value, from which it went as far as was delivered and skipped.
+pub based-has-first : (g : Making) (calls : List Asked) (base : ℕ)
+    → next-receive-sequence (state-after calls (made g) .receive) ≡ some base
+    → (first : ℕ) × (first-base (log-after calls (made g)) ≡ some first)
+    × (base ≡ sequence-further first (place-after (log-after calls (made g))))
+based-has-first g calls base e =
+    sums-first (state-after calls (made g) .receive) (log-after calls (made g)) base e (sums-after g calls)
+
+pub base-claim : (g : Making) (calls : List Asked) (base : ℕ)
+    → next-receive-sequence (state-after calls (made g) .receive) ≡ some base → BaseClaim g calls base
+base-claim g calls base e =
+    let w : (first : ℕ) × (first-base (log-after calls (made g)) ≡ some first)
+    × (base ≡ sequence-further first (place-after (log-after calls (made g)))) =
+    based-has-first g calls base e
+    in
     record {
-      base = sequence-further first (place-after (log-after calls (made g)));
-      is = stands .1;
+      first = w .0;
+      is-first = w .1;
       moved =
-          distance-further half first (place-after (log-after calls (made g))) half-above-zero
+          λ below.
+          ap (sequence-distance (w .0)) (w .2)
+          ∙ distance-further half (w .0) (place-after (log-after calls (made g))) half-above-zero
           ∙ ap (λ (n : ℕ). n % (half + half)) (omega (arith, delivered-counts calls (made g), sums-after g calls .skipped));
     }
-  where
-    stands : Stands (some first) (next-receive-sequence (state-after calls (made g) .receive)) (place-after (log-after calls (made g)))
-    stands =
-        subst (λ (o : Option ℕ). Stands o (next-receive-sequence (state-after calls (made g) .receive))
-        (place-after (log-after calls (made g)))) e
-        (sums-after g calls .stands)

@@ -1,4 +1,4 @@
--- Where the clerk stands. After every list of calls, and after every list of a port's steps, what is left before him is the
+-- Where the clerk stands. After every list of calls what is left before him is the
 -- schedule from the base's place on: from the counts delivered and the skipped count, added up. So the base's place is his.
 use mathlib.Core.Path.{_≡_, refl, sym, ap, _∙_, subst}
 use mathlib.Core.Bool.{true, false}
@@ -7,50 +7,31 @@ use mathlib.Core.Option.{Option, none, some}
 use Prim.Native.Nat.{ℕ, _+_, _-_, _≤_}
 use native.Mathlib.Omega.{arith}
 use Rattle.srt_group_model.specs.Legs.{largest-64}
-use Rattle.srt_group_model.specs.Tools.{if_then_else_, if-some_give_otherwise_}
+use Rattle.srt_group_model.specs.Tools.{if-some_give_otherwise_}
 use Rattle.srt_group_model.specs.State.{State}
 use Rattle.srt_group_model.specs.Calls.{new}
 use Rattle.srt_group_model.specs.Lent.{delivered-by}
 use Rattle.srt_group_model.specs.declared.Packet.{Packet}
 use Rattle.srt_group_model.specs.laws.Reason.{if-true, if-false, by-test, not-both, none-some, some-inj}
-use Rattle.srt_group_traces.specs.Statement.{total-skipped, Consecutive, pass-to, Told, told-by, give-next, clerk, Fair, when-of, place-of-base}
+use Rattle.srt_group_traces.specs.Statement.{total-skipped, Consecutive, pass-to, Told, told-by, give-next, clerk, Fair, when-of, place-of-base, go-past, clerk-left}
 use Rattle.srt_group_traces.specs.laws.Cases.{by-option}
 use Rattle.srt_group_traces.specs.laws.Shape.{Shape, call-shape}
 use Rattle.srt_group_traces.specs.laws.Base.{sums-after, quiet-skips-nothing}
 use Rattle.srt_group_traces.specs.laws.Schedule.{pass-to-zero, pass-to-next, pass-to-further, sequence-at-place}
 use Rattle.srt_group_traces.specs.laws.ClerkClaim.{skipped-rises}
 use Rattle.srt_group_traces.specs.laws.Gateways.{state-after-both, log-after-both}
-use Rattle.srt_group_traces.specs.laws.HistoryTheorem.{history-theorem}
-use Rattle.srt_group_traces.specs.Port.{Shown, shows, Taken, shown-of, all-shown, calls-of, Performed, shown-deliveries, told-of, shown-told, last-shown}
-use Rattle.srt_group_traces.specs.laws.Port.{by-step, performed-on, port-has-clerks-list}
 use Rattle.srt_group_traces.specs.Calls.{Asked, do-call, skipped-in, Making, made, state-after, log-after, Delivery, deliveries, counts-of}
-
--- ---- what is left before the clerk
-
--- he goes past the next packet
-unfoldable pub go-past : Option (List Delivery) → (List Delivery → Option (List Delivery)) → Option (List Delivery)
-go-past none go-on = none
-go-past (some []) go-on = none
-go-past (some (x ∷ xs)) go-on = go-on xs
-
--- The packets before him, the skipped count that he knows, and what he is told, in order: the packets then before him. He goes
--- as the clerk of Schedule goes.
-unfoldable pub clerk-left : List Delivery → ℕ → List Told → Option (List Delivery)
-clerk-left ahead known [] = some ahead
-clerk-left ahead known (told ∷ more) =
-    if told .delivered
-    then go-past (pass-to ahead (told .skipped - known)) (λ xs. clerk-left xs (told .skipped) more)
-    else clerk-left ahead (told .skipped) more
+use Rattle.srt_group_traces.specs.laws.ScheduleClaim.{schedule-claim}
 
 -- ---- the skipped count rises at deliveries only
 
-abbrev Rising : ℕ → List Told → Type 0
+abbrev pub Rising : ℕ → List Told → Type 0
 Rising known [] = Unit {0}
 Rising known (told ∷ more) =
     (known ≤ told .skipped) × (told .delivered ≡ false → told .skipped ≡ known) × Rising (told .skipped) more
 
 -- the count that he is told last
-unfoldable last-told : ℕ → List Told → ℕ
+unfoldable pub last-told : ℕ → List Told → ℕ
 last-told known [] = known
 last-told known (told ∷ more) = last-told (told .skipped) more
 
@@ -61,7 +42,7 @@ last-told-above known (told ∷ more) h = omega (arith, h .0, last-told-above (t
 
 module _ (schedule : List Delivery) (first : ℕ) (runs : Consecutive first schedule) where
   -- he stands at a place of the schedule
-  abbrev StandsAt : ℕ → Option (List Delivery) → Type 0
+  abbrev pub StandsAt : ℕ → Option (List Delivery) → Type 0
   StandsAt place o = (left : List Delivery) × (o ≡ some left) × (pass-to schedule place ≡ some left)
 
   past-next : (place rise : ℕ) (passed : Option (List Delivery)) (answers goes : List Delivery → Option (List Delivery))
@@ -91,7 +72,7 @@ module _ (schedule : List Delivery) (first : ℕ) (runs : Consecutive first sche
       same zs f = omega (arith, ap counts-of f)
 
   -- where he answers, he stands past what he gave and what the count rose by
-  clerk-place : (place : ℕ) (ahead : List Delivery) (known : ℕ) (told : List Told) (ys : List Delivery) → Rising known told
+  pub clerk-place : (place : ℕ) (ahead : List Delivery) (known : ℕ) (told : List Told) (ys : List Delivery) → Rising known told
       → pass-to schedule place ≡ some ahead
       → clerk ahead known told ≡ some ys → StandsAt (place + counts-of ys + (last-told known told - known)) (clerk-left ahead known told)
   unfolding clerk clerk-left last-told counts-of
@@ -128,9 +109,9 @@ module _ (schedule : List Delivery) (first : ℕ) (runs : Consecutive first sche
 -- ---- of lists of calls
 
 -- one call, wherever a list of calls has come to
-call-rises : (g : Making) (before : List Asked) (call : Asked)
+pub call-rises : (g : Making) (before : List Asked) (call : Asked)
     → (skipped-in (state-after before (made g)) ≤ skipped-in (do-call call (state-after before (made g)) .state))
-    × (told-of (shows (do-call call (state-after before (made g)))) .delivered ≡ false
+    × ((if-some delivered-by (do-call call (state-after before (made g)) .answer) give (λ p. true) otherwise false) ≡ false
     → skipped-in (do-call call (state-after before (made g)) .state) ≡ skipped-in (state-after before (made g)))
 unfolding state-after log-after if-some_give_otherwise_
 call-rises g before call = (
@@ -153,7 +134,7 @@ call-rises g before call = (
         ap (λ (s : State). skipped-in s) (sym (state-after-both before (call ∷ []) (made g)))
         ∙ sums-after g (before ++ (call ∷ [])) .skipped
 
-    unmoved : told-of (shows (do-call call (state-after before (made g)))) .delivered ≡ false
+    unmoved : (if-some delivered-by (do-call call (state-after before (made g)) .answer) give (λ p. true) otherwise false) ≡ false
         → total-skipped (do-call call (state-after before (made g)) .log ++ log-after before (made g))
         ≡ total-skipped (log-after before (made g))
     unmoved d =
@@ -195,50 +176,7 @@ module _ (schedule : List Delivery) (first : ℕ) (runs : Consecutive first sche
       × (pass-to schedule at ≡ some left)) place
       (clerk-place schedule first runs 0 schedule 0 (told-by calls (made g)) (deliveries calls (made g)) (told-rises g [] calls)
       (pass-to-zero schedule)
-      (history-theorem .schedule schedule first runs g calls fair))
+      (schedule-claim schedule first runs g calls fair))
     where
       place : 0 + counts-of (deliveries calls (made g)) + (last-told 0 (told-by calls (made g)) - 0) ≡ place-of-base g calls
       place = omega (arith, last-told-is calls (made g))
-
--- ---- of a port's steps
-
-shown-rises : (g : Making) (before : List Asked) (steps : List Taken) → Performed (state-after before (made g)) steps
-    → Rising (skipped-in (state-after before (made g))) (shown-told (all-shown steps))
-unfolding shown-told all-shown
-shown-rises g before [] h = tt
-shown-rises g before (t ∷ steps) h =
-    by-step
-    (λ (t : Taken). Performed (shown-of t .state) steps
-    → Rising (skipped-in (state-after before (made g))) (told-of (shown-of t) ∷ shown-told (all-shown steps)))
-    (state-after before (made g))
-    (λ call k. (
-      call-rises g before call .0,
-      call-rises g before call .1,
-      subst (λ (s : State). Rising (skipped-in s) (shown-told (all-shown steps))) (sym (performed-on g before call))
-          (shown-rises g (before ++ (call ∷ [])) steps
-          (subst (λ (s : State). Performed s steps) (performed-on g before call) k)),
-    ))
-    (λ call k. (omega arith, (λ d. refl), shown-rises g before steps k)) t (h .0) (h .1)
-
-last-told-shown : (s : State) (xs : List Shown) → last-told (skipped-in s) (shown-told xs) ≡ skipped-in (last-shown s xs)
-unfolding last-told shown-told last-shown
-last-told-shown s [] = refl
-last-told-shown s (x ∷ xs) = last-told-shown (x .state) xs
-
-module _ (schedule : List Delivery) (first : ℕ) (runs : Consecutive first schedule) where
-  -- The same of what a port shows: its place is what it has shown as delivered and the skipped count that it shows.
-  pub port-clerk-stands-at : (g : Making) (steps : List Taken) → Performed (made g) steps → Fair schedule first g (calls-of steps)
-      → (left : List Delivery) × (clerk-left schedule 0 (shown-told (all-shown steps)) ≡ some left)
-      × (pass-to schedule (counts-of (shown-deliveries (all-shown steps)) + skipped-in (last-shown (made g) (all-shown steps))) ≡ some left)
-  unfolding new state-after
-  port-clerk-stands-at g steps h fair =
-      subst
-      (λ (at : ℕ). (left : List Delivery) × (clerk-left schedule 0 (shown-told (all-shown steps)) ≡ some left)
-      × (pass-to schedule at ≡ some left)) place
-      (clerk-place schedule first runs 0 schedule 0 (shown-told (all-shown steps)) (shown-deliveries (all-shown steps))
-      (shown-rises g [] steps h) (pass-to-zero schedule)
-      (port-has-clerks-list schedule first runs g steps h fair))
-    where
-      place : 0 + counts-of (shown-deliveries (all-shown steps)) + (last-told 0 (shown-told (all-shown steps)) - 0)
-          ≡ counts-of (shown-deliveries (all-shown steps)) + skipped-in (last-shown (made g) (all-shown steps))
-      place = omega (arith, last-told-shown (made g) (all-shown steps))

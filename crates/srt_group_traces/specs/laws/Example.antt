@@ -7,18 +7,18 @@ use mathlib.Core.Option.{Option, some}
 use Prim.Native.Nat.{ℕ, suc}
 use native.Mathlib.Omega.{arith}
 use lib.Dec.{lit<, lit≤}
-use lib.ListN.{length, replicate}
+use lib.ListN.{take, replicate}
 use Rattle.srt_protocol.specs.Cells.{overwritten, output-size, cell-size}
-use Rattle.srt_group_model.specs.State.{State}
+use Rattle.srt_group_model.specs.State.{State, next-receive-sequence}
 use Rattle.srt_group_model.specs.laws.State.{broadcast-mode}
 use Rattle.srt_group_model.specs.Legs.{moment, no-sequence}
 use Rattle.srt_group_model.specs.laws.Computed.{definitions}
-use Rattle.srt_group_model.specs.Lent.{Call, call-add-member, call-mark-member-broken, call-remove-member-connection, call-poll-event, call-send, call-read-leg, call-queue-data, call-queue-event, call-poll-data}
+use Rattle.srt_group_model.specs.Lent.{Call, call-add-member, call-mark-member-broken, call-remove-member-connection, call-poll-event, call-send, call-read-leg, call-queue-data, call-queue-event, call-poll-data, delivered-by}
 use Rattle.srt_group_model.specs.declared.Data.{Data}
 use Rattle.srt_group_model.specs.declared.Leg.{Leg}
-use Rattle.srt_group_traces.specs.Statement.{first-base, total-skipped, total-delivered, last-put, Consecutive, pass-to, told-by, clerk, SetBefore, AllNear, OneStore, Fair}
-use Rattle.srt_group_traces.specs.Calls.{Asked, Delivery, Making, made, do-call, takes-store, given-by, state-after, log-after, deliveries, store-left}
-use Rattle.srt_group_model.specs.laws.Reason.{not-both}
+use Rattle.srt_group_traces.specs.Statement.{first-base, total-skipped, total-delivered, last-put, Consecutive, pass-to, told-by, clerk, SetBefore, AllNear, OneStore, Fair, Raised, place-of-base, packets-collected, BaseClaim, SkipsRight}
+use Rattle.srt_group_traces.specs.Calls.{Asked, Delivery, Making, made, do-call, takes-store, given-by, state-after, log-after, deliveries, store-left, counts-of}
+use Rattle.srt_group_model.specs.laws.Reason.{not-both, some-inj}
 use Rattle.srt_group_model.specs.Sending.{list-size}
 use Rattle.srt_group_traces.specs.laws.HistoryTheorem.{history-theorem}
 
@@ -236,3 +236,43 @@ by-clerk = history-theorem .schedule schedule 100 runs group calls fair
 pub clerk-list : clerk schedule 0 (told-by calls (made group))
     ≡ some (planned 100 1 (64 ∷ []) ∷ planned 101 2 (65 ∷ 66 ∷ []) ∷ planned 104 1 (68 ∷ []) ∷ [])
 clerk-list = by-clerk ∙ ap {B = Option (List Delivery)} some delivered-list
+
+-- ---- the marks, added up: three packets collected, 1 + 2 + 1 delivered, one skipped
+
+pub log-adds-up :
+    (first-base (log-after calls (made group)) ≡ some 100)
+    × (packets-collected (log-after calls (made group)) ≡ 3)
+    × (total-delivered (log-after calls (made group)) ≡ 4)
+    × (total-skipped (log-after calls (made group)) ≡ 1)
+unfolding definitions group store-0 store-1 store-2 store-3 output sends calls do-call log-after first-base packets-collected total-delivered total-skipped
+log-adds-up = (refl, refl, refl, refl)
+
+-- ---- the base stands at 105, five from its first value
+
+pub based : next-receive-sequence (state-after calls (made group) .receive) ≡ some 105
+unfolding definitions group store-0 store-1 store-2 store-3 output sends calls do-call state-after
+based = refl
+
+pub by-base : BaseClaim group calls 105
+by-base = history-theorem .base group calls 105 based
+
+pub first-is-100 : by-base .first ≡ 100
+first-is-100 = some-inj (sym (by-base .is-first) ∙ log-adds-up .0)
+
+pub stands-at-5 : place-of-base group calls ≡ 5
+unfolding definitions group store-0 store-1 store-2 store-3 output sends calls do-call state-after given-by deliveries counts-of
+stands-at-5 = refl
+
+-- ---- the last poll, at 1,500, raises the skipped count, so it made a right skip
+
+unfoldable pub before-last : List Asked
+before-last = take 16 calls
+
+pub raised : Raised (state-after before-last (made group)) (call-poll-data 1500)
+    (delivered-by (do-call (over store-3 (call-poll-data 1500)) (state-after before-last (made group)) .answer))
+    (do-call (over store-3 (call-poll-data 1500)) (state-after before-last (made group)) .state)
+unfolding definitions group store-0 store-1 store-2 store-3 output sends calls before-last do-call state-after
+raised = history-theorem .rises group before-last (over store-3 (call-poll-data 1500)) (λ e. absurd (omega (arith, e)))
+
+pub each-skip-right : SkipsRight calls (made group)
+each-skip-right = history-theorem .skips group calls

@@ -3,7 +3,7 @@ use mathlib.Core.Path.{_≡_, refl, sym, ap, _∙_, subst, fun-ext}
 use mathlib.Core.Logic.{_⊎_}
 use mathlib.Core.List.{List, [], _∷_, _++_, append-assoc, append-nil}
 use mathlib.Core.Option.{Option, none, some}
-use Prim.Native.Nat.{ℕ, _+_, _-_, _%_, _<_, min}
+use Prim.Native.Nat.{ℕ, _+_, _-_, _%_, _<_}
 use native.Mathlib.Nat.{add-comm, mod-eq-of-lt}
 use native.Mathlib.Omega.{arith}
 use lib.Dec.{eqb}
@@ -16,18 +16,19 @@ use Rattle.srt_group_model.specs.State.{State, next-receive-sequence}
 use Rattle.srt_group_model.specs.Calls.{new}
 use Rattle.srt_group_model.specs.Lent.{Result, delivered-by}
 use Rattle.srt_group_model.specs.laws.Reason.{if-true, if-false, by-test, none-some, some-inj}
-use Rattle.srt_group_traces.specs.Statement.{first-base, total-skipped, place-after, BaseClaim, Consecutive, pass-to, Told, told-by, give-next, clerk, OneStore, Fair, when-of, RightSkip, Prefix, until-skip, Gateway, stands-at, delivers}
+use Rattle.srt_group_traces.specs.Statement.{first-base, total-skipped, place-after, BaseClaim, Consecutive, pass-to, Told, told-by, give-next, clerk, OneStore, Fair, Prefix, until-skip, Gateway, stands-at, delivers, clerk-left}
 use Rattle.srt_group_traces.specs.laws.Cases.{by-option, eq-of, eqb-yes}
 use Rattle.srt_group_traces.specs.laws.CallWalk.{Fits}
 use Rattle.srt_group_traces.specs.laws.Gateways.{state-after-both, log-after-both, deliveries-both}
-use Rattle.srt_group_traces.specs.laws.Base.{half-above-zero, further-twice, further-none, further-fits, Stands, sums-after, delivered-counts, counts-append}
+use Rattle.srt_group_traces.specs.laws.Base.{half-above-zero, further-twice, further-none, further-fits, Stands, sums-after, delivered-counts, counts-append, based-has-first}
 use Rattle.srt_group_traces.specs.laws.ClerkClaim.{skipped-rises}
-use Rattle.srt_group_traces.specs.laws.Bytes.{only-polls-deliver}
-use Rattle.srt_group_traces.specs.laws.Corollaries.{first-base-stays, based-has-first, unbased-is-still, rise-is-right-skip}
+use Rattle.srt_group_traces.specs.laws.Corollaries.{first-base-stays, unbased-is-still}
 use Rattle.srt_group_traces.specs.laws.AsQueued.{GivenToQueue, nothing-made-up}
 use Rattle.srt_group_traces.specs.laws.HistoryTheorem.{history-theorem}
-use Rattle.srt_group_traces.specs.Calls.{Asked, do-call, time-of, Making, made, state-after, log-after, counts-of, skipped-in, Delivery, given-by, deliveries}
-use Rattle.srt_group_traces.specs.Port.{Shown, shows, shows-short, Taken, did, refused-short, shown-of, all-shown, calls-of, TakenFrom, Performed, shown-delivery, shown-deliveries, told-of, shown-told, last-shown, less-moved, first-shown, SkipShown, SkipsShown, shown-until-skip, Port, port-state, port-place, port-delivers}
+use Rattle.srt_group_traces.specs.Calls.{Asked, do-call, Making, made, state-after, log-after, counts-of, skipped-in, Delivery, given-by, deliveries}
+use Rattle.srt_group_traces.specs.Port.{Shown, shows, shows-short, Taken, did, refused-short, shown-of, all-shown, calls-of, TakenFrom, Performed, shown-delivery, shown-deliveries, told-of, shown-told, last-shown, less-moved, first-shown, SkipsShown, shown-until-skip, Port, port-state, port-place, port-delivers}
+use Rattle.srt_group_traces.specs.laws.ClerkPlace.{Rising, last-told, clerk-place, call-rises}
+use Rattle.srt_group_traces.specs.laws.Schedule.{pass-to-zero}
 
 -- ---- the model itself is such a port, for every list of calls
 
@@ -318,18 +319,19 @@ module _ (g : Making) where
       first-shown-from [] refl steps h
       (subst (λ (s : State). skipped-in s < largest-64) (last-shown-is (made g) steps h) below)
 
-  -- The base that a port shows, less its first value, is what it shows as delivered and skipped, modulo 2^31.
+  -- A base that a port shows has a first value by what it shows; the base less that is what it shows as delivered and skipped,
+  -- modulo 2^31.
   pub port-base : (steps : List Taken) → Performed (made g) steps
       → skipped-in (last-shown (made g) (all-shown steps)) < largest-64
-      → (first : ℕ) → first-shown (all-shown steps) ≡ some first
-      → (base : ℕ)
-      × (next-receive-sequence (last-shown (made g) (all-shown steps) .receive) ≡ some base)
+      → (base : ℕ) → next-receive-sequence (last-shown (made g) (all-shown steps) .receive) ≡ some base
+      → (first : ℕ)
+      × (first-shown (all-shown steps) ≡ some first)
       × (sequence-distance first base
       ≡ (counts-of (shown-deliveries (all-shown steps)) + skipped-in (last-shown (made g) (all-shown steps))) % (half + half))
-  port-base steps h below first e = (
-    claim .base,
-    ap (λ (s : State). next-receive-sequence (s .receive)) (last-shown-is (made g) steps h) ∙ claim .is,
-    claim .moved
+  port-base steps h below base e = (
+    claim .first,
+    first-shown-is steps h below ∙ claim .is-first,
+    claim .moved (subst (λ (s : State). skipped-in s < largest-64) (last-shown-is (made g) steps h) below)
         ∙ ap (λ (n : ℕ). n % (half + half))
         (sym
         (ap (λ (l : List Delivery). counts-of l + skipped-in (last-shown (made g) (all-shown steps)))
@@ -337,10 +339,10 @@ module _ (g : Making) where
         ∙ ap (λ (s : State). counts-of (deliveries (calls-of steps) (made g)) + skipped-in s) (last-shown-is (made g) steps h))),
   )
     where
-      claim : BaseClaim g (calls-of steps) first
+      claim : BaseClaim g (calls-of steps) base
       claim =
-          history-theorem .base g (calls-of steps) first (sym (first-shown-is steps h below) ∙ e)
-          (subst (λ (s : State). skipped-in s < largest-64) (last-shown-is (made g) steps h) below)
+          history-theorem .base g (calls-of steps) base
+          (ap (λ (s : State). next-receive-sequence (s .receive)) (sym (last-shown-is (made g) steps h)) ∙ e)
 
   -- While it shows no base, it shows nothing delivered and nothing skipped.
   pub port-unbased : (steps : List Taken) → Performed (made g) steps
@@ -505,26 +507,6 @@ port-makes-up-nothing g steps h store one =
 
 -- ---- skips
 
--- a call that raises the count, wherever a list of calls has come to
-raising-call : (g : Making) (before : List Asked) (call : Asked)
-    → SkipShown (state-after before (made g)) (did call (shows (do-call call (state-after before (made g)))))
-raising-call g before call risen =
-    let w : (tested : State) × (distance : ℕ)
-    × RightSkip (when-of (call .call) (state-after before (made g)))
-    (delivered-by (do-call call (state-after before (made g)) .answer)) (do-call call (state-after before (made g)) .state) tested
-    (time-of (call .call)) distance
-    × (skipped-in (do-call call (state-after before (made g)) .state)
-    ≡ min (skipped-in (state-after before (made g)) + distance) largest-64) =
-    rise-is-right-skip g before call risen
-    in
-    record {
-      poll = only-polls-deliver call (state-after before (made g)) (w .2 .given) (w .2 .gives);
-      tested = w .0;
-      distance = w .1;
-      right = w .2;
-      rise = w .3;
-    }
-
 skips-shown-from : (g : Making) (before : List Asked) (steps : List Taken) → Performed (state-after before (made g)) steps
     → SkipsShown (state-after before (made g)) steps
 skips-shown-from g before [] h = tt
@@ -533,7 +515,7 @@ skips-shown-from g before (t ∷ steps) h =
     (λ (t : Taken). Performed (shown-of t .state) steps → SkipsShown (state-after before (made g)) (t ∷ steps))
     (state-after before (made g))
     (λ call k. (
-      raising-call g before call,
+      history-theorem .rises g before call,
       subst (λ (x : State). SkipsShown x steps) (sym (performed-on g before call))
           (skips-shown-from g (before ++ (call ∷ [])) steps
           (subst (λ (x : State). Performed x steps) (performed-on g before call) k)),
@@ -610,3 +592,46 @@ module _ (schedule : List Delivery) (first : ℕ) where
   ports-agree runs a b e =
       rw (delivers-is a, delivers-is b)
       (history-theorem .gateways schedule first runs (as-gateway a) (as-gateway b) (sym (place-is a) ∙ e ∙ place-is b))
+
+-- ---- where the clerk stands, of a port's steps
+
+shown-rises : (g : Making) (before : List Asked) (steps : List Taken) → Performed (state-after before (made g)) steps
+    → Rising (skipped-in (state-after before (made g))) (shown-told (all-shown steps))
+unfolding shown-told all-shown
+shown-rises g before [] h = tt
+shown-rises g before (t ∷ steps) h =
+    by-step
+    (λ (t : Taken). Performed (shown-of t .state) steps
+    → Rising (skipped-in (state-after before (made g))) (told-of (shown-of t) ∷ shown-told (all-shown steps)))
+    (state-after before (made g))
+    (λ call k. (
+      call-rises g before call .0,
+      call-rises g before call .1,
+      subst (λ (s : State). Rising (skipped-in s) (shown-told (all-shown steps))) (sym (performed-on g before call))
+          (shown-rises g (before ++ (call ∷ [])) steps
+          (subst (λ (s : State). Performed s steps) (performed-on g before call) k)),
+    ))
+    (λ call k. (omega arith, (λ d. refl), shown-rises g before steps k)) t (h .0) (h .1)
+
+last-told-shown : (s : State) (xs : List Shown) → last-told (skipped-in s) (shown-told xs) ≡ skipped-in (last-shown s xs)
+unfolding last-told shown-told last-shown
+last-told-shown s [] = refl
+last-told-shown s (x ∷ xs) = last-told-shown (x .state) xs
+
+module _ (schedule : List Delivery) (first : ℕ) (runs : Consecutive first schedule) where
+  -- The same of what a port shows: its place is what it has shown as delivered and the skipped count that it shows.
+  pub port-clerk-stands-at : (g : Making) (steps : List Taken) → Performed (made g) steps → Fair schedule first g (calls-of steps)
+      → (left : List Delivery) × (clerk-left schedule 0 (shown-told (all-shown steps)) ≡ some left)
+      × (pass-to schedule (counts-of (shown-deliveries (all-shown steps)) + skipped-in (last-shown (made g) (all-shown steps))) ≡ some left)
+  unfolding new state-after
+  port-clerk-stands-at g steps h fair =
+      subst
+      (λ (at : ℕ). (left : List Delivery) × (clerk-left schedule 0 (shown-told (all-shown steps)) ≡ some left)
+      × (pass-to schedule at ≡ some left)) place
+      (clerk-place schedule first runs 0 schedule 0 (shown-told (all-shown steps)) (shown-deliveries (all-shown steps))
+      (shown-rises g [] steps h) (pass-to-zero schedule)
+      (port-has-clerks-list schedule first runs g steps h fair))
+    where
+      place : 0 + counts-of (shown-deliveries (all-shown steps)) + (last-told 0 (shown-told (all-shown steps)) - 0)
+          ≡ counts-of (shown-deliveries (all-shown steps)) + skipped-in (last-shown (made g) (all-shown steps))
+      place = omega (arith, last-told-shown (made g) (all-shown steps))
