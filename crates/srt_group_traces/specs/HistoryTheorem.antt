@@ -13,7 +13,7 @@ use Rattle.srt_group_model.specs.Run.{Run}
 use Rattle.srt_group_model.specs.Polls.{delivery-budget, poll-event}
 use Rattle.srt_group_model.specs.Lent.{delivered-by}
 use Rattle.srt_group_model.specs.laws.HonestLog.{queued-at, collected-from}
-use Rattle.srt_group_traces.specs.Statement.{packets-collected, place-of-base, BaseClaim, Consecutive, pass-to, told-by, clerk, clerk-left, Fair, Raised, SkipsRight, Prefix, Gateway, stands-at, delivers}
+use Rattle.srt_group_traces.specs.Statement.{packets-collected, place-of-base, BaseClaim, Consecutive, pass-to, told-by, clerk, clerk-left, Fair, Raised, SkipsRight, Prefix, Gateway, stands-at, delivers, FairCalls}
 use Rattle.srt_group_traces.specs.Calls.{Asked, do-call, is-poll, Making, made, state-after, skipped-in, Delivery, deliveries}
 use Rattle.srt_group_traces.specs.laws.AsQueued.{AllAsGiven}
 
@@ -30,6 +30,9 @@ pub record HistoryTheorem : Type 0 where
   pub schedule : (schedule : List Delivery) (first : ℕ) → Consecutive first schedule → (g : Making) (calls : List Asked)
       → Fair schedule first g calls
       → clerk schedule 0 (told-by calls (made g)) ≡ some (deliveries calls (made g))
+  -- Where the schedule has less than 2^30 packets in all, those premises follow from the calls alone.
+  pub short : (schedule : List Delivery) (first : ℕ) → Consecutive first schedule → (g : Making) (before after : List Asked)
+      → FairCalls schedule first g before after → Fair schedule first g (before ++ after)
   -- "The base's place is his": what is left before the clerk is the schedule from the base's place on.
   pub place : (schedule : List Delivery) (first : ℕ) → Consecutive first schedule → (g : Making) (calls : List Asked)
       → Fair schedule first g calls

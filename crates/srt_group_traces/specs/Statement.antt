@@ -15,7 +15,7 @@ use Rattle.srt_group_model.specs.Run.{Mark, put, base-set, collected, gap-skipp
 use Rattle.srt_group_model.specs.Collecting.{collect-until-held, collect-until-empty}
 use Rattle.srt_group_model.specs.Delivery.{leg-gives-up, max-visits}
 use Rattle.srt_group_model.specs.Polls.{delivery-budget, poll-event}
-use Rattle.srt_group_model.specs.Lent.{Call, delivered-by}
+use Rattle.srt_group_model.specs.Lent.{Call, call-queue-data, delivered-by}
 use Rattle.srt_group_model.specs.declared.Data.{Data}
 use Rattle.srt_group_model.specs.declared.Packet.{Packet}
 use Rattle.srt_group_traces.specs.Calls.{Asked, do-call, takes-store, is-poll, time-of, Delivery, deliveries, Making, made, state-after, log-after, counts-of, skipped-in, store-left}
@@ -206,6 +206,37 @@ pub record Fair (schedule : List Delivery) (first : ℕ) (g : Making) (calls : L
   pub near : AllNear schedule (log-after calls (made g))
   pub below : skipped-in (state-after calls (made g)) < largest-64
   pub one-store : OneStore store calls (made g)
+
+-- ---- premises on the calls alone, where the schedule is short
+
+-- a call that queues no data
+abbrev pub QueuesNone : Asked → Type 0
+QueuesNone asked = (id : ℕ) (d : Data) (payload : List ℕ) → asked .call ≡ call-queue-data id d payload → ⊥
+
+-- a packet of the schedule
+abbrev pub Scheduled : List Delivery → Delivery → Type 0
+Scheduled schedule x = (place : ℕ) × (rest : List Delivery) × (pass-to schedule place ≡ some (x ∷ rest))
+
+-- an accepted call that queues data is given a packet of the schedule
+abbrev pub QueuesScheduled : List Delivery → Asked → State → Type 0
+QueuesScheduled schedule asked s =
+    (id : ℕ) (d : Data) (payload : List ℕ) → asked .call ≡ call-queue-data id d payload → do-call asked s .code ≡ 0
+    → Scheduled schedule record { sequence = d .sequence; count = d .count; payload = payload }
+
+-- each call of a list
+abbrev pub AllScheduled : List Delivery → List Asked → State → Type 0
+AllScheduled schedule [] s = Unit {0}
+AllScheduled schedule (call ∷ more) s = QueuesScheduled schedule call s × AllScheduled schedule more (do-call call s .state)
+
+-- A schedule of less than 2^30 packets in all, a list of calls of which those before queue no data and leave the base at the
+-- schedule's start, all data queued from the schedule, and one store. Nearness and the skipped count need no premise then.
+pub record FairCalls (schedule : List Delivery) (first : ℕ) (g : Making) (before after : List Asked) : Type 0 where
+  pub short : counts-of schedule < half
+  pub none-queued : All QueuesNone before
+  pub set : next-receive-sequence (state-after before (made g) .receive) ≡ some first
+  pub scheduled : AllScheduled schedule (before ++ after) (made g)
+  pub store : List ℕ
+  pub one-store : OneStore store (before ++ after) (made g)
 
 -- ---- when a poll makes its give-up test
 

@@ -22,6 +22,7 @@ pub mod Corollaries
 pub mod ClerkPlace
 pub mod CollectedAsQueued
 pub mod Budget
+pub mod ShortSchedule
 pub mod HistoryTheorem
 pub mod Port
 pub mod PortTheorem
@@ -29,4 +30,5 @@ pub mod StaysValid
 pub mod Example
 pub mod Counterexamples
 pub mod GatewaysExample
+pub mod ShortExample
 pub mod PortExample

@@ -10,12 +10,14 @@ use Rattle.srt_group_traces.specs.laws.AsQueued.{as-it-was-queued}
 use Rattle.srt_group_traces.specs.laws.Budget.{budget-is-what-is-left}
 use Rattle.srt_group_traces.specs.Calls.{made}
 use Rattle.srt_group_traces.specs.HistoryTheorem.{HistoryTheorem}
+use Rattle.srt_group_traces.specs.laws.ShortSchedule.{short-schedule-is-fair}
 
 pub history-theorem : HistoryTheorem
 history-theorem =
     record {
       base = base-claim;
       schedule = schedule-claim;
+      short = short-schedule-is-fair;
       place = clerk-stands-at;
       rises = rise-is-right-skip;
       skips = λ g calls. skips-claim calls (made g);
