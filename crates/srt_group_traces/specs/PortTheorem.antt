@@ -9,9 +9,8 @@ use Prim.Native.Nat.{ℕ, _+_, _%_, _<_}
 use Rattle.srt_protocol.specs.Sequence.{half, sequence-distance}
 use Rattle.srt_group_model.specs.Legs.{largest-64}
 use Rattle.srt_group_model.specs.State.{next-receive-sequence}
-use Rattle.srt_group_traces.specs.Statement.{Consecutive, clerk, Fair, Prefix}
+use Rattle.srt_group_traces.specs.Statement.{Consecutive, clerk, Fair, Prefix, Delivery, Making, made, counts-of, skipped-in}
 use Rattle.srt_group_traces.specs.Port.{Taken, all-shown, calls-of, Performed, shown-deliveries, shown-told, last-shown, first-shown, SkipsShown, Port, port-place, port-delivers}
-use Rattle.srt_group_traces.specs.Calls.{Making, made, counts-of, skipped-in, Delivery}
 
 pub record PortTheorem : Type 0 where
   -- a base that is shown has a first value by what is shown; the base less that is the delivered packet counts plus the skipped

@@ -10,17 +10,16 @@ use native.Mathlib.Omega.{arith}
 use Rattle.srt_group_model.specs.Legs.{largest-64}
 use Rattle.srt_group_model.specs.Tools.{if_then_else_, if-some_give_otherwise_}
 use Rattle.srt_group_model.specs.State.{State}
-use Rattle.srt_group_model.specs.Run.{Mark, put, base-set, collected, gap-skipped, delivered}
+use Rattle.srt_group_model.specs.Run.{Mark, delivered}
 use Rattle.srt_group_model.specs.Calls.{new}
 use Rattle.srt_group_model.specs.declared.Packet.{Packet}
 use Rattle.srt_group_model.specs.Lent.{delivered-by}
-use Rattle.srt_group_traces.specs.Statement.{total-skipped, total-delivered, place-after, last-put, Consecutive, pass-to, Told, told-by, give-next, clerk, AtPlace, EachCollected, SetBefore, AllNear, When, when-of}
-use Rattle.srt_group_traces.specs.laws.Marks.{total-skipped-append}
+use Rattle.srt_group_traces.specs.Statement.{total-skipped, total-delivered, place-after, last-put, Consecutive, pass-to, Told, told-by, give-next, clerk, SetBefore, AllNear, When, when-of, Asked, do-call, Delivery, Making, made, state-after, log-after, skipped-in}
+use Rattle.srt_group_traces.specs.laws.Marks.{total-skipped-append, each-collected-before}
 use Rattle.srt_group_traces.specs.laws.Shape.{Quiet, Given, Shape, call-shape}
 use Rattle.srt_group_traces.specs.laws.Base.{sums-after, quiet-delivers-nothing, quiet-skips-nothing, before-delivery}
 use Rattle.srt_group_traces.specs.laws.Schedule.{pass-to-zero, pass-to-next, pass-to-further, sequence-at-place}
-use Rattle.srt_group_traces.specs.laws.Follows.{AtPlaces, FromSchedule, Follows, Following, call-following, new-following}
-use Rattle.srt_group_traces.specs.Calls.{Asked, do-call, skipped-in, Making, made, state-after, log-after, Delivery}
+use Rattle.srt_group_traces.specs.laws.Follows.{AtPlaces, FromSchedule, Follows, Following, call-following, new-following, AtPlace, from-schedule-of}
 
 -- ---- what was delivered, as it was queued
 
@@ -40,14 +39,6 @@ delivered-as-queued log (call ∷ more) s =
 -- ---- small laws
 
 -- the premises of a list are those of its beginning
-each-collected-before : (P : List Mark → Packet → Type 0) (m log : List Mark) → EachCollected P (m ++ log) → EachCollected P log
-each-collected-before P [] log h = h
-each-collected-before P (put cell payload ∷ m) log h = each-collected-before P m log h
-each-collected-before P (base-set base ∷ m) log h = each-collected-before P m log h
-each-collected-before P (collected p ∷ m) log h = each-collected-before P m log (h .1)
-each-collected-before P (gap-skipped tested time distance ∷ m) log h = each-collected-before P m log h
-each-collected-before P (delivered p ∷ m) log h = each-collected-before P m log h
-
 pub from-schedule-before : (schedule : List Delivery) (first : ℕ) (m log : List Mark) → FromSchedule schedule first (m ++ log)
     → FromSchedule schedule first log
 from-schedule-before schedule first m log h = (each-collected-before _ m log (h .0), each-collected-before _ m log (h .1))
@@ -192,5 +183,5 @@ module _ (schedule : List Delivery) (first : ℕ) (runs : Consecutive first sche
       → clerk schedule 0 (told-by calls (made g)) ≡ some (delivered-as-queued [] calls (made g))
   unfolding total-delivered total-skipped new
   clerk-as-queued g calls set-before near below =
-      clerk-of-calls calls (made g) [] schedule (pass-to-zero schedule) (new-following schedule first runs g) (rw append-nil set-before, rw append-nil near)
+      clerk-of-calls calls (made g) [] schedule (pass-to-zero schedule) (new-following schedule first runs g) (rw append-nil (from-schedule-of schedule first (log-after calls (made g)) set-before near))
       (rw append-nil (omega (arith, below, sums-after g calls .skipped)))

@@ -13,14 +13,13 @@ use Rattle.srt_group_model.specs.Calls.{new}
 use Rattle.srt_group_model.specs.Lent.{delivered-by}
 use Rattle.srt_group_model.specs.declared.Packet.{Packet}
 use Rattle.srt_group_model.specs.laws.Reason.{if-true, if-false, by-test, not-both, none-some, some-inj}
-use Rattle.srt_group_traces.specs.Statement.{total-skipped, Consecutive, pass-to, Told, told-by, give-next, clerk, Fair, when-of, place-of-base, go-past, clerk-left}
+use Rattle.srt_group_traces.specs.Statement.{total-skipped, Consecutive, pass-to, Told, told-by, give-next, clerk, Fair, when-of, place-of-base, go-past, clerk-left, Asked, do-call, Delivery, Making, made, state-after, log-after, deliveries, counts-of, skipped-in}
 use Rattle.srt_group_traces.specs.laws.Cases.{by-option}
 use Rattle.srt_group_traces.specs.laws.Shape.{Shape, call-shape}
 use Rattle.srt_group_traces.specs.laws.Base.{sums-after, quiet-skips-nothing}
 use Rattle.srt_group_traces.specs.laws.Schedule.{pass-to-zero, pass-to-next, pass-to-further, sequence-at-place}
 use Rattle.srt_group_traces.specs.laws.ClerkClaim.{skipped-rises}
 use Rattle.srt_group_traces.specs.laws.Gateways.{state-after-both, log-after-both}
-use Rattle.srt_group_traces.specs.Calls.{Asked, do-call, skipped-in, Making, made, state-after, log-after, Delivery, deliveries, counts-of}
 use Rattle.srt_group_traces.specs.laws.ScheduleClaim.{schedule-claim}
 
 -- ---- the skipped count rises at deliveries only

@@ -2,7 +2,7 @@
 -- it marks as collected from it, in order: the packets of the premises are those that were got by polling a leg. And the
 -- payload that the premise `AllNear` reads, last put into the packet's cell, is the one it was queued with (AsQueued). From
 -- the model's HonestLog; ids are unique from new on, whatever the calls.
-use mathlib.Core.Path.{_≡_, refl}
+use mathlib.Core.Path.{_≡_, refl, sym, subst}
 use mathlib.Core.Bool.{true, false}
 use mathlib.Core.List.{List, [], _∷_, _++_}
 use Prim.Native.Nat.{ℕ}
@@ -16,7 +16,10 @@ use Rattle.srt_group_model.specs.Lent.{Lent, Call, call-add-member, call-mark-m
 use Rattle.srt_group_model.specs.laws.Reason.{not-both}
 use Rattle.srt_group_model.specs.laws.HonestLog.{queued-at, collected-from, event-poll-honest, data-poll-honest}
 use Rattle.srt_group_model.specs.laws.Unique.{Named, names-kept}
-use Rattle.srt_group_traces.specs.Calls.{Asked, do-call, is-poll, Making, made, state-after}
+use Rattle.srt_group_model.specs.Run.{Mark, collected}
+use Rattle.srt_group_model.specs.declared.Packet.{Packet}
+use Rattle.srt_group_traces.specs.laws.AsQueued.{QueuedBy, collected-was-queued}
+use Rattle.srt_group_traces.specs.Statement.{Asked, do-call, is-poll, Making, made, state-after, log-after, Marked, AsQueued, last-put}
 
 names-after : (calls : List Asked) (s : State) → Named s → Named (state-after calls s)
 unfolding state-after do-call
@@ -52,3 +55,21 @@ pub collected-off-queues : (g : Making) (calls : List Asked) (call : Asked) (id 
 unfolding do-call
 collected-off-queues g calls call id e =
     poll-collects id (call .call) (call .lent) (state-after calls (made g)) (names-after calls (made g) (new-named g) .unique) e
+
+-- and it was queued as an accepted call was given it
+pub collected-as-queued : (g : Making) (calls : List Asked) (p : Packet) (older : List Mark)
+    → Marked (log-after calls (made g)) (collected p) older
+    → AsQueued g calls (last-put older (p .content .cell)) (p .content)
+collected-as-queued g calls p older at =
+    let q : QueuedBy g calls (last-put older) (p .content) = collected-was-queued g calls (at .0) older p (at .1) in
+    subst (λ (payload : List ℕ). AsQueued g calls payload (p .content)) (sym (q .bytes))
+    record {
+      before = q .by .before;
+      after = q .by .after;
+      id = q .by .id;
+      given = q .by .given;
+      lent = q .by .lent;
+      is = q .by .is;
+      accepted = q .by .accepted;
+      as-given = q .as-given;
+    }

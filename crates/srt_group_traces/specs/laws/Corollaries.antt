@@ -14,7 +14,7 @@ use Rattle.srt_group_model.specs.Tools.{if-some_give_otherwise_, or-else}
 use Rattle.srt_group_model.specs.State.{State, Receive, next-receive-sequence}
 use Rattle.srt_group_model.specs.Run.{Mark, put, base-set, collected, gap-skipped, delivered}
 use Rattle.srt_group_model.specs.laws.Reason.{if-elim, none-some, some-inj}
-use Rattle.srt_group_traces.specs.Statement.{first-base, total-skipped, place-after, Consecutive, pass-to, Told, told-by, give-next, clerk, Fair, when-of, Prefix, Raised}
+use Rattle.srt_group_traces.specs.Statement.{first-base, total-skipped, place-after, Consecutive, pass-to, Told, told-by, give-next, clerk, Fair, when-of, Prefix, Raised, Asked, do-call, is-poll, time-of, Delivery, Making, made, state-after, log-after, deliveries, counts-of, skipped-in}
 use Rattle.srt_group_traces.specs.laws.Cases.{by-option}
 use Rattle.srt_group_model.specs.Lent.{delivered-by}
 use Rattle.srt_group_model.specs.declared.Packet.{Packet}
@@ -24,7 +24,6 @@ use Rattle.srt_group_traces.specs.laws.Skips.{right-skip}
 use Rattle.srt_group_traces.specs.laws.Base.{Stands, SequenceFits, Sums, sums-law, sums-hold, sums-after, delivered-counts, quiet-delivers-nothing, quiet-skips-nothing, sums-first}
 use Rattle.srt_group_traces.specs.laws.Schedule.{pass-to-zero, pass-to-next, pass-to-further, sequence-at-place}
 use Rattle.srt_group_traces.specs.laws.Gateways.{NoSkip, clerk-front}
-use Rattle.srt_group_traces.specs.Calls.{Asked, do-call, time-of, Making, made, state-after, log-after, skipped-in, Delivery, deliveries, counts-of, is-poll}
 use Rattle.srt_group_traces.specs.laws.ScheduleClaim.{schedule-claim}
 use Rattle.srt_group_traces.specs.laws.Bytes.{only-polls-deliver}
 

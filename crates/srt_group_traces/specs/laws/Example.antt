@@ -16,11 +16,11 @@ use Rattle.srt_group_model.specs.laws.Computed.{definitions}
 use Rattle.srt_group_model.specs.Lent.{Call, call-add-member, call-mark-member-broken, call-remove-member-connection, call-poll-event, call-send, call-read-leg, call-queue-data, call-queue-event, call-poll-data, delivered-by}
 use Rattle.srt_group_model.specs.declared.Data.{Data}
 use Rattle.srt_group_model.specs.declared.Leg.{Leg}
-use Rattle.srt_group_traces.specs.Statement.{first-base, total-skipped, total-delivered, last-put, Consecutive, pass-to, told-by, clerk, SetBefore, AllNear, OneStore, Fair, Raised, place-of-base, packets-collected, BaseClaim, SkipsRight}
-use Rattle.srt_group_traces.specs.Calls.{Asked, Delivery, Making, made, do-call, takes-store, given-by, state-after, log-after, deliveries, store-left, counts-of}
+use Rattle.srt_group_traces.specs.Statement.{first-base, total-skipped, total-delivered, last-put, Consecutive, pass-to, told-by, clerk, SetBefore, AllNear, OneStore, Fair, Raised, place-of-base, packets-collected, BaseClaim, Asked, do-call, takes-store, Delivery, given-by, Making, made, state-after, log-after, deliveries, counts-of, store-left, with-payload, Near, place-after}
 use Rattle.srt_group_model.specs.laws.Reason.{not-both, some-inj}
 use Rattle.srt_group_model.specs.Sending.{list-size}
 use Rattle.srt_group_traces.specs.laws.HistoryTheorem.{history-theorem}
+use Rattle.srt_group_traces.specs.laws.Marks.{EachCollected, each-collected-at}
 
 -- ---- what is lent
 
@@ -113,47 +113,35 @@ codes = refl
 
 -- ---- the premises are met
 
-pub set-before : SetBefore 100 (log-after calls (made group))
+each-based : EachCollected (λ log p. first-base log ≡ some 100) (log-after calls (made group))
 unfolding definitions group store-0 store-1 store-2 store-3 output sends calls do-call log-after first-base
-set-before = (refl, (refl, (refl, tt)))
+each-based = (refl, (refl, (refl, tt)))
 
 -- each packet at its place of the schedule, not far from the base's
-pub near : AllNear schedule (log-after calls (made group))
+each-near : EachCollected
+    (λ log p. Near schedule (place-after log) (with-payload (p .content) (last-put log (p .content .cell)))) (log-after calls (made group))
 unfolding definitions group store-0 store-1 store-2 store-3 output sends calls schedule do-call log-after total-skipped total-delivered last-put pass-to
-near = (
+each-near = (
   record {
     place = 4;
-    at = record { scheduled = planned 104 1 (68 ∷ []); rest = []; here = refl; sequence = refl; count = refl; payload = refl };
+    rest = [];
+    here = refl;
     not-far-ahead = lit< tt;
     not-far-behind = lit< tt;
   },
   (
     record {
       place = 1;
-      at =
-          record {
-            scheduled = planned 101 2 (65 ∷ 66 ∷ []);
-            rest = planned 103 1 (67 ∷ []) ∷ planned 104 1 (68 ∷ []) ∷ [];
-            here = refl;
-            sequence = refl;
-            count = refl;
-            payload = refl;
-          };
+      rest = planned 103 1 (67 ∷ []) ∷ planned 104 1 (68 ∷ []) ∷ [];
+      here = refl;
       not-far-ahead = lit< tt;
       not-far-behind = lit< tt;
     },
     (
       record {
         place = 0;
-        at =
-            record {
-              scheduled = planned 100 1 (64 ∷ []);
-              rest = planned 101 2 (65 ∷ 66 ∷ []) ∷ planned 103 1 (67 ∷ []) ∷ planned 104 1 (68 ∷ []) ∷ [];
-              here = refl;
-              sequence = refl;
-              count = refl;
-              payload = refl;
-            };
+        rest = planned 101 2 (65 ∷ 66 ∷ []) ∷ planned 103 1 (67 ∷ []) ∷ planned 104 1 (68 ∷ []) ∷ [];
+        here = refl;
         not-far-ahead = lit< tt;
         not-far-behind = lit< tt;
       },
@@ -161,6 +149,12 @@ near = (
     ),
   ),
 )
+
+pub set-before : SetBefore 100 (log-after calls (made group))
+set-before = each-collected-at _ (log-after calls (made group)) each-based
+
+pub near : AllNear schedule (log-after calls (made group))
+near = each-collected-at _ (log-after calls (made group)) each-near
 
 pub never : {A : Type 0} → _≡_ {A = Bool} false true → A
 never e = not-both {t = true} refl (sym e)
@@ -273,6 +267,3 @@ pub raised : Raised (state-after before-last (made group)) (call-poll-data 1500)
     (do-call (over store-3 (call-poll-data 1500)) (state-after before-last (made group)) .state)
 unfolding definitions group store-0 store-1 store-2 store-3 output sends calls before-last do-call state-after
 raised = history-theorem .rises group before-last (over store-3 (call-poll-data 1500)) (λ e. absurd (omega (arith, e)))
-
-pub each-skip-right : SkipsRight calls (made group)
-each-skip-right = history-theorem .skips group calls

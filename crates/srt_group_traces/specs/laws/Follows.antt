@@ -3,7 +3,7 @@
 use mathlib.Core.Path.{_≡_, refl, sym, ap, _∙_, subst}
 use mathlib.Core.Bool.{true, false}
 use mathlib.Core.List.{List, [], _∷_, _++_}
-use mathlib.Core.Option.{Option, none, some}
+use mathlib.Core.Option.{Option, some}
 use Prim.Native.Nat.{ℕ, _+_, _-_, _≤_, _<_}
 use native.Mathlib.Decide.{decLt}
 use native.Mathlib.Omega.{arith}
@@ -19,19 +19,31 @@ use Rattle.srt_group_model.specs.Delivery.{pass-run, skip-to}
 use Rattle.srt_group_model.specs.Calls.{new}
 use Rattle.srt_group_model.specs.declared.Data.{Data}
 use Rattle.srt_group_model.specs.declared.Packet.{Packet}
-use Rattle.srt_group_model.specs.laws.Reason.{all-map, none-some, some-inj, not-both, or-left}
-use Rattle.srt_group_traces.specs.Statement.{first-base, total-skipped, total-delivered, place-after, last-put, Consecutive, pass-to, AtPlace, EachCollected, SetBefore, AllNear}
-use Rattle.srt_group_traces.specs.laws.Cases.{all-both, Each, each-at}
-use Rattle.srt_group_traces.specs.laws.Marks.{last-put-elsewhere}
+use Rattle.srt_group_model.specs.laws.Reason.{all-map, some-inj, not-both, or-left}
+use Rattle.srt_group_traces.specs.Statement.{first-base, total-skipped, total-delivered, place-after, last-put, Consecutive, pass-to, SetBefore, AllNear, Asked, do-call, Delivery, Making, made, state-after, log-after, with-payload, Near}
+use Rattle.srt_group_traces.specs.laws.Cases.{all-both, each-at}
+use Rattle.srt_group_traces.specs.laws.Marks.{last-put-elsewhere, each-collected-of, EachCollected}
 use Rattle.srt_group_traces.specs.laws.Sides.{sides}
 use Rattle.srt_group_traces.specs.laws.Law.{OfContent, ElsewhereThan, PutLaw}
 use Rattle.srt_group_traces.specs.laws.CallWalk.{Fits, Holds, call-holds, calls-hold}
 use Rattle.srt_group_traces.specs.laws.Held.{insert-all, nearest-all, held-at-all, held-at-sequence, not-covered-all, not-covered-beyond}
 use Rattle.srt_group_traces.specs.laws.Base.{half-above-zero, further-fits, Stands, SequenceFits, Sums, sums-law}
 use Rattle.srt_group_traces.specs.laws.Schedule.{pass-to-zero, pass-to-next, pass-to-further, sequence-at-place}
-use Rattle.srt_group_traces.specs.Calls.{Asked, do-call, Making, made, state-after, log-after, Delivery}
 
 module _ (schedule : List Delivery) where
+  -- a packet, with the payload that `payloads` has for its cell, is the one at a place of the schedule
+  pub record AtPlace (payloads : ℕ → List ℕ) (place : ℕ) (d : Data) : Type 0 where
+    pub scheduled : Delivery
+    pub rest : List Delivery
+    pub here : pass-to schedule place ≡ some (scheduled ∷ rest)
+    pub sequence : d .sequence ≡ scheduled .sequence
+    pub count : d .count ≡ scheduled .count
+    pub payload : payloads (d .cell) ≡ scheduled .payload
+
+  near-at : (payloads : ℕ → List ℕ) (base : ℕ) (d : Data) (n : Near schedule base (with-payload d (payloads (d .cell)))) → AtPlace payloads (n .place) d
+  near-at payloads base d n =
+      record { scheduled = with-payload d (payloads (d .cell)); rest = n .rest; here = n .here; sequence = refl; count = refl; payload = refl }
+
   -- what follows: each packet delivered stood at the base's place
   abbrev pub AtPlaces : List Mark → Type 0
   AtPlaces [] = Unit {0}
@@ -39,18 +51,23 @@ module _ (schedule : List Delivery) where
   AtPlaces (base-set base ∷ log) = AtPlaces log
   AtPlaces (collected p ∷ log) = AtPlaces log
   AtPlaces (gap-skipped tested time distance ∷ log) = AtPlaces log
-  AtPlaces (delivered p ∷ log) = AtPlace schedule (last-put log) (place-after log) (p .content) × AtPlaces log
+  AtPlaces (delivered p ∷ log) = AtPlace (last-put log) (place-after log) (p .content) × AtPlaces log
 
   -- of a held packet: it stands at the base's place or after, less than half a circle
   pub record Ahead (payloads : ℕ → List ℕ) (base : ℕ) (d : Data) : Type 0 where
     pub place : ℕ
-    pub at : AtPlace schedule payloads place d
+    pub at : AtPlace payloads place d
     pub ahead : place < base + half
     pub from : base ≤ place
 
-  -- the two premises
+  -- the two premises, mark by mark
   abbrev pub FromSchedule : ℕ → List Mark → Type 0
-  FromSchedule first log = SetBefore first log × AllNear schedule log
+  FromSchedule first log =
+      EachCollected (λ log p. first-base log ≡ some first) log
+      × EachCollected (λ log p. Near schedule (place-after log) (with-payload (p .content) (last-put log (p .content .cell)))) log
+
+  pub from-schedule-of : (first : ℕ) (log : List Mark) → SetBefore first log → AllNear schedule log → FromSchedule first log
+  from-schedule-of first log set-before near = (each-collected-of _ log set-before, each-collected-of _ log near)
 
   pub record Followed (first : ℕ) (x : Receive) (log : List Mark) : Type 0 where
     pub based : All (λ (p : Packet). first-base log ≡ some first) (x .pending)
@@ -67,7 +84,7 @@ module _ (schedule : List Delivery) where
     base-at : (o b : Option ℕ) (place base : ℕ) → o ≡ some first → Stands o b place → b ≡ some base → base ≡ sequence-further first place
     base-at o b place base is h e = some-inj (sym e ∙ (subst (λ (z : Option ℕ). Stands z b place) is h) .1)
 
-    sequence-of-place : (payloads : ℕ → List ℕ) (place : ℕ) (d : Data) → AtPlace schedule payloads place d
+    sequence-of-place : (payloads : ℕ → List ℕ) (place : ℕ) (d : Data) → AtPlace payloads place d
         → d .sequence ≡ sequence-further first place
     sequence-of-place payloads place d at =
         at .sequence ∙ sequence-at-place first 0 schedule place (at .scheduled) (at .rest) runs (at .here) .0
@@ -88,7 +105,7 @@ module _ (schedule : List Delivery) where
 
     -- a packet behind the base is discarded
     behind-is-before : (payloads : ℕ → List ℕ) (d : Data) (base place at : ℕ) → base ≡ sequence-further first place
-        → AtPlace schedule payloads at d
+        → AtPlace payloads at d
         → at < place → place < at + half → sequence-before (d .sequence) base ≡ true
     behind-is-before payloads d base place at e a l u =
         ap (sequence-before (d .sequence)) e ∙ ap (λ (z : ℕ). sequence-before z (sequence-further first place))
@@ -135,9 +152,9 @@ module _ (schedule : List Delivery) where
         ahead (yes l) =
             not-both
             (behind-is-before (last-put log) (p .content) (sequence-further first (place-after log)) (place-after log)
-            (from .1 .0 .place) refl (from .1 .0 .at) l (from .1 .0 .not-far-behind))
+            (from .1 .0 .place) refl (near-at (last-put log) (place-after log) (p .content) (from .1 .0)) l (from .1 .0 .not-far-behind))
             (not-discarded-not-before p x (sequence-further first (place-after log)) based kept)
-        ahead (no l) = record { place = from .1 .0 .place; at = from .1 .0 .at; ahead = from .1 .0 .not-far-ahead; from = omega arith }
+        ahead (no l) = record { place = from .1 .0 .place; at = near-at (last-put log) (place-after log) (p .content) (from .1 .0); ahead = from .1 .0 .not-far-ahead; from = omega arith }
 
     follow-skipped : (x : Receive) (log : List Mark) (base : ℕ) (n : Packet) (tested : State) (time : ℕ)
         → next-receive-sequence x ≡ some base
@@ -228,7 +245,7 @@ module _ (schedule : List Delivery) where
               (not-covered-all (AheadNow log) base (p .content .count) (x .pending) (k .held))
               (not-covered-beyond base (p .content .count) (x .pending)));
           here = (delivered-ahead .at .rest, there);
-          at-places = (subst (λ (z : ℕ). AtPlace schedule (last-put log) z (p .content)) at-base (delivered-ahead .at), k .at-places);
+          at-places = (subst (λ (z : ℕ). AtPlace (last-put log) z (p .content)) at-base (delivered-ahead .at), k .at-places);
         }
       where
         k : Followed first x log
@@ -272,7 +289,7 @@ module _ (schedule : List Delivery) where
 
     -- a payload put into another cell leaves a packet where it is
     at-place-after-put : (cell : ℕ) (payload : List ℕ) (log : List Mark) (place : ℕ) (d : Data) → ElsewhereThan cell d
-        → AtPlace schedule (last-put log) place d → AtPlace schedule (last-put (put cell payload ∷ log)) place d
+        → AtPlace (last-put log) place d → AtPlace (last-put (put cell payload ∷ log)) place d
     at-place-after-put cell payload log place d elsewhere at =
         record {
           scheduled = at .scheduled;

@@ -11,14 +11,13 @@ use Rattle.srt_group_model.specs.Tools.{if-some_give_otherwise_}
 use Rattle.srt_group_model.specs.State.{State}
 use Rattle.srt_group_model.specs.Run.{Mark}
 use Rattle.srt_group_model.specs.laws.Reason.{if-elim, none-some, some-inj}
-use Rattle.srt_group_traces.specs.Statement.{total-skipped, place-after, last-put, Consecutive, pass-to, Told, told-by, give-next, clerk, OneStore, Prefix, until-skip, Gateway, stands-at, delivers}
+use Rattle.srt_group_traces.specs.Statement.{total-skipped, place-after, last-put, Consecutive, pass-to, Told, told-by, give-next, clerk, OneStore, Prefix, until-skip, Gateway, stands-at, delivers, Asked, do-call, Delivery, given-by, made, state-after, log-after, deliveries, skipped-in}
 use Rattle.srt_group_traces.specs.laws.Cases.{by-option, eq-of}
 use Rattle.srt_group_traces.specs.laws.Base.{delivered-counts, sums-after}
 use Rattle.srt_group_traces.specs.laws.Schedule.{pass-to-zero}
-use Rattle.srt_group_traces.specs.laws.Follows.{FromSchedule, Following, calls-following, new-following}
+use Rattle.srt_group_traces.specs.laws.Follows.{FromSchedule, Following, calls-following, new-following, from-schedule-of}
 use Rattle.srt_group_traces.specs.laws.ClerkClaim.{delivered-as-queued, from-schedule-before, skipped-rises, clerk-of-calls}
 use Rattle.srt_group_traces.specs.laws.Bytes.{Live, InCell, delivered-is-as-queued, one-store-after, one-store-begins, new-alive}
-use Rattle.srt_group_traces.specs.Calls.{Asked, do-call, skipped-in, made, state-after, log-after, Delivery, given-by, deliveries}
 
 -- ---- a prefix
 
@@ -173,7 +172,7 @@ module _ (schedule : List Delivery) (first : ℕ) where
         from-on : FromSchedule schedule first (log-after on reached ++ log)
         from-on =
             from-schedule-before schedule first (log-after (rest .0) (state-after on reached)) (log-after on reached ++ log)
-            (subst (FromSchedule schedule first) whole (w .fair .set-before, w .fair .near))
+            (subst (FromSchedule schedule first) whole (from-schedule-of schedule first (log-after (w .before ++ w .after) (made (w .making))) (w .fair .set-before) (w .fair .near)))
 
         from-before : FromSchedule schedule first log
         from-before = from-schedule-before schedule first (log-after on reached) log from-on

@@ -16,7 +16,7 @@ use Rattle.srt_group_model.specs.State.{State, next-receive-sequence}
 use Rattle.srt_group_model.specs.Calls.{new}
 use Rattle.srt_group_model.specs.Lent.{Result, delivered-by}
 use Rattle.srt_group_model.specs.laws.Reason.{if-true, if-false, by-test, none-some, some-inj}
-use Rattle.srt_group_traces.specs.Statement.{first-base, total-skipped, place-after, BaseClaim, Consecutive, pass-to, Told, told-by, give-next, clerk, OneStore, Fair, Prefix, until-skip, Gateway, stands-at, delivers, clerk-left}
+use Rattle.srt_group_traces.specs.Statement.{first-base, total-skipped, place-after, BaseClaim, Consecutive, pass-to, Told, told-by, give-next, clerk, OneStore, Fair, Prefix, until-skip, Gateway, stands-at, delivers, clerk-left, Asked, do-call, Delivery, given-by, Making, made, state-after, log-after, deliveries, skipped-in, counts-of}
 use Rattle.srt_group_traces.specs.laws.Cases.{by-option, eq-of, eqb-yes}
 use Rattle.srt_group_traces.specs.laws.CallWalk.{Fits}
 use Rattle.srt_group_traces.specs.laws.Gateways.{state-after-both, log-after-both, deliveries-both}
@@ -25,7 +25,6 @@ use Rattle.srt_group_traces.specs.laws.ClerkClaim.{skipped-rises}
 use Rattle.srt_group_traces.specs.laws.Corollaries.{first-base-stays, unbased-is-still}
 use Rattle.srt_group_traces.specs.laws.AsQueued.{GivenToQueue, nothing-made-up}
 use Rattle.srt_group_traces.specs.laws.HistoryTheorem.{history-theorem}
-use Rattle.srt_group_traces.specs.Calls.{Asked, do-call, Making, made, state-after, log-after, counts-of, skipped-in, Delivery, given-by, deliveries}
 use Rattle.srt_group_traces.specs.Port.{Shown, shows, shows-short, Taken, did, refused-short, shown-of, all-shown, calls-of, TakenFrom, Performed, shown-delivery, shown-deliveries, told-of, shown-told, last-shown, less-moved, first-shown, SkipsShown, shown-until-skip, Port, port-state, port-place, port-delivers}
 use Rattle.srt_group_traces.specs.laws.ClerkPlace.{Rising, last-told, clerk-place, call-rises}
 use Rattle.srt_group_traces.specs.laws.Schedule.{pass-to-zero}

@@ -4,8 +4,7 @@ use mathlib.Core.List.{List, _∷_}
 use mathlib.Core.Option.{some}
 use Rattle.srt_group_model.specs.laws.Computed.{definitions}
 use Rattle.srt_group_model.specs.Lent.{call-poll-data}
-use Rattle.srt_group_traces.specs.Statement.{clerk, Fair}
-use Rattle.srt_group_traces.specs.Calls.{do-call, made, counts-of, skipped-in}
+use Rattle.srt_group_traces.specs.Statement.{clerk, Fair, do-call, made, counts-of, skipped-in}
 use Rattle.srt_group_traces.specs.Port.{shows-short, Taken, refused-short, all-shown, calls-of, Performed, shown-delivery, shown-deliveries, shown-told, last-shown, first-shown, SkipsShown}
 use Rattle.srt_group_traces.specs.laws.Port.{taking, taking-performs, calls-of-taking, port-has-clerks-list, port-skips}
 use Rattle.srt_group_traces.specs.laws.Example.{group, store-0, store-1, store-2, store-3, output, sends, plain, schedule, runs, calls, fair}

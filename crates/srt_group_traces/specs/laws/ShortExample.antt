@@ -10,13 +10,13 @@ use Rattle.srt_group_model.specs.State.{State, next-receive-sequence}
 use Rattle.srt_group_model.specs.laws.Computed.{definitions}
 use Rattle.srt_group_model.specs.Lent.{Call, call-add-member, call-mark-member-broken, call-remove-member-connection, call-refresh-member-states, call-disconnect, call-poll-event, call-poll-data-bounded, call-send, call-can-send, call-can-send-with-pacing, call-look, call-read-leg, call-queue-data, call-queue-event}
 use Rattle.srt_group_model.specs.laws.Reason.{none-some}
-use Rattle.srt_group_traces.specs.Statement.{pass-to, Fair, Scheduled, FairCalls, QueuesNone, AllScheduled}
-use Rattle.srt_group_traces.specs.Calls.{Asked, Delivery, made, do-call, state-after, counts-of}
-use Rattle.srt_group_traces.specs.laws.HistoryTheorem.{history-theorem}
+use Rattle.srt_group_traces.specs.Statement.{pass-to, Fair, Asked, do-call, Delivery, made, state-after, counts-of, with-payload}
 use Rattle.srt_group_traces.specs.laws.Example.{group, store-0, store-1, store-2, store-3, output, sends, planned, schedule, runs, calls, one-store}
 use Rattle.srt_group_traces.specs.laws.Cases.{Each, each-at}
 use Rattle.srt_group_model.specs.Tools.{All}
 use Rattle.srt_protocol.specs.Sequence.{half}
+use Rattle.srt_group_traces.specs.ShortSchedule.{QueuesNone, Scheduled, AllScheduled, FairCalls}
+use Rattle.srt_group_traces.specs.laws.ShortSchedule.{short-schedule-is-fair}
 
 -- the packet that a call is given to queue
 unfoldable to-queue : Call → Option Delivery
@@ -32,7 +32,7 @@ to-queue call-can-send = none
 to-queue (call-can-send-with-pacing time) = none
 to-queue (call-look look) = none
 to-queue (call-read-leg id field n) = none
-to-queue (call-queue-data id content payload) = some record { sequence = content .sequence; count = content .count; payload = payload }
+to-queue (call-queue-data id content payload) = some (with-payload content payload)
 to-queue (call-queue-event id kind reason) = none
 
 no-data : (calls : List Asked) → All (λ (asked : Asked). to-queue (asked .call) ≡ none) calls → All QueuesNone calls
@@ -78,4 +78,4 @@ fair-calls =
 
 pub fair-by-calls : Fair schedule 100 group calls
 unfolding calls
-fair-by-calls = history-theorem .short schedule 100 runs group (take 6 calls) (drop 6 calls) fair-calls
+fair-by-calls = short-schedule-is-fair schedule 100 runs group (take 6 calls) (drop 6 calls) fair-calls

@@ -16,7 +16,7 @@ use Rattle.srt_group_model.specs.Lent.{delivered-by}
 use Rattle.srt_group_model.specs.declared.Data.{Data}
 use Rattle.srt_group_model.specs.declared.Packet.{Packet}
 use Rattle.srt_group_model.specs.laws.Reason.{if-elim, none-some, some-inj}
-use Rattle.srt_group_traces.specs.Statement.{first-base, total-skipped, total-delivered, place-after, last-put, Consecutive, pass-to, Near, EachCollected, SetBefore, AllNear, Fair, QueuesNone, QueuesScheduled, AllScheduled, FairCalls, When, when-of}
+use Rattle.srt_group_traces.specs.Statement.{first-base, total-skipped, total-delivered, place-after, last-put, Consecutive, pass-to, Near, Fair, When, when-of, Asked, do-call, Delivery, Making, made, state-after, log-after, counts-of, with-payload, Marked}
 use Rattle.srt_group_traces.specs.laws.Cases.{le-of, eq-of}
 use Rattle.srt_group_traces.specs.laws.CallWalk.{Fits}
 use Rattle.srt_group_traces.specs.laws.Shape.{Quiet, Skip, Shape, call-shape}
@@ -25,8 +25,8 @@ use Rattle.srt_group_traces.specs.laws.Follows.{FromSchedule, Following,
 use Rattle.srt_group_traces.specs.laws.Gateways.{log-after-both}
 use Rattle.srt_group_traces.specs.laws.AsQueued.{AcceptedQueueing, queueing, QueuedBy, collected-was-queued, delivered-was-queued}
 use Rattle.srt_group_traces.specs.laws.Corollaries.{first-base-stays}
-use Rattle.srt_group_traces.specs.Calls.{Asked, do-call, Making, made, state-after, log-after, counts-of, Delivery}
-use Rattle.srt_group_traces.specs.laws.Marks.{total-delivered-append, total-skipped-append}
+use Rattle.srt_group_traces.specs.laws.Marks.{total-delivered-append, total-skipped-append, EachCollected, each-collected-at, all-marked, each-collected-of}
+use Rattle.srt_group_traces.specs.ShortSchedule.{QueuesNone, QueuesScheduled, AllScheduled, FairCalls}
 
 -- ---- places of a schedule
 
@@ -58,17 +58,8 @@ abbrev Queued : Making → List Asked → List Mark → Packet → Type 0
 Queued g calls log p = QueuedBy g calls (last-put log) (p .content)
 
 each-collected-queued : (g : Making) (calls : List Asked) → EachCollected (Queued g calls) (log-after calls (made g))
-each-collected-queued g calls = go [] (log-after calls (made g)) refl
-  where
-    go : (newer log : List Mark) → log-after calls (made g) ≡ newer ++ log → EachCollected (Queued g calls) log
-    go newer [] e = tt
-    go newer (put cell payload ∷ log) e = go (newer ++ (put cell payload ∷ [])) log (e ∙ sym (append-assoc newer (put cell payload ∷ []) log))
-    go newer (base-set base ∷ log) e = go (newer ++ (base-set base ∷ [])) log (e ∙ sym (append-assoc newer (base-set base ∷ []) log))
-    go newer (collected p ∷ log) e =
-        (collected-was-queued g calls newer log p e, go (newer ++ (collected p ∷ [])) log (e ∙ sym (append-assoc newer (collected p ∷ []) log)))
-    go newer (gap-skipped tested time distance ∷ log) e =
-        go (newer ++ (gap-skipped tested time distance ∷ [])) log (e ∙ sym (append-assoc newer (gap-skipped tested time distance ∷ []) log))
-    go newer (delivered p ∷ log) e = go (newer ++ (delivered p ∷ [])) log (e ∙ sym (append-assoc newer (delivered p ∷ []) log))
+each-collected-queued g calls =
+    each-collected-of (Queued g calls) (log-after calls (made g)) (λ p older at. collected-was-queued g calls (at .0) older p (at .1))
 
 -- ---- calls that queue no data: nothing is collected or delivered, and the base stands where it was set
 
@@ -89,18 +80,14 @@ NotDelivered (gap-skipped tested time distance) = Unit {0}
 NotDelivered (delivered p) = ⊥
 
 none-delivered : (g : Making) (calls : List Asked) → All QueuesNone calls → All NotDelivered (log-after calls (made g))
-none-delivered g calls h = go [] (log-after calls (made g)) refl
+none-delivered g calls h = all-marked NotDelivered (log-after calls (made g)) not-this
   where
-    not-this : (newer older : List Mark) (mark : Mark) → log-after calls (made g) ≡ newer ++ (mark ∷ older) → NotDelivered mark
-    not-this newer older (put cell payload) e = tt
-    not-this newer older (base-set base) e = tt
-    not-this newer older (collected p) e = tt
-    not-this newer older (gap-skipped tested time distance) e = tt
-    not-this newer older (delivered p) e = not-queued g calls h (delivered-was-queued g calls newer older p e .by)
-
-    go : (newer log : List Mark) → log-after calls (made g) ≡ newer ++ log → All NotDelivered log
-    go newer [] e = tt
-    go newer (mark ∷ log) e = (not-this newer log mark e, go (newer ++ (mark ∷ [])) log (e ∙ sym (append-assoc newer (mark ∷ []) log)))
+    not-this : (mark : Mark) (older : List Mark) → Marked (log-after calls (made g)) mark older → NotDelivered mark
+    not-this (put cell payload) older at = tt
+    not-this (base-set base) older at = tt
+    not-this (collected p) older at = tt
+    not-this (gap-skipped tested time distance) older at = tt
+    not-this (delivered p) older at = not-queued g calls h (delivered-was-queued g calls (at .0) older p (at .1) .by)
 
 all-older : (P : Mark → Type 0) (m log : List Mark) → All P (m ++ log) → All P log
 all-older P [] log h = h
@@ -155,7 +142,10 @@ first-is-base g calls base h e =
 
 -- ---- the base stays set
 
-set-before-more : (first : ℕ) (m log : List Mark) → first-base log ≡ some first → SetBefore first log → SetBefore first (m ++ log)
+abbrev BasedEach : ℕ → List Mark → Type 0
+BasedEach first = EachCollected (λ log p. first-base log ≡ some first)
+
+set-before-more : (first : ℕ) (m log : List Mark) → first-base log ≡ some first → BasedEach first log → BasedEach first (m ++ log)
 set-before-more first [] log e h = h
 set-before-more first (put cell payload ∷ m) log e h = set-before-more first m log e h
 set-before-more first (base-set base ∷ m) log e h = set-before-more first m log e h
@@ -177,28 +167,27 @@ scheduled-begins schedule [] more s h = tt
 scheduled-begins schedule (call ∷ calls) more s h = (h .0, scheduled-begins schedule calls more (do-call call s .state) (h .1))
 
 module _ (schedule : List Delivery) (first : ℕ) (runs : Consecutive first schedule) (short : counts-of schedule < half) where
+  abbrev NearEach : List Mark → Type 0
+  NearEach = EachCollected (λ log p. Near schedule (place-after log) (with-payload (p .content) (last-put log (p .content .cell))))
+
   near : (g : Making) (calls : List Asked) → AllScheduled schedule calls (made g) → (payloads : ℕ → List ℕ) (base : ℕ) (d : Data)
-      → base ≤ counts-of schedule → QueuedBy g calls payloads d → Near schedule payloads base d
+      → base ≤ counts-of schedule → QueuedBy g calls payloads d → Near schedule base (with-payload d (payloads (d .cell)))
   unfolding counts-of
   near g calls h payloads base d within q =
       let by : AcceptedQueueing g calls = q .by in
-      let x : Delivery = record { sequence = by .given .sequence; count = by .given .count; payload = by .payload } in
+      let x : Delivery = with-payload (by .given) (by .payload) in
       let w : (place : ℕ) × (rest : List Delivery) × (pass-to schedule place ≡ some (x ∷ rest)) =
       scheduled-at schedule (by .before) (queueing (by .id) (by .given) (by .payload) (by .lent)) (by .after) (made g)
       (subst (λ (cs : List Asked). AllScheduled schedule cs (made g)) (by .is) h) (by .id) (by .given) (by .payload) refl (by .accepted)
       in
       let in-sum : w .0 + counts-of (x ∷ w .1) ≤ counts-of schedule = place-within schedule (w .0) (x ∷ w .1) (w .2) in
+      let same : with-payload d (payloads (d .cell)) ≡ x =
+      λ i. record { sequence = q .as-given i .sequence; count = q .as-given i .count; payload = q .bytes i }
+      in
       record {
         place = w .0;
-        at =
-            record {
-              scheduled = x;
-              rest = w .1;
-              here = w .2;
-              sequence = λ i. q .as-given i .sequence;
-              count = λ i. q .as-given i .count;
-              payload = q .bytes;
-            };
+        rest = w .1;
+        here = w .2 ∙ ap (λ (y : Delivery). some (y ∷ w .1)) (sym same);
         not-far-ahead = omega (arith, short, in-sum);
         not-far-behind = omega (arith, short, within);
       }
@@ -206,7 +195,7 @@ module _ (schedule : List Delivery) (first : ℕ) (runs : Consecutive first sche
   -- the marks of a call, where the base does not move before the packet is given
   near-quiet : (g : Making) (calls : List Asked) → AllScheduled schedule calls (made g) → (m log : List Mark) → Quiet m
       → place-after log ≤ counts-of schedule
-      → EachCollected (Queued g calls) (m ++ log) → AllNear schedule log → AllNear schedule (m ++ log)
+      → EachCollected (Queued g calls) (m ++ log) → NearEach log → NearEach (m ++ log)
   near-quiet g calls h [] log quiet within q k = k
   near-quiet g calls h (put cell payload ∷ m) log quiet within q k = near-quiet g calls h m log (quiet .1) within q k
   near-quiet g calls h (base-set base ∷ m) log quiet within q k = near-quiet g calls h m log (quiet .1) within q k
@@ -219,18 +208,18 @@ module _ (schedule : List Delivery) (first : ℕ) (runs : Consecutive first sche
   near-quiet g calls h (delivered p ∷ m) log quiet within q k = absurd (quiet .0)
 
   near-call : (g : Making) (calls : List Asked) → AllScheduled schedule calls (made g) → (when : When) (o : Option Packet) (s : State) (m log : List Mark)
-      → Shape when o s m → place-after log ≤ counts-of schedule → EachCollected (Queued g calls) (m ++ log) → AllNear schedule log
-      → AllNear schedule (m ++ log)
+      → Shape when o s m → place-after log ≤ counts-of schedule → EachCollected (Queued g calls) (m ++ log) → NearEach log
+      → NearEach (m ++ log)
   near-call g calls h when none s m log shape within q k = near-quiet g calls h m log shape within q k
   near-call g calls h when (some p) s m log shape within q k =
-      subst (λ (z : List Mark). AllNear schedule (z ++ log)) (sym (shape .is))
+      subst (λ (z : List Mark). NearEach (z ++ log)) (sym (shape .is))
       (go (shape .how) (subst (λ (z : List Mark). EachCollected (Queued g calls) (z ++ log)) (shape .is) q))
     where
       go : Quiet (shape .before) ⊎ Skip when p s (shape .before) → EachCollected (Queued g calls) (shape .before ++ log)
-          → AllNear schedule (shape .before ++ log)
+          → NearEach (shape .before ++ log)
       go (inl quiet) q = near-quiet g calls h (shape .before) log quiet within q k
       go (inr skip) q =
-          subst (λ (z : List Mark). AllNear schedule (z ++ log)) (sym (skip .is))
+          subst (λ (z : List Mark). NearEach (z ++ log)) (sym (skip .is))
           (near-quiet g calls h (skip .before) log (skip .quiet) within
           (subst (λ (z : List Mark). EachCollected (Queued g calls) (z ++ log)) (skip .is) q) k)
 
@@ -290,8 +279,8 @@ unfolding half
 short-schedule-is-fair schedule first runs g before after h =
     record {
       store = h .store;
-      set-before = from .0;
-      near = from .1;
+      set-before = each-collected-at _ (log-after (before ++ after) (made g)) (from .0);
+      near = each-collected-at _ (log-after (before ++ after) (made g)) (from .1);
       below =
           omega (arith, h .short, sums-after g (before ++ after) .skipped, base-within schedule first runs (h .short) g (before ++ after) from);
       one-store = h .one-store;

@@ -22,7 +22,7 @@ use Rattle.srt_group_model.specs.laws.Fixed.{identity-kept}
 use Rattle.srt_group_model.specs.laws.Valid.{valid-kept, valid-wider, new-valid}
 use Rattle.srt_group_model.specs.declared.Identity.{Identity}
 use Rattle.srt_group_traces.specs.laws.Cases.{eq-of, eqb-yes}
-use Rattle.srt_group_traces.specs.Calls.{Asked, do-call, takes-store, Making, made, state-after}
+use Rattle.srt_group_traces.specs.Statement.{Asked, do-call, takes-store, Making, made, state-after}
 
 pub store-length-stays : (call : Asked) (s : State) → do-call call s .state .identity .length ≡ s .identity .length
 unfolding do-call
