@@ -89,6 +89,10 @@ unfoldable pub last-shown : State → List Shown → State
 last-shown s [] = s
 last-shown s (x ∷ xs) = last-shown (x .state) xs
 
+-- the place at which it then shows the base: the counts that it has shown as delivered, and the skipped count that it shows
+abbrev pub place-shown : Making → List Taken → ℕ
+place-shown g steps = counts-of (shown-deliveries (all-shown steps)) + skipped-in (last-shown (made g) (all-shown steps))
+
 -- ---- the base
 
 -- a base that a step shows, less what the step shows as delivered and skipped
@@ -137,9 +141,9 @@ module _ (schedule : List Delivery) (first : ℕ) where
   abbrev pub port-state : Port schedule first → State
   port-state w = last-shown (made (w .making)) (all-shown (w .before))
 
-  -- the place at which it stands then: the counts that it has shown as delivered, and the skipped count that it shows
+  -- the place at which it stands then
   abbrev pub port-place : Port schedule first → ℕ
-  port-place w = counts-of (shown-deliveries (all-shown (w .before))) + skipped-in (port-state w)
+  port-place w = place-shown (w .making) (w .before)
 
   -- what it shows as delivered from then on, up to its next skip
   abbrev pub port-delivers : Port schedule first → List Delivery

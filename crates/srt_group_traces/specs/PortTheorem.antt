@@ -9,8 +9,8 @@ use Prim.Native.Nat.{ℕ, _+_, _%_, _<_}
 use Rattle.srt_protocol.specs.Sequence.{half, sequence-distance}
 use Rattle.srt_group_model.specs.Legs.{largest-64}
 use Rattle.srt_group_model.specs.State.{next-receive-sequence}
-use Rattle.srt_group_traces.specs.Statement.{Consecutive, clerk, Fair, Prefix, Delivery, Making, made, counts-of, skipped-in}
-use Rattle.srt_group_traces.specs.Port.{Taken, all-shown, calls-of, Performed, shown-deliveries, shown-told, last-shown, first-shown, SkipsShown, Port, port-place, port-delivers}
+use Rattle.srt_group_traces.specs.Statement.{Consecutive, clerk, Fair, Prefix, Delivery, Making, made, skipped-in, pass-to}
+use Rattle.srt_group_traces.specs.Port.{Taken, all-shown, calls-of, Performed, shown-deliveries, shown-told, last-shown, first-shown, SkipsShown, Port, port-place, port-delivers, place-shown}
 
 pub record PortTheorem : Type 0 where
   -- a base that is shown has a first value by what is shown; the base less that is the delivered packet counts plus the skipped
@@ -20,12 +20,12 @@ pub record PortTheorem : Type 0 where
       → (base : ℕ) → next-receive-sequence (last-shown (made g) (all-shown steps) .receive) ≡ some base
       → (first : ℕ)
       × (first-shown (all-shown steps) ≡ some first)
-      × (sequence-distance first base
-      ≡ (counts-of (shown-deliveries (all-shown steps)) + skipped-in (last-shown (made g) (all-shown steps))) % (half + half))
-  -- the delivered list is the clerk's, byte for byte
+      × (sequence-distance first base ≡ place-shown g steps % (half + half))
+  -- the delivered list is the clerk's, byte for byte, and the base's place is his
   pub schedule : (schedule : List Delivery) (first : ℕ) → Consecutive first schedule → (g : Making) (steps : List Taken)
       → Performed (made g) steps → Fair schedule first g (calls-of steps)
-      → clerk schedule 0 (shown-told (all-shown steps)) ≡ some (shown-deliveries (all-shown steps))
+      → (left : List Delivery) × (pass-to schedule (place-shown g steps) ≡ some left)
+      × (clerk schedule 0 (shown-told (all-shown steps)) ≡ some record { gave = shown-deliveries (all-shown steps); left = left })
   -- every step that raises the skipped count made a right skip, and leaves every leg's queue empty
   pub skips : (g : Making) (steps : List Taken) → Performed (made g) steps → SkipsShown (made g) steps
   -- two ports at one place deliver the same packets, one list a prefix of the other, each up to its next skip

@@ -177,34 +177,26 @@ told-by (call ∷ more) s =
     }
     ∷ told-by more (do-call call s .state)
 
+-- how he went: what he gave, and the packets then before him
+pub record Went : Type 0 where
+  pub gave : List Delivery
+  pub left : List Delivery
+
 -- He gives the next packet and goes past it. With none before him, or no packets whose counts add up to the rise, he has no answer.
-unfoldable pub give-next : Option (List Delivery) → (List Delivery → Option (List Delivery)) → Option (List Delivery)
+unfoldable pub give-next : Option (List Delivery) → (List Delivery → Option Went) → Option Went
 give-next none go-on = none
 give-next (some []) go-on = none
-give-next (some (x ∷ xs)) go-on = if-some go-on xs give (λ (ys : List Delivery). some (x ∷ ys)) otherwise none
+give-next (some (x ∷ xs)) go-on =
+    if-some go-on xs give (λ (w : Went). some record { gave = x ∷ w .gave; left = w .left }) otherwise none
 
--- The packets before him, the skipped count that he knows, and what he is told, in order: what he gives. At a delivery he passes
--- the packets whose counts add up to the count's rise, gives the next and goes past it. Other calls leave him there.
-unfoldable pub clerk : List Delivery → ℕ → List Told → Option (List Delivery)
-clerk ahead known [] = some []
+-- The packets before him, the skipped count that he knows, and what he is told, in order. At a delivery he passes the packets
+-- whose counts add up to the count's rise, gives the next and goes past it. Other calls leave him there.
+unfoldable pub clerk : List Delivery → ℕ → List Told → Option Went
+clerk ahead known [] = some record { gave = []; left = ahead }
 clerk ahead known (told ∷ more) =
     if told .delivered
     then give-next (pass-to ahead (told .skipped - known)) (λ xs. clerk xs (told .skipped) more)
     else clerk ahead (told .skipped) more
-
--- he goes past the next packet
-unfoldable pub go-past : Option (List Delivery) → (List Delivery → Option (List Delivery)) → Option (List Delivery)
-go-past none go-on = none
-go-past (some []) go-on = none
-go-past (some (x ∷ xs)) go-on = go-on xs
-
--- The packets that are then before him: he goes as he goes when he gives.
-unfoldable pub clerk-left : List Delivery → ℕ → List Told → Option (List Delivery)
-clerk-left ahead known [] = some ahead
-clerk-left ahead known (told ∷ more) =
-    if told .delivered
-    then go-past (pass-to ahead (told .skipped - known)) (λ xs. clerk-left xs (told .skipped) more)
-    else clerk-left ahead (told .skipped) more
 
 -- ---- the premises
 
@@ -351,30 +343,22 @@ pub record AsQueued (g : Making) (calls : List Asked) (payload : List ℕ) (d : 
 
 -- ---- the claims
 
--- A base that is set has a first value; the base less that.
-pub record BaseClaim (g : Making) (calls : List Asked) (base : ℕ) : Type 0 where
-  pub first : ℕ
-  pub is-first : first-base (log-after calls (made g)) ≡ some first
-  pub moved : skipped-in (state-after calls (made g)) < largest-64 → sequence-distance first base ≡ place-of-base g calls % (half + half)
-
 pub record HistoryTheorem : Type 0 where
   -- "After it, modulo 2^31, the receive base less its first value equals the delivered packet counts plus the skipped count, if
   -- ... that count is below its ceiling." The first value is the one at the moment of setting; a base that is set has one. That
   -- it was set before a packet was collected is not needed here.
   pub base : (g : Making) (calls : List Asked) (base : ℕ) → next-receive-sequence (state-after calls (made g) .receive) ≡ some base
-      → BaseClaim g calls base
+      → (first : ℕ) × (first-base (log-after calls (made g)) ≡ some first)
+      × (skipped-in (state-after calls (made g)) < largest-64 → sequence-distance first base ≡ place-of-base g calls % (half + half))
   -- "If also the packets collected come from one schedule of consecutive runs starting there, each, counted along it, less than
   -- 2^30 from the base on either side when collected, and each accepted call that is lent a store is lent the same one, which
   -- nobody else writes, the delivered list equals that of 01's clerk, byte for byte." The clerk is fed with the calls alone. He
   -- has an answer only if there are packets whose counts add up to each rise of the skipped count: that there are is claimed.
+  -- "The base's place is his": what is left before him is the schedule from there on.
   pub schedule : (schedule : List Delivery) (first : ℕ) → Consecutive first schedule → (g : Making) (calls : List Asked)
       → Fair schedule first g calls
-      → clerk schedule 0 (told-by calls (made g)) ≡ some (deliveries calls (made g))
-  -- "The base's place is his": what is left before the clerk is the schedule from the base's place on.
-  pub place : (schedule : List Delivery) (first : ℕ) → Consecutive first schedule → (g : Making) (calls : List Asked)
-      → Fair schedule first g calls
-      → (left : List Delivery) × (clerk-left schedule 0 (told-by calls (made g)) ≡ some left)
-      × (pass-to schedule (place-of-base g calls) ≡ some left)
+      → (left : List Delivery) × (pass-to schedule (place-of-base g calls) ≡ some left)
+      × (clerk schedule 0 (told-by calls (made g)) ≡ some record { gave = deliveries calls (made g); left = left })
   -- "Every skip passes 01's give-up test and ends with empty leg queues." By what a host sees: a call that raises the skipped
   -- count was a poll. The test was made at the poll's time, of the state that the poll then had: its base was set and not
   -- held, it asked for no continuation, and the test was true for the packet nearest in it. After collecting the base was

@@ -19,7 +19,6 @@ pub mod ScheduleClaim
 pub mod Gateways
 pub mod AsQueued
 pub mod Corollaries
-pub mod ClerkPlace
 pub mod CollectedAsQueued
 pub mod Budget
 pub mod ShortSchedule

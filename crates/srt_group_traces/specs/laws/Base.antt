@@ -20,7 +20,7 @@ use Rattle.srt_group_model.specs.Calls.{new}
 use Rattle.srt_group_model.specs.declared.Data.{Data}
 use Rattle.srt_group_model.specs.declared.Packet.{Packet}
 use Rattle.srt_group_model.specs.laws.Reason.{none-some, some-inj}
-use Rattle.srt_group_traces.specs.Statement.{first-base, total-skipped, total-delivered, place-after, BaseClaim, When, when-of, Asked, do-call, Delivery, delivery-of, given-by, Making, made, state-after, log-after, deliveries, counts-of}
+use Rattle.srt_group_traces.specs.Statement.{first-base, total-skipped, total-delivered, place-after, When, when-of, Asked, do-call, Delivery, delivery-of, given-by, Making, made, state-after, log-after, deliveries, counts-of, skipped-in, place-of-base}
 use Rattle.srt_group_traces.specs.laws.Cases.{each-at}
 use Rattle.srt_group_traces.specs.laws.Marks.{total-delivered-append}
 use Rattle.srt_group_traces.specs.laws.Law.{OfContent, PutLaw}
@@ -235,6 +235,11 @@ delivered-counts (call ∷ more) s =
       counts-append (given-by (do-call call s)) (deliveries more (do-call call s .state)),
     )
 
+-- the base's place by what was delivered and skipped is that by the marks
+pub place-is : (g : Making) (calls : List Asked) → skipped-in (state-after calls (made g)) < largest-64
+    → place-of-base g calls ≡ place-after (log-after calls (made g))
+place-is g calls below = omega (arith, delivered-counts calls (made g), sums-after g calls .skipped)
+
 -- ---- the first claim
 
 stands-where : (o b : Option ℕ) (place base : ℕ) → b ≡ some base → Stands o b place
@@ -255,18 +260,18 @@ based-has-first g calls base e =
     sums-first (state-after calls (made g) .receive) (log-after calls (made g)) base e (sums-after g calls)
 
 pub base-claim : (g : Making) (calls : List Asked) (base : ℕ)
-    → next-receive-sequence (state-after calls (made g) .receive) ≡ some base → BaseClaim g calls base
+    → next-receive-sequence (state-after calls (made g) .receive) ≡ some base
+    → (first : ℕ) × (first-base (log-after calls (made g)) ≡ some first)
+    × (skipped-in (state-after calls (made g)) < largest-64 → sequence-distance first base ≡ place-of-base g calls % (half + half))
 base-claim g calls base e =
     let w : (first : ℕ) × (first-base (log-after calls (made g)) ≡ some first)
     × (base ≡ sequence-further first (place-after (log-after calls (made g)))) =
     based-has-first g calls base e
-    in
-    record {
-      first = w .0;
-      is-first = w .1;
-      moved =
-          λ below.
+    in (
+      w .0,
+      w .1,
+      λ below.
           ap (sequence-distance (w .0)) (w .2)
           ∙ distance-further half (w .0) (place-after (log-after calls (made g))) half-above-zero
-          ∙ ap (λ (n : ℕ). n % (half + half)) (omega (arith, delivered-counts calls (made g), sums-after g calls .skipped));
-    }
+          ∙ ap (λ (n : ℕ). n % (half + half)) (sym (place-is g calls below)),
+    )

@@ -14,7 +14,7 @@ use Rattle.srt_group_model.specs.Tools.{if-some_give_otherwise_, or-else}
 use Rattle.srt_group_model.specs.State.{State, Receive, next-receive-sequence}
 use Rattle.srt_group_model.specs.Run.{Mark, put, base-set, collected, gap-skipped, delivered}
 use Rattle.srt_group_model.specs.laws.Reason.{if-elim, none-some, some-inj}
-use Rattle.srt_group_traces.specs.Statement.{first-base, total-skipped, place-after, Consecutive, pass-to, Told, told-by, give-next, clerk, Fair, when-of, Prefix, Raised, Asked, do-call, is-poll, time-of, Delivery, Making, made, state-after, log-after, deliveries, counts-of, skipped-in}
+use Rattle.srt_group_traces.specs.Statement.{first-base, total-skipped, place-after, Consecutive, pass-to, Told, told-by, give-next, clerk, Fair, when-of, Prefix, Raised, Asked, do-call, is-poll, time-of, Delivery, Making, made, state-after, log-after, deliveries, counts-of, skipped-in, Went}
 use Rattle.srt_group_traces.specs.laws.Cases.{by-option}
 use Rattle.srt_group_model.specs.Lent.{delivered-by}
 use Rattle.srt_group_model.specs.declared.Packet.{Packet}
@@ -37,54 +37,53 @@ InOrder schedule place (x ∷ xs) =
     (at + x .count) xs
 
 module _ (schedule : List Delivery) (first : ℕ) (runs : Consecutive first schedule) where
-  give-next-in-order : (place rise : ℕ) (passed : Option (List Delivery)) (go-on : List Delivery → Option (List Delivery)) (ys : List Delivery)
+  give-next-in-order : (place rise : ℕ) (passed : Option (List Delivery)) (go-on : List Delivery → Option Went) (w : Went)
       → ((ahead : List Delivery) → passed ≡ some ahead → pass-to schedule (place + rise) ≡ some ahead)
-      → ((at : ℕ) (xs zs : List Delivery) → pass-to schedule at ≡ some xs → go-on xs ≡ some zs → InOrder schedule at zs)
-      → give-next passed go-on ≡ some ys → InOrder schedule place ys
+      → ((at : ℕ) (xs : List Delivery) (v : Went) → pass-to schedule at ≡ some xs → go-on xs ≡ some v → InOrder schedule at (v .gave))
+      → give-next passed go-on ≡ some w → InOrder schedule place (w .gave)
   unfolding give-next if-some_give_otherwise_
-  give-next-in-order place rise none go-on ys here order e = none-some e
-  give-next-in-order place rise (some []) go-on ys here order e = none-some e
-  give-next-in-order place rise (some (x ∷ xs)) go-on ys here order e =
+  give-next-in-order place rise none go-on w here order e = none-some e
+  give-next-in-order place rise (some []) go-on w here order e = none-some e
+  give-next-in-order place rise (some (x ∷ xs)) go-on w here order e =
       by-option (go-on xs) (λ n. none-some (sym (ap cons-to n) ∙ e))
-      (λ zs n.
-      subst (InOrder schedule place) (some-inj (sym (ap cons-to n) ∙ e))
-      (place + rise, omega arith, (xs, here (x ∷ xs) refl), order (place + rise + x .count) xs zs past n))
+      (λ v n.
+      subst (λ (z : Went). InOrder schedule place (z .gave)) (some-inj (sym (ap cons-to n) ∙ e))
+      (place + rise, omega arith, (xs, here (x ∷ xs) refl), order (place + rise + x .count) xs v past n))
     where
-      cons-to : Option (List Delivery) → Option (List Delivery)
-      cons-to o = if-some o give (λ (zs : List Delivery). some (x ∷ zs)) otherwise none
+      cons-to : Option Went → Option Went
+      cons-to o = if-some o give (λ (v : Went). some record { gave = x ∷ v .gave; left = v .left }) otherwise none
 
       past : pass-to schedule (place + rise + x .count) ≡ some xs
       past =
           pass-to-further schedule (place + rise) (x .count) (x ∷ xs) (here (x ∷ xs) refl)
           ∙ pass-to-next x xs (sequence-at-place first 0 schedule (place + rise) x xs runs (here (x ∷ xs) refl) .1)
 
-  clerk-in-order : (place : ℕ) (ahead : List Delivery) (known : ℕ) (told : List Told) (ys : List Delivery)
+  clerk-in-order : (place : ℕ) (ahead : List Delivery) (known : ℕ) (told : List Told) (w : Went)
       → pass-to schedule place ≡ some ahead
-      → clerk ahead known told ≡ some ys → InOrder schedule place ys
+      → clerk ahead known told ≡ some w → InOrder schedule place (w .gave)
   unfolding clerk
-  clerk-in-order place ahead known [] ys here e = subst (InOrder schedule place) (some-inj e) tt
-  clerk-in-order place ahead known (told ∷ more) ys here e =
-      if-elim (λ (o : Option (List Delivery)). o ≡ some ys → InOrder schedule place ys) (told .delivered) _ _
+  clerk-in-order place ahead known [] w here e = subst (λ (z : Went). InOrder schedule place (z .gave)) (some-inj e) tt
+  clerk-in-order place ahead known (told ∷ more) w here e =
+      if-elim (λ (o : Option Went). o ≡ some w → InOrder schedule place (w .gave)) (told .delivered) _ _
       (λ d f.
       give-next-in-order place (told .skipped - known) (pass-to ahead (told .skipped - known))
-      (λ xs. clerk xs (told .skipped) more) ys
+      (λ xs. clerk xs (told .skipped) more) w
       (λ passed g. pass-to-further schedule place (told .skipped - known) ahead here ∙ g)
-      (λ at xs zs there g. clerk-in-order at xs (told .skipped) more zs there g) f)
-      (λ d f. clerk-in-order place ahead (told .skipped) more ys here f) e
+      (λ at xs v there g. clerk-in-order at xs (told .skipped) more v there g) f)
+      (λ d f. clerk-in-order place ahead (told .skipped) more w here f) e
 
   -- No packet is delivered twice within a schedule, and what is delivered is in the schedule's order.
   pub delivered-in-order : (g : Making) (calls : List Asked) → Fair schedule first g calls
       → InOrder schedule 0 (deliveries calls (made g))
   delivered-in-order g calls fair =
-      clerk-in-order 0 schedule 0 (told-by calls (made g)) (deliveries calls (made g)) (pass-to-zero schedule)
-      (schedule-claim schedule first runs g calls fair)
+      clerk-in-order 0 schedule 0 (told-by calls (made g)) _ (pass-to-zero schedule)
+      (schedule-claim schedule first runs g calls fair .2)
 
   -- If nothing is skipped, the delivered list is a prefix of the schedule.
   pub unskipped-is-prefix : (g : Making) (calls : List Asked) → Fair schedule first g calls → NoSkip 0 (told-by calls (made g))
       → Prefix (deliveries calls (made g)) schedule
   unskipped-is-prefix g calls fair still =
-      clerk-front schedule 0 (told-by calls (made g)) (deliveries calls (made g)) still
-      (schedule-claim schedule first runs g calls fair)
+      clerk-front schedule 0 (told-by calls (made g)) _ still (schedule-claim schedule first runs g calls fair .2)
 
 -- ---- the base moves only by delivery and skip
 

@@ -3,24 +3,25 @@
 use mathlib.Core.Path.{_≡_, refl, sym, ap, _∙_}
 use mathlib.Core.Bool.{Bool, true, false}
 use mathlib.Core.List.{List, [], _∷_}
-use mathlib.Core.Option.{Option, some}
-use Prim.Native.Nat.{ℕ, suc}
+use mathlib.Core.Option.{some}
+use Prim.Native.Nat.{ℕ, suc, _+_, _%_, _<_}
 use native.Mathlib.Omega.{arith}
 use lib.Dec.{lit<, lit≤}
 use lib.ListN.{take, replicate}
 use Rattle.srt_protocol.specs.Cells.{overwritten, output-size, cell-size}
 use Rattle.srt_group_model.specs.State.{State, next-receive-sequence}
 use Rattle.srt_group_model.specs.laws.State.{broadcast-mode}
-use Rattle.srt_group_model.specs.Legs.{moment, no-sequence}
+use Rattle.srt_group_model.specs.Legs.{moment, no-sequence, largest-64}
 use Rattle.srt_group_model.specs.laws.Computed.{definitions}
 use Rattle.srt_group_model.specs.Lent.{Call, call-add-member, call-mark-member-broken, call-remove-member-connection, call-poll-event, call-send, call-read-leg, call-queue-data, call-queue-event, call-poll-data, delivered-by}
 use Rattle.srt_group_model.specs.declared.Data.{Data}
 use Rattle.srt_group_model.specs.declared.Leg.{Leg}
-use Rattle.srt_group_traces.specs.Statement.{first-base, total-skipped, total-delivered, last-put, Consecutive, pass-to, told-by, clerk, SetBefore, AllNear, OneStore, Fair, Raised, place-of-base, packets-collected, BaseClaim, Asked, do-call, takes-store, Delivery, given-by, Making, made, state-after, log-after, deliveries, counts-of, store-left, with-payload, Near, place-after}
+use Rattle.srt_group_traces.specs.Statement.{first-base, total-skipped, total-delivered, last-put, Consecutive, pass-to, told-by, clerk, SetBefore, AllNear, OneStore, Fair, Raised, place-of-base, packets-collected, Asked, do-call, takes-store, Delivery, given-by, Making, made, state-after, log-after, deliveries, counts-of, store-left, with-payload, Near, place-after, skipped-in}
 use Rattle.srt_group_model.specs.laws.Reason.{not-both, some-inj}
 use Rattle.srt_group_model.specs.Sending.{list-size}
 use Rattle.srt_group_traces.specs.laws.HistoryTheorem.{history-theorem}
 use Rattle.srt_group_traces.specs.laws.Marks.{EachCollected, each-collected-at}
+use Rattle.srt_protocol.specs.Sequence.{half, sequence-distance}
 
 -- ---- what is lent
 
@@ -224,12 +225,13 @@ fair = record { store = store-0; set-before = set-before; near = near; below = l
 
 -- ---- so the delivered list is the clerk's, and here it is
 
-pub by-clerk : clerk schedule 0 (told-by calls (made group)) ≡ some (deliveries calls (made group))
+pub by-clerk : (left : List Delivery) × (pass-to schedule (place-of-base group calls) ≡ some left)
+    × (clerk schedule 0 (told-by calls (made group)) ≡ some record { gave = deliveries calls (made group); left = left })
 by-clerk = history-theorem .schedule schedule 100 runs group calls fair
 
 pub clerk-list : clerk schedule 0 (told-by calls (made group))
-    ≡ some (planned 100 1 (64 ∷ []) ∷ planned 101 2 (65 ∷ 66 ∷ []) ∷ planned 104 1 (68 ∷ []) ∷ [])
-clerk-list = by-clerk ∙ ap {B = Option (List Delivery)} some delivered-list
+    ≡ some record { gave = planned 100 1 (64 ∷ []) ∷ planned 101 2 (65 ∷ 66 ∷ []) ∷ planned 104 1 (68 ∷ []) ∷ []; left = by-clerk .0 }
+clerk-list = by-clerk .2 ∙ ap (λ (l : List Delivery). some record { gave = l; left = by-clerk .0 }) delivered-list
 
 -- ---- the marks, added up: three packets collected, 1 + 2 + 1 delivered, one skipped
 
@@ -247,11 +249,12 @@ pub based : next-receive-sequence (state-after calls (made group) .receive) ≡ 
 unfolding definitions group store-0 store-1 store-2 store-3 output sends calls do-call state-after
 based = refl
 
-pub by-base : BaseClaim group calls 105
+pub by-base : (first : ℕ) × (first-base (log-after calls (made group)) ≡ some first)
+    × (skipped-in (state-after calls (made group)) < largest-64 → sequence-distance first 105 ≡ place-of-base group calls % (half + half))
 by-base = history-theorem .base group calls 105 based
 
-pub first-is-100 : by-base .first ≡ 100
-first-is-100 = some-inj (sym (by-base .is-first) ∙ log-adds-up .0)
+pub first-is-100 : by-base .0 ≡ 100
+first-is-100 = some-inj (sym (by-base .1) ∙ log-adds-up .0)
 
 pub stands-at-5 : place-of-base group calls ≡ 5
 unfolding definitions group store-0 store-1 store-2 store-3 output sends calls do-call state-after given-by deliveries counts-of

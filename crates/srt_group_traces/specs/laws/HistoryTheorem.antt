@@ -1,7 +1,6 @@
 -- Demand 3 holds: the proof of specs/Statement.antt's record, claim by claim.
 use Rattle.srt_group_traces.specs.laws.Base.{base-claim}
 use Rattle.srt_group_traces.specs.laws.ScheduleClaim.{schedule-claim}
-use Rattle.srt_group_traces.specs.laws.ClerkPlace.{clerk-stands-at}
 use Rattle.srt_group_traces.specs.laws.Corollaries.{rise-is-right-skip}
 use Rattle.srt_group_traces.specs.laws.Skips.{skips-claim}
 use Rattle.srt_group_traces.specs.laws.Gateways.{gateways-claim}
@@ -14,7 +13,6 @@ history-theorem =
     record {
       base = base-claim;
       schedule = schedule-claim;
-      place = clerk-stands-at;
       rises = rise-is-right-skip;
       skips = λ g calls call. skips-claim call (state-after calls (made g));
       gateways = gateways-claim;

@@ -16,7 +16,7 @@ use Rattle.srt_group_model.specs.State.{State, next-receive-sequence}
 use Rattle.srt_group_model.specs.Calls.{new}
 use Rattle.srt_group_model.specs.Lent.{Result, delivered-by}
 use Rattle.srt_group_model.specs.laws.Reason.{if-true, if-false, by-test, none-some, some-inj}
-use Rattle.srt_group_traces.specs.Statement.{first-base, total-skipped, place-after, BaseClaim, Consecutive, pass-to, Told, told-by, give-next, clerk, OneStore, Fair, Prefix, until-skip, Gateway, stands-at, delivers, clerk-left, Asked, do-call, Delivery, given-by, Making, made, state-after, log-after, deliveries, skipped-in, counts-of}
+use Rattle.srt_group_traces.specs.Statement.{first-base, total-skipped, place-after, Consecutive, pass-to, Told, told-by, give-next, clerk, OneStore, Fair, Prefix, until-skip, Gateway, stands-at, delivers, Asked, do-call, Delivery, given-by, Making, made, state-after, log-after, deliveries, skipped-in, counts-of, Went, place-of-base}
 use Rattle.srt_group_traces.specs.laws.Cases.{by-option, eq-of, eqb-yes}
 use Rattle.srt_group_traces.specs.laws.CallWalk.{Fits}
 use Rattle.srt_group_traces.specs.laws.Gateways.{state-after-both, log-after-both, deliveries-both}
@@ -25,9 +25,7 @@ use Rattle.srt_group_traces.specs.laws.ClerkClaim.{skipped-rises}
 use Rattle.srt_group_traces.specs.laws.Corollaries.{first-base-stays, unbased-is-still}
 use Rattle.srt_group_traces.specs.laws.AsQueued.{GivenToQueue, nothing-made-up}
 use Rattle.srt_group_traces.specs.laws.HistoryTheorem.{history-theorem}
-use Rattle.srt_group_traces.specs.Port.{Shown, shows, shows-short, Taken, did, refused-short, shown-of, all-shown, calls-of, TakenFrom, Performed, shown-delivery, shown-deliveries, told-of, shown-told, last-shown, less-moved, first-shown, SkipsShown, shown-until-skip, Port, port-state, port-place, port-delivers}
-use Rattle.srt_group_traces.specs.laws.ClerkPlace.{Rising, last-told, clerk-place, call-rises}
-use Rattle.srt_group_traces.specs.laws.Schedule.{pass-to-zero}
+use Rattle.srt_group_traces.specs.Port.{Shown, shows, shows-short, Taken, did, refused-short, shown-of, all-shown, calls-of, TakenFrom, Performed, shown-delivery, shown-deliveries, told-of, shown-told, last-shown, less-moved, first-shown, SkipsShown, shown-until-skip, Port, port-state, port-place, port-delivers, place-shown}
 
 -- ---- the model itself is such a port, for every list of calls
 
@@ -89,6 +87,12 @@ last-shown-is s (t ∷ steps) h =
     → last-shown (shown-of t .state) (all-shown steps) ≡ state-after (calls-of (t ∷ steps)) s)
     s (λ call k. last-shown-is (do-call call s .state) steps k) (λ call k. last-shown-is s steps k) t (h .0) (h .1)
 
+-- the place that it shows is the base's
+pub place-shown-is : (g : Making) (steps : List Taken) → Performed (made g) steps → place-shown g steps ≡ place-of-base g (calls-of steps)
+place-shown-is g steps h =
+    ap (λ (l : List Delivery). counts-of l + skipped-in (last-shown (made g) (all-shown steps))) (shown-deliveries-are (made g) steps h)
+    ∙ ap (λ (s : State). counts-of (deliveries (calls-of steps) (made g)) + skipped-in s) (last-shown-is (made g) steps h)
+
 -- a refusal leaves the clerk where he is
 clerk-passes-short : (call : Asked) (s : State) (told : List Told) (ahead : List Delivery)
     → clerk ahead (skipped-in s) (told-of (shows-short call s) ∷ told) ≡ clerk ahead (skipped-in s) told
@@ -101,7 +105,7 @@ clerk-goes-on : (known : ℕ) (x : Told) (told more : List Told)
 unfolding clerk
 clerk-goes-on known x told more h ahead =
     ap
-    (λ (go-on : List Delivery → Option (List Delivery)).
+    (λ (go-on : List Delivery → Option Went).
     if x .delivered then give-next (pass-to ahead (x .skipped - known)) go-on else go-on ahead)
     (fun-ext h)
 
@@ -124,14 +128,22 @@ shown-clerk-is s (t ∷ steps) h =
 
 -- ---- the clerk's list
 
--- The delivered list that a port shows is the clerk's, who is told what the port shows.
+-- The delivered list that a port shows is the clerk's, who is told what the port shows; and he stands at the base's place.
 pub port-has-clerks-list : (schedule : List Delivery) (first : ℕ) → Consecutive first schedule → (g : Making) (steps : List Taken)
     → Performed (made g) steps → Fair schedule first g (calls-of steps)
-    → clerk schedule 0 (shown-told (all-shown steps)) ≡ some (shown-deliveries (all-shown steps))
+    → (left : List Delivery) × (pass-to schedule (place-shown g steps) ≡ some left)
+    × (clerk schedule 0 (shown-told (all-shown steps)) ≡ some record { gave = shown-deliveries (all-shown steps); left = left })
 unfolding new
 port-has-clerks-list schedule first runs g steps h fair =
-    shown-clerk-is (made g) steps h schedule ∙ history-theorem .schedule schedule first runs g (calls-of steps) fair
-    ∙ ap {B = Option (List Delivery)} some (sym (shown-deliveries-are (made g) steps h))
+    let w : (left : List Delivery) × (pass-to schedule (place-of-base g (calls-of steps)) ≡ some left)
+    × (clerk schedule 0 (told-by (calls-of steps) (made g)) ≡ some record { gave = deliveries (calls-of steps) (made g); left = left }) =
+    history-theorem .schedule schedule first runs g (calls-of steps) fair
+    in (
+      w .0,
+      ap (pass-to schedule) (place-shown-is g steps h) ∙ w .1,
+      shown-clerk-is (made g) steps h schedule ∙ w .2
+          ∙ ap (λ (l : List Delivery). some record { gave = l; left = w .0 }) (sym (shown-deliveries-are (made g) steps h)),
+    )
 
 -- ---- the base
 
@@ -325,23 +337,19 @@ module _ (g : Making) where
       → (base : ℕ) → next-receive-sequence (last-shown (made g) (all-shown steps) .receive) ≡ some base
       → (first : ℕ)
       × (first-shown (all-shown steps) ≡ some first)
-      × (sequence-distance first base
-      ≡ (counts-of (shown-deliveries (all-shown steps)) + skipped-in (last-shown (made g) (all-shown steps))) % (half + half))
-  port-base steps h below base e = (
-    claim .first,
-    first-shown-is steps h below ∙ claim .is-first,
-    claim .moved (subst (λ (s : State). skipped-in s < largest-64) (last-shown-is (made g) steps h) below)
-        ∙ ap (λ (n : ℕ). n % (half + half))
-        (sym
-        (ap (λ (l : List Delivery). counts-of l + skipped-in (last-shown (made g) (all-shown steps)))
-        (shown-deliveries-are (made g) steps h)
-        ∙ ap (λ (s : State). counts-of (deliveries (calls-of steps) (made g)) + skipped-in s) (last-shown-is (made g) steps h))),
-  )
-    where
-      claim : BaseClaim g (calls-of steps) base
-      claim =
-          history-theorem .base g (calls-of steps) base
-          (ap (λ (s : State). next-receive-sequence (s .receive)) (sym (last-shown-is (made g) steps h)) ∙ e)
+      × (sequence-distance first base ≡ place-shown g steps % (half + half))
+  port-base steps h below base e =
+      let w : (first : ℕ) × (first-base (log-after (calls-of steps) (made g)) ≡ some first)
+      × (skipped-in (state-after (calls-of steps) (made g)) < largest-64
+      → sequence-distance first base ≡ place-of-base g (calls-of steps) % (half + half)) =
+      history-theorem .base g (calls-of steps) base
+      (ap (λ (s : State). next-receive-sequence (s .receive)) (sym (last-shown-is (made g) steps h)) ∙ e)
+      in (
+        w .0,
+        first-shown-is steps h below ∙ w .1,
+        w .2 (subst (λ (s : State). skipped-in s < largest-64) (last-shown-is (made g) steps h) below)
+            ∙ ap (λ (n : ℕ). n % (half + half)) (sym (place-shown-is g steps h)),
+      )
 
   -- While it shows no base, it shows nothing delivered and nothing skipped.
   pub port-unbased : (steps : List Taken) → Performed (made g) steps
@@ -572,11 +580,7 @@ module _ (schedule : List Delivery) (first : ℕ) where
   begun w = performed-begins (made (w .making)) (w .before) (w .after) (w .performed)
 
   place-is : (w : Port schedule first) → port-place schedule first w ≡ stands-at schedule first (as-gateway w)
-  place-is w =
-      ap (λ (l : List Delivery). counts-of l + skipped-in (port-state schedule first w))
-      (shown-deliveries-are (made (w .making)) (w .before) (begun w))
-      ∙ ap (λ (s : State). counts-of (deliveries (calls-of (w .before)) (made (w .making))) + skipped-in s)
-      (last-shown-is (made (w .making)) (w .before) (begun w))
+  place-is w = place-shown-is (w .making) (w .before) (begun w)
 
   delivers-is : (w : Port schedule first) → port-delivers schedule first w ≡ delivers schedule first (as-gateway w)
   delivers-is w =
@@ -591,46 +595,3 @@ module _ (schedule : List Delivery) (first : ℕ) where
   ports-agree runs a b e =
       rw (delivers-is a, delivers-is b)
       (history-theorem .gateways schedule first runs (as-gateway a) (as-gateway b) (sym (place-is a) ∙ e ∙ place-is b))
-
--- ---- where the clerk stands, of a port's steps
-
-shown-rises : (g : Making) (before : List Asked) (steps : List Taken) → Performed (state-after before (made g)) steps
-    → Rising (skipped-in (state-after before (made g))) (shown-told (all-shown steps))
-unfolding shown-told all-shown
-shown-rises g before [] h = tt
-shown-rises g before (t ∷ steps) h =
-    by-step
-    (λ (t : Taken). Performed (shown-of t .state) steps
-    → Rising (skipped-in (state-after before (made g))) (told-of (shown-of t) ∷ shown-told (all-shown steps)))
-    (state-after before (made g))
-    (λ call k. (
-      call-rises g before call .0,
-      call-rises g before call .1,
-      subst (λ (s : State). Rising (skipped-in s) (shown-told (all-shown steps))) (sym (performed-on g before call))
-          (shown-rises g (before ++ (call ∷ [])) steps
-          (subst (λ (s : State). Performed s steps) (performed-on g before call) k)),
-    ))
-    (λ call k. (omega arith, (λ d. refl), shown-rises g before steps k)) t (h .0) (h .1)
-
-last-told-shown : (s : State) (xs : List Shown) → last-told (skipped-in s) (shown-told xs) ≡ skipped-in (last-shown s xs)
-unfolding last-told shown-told last-shown
-last-told-shown s [] = refl
-last-told-shown s (x ∷ xs) = last-told-shown (x .state) xs
-
-module _ (schedule : List Delivery) (first : ℕ) (runs : Consecutive first schedule) where
-  -- The same of what a port shows: its place is what it has shown as delivered and the skipped count that it shows.
-  pub port-clerk-stands-at : (g : Making) (steps : List Taken) → Performed (made g) steps → Fair schedule first g (calls-of steps)
-      → (left : List Delivery) × (clerk-left schedule 0 (shown-told (all-shown steps)) ≡ some left)
-      × (pass-to schedule (counts-of (shown-deliveries (all-shown steps)) + skipped-in (last-shown (made g) (all-shown steps))) ≡ some left)
-  unfolding new state-after
-  port-clerk-stands-at g steps h fair =
-      subst
-      (λ (at : ℕ). (left : List Delivery) × (clerk-left schedule 0 (shown-told (all-shown steps)) ≡ some left)
-      × (pass-to schedule at ≡ some left)) place
-      (clerk-place schedule first runs 0 schedule 0 (shown-told (all-shown steps)) (shown-deliveries (all-shown steps))
-      (shown-rises g [] steps h) (pass-to-zero schedule)
-      (port-has-clerks-list schedule first runs g steps h fair))
-    where
-      place : 0 + counts-of (shown-deliveries (all-shown steps)) + (last-told 0 (shown-told (all-shown steps)) - 0)
-          ≡ counts-of (shown-deliveries (all-shown steps)) + skipped-in (last-shown (made g) (all-shown steps))
-      place = omega (arith, last-told-shown (made g) (all-shown steps))
