@@ -5,7 +5,7 @@
 -- of the calls without those refusals. So once the code is proved equal to the model, call by call, the claims are about the
 -- code.
 use mathlib.Core.Path.{_≡_}
-use mathlib.Core.Bool.{true, false}
+use mathlib.Core.Bool.{Bool, true, false}
 use mathlib.Core.List.{List, [], _∷_, _++_}
 use mathlib.Core.Option.{Option, none, some}
 use Prim.Native.Nat.{ℕ, _+_}
@@ -16,6 +16,8 @@ use Rattle.srt_group_model.specs.State.{State, next-receive-sequence}
 use Rattle.srt_group_model.specs.Guards.{Answer, no-answer}
 use Rattle.srt_group_model.specs.Lent.{Lent, Result, delivered-by}
 use Rattle.srt_group_traces.specs.Statement.{Told, Fair, Raised, Asked, do-call, Delivery, delivery-of, Making, made, counts-of, skipped-in}
+use Rattle.srt_group_model.specs.Answers.{values-of}
+use Rattle.srt_group_model.specs.Calls.{new-code}
 
 -- ---- what a port shows of a call
 
@@ -62,6 +64,42 @@ TakenFrom s (refused-short call x) = x ≡ shows-short call s
 abbrev pub Performed : State → List Taken → Type 0
 Performed s [] = Unit {0}
 Performed s (t ∷ steps) = TakenFrom s t × Performed (shown-of t .state) steps
+
+-- ---- what the promise of a public call says
+
+-- what a call shows is what its definition gives: code, answer, state, bytes and the rows filled
+pub record Does (asked : Asked) (s : State) (x : Shown) : Type 0 where
+  pub code : x .code ≡ do-call asked s .code
+  pub answer : x .answer ≡ do-call asked s .answer
+  pub state : x .state ≡ do-call asked s .state
+  pub lent : x .lent ≡ do-call asked s .lent
+  pub rows : x .rows ≡ do-call asked s .rows
+
+-- THE PROMISE of every public call but `new`, from the state s that stands. `short`: a lent table is too short for its rows, which is
+-- tested before all else; the call is refused with 5 and nothing changes. Else it does what its definition says.
+abbrev pub Promise : (short : Bool) → Asked → State → Shown → Type 0
+Promise true asked s x = x ≡ shows-short asked s
+Promise false asked s x = Does asked s x
+
+-- the step that it makes
+abbrev pub step-of : (short : Bool) → Asked → Shown → Taken
+step-of true asked x = refused-short asked x
+step-of false asked x = did asked x
+
+-- in document 01's numbers: the code, 0 if it is accepted, and the values of the answer
+abbrev pub numbers-of : Shown → List ℕ
+numbers-of x = x .code ∷ values-of (x .answer)
+
+-- THE PROMISE of `new`: accepted, a fresh group; refused, with 2 or 1, what stood in its place stays
+abbrev pub shows-new : Making → Lent → State → Shown
+shows-new g lent s =
+    record {
+      state = if eqb (new-code (g .id) (g .mode)) 0 then made g else s;
+      lent = lent;
+      code = new-code (g .id) (g .mode);
+      answer = no-answer;
+      rows = 0;
+    }
 
 -- ---- what the customer sees of that
 

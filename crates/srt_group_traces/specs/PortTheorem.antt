@@ -1,18 +1,26 @@
--- Demand 3 over what a port shows: the four claims of HistoryTheorem, about every list of steps from a new group. A step is a call
--- that shows what the model's call gives, or one refused for a short table (Port). The only words that are not about what is
--- shown are the premises: which packets are collected and which store is lent (`Fair`), of the calls without those refusals.
+-- Demand 3 over what a port shows: the claims of HistoryTheorem, about every list of steps from a new group. A step is a call that
+-- shows what the model's call gives, or one refused for a short table (Port); the promise of each public call makes one. The
+-- only words that are not about what is shown are the premises: which packets are collected and which store is lent (`Fair`),
+-- of the calls without those refusals. For a short schedule they too follow from the calls (ShortSchedule).
 use mathlib.Core.Path.{_≡_}
 use mathlib.Core.Logic.{_⊎_}
-use mathlib.Core.List.{List}
-use mathlib.Core.Option.{some}
-use Prim.Native.Nat.{ℕ, _+_, _%_, _<_}
-use Rattle.srt_protocol.specs.Sequence.{half, sequence-distance}
+use mathlib.Core.Bool.{Bool}
+use mathlib.Core.List.{List, [], _∷_, _++_}
+use mathlib.Core.Option.{none, some}
+use Prim.Native.Nat.{ℕ, _+_, _-_, _%_, _<_}
+use Rattle.srt_protocol.specs.Sequence.{half, sequence-distance, sequence-further}
 use Rattle.srt_group_model.specs.Legs.{largest-64}
-use Rattle.srt_group_model.specs.State.{next-receive-sequence}
-use Rattle.srt_group_traces.specs.Statement.{Consecutive, clerk, Fair, Prefix, Delivery, Making, made, skipped-in, pass-to}
-use Rattle.srt_group_traces.specs.Port.{Taken, all-shown, calls-of, Performed, shown-deliveries, shown-told, last-shown, first-shown, SkipsShown, Port, port-place, port-delivers, place-shown}
+use Rattle.srt_group_model.specs.State.{next-receive-sequence, State}
+use Rattle.srt_group_traces.specs.Statement.{Consecutive, clerk, Fair, Prefix, Delivery, Making, made, skipped-in, pass-to, Asked, counts-of}
+use Rattle.srt_group_traces.specs.Port.{Taken, all-shown, calls-of, Performed, shown-deliveries, shown-told, last-shown, first-shown, SkipsShown, Port, port-place, port-delivers, place-shown, Promise, step-of, shows-new, shown-of, Shown, shown-delivery}
+use Rattle.srt_group_model.specs.Lent.{Lent}
 
 pub record PortTheorem : Type 0 where
+  -- a list begins with a `new` that is accepted, and grows by each call that keeps its promise
+  pub begins : (g : Making) (lent : Lent) (s : State) → shows-new g lent s .code ≡ 0 → shows-new g lent s .state ≡ made g
+  pub grows : (s : State) (steps : List Taken) → Performed s steps → (short : Bool) (asked : Asked) (x : Shown)
+      → Promise short asked (last-shown s (all-shown steps)) x
+      → Performed s (steps ++ (step-of short asked x ∷ []))
   -- a base that is shown has a first value by what is shown; the base less that is the delivered packet counts plus the skipped
   -- count, modulo 2^31
   pub base : (g : Making) (steps : List Taken) → Performed (made g) steps
@@ -21,6 +29,15 @@ pub record PortTheorem : Type 0 where
       → (first : ℕ)
       × (first-shown (all-shown steps) ≡ some first)
       × (sequence-distance first base ≡ place-shown g steps % (half + half))
+  -- "Once set, the base moves only by delivery and skip": a step moves it as far as it shows as delivered and as the count rises;
+  -- while none is shown, nothing was delivered and nothing skipped
+  pub moves : (g : Making) (steps : List Taken) (t : Taken) → Performed (made g) (steps ++ (t ∷ [])) → (base : ℕ)
+      → next-receive-sequence (last-shown (made g) (all-shown steps) .receive) ≡ some base
+      → skipped-in (shown-of t .state) < largest-64
+      → next-receive-sequence (shown-of t .state .receive)
+      ≡ some (sequence-further base (counts-of (shown-delivery (shown-of t)) + (skipped-in (shown-of t .state) - skipped-in (last-shown (made g) (all-shown steps)))))
+  pub unset : (g : Making) (steps : List Taken) → Performed (made g) steps
+      → next-receive-sequence (last-shown (made g) (all-shown steps) .receive) ≡ none → place-shown g steps ≡ 0
   -- the delivered list is the clerk's, byte for byte, and the base's place is his
   pub schedule : (schedule : List Delivery) (first : ℕ) → Consecutive first schedule → (g : Making) (steps : List Taken)
       → Performed (made g) steps → Fair schedule first g (calls-of steps)

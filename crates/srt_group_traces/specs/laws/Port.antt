@@ -1,5 +1,6 @@
 -- What is proved of the definitions in specs/Port.antt, with what the proofs need.
 use mathlib.Core.Path.{_≡_, refl, sym, ap, _∙_, subst, fun-ext}
+use mathlib.Core.Bool.{Bool, true, false}
 use mathlib.Core.Logic.{_⊎_}
 use mathlib.Core.List.{List, [], _∷_, _++_, append-assoc, append-nil}
 use mathlib.Core.Option.{Option, none, some}
@@ -13,8 +14,8 @@ use Rattle.srt_protocol.specs.Sequence.{half, sequence-distance, sequence-furth
 use Rattle.srt_group_model.specs.Legs.{largest-64}
 use Rattle.srt_group_model.specs.Tools.{if_then_else_, if-some_give_otherwise_, flagged, All}
 use Rattle.srt_group_model.specs.State.{State, next-receive-sequence}
-use Rattle.srt_group_model.specs.Calls.{new}
-use Rattle.srt_group_model.specs.Lent.{Result, delivered-by}
+use Rattle.srt_group_model.specs.Calls.{new, new-code}
+use Rattle.srt_group_model.specs.Lent.{Result, delivered-by, Lent, Call, perform}
 use Rattle.srt_group_model.specs.laws.Reason.{if-true, if-false, by-test, none-some, some-inj}
 use Rattle.srt_group_traces.specs.Statement.{first-base, total-skipped, place-after, Consecutive, pass-to, Told, told-by, give-next, clerk, OneStore, Fair, Prefix, until-skip, Gateway, stands-at, delivers, Asked, do-call, Delivery, given-by, Making, made, state-after, log-after, deliveries, skipped-in, counts-of, Went, place-of-base}
 use Rattle.srt_group_traces.specs.laws.Cases.{by-option, eq-of, eqb-yes}
@@ -25,7 +26,7 @@ use Rattle.srt_group_traces.specs.laws.ClerkClaim.{skipped-rises}
 use Rattle.srt_group_traces.specs.laws.Corollaries.{first-base-stays, unbased-is-still}
 use Rattle.srt_group_traces.specs.laws.AsQueued.{GivenToQueue, nothing-made-up}
 use Rattle.srt_group_traces.specs.laws.HistoryTheorem.{history-theorem}
-use Rattle.srt_group_traces.specs.Port.{Shown, shows, shows-short, Taken, did, refused-short, shown-of, all-shown, calls-of, TakenFrom, Performed, shown-delivery, shown-deliveries, told-of, shown-told, last-shown, less-moved, first-shown, SkipsShown, shown-until-skip, Port, port-state, port-place, port-delivers, place-shown}
+use Rattle.srt_group_traces.specs.Port.{Shown, shows, shows-short, Taken, did, refused-short, shown-of, all-shown, calls-of, TakenFrom, Performed, shown-delivery, shown-deliveries, told-of, shown-told, last-shown, less-moved, first-shown, SkipsShown, shown-until-skip, Port, port-state, port-place, port-delivers, place-shown, Promise, step-of, shows-new, Does}
 
 -- ---- the model itself is such a port, for every list of calls
 
@@ -42,6 +43,37 @@ pub calls-of-taking : (calls : List Asked) (s : State) → calls-of (taking call
 unfolding taking calls-of
 calls-of-taking [] s = refl
 calls-of-taking (call ∷ more) s = ap {B = List Asked} (λ (cs : List Asked). call ∷ cs) (calls-of-taking more (do-call call s .state))
+
+-- ---- a list grows by each call that keeps its promise
+
+-- from the equations of a contract, as `Performs` of srt_group_shown has them, with the rows filled
+pub performs-does : (call : Call) (bytes : Lent) (s : State) (x : Shown) → x .code ≡ perform call bytes s .code
+    → x .answer ≡ perform call bytes s .answer → x .state ≡ perform call bytes s .state → x .lent ≡ perform call bytes s .lent
+    → x .rows ≡ perform call bytes s .rows
+    → Does record { call = call; lent = bytes } s x
+unfolding do-call
+performs-does call bytes s x code answer state lent rows =
+    record { code = code; answer = answer; state = state; lent = lent; rows = rows }
+
+pub promise-is-step : (short : Bool) (asked : Asked) (s : State) (x : Shown) → Promise short asked s x → TakenFrom s (step-of short asked x)
+promise-is-step true asked s x h = h
+promise-is-step false asked s x h =
+    λ i. record { state = h .state i; lent = h .lent i; code = h .code i; answer = h .answer i; rows = h .rows i }
+
+pub one-more-step : (s : State) (steps : List Taken) (t : Taken) → Performed s steps → TakenFrom (last-shown s (all-shown steps)) t
+    → Performed s (steps ++ (t ∷ []))
+unfolding last-shown all-shown
+one-more-step s [] t h e = (e, tt)
+one-more-step s (x ∷ steps) t h e = (h .0, one-more-step (shown-of x .state) steps t (h .1) e)
+
+pub promised-step : (s : State) (steps : List Taken) → Performed s steps → (short : Bool) (asked : Asked) (x : Shown)
+    → Promise short asked (last-shown s (all-shown steps)) x
+    → Performed s (steps ++ (step-of short asked x ∷ []))
+promised-step s steps h short asked x promise =
+    one-more-step s steps (step-of short asked x) h (promise-is-step short asked (last-shown s (all-shown steps)) x promise)
+
+pub new-begins : (g : Making) (lent : Lent) (s : State) → shows-new g lent s .code ≡ 0 → shows-new g lent s .state ≡ made g
+new-begins g lent s e = if-true (eqb (new-code (g .id) (g .mode)) 0) (made g) s (ap (λ (n : ℕ). eqb n 0) e ∙ eqb-yes 0)
 
 -- ---- a step, seen as what it shows
 
@@ -354,17 +386,13 @@ module _ (g : Making) where
   -- While it shows no base, it shows nothing delivered and nothing skipped.
   pub port-unbased : (steps : List Taken) → Performed (made g) steps
       → next-receive-sequence (last-shown (made g) (all-shown steps) .receive) ≡ none
-      → (counts-of (shown-deliveries (all-shown steps)) ≡ 0) × (skipped-in (last-shown (made g) (all-shown steps)) ≡ 0)
-  port-unbased steps h e = (
-    ap counts-of (shown-deliveries-are (made g) steps h) ∙ still .1,
-    ap (λ (s : State). skipped-in s) (last-shown-is (made g) steps h) ∙ still .2,
-  )
-    where
-      still : (first-base (log-after (calls-of steps) (made g)) ≡ none) × (counts-of (deliveries (calls-of steps) (made g)) ≡ 0)
-          × (skipped-in (state-after (calls-of steps) (made g)) ≡ 0)
-      still =
-          unbased-is-still g (calls-of steps)
-          (ap (λ (s : State). next-receive-sequence (s .receive)) (sym (last-shown-is (made g) steps h)) ∙ e)
+      → place-shown g steps ≡ 0
+  port-unbased steps h e =
+      let still : (first-base (log-after (calls-of steps) (made g)) ≡ none) × (counts-of (deliveries (calls-of steps) (made g)) ≡ 0)
+      × (skipped-in (state-after (calls-of steps) (made g)) ≡ 0) =
+      unbased-is-still g (calls-of steps) (ap (λ (s : State). next-receive-sequence (s .receive)) (sym (last-shown-is (made g) steps h)) ∙ e)
+      in
+      place-shown-is g steps h ∙ omega (arith, still .1, still .2)
 
   base-shown-fits : (steps : List Taken) → Performed (made g) steps → (base : ℕ)
       → next-receive-sequence (last-shown (made g) (all-shown steps) .receive) ≡ some base → Fits base

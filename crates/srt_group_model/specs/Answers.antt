@@ -1,0 +1,55 @@
+-- Document 01's numbers for what a call answers: a refusal's number is its code, with no values; the values of an accepted call are
+-- those of its answer's case. The promises of the public calls use them.
+use mathlib.Core.List.{List, [], _∷_, _++_}
+use mathlib.Core.Option.{Option, none, some}
+use Prim.Native.Nat.{ℕ}
+use Rattle.srt_group_model.specs.Tools.{bit}
+use Rattle.srt_group_model.specs.Delivery.{nothing, event, packet}
+use Rattle.srt_group_model.specs.Guards.{Answer, no-answer, truth, number, optional, polled, data-polled, leg-back, membership, memberships}
+use Rattle.srt_group_model.specs.declared.Packet.{Packet}
+use Rattle.srt_group_model.specs.declared.Leg.{Leg}
+use Rattle.srt_group_model.specs.declared.Membership.{Membership}
+
+-- leg, sequence, count (0: no packet), message number, timestamp, source time, length of the payload, which is in the output
+abbrev pub packet-values : Option Packet → List ℕ
+packet-values none = 0 ∷ 0 ∷ 0 ∷ 0 ∷ 0 ∷ 0 ∷ 0 ∷ []
+packet-values (some p) =
+    p .member ∷ p .content .sequence ∷ p .content .count ∷ p .content .message ∷ p .content .timestamp ∷ p .content .source .0
+    ∷ p .content .length
+    ∷ []
+
+-- state (0 handshaking, 1 connected, 2 disconnected), peer group (0 none), payload limit; sender, next, flight, window, oldest send
+-- time, pace time; the peer's first sequence (4294967295 none), receive window, latency, reserved, advanced; srtt, rttvar,
+-- last heard
+abbrev pub leg-values : Leg → List ℕ
+leg-values l =
+    l .link .state ∷ l .link .peer ∷ l .link .limit ∷ l .sender .started ∷ l .sender .next ∷ l .sender .flight ∷ l .sender .window
+    ∷ l .sender .oldest .0 ∷ l .sender .pace .0 ∷ l .receiver .first ∷ l .receiver .window ∷ l .receiver .latency
+    ∷ l .receiver .reserved ∷ l .receiver .advanced ∷ l .trip .srtt ∷ l .trip .rttvar ∷ l .trip .heard .0
+    ∷ []
+
+-- id, weight, state (0 pending, 1 active, 2 standby, 3 unstable, 4 broken), admitted, reserved, collision: expected, actual
+abbrev pub membership-values : Membership → List ℕ
+membership-values m =
+    m .id ∷ m .weight ∷ m .state ∷ m .admitted ∷ m .reserved ∷ m .collision .expected ∷ m .collision .actual ∷ []
+
+unfoldable pub all-values : List Membership → List ℕ
+all-values [] = []
+all-values (m ∷ ms) = membership-values m ++ all-values ms
+
+-- The values of each case: of a readiness test or flag 0 or 1; of a number itself; of what may be missing none or one; of an event
+-- poll the event (1 connected, 2 error, 3 disconnected), its leg and reason, or 0 and the packet; of a data poll the
+-- continuation and the packet; of a removal the leg; of a look at members their words.
+unfoldable pub values-of : Answer → List ℕ
+values-of no-answer = []
+values-of (truth b) = bit b ∷ []
+values-of (number n) = n ∷ []
+values-of (optional none) = []
+values-of (optional (some n)) = n ∷ []
+values-of (polled nothing) = 0 ∷ packet-values none
+values-of (polled (event w)) = w .kind ∷ w .member ∷ w .reason ∷ 0 ∷ 0 ∷ 0 ∷ 0 ∷ 0 ∷ []
+values-of (polled (packet p)) = 0 ∷ packet-values (some p)
+values-of (data-polled gave more) = bit more ∷ packet-values gave
+values-of (leg-back l) = leg-values l
+values-of (membership m) = membership-values m
+values-of (memberships ms) = all-values ms
