@@ -82,9 +82,9 @@ Promise true asked s x = x ≡ shows-short asked s
 Promise false asked s x = Does asked s x
 
 -- the step that it makes
-abbrev pub step-of : (short : Bool) → Asked → Shown → Taken
-step-of true asked x = refused-short asked x
-step-of false asked x = did asked x
+abbrev pub step-made : (short : Bool) → Asked → Shown → Taken
+step-made true asked x = refused-short asked x
+step-made false asked x = did asked x
 
 -- in document 01's numbers: the code, 0 if it is accepted, and the values of the answer
 abbrev pub numbers-of : Shown → List ℕ

@@ -12,7 +12,7 @@ use Rattle.srt_protocol.specs.Sequence.{half, sequence-distance, sequence-furth
 use Rattle.srt_group_model.specs.Legs.{largest-64}
 use Rattle.srt_group_model.specs.State.{next-receive-sequence, State}
 use Rattle.srt_group_traces.specs.Statement.{Consecutive, clerk, Fair, Prefix, Delivery, Making, made, skipped-in, pass-to, Asked, counts-of}
-use Rattle.srt_group_traces.specs.Port.{Taken, all-shown, calls-of, Performed, shown-deliveries, shown-told, last-shown, first-shown, SkipsShown, Port, port-place, port-delivers, place-shown, Promise, step-of, shows-new, shown-of, Shown, shown-delivery}
+use Rattle.srt_group_traces.specs.Port.{Taken, all-shown, calls-of, Performed, shown-deliveries, shown-told, last-shown, first-shown, SkipsShown, Port, port-place, port-delivers, place-shown, Promise, step-made, shows-new, shown-of, Shown, shown-delivery}
 use Rattle.srt_group_model.specs.Lent.{Lent}
 
 pub record PortTheorem : Type 0 where
@@ -20,7 +20,7 @@ pub record PortTheorem : Type 0 where
   pub begins : (g : Making) (lent : Lent) (s : State) → shows-new g lent s .code ≡ 0 → shows-new g lent s .state ≡ made g
   pub grows : (s : State) (steps : List Taken) → Performed s steps → (short : Bool) (asked : Asked) (x : Shown)
       → Promise short asked (last-shown s (all-shown steps)) x
-      → Performed s (steps ++ (step-of short asked x ∷ []))
+      → Performed s (steps ++ (step-made short asked x ∷ []))
   -- a base that is shown has a first value by what is shown; the base less that is the delivered packet counts plus the skipped
   -- count, modulo 2^31
   pub base : (g : Making) (steps : List Taken) → Performed (made g) steps

@@ -25,6 +25,7 @@ pub mod ShortSchedule
 pub mod HistoryTheorem
 pub mod Port
 pub mod PortTheorem
+pub mod FailedSends
 pub mod StaysValid
 pub mod Example
 pub mod Counterexamples

@@ -26,7 +26,7 @@ use Rattle.srt_group_traces.specs.laws.ClerkClaim.{skipped-rises}
 use Rattle.srt_group_traces.specs.laws.Corollaries.{first-base-stays, unbased-is-still}
 use Rattle.srt_group_traces.specs.laws.AsQueued.{GivenToQueue, nothing-made-up}
 use Rattle.srt_group_traces.specs.laws.HistoryTheorem.{history-theorem}
-use Rattle.srt_group_traces.specs.Port.{Shown, shows, shows-short, Taken, did, refused-short, shown-of, all-shown, calls-of, TakenFrom, Performed, shown-delivery, shown-deliveries, told-of, shown-told, last-shown, less-moved, first-shown, SkipsShown, shown-until-skip, Port, port-state, port-place, port-delivers, place-shown, Promise, step-of, shows-new, Does}
+use Rattle.srt_group_traces.specs.Port.{Shown, shows, shows-short, Taken, did, refused-short, shown-of, all-shown, calls-of, TakenFrom, Performed, shown-delivery, shown-deliveries, told-of, shown-told, last-shown, less-moved, first-shown, SkipsShown, shown-until-skip, Port, port-state, port-place, port-delivers, place-shown, Promise, step-made, shows-new, Does}
 
 -- ---- the model itself is such a port, for every list of calls
 
@@ -55,7 +55,7 @@ unfolding do-call
 performs-does call bytes s x code answer state lent rows =
     record { code = code; answer = answer; state = state; lent = lent; rows = rows }
 
-pub promise-is-step : (short : Bool) (asked : Asked) (s : State) (x : Shown) → Promise short asked s x → TakenFrom s (step-of short asked x)
+pub promise-is-step : (short : Bool) (asked : Asked) (s : State) (x : Shown) → Promise short asked s x → TakenFrom s (step-made short asked x)
 promise-is-step true asked s x h = h
 promise-is-step false asked s x h =
     λ i. record { state = h .state i; lent = h .lent i; code = h .code i; answer = h .answer i; rows = h .rows i }
@@ -68,9 +68,9 @@ one-more-step s (x ∷ steps) t h e = (h .0, one-more-step (shown-of x .state) s
 
 pub promised-step : (s : State) (steps : List Taken) → Performed s steps → (short : Bool) (asked : Asked) (x : Shown)
     → Promise short asked (last-shown s (all-shown steps)) x
-    → Performed s (steps ++ (step-of short asked x ∷ []))
+    → Performed s (steps ++ (step-made short asked x ∷ []))
 promised-step s steps h short asked x promise =
-    one-more-step s steps (step-of short asked x) h (promise-is-step short asked (last-shown s (all-shown steps)) x promise)
+    one-more-step s steps (step-made short asked x) h (promise-is-step short asked (last-shown s (all-shown steps)) x promise)
 
 pub new-begins : (g : Making) (lent : Lent) (s : State) → shows-new g lent s .code ≡ 0 → shows-new g lent s .state ≡ made g
 new-begins g lent s e = if-true (eqb (new-code (g .id) (g .mode)) 0) (made g) s (ap (λ (n : ℕ). eqb n 0) e ∙ eqb-yes 0)
