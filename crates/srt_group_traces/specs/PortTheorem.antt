@@ -14,6 +14,7 @@ use Rattle.srt_group_model.specs.State.{next-receive-sequence, State}
 use Rattle.srt_group_traces.specs.Statement.{Consecutive, clerk, Fair, Prefix, Delivery, Making, made, skipped-in, pass-to, Asked, counts-of}
 use Rattle.srt_group_traces.specs.Port.{Taken, all-shown, calls-of, Performed, shown-deliveries, shown-told, last-shown, first-shown, SkipsShown, Port, port-place, port-delivers, place-shown, Promise, step-made, shows-new, shown-of, Shown, shown-delivery}
 use Rattle.srt_group_model.specs.Lent.{Lent}
+use Rattle.srt_group_traces.specs.ShortSchedule.{FairCalls}
 
 pub record PortTheorem : Type 0 where
   -- a list begins with a `new` that is accepted, and grows by each call that keeps its promise
@@ -50,3 +51,6 @@ pub record PortTheorem : Type 0 where
       → port-place schedule first a ≡ port-place schedule first b
       → Prefix (port-delivers schedule first a) (port-delivers schedule first b)
       ⊎ Prefix (port-delivers schedule first b) (port-delivers schedule first a)
+  -- where the schedule has less than 2^30 packets in all, the premises follow from the calls alone
+  pub short : (schedule : List Delivery) (first : ℕ) → Consecutive first schedule → (g : Making) (before after : List Taken)
+      → FairCalls schedule first g (calls-of before) (calls-of after) → Fair schedule first g (calls-of (before ++ after))

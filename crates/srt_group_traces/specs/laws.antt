@@ -23,6 +23,7 @@ pub mod CollectedAsQueued
 pub mod Budget
 pub mod ShortSchedule
 pub mod HistoryTheorem
+pub mod Rows
 pub mod Port
 pub mod PortTheorem
 pub mod FailedSends

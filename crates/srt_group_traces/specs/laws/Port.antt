@@ -27,6 +27,8 @@ use Rattle.srt_group_traces.specs.laws.Corollaries.{first-base-stays, un
 use Rattle.srt_group_traces.specs.laws.AsQueued.{GivenToQueue, nothing-made-up}
 use Rattle.srt_group_traces.specs.laws.HistoryTheorem.{history-theorem}
 use Rattle.srt_group_traces.specs.Port.{Shown, shows, shows-short, Taken, did, refused-short, shown-of, all-shown, calls-of, TakenFrom, Performed, shown-delivery, shown-deliveries, told-of, shown-told, last-shown, less-moved, first-shown, SkipsShown, shown-until-skip, Port, port-state, port-place, port-delivers, place-shown, Promise, step-made, shows-new, Does}
+use Rattle.srt_group_traces.specs.ShortSchedule.{FairCalls}
+use Rattle.srt_group_traces.specs.laws.ShortSchedule.{short-schedule-is-fair}
 
 -- ---- the model itself is such a port, for every list of calls
 
@@ -623,3 +625,10 @@ module _ (schedule : List Delivery) (first : ℕ) where
   ports-agree runs a b e =
       rw (delivers-is a, delivers-is b)
       (history-theorem .gateways schedule first runs (as-gateway a) (as-gateway b) (sym (place-is a) ∙ e ∙ place-is b))
+
+-- For a short schedule the premises follow from the calls.
+pub short-port-is-fair : (schedule : List Delivery) (first : ℕ) → Consecutive first schedule → (g : Making) (before after : List Taken)
+    → FairCalls schedule first g (calls-of before) (calls-of after) → Fair schedule first g (calls-of (before ++ after))
+short-port-is-fair schedule first runs g before after h =
+    subst (Fair schedule first g) (sym (calls-of-both before after))
+    (short-schedule-is-fair schedule first runs g (calls-of before) (calls-of after) h)
