@@ -101,16 +101,14 @@ place-of-base g calls = counts-of (deliveries calls (made g)) + skipped-in (stat
 -- ---- marks, newest first
 
 -- what each kind of mark does to the value of the older ones
-abbrev pub fold-marks : {A : Type 0} → A → (ℕ → List ℕ → A → A) → (ℕ → A → A) → (A → A) → (ℕ → A → A) → (ℕ → A → A) → List Mark → A
-fold-marks a puts sets collects skips delivers [] = a
-fold-marks a puts sets collects skips delivers (put cell payload ∷ log) =
-    puts cell payload (fold-marks a puts sets collects skips delivers log)
-fold-marks a puts sets collects skips delivers (base-set base ∷ log) = sets base (fold-marks a puts sets collects skips delivers log)
-fold-marks a puts sets collects skips delivers (collected p ∷ log) = collects (fold-marks a puts sets collects skips delivers log)
-fold-marks a puts sets collects skips delivers (gap-skipped tested time distance ∷ log) =
-    skips distance (fold-marks a puts sets collects skips delivers log)
-fold-marks a puts sets collects skips delivers (delivered p ∷ log) =
-    delivers (p .content .count) (fold-marks a puts sets collects skips delivers log)
+module _ {A : Type 0} (none-yet : A) (puts : ℕ → List ℕ → A → A) (sets : ℕ → A → A) (collects : A → A) (skips delivers : ℕ → A → A) where
+  abbrev pub fold-marks : List Mark → A
+  fold-marks [] = none-yet
+  fold-marks (put cell payload ∷ log) = puts cell payload (fold-marks log)
+  fold-marks (base-set base ∷ log) = sets base (fold-marks log)
+  fold-marks (collected p ∷ log) = collects (fold-marks log)
+  fold-marks (gap-skipped tested time distance ∷ log) = skips distance (fold-marks log)
+  fold-marks (delivered p ∷ log) = delivers (p .content .count) (fold-marks log)
 
 -- the payload last put into a cell
 unfoldable pub last-put : List Mark → ℕ → List ℕ
@@ -350,6 +348,9 @@ pub record HistoryTheorem : Type 0 where
   pub base : (g : Making) (calls : List Asked) (base : ℕ) → next-receive-sequence (state-after calls (made g) .receive) ≡ some base
       → (first : ℕ) × (first-base (log-after calls (made g)) ≡ some first)
       × (skipped-in (state-after calls (made g)) < largest-64 → sequence-distance first base ≡ place-of-base g calls % (half + half))
+  -- While none is set, there is no first value, and nothing was delivered or skipped.
+  pub unset : (g : Making) (calls : List Asked) → next-receive-sequence (state-after calls (made g) .receive) ≡ none
+      → (first-base (log-after calls (made g)) ≡ none) × (place-of-base g calls ≡ 0)
   -- "If also the packets collected come from one schedule of consecutive runs starting there, each, counted along it, less than
   -- 2^30 from the base on either side when collected, and each accepted call that is lent a store is lent the same one, which
   -- nobody else writes, the delivered list equals that of 01's clerk, byte for byte." The clerk is fed with the calls alone. He

@@ -14,7 +14,7 @@ use Rattle.srt_group_model.specs.Tools.{if-some_give_otherwise_, or-else}
 use Rattle.srt_group_model.specs.State.{State, Receive, next-receive-sequence}
 use Rattle.srt_group_model.specs.Run.{Mark, put, base-set, collected, gap-skipped, delivered}
 use Rattle.srt_group_model.specs.laws.Reason.{if-elim, none-some, some-inj}
-use Rattle.srt_group_traces.specs.Statement.{first-base, total-skipped, place-after, Consecutive, pass-to, Told, told-by, give-next, clerk, Fair, when-of, Prefix, Raised, Asked, do-call, is-poll, time-of, Delivery, Making, made, state-after, log-after, deliveries, counts-of, skipped-in, Went}
+use Rattle.srt_group_traces.specs.Statement.{first-base, total-skipped, place-after, Consecutive, pass-to, Told, told-by, give-next, clerk, Fair, when-of, Prefix, Raised, Asked, do-call, is-poll, time-of, Delivery, Making, made, state-after, log-after, deliveries, skipped-in, Went, place-of-base}
 use Rattle.srt_group_traces.specs.laws.Cases.{by-option}
 use Rattle.srt_group_model.specs.Lent.{delivered-by}
 use Rattle.srt_group_model.specs.declared.Packet.{Packet}
@@ -97,21 +97,15 @@ first-base-stays (collected p ∷ m) log first e = first-base-stays m log first 
 first-base-stays (gap-skipped tested time distance ∷ m) log first e = first-base-stays m log first e
 first-base-stays (delivered p ∷ m) log first e = first-base-stays m log first e
 
--- Where the base is not set, nothing was delivered and nothing skipped.
+-- Where the base is not set, it has no first value, and nothing was delivered or skipped.
 pub unbased-is-still : (g : Making) (calls : List Asked) → next-receive-sequence (state-after calls (made g) .receive) ≡ none
-    → (first-base (log-after calls (made g)) ≡ none) × (counts-of (deliveries calls (made g)) ≡ 0)
-    × (skipped-in (state-after calls (made g)) ≡ 0)
+    → (first-base (log-after calls (made g)) ≡ none) × (place-of-base g calls ≡ 0)
 unbased-is-still g calls e = go (first-base (log-after calls (made g))) refl (sums-after g calls .stands)
   where
     go : (o : Option ℕ) → first-base (log-after calls (made g)) ≡ o
         → Stands o (next-receive-sequence (state-after calls (made g) .receive)) (place-after (log-after calls (made g)))
-        → (first-base (log-after calls (made g)) ≡ none) × (counts-of (deliveries calls (made g)) ≡ 0)
-        × (skipped-in (state-after calls (made g)) ≡ 0)
-    go none f h = (
-      f,
-      omega (arith, h .1, delivered-counts calls (made g)),
-      omega (arith, h .1, sums-after g calls .skipped),
-    )
+        → (first-base (log-after calls (made g)) ≡ none) × (place-of-base g calls ≡ 0)
+    go none f h = (f, omega (arith, h .1, delivered-counts calls (made g), sums-after g calls .skipped))
     go (some first) f h = none-some (sym e ∙ h .1)
 
 -- A call that delivers nothing leaves the base, once it is set: x and y are the receiving sides before and after it, m its marks.

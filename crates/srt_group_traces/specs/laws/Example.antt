@@ -22,6 +22,7 @@ use Rattle.srt_group_model.specs.Sending.{list-size}
 use Rattle.srt_group_traces.specs.laws.HistoryTheorem.{history-theorem}
 use Rattle.srt_group_traces.specs.laws.Marks.{EachCollected, each-collected-at}
 use Rattle.srt_protocol.specs.Sequence.{half, sequence-distance}
+use Rattle.srt_group_model.specs.Run.{Mark, put, base-set, collected, gap-skipped, delivered}
 
 -- ---- what is lent
 
@@ -232,6 +233,24 @@ by-clerk = history-theorem .schedule schedule 100 runs group calls fair
 pub clerk-list : clerk schedule 0 (told-by calls (made group))
     ≡ some record { gave = planned 100 1 (64 ∷ []) ∷ planned 101 2 (65 ∷ 66 ∷ []) ∷ planned 104 1 (68 ∷ []) ∷ []; left = by-clerk .0 }
 clerk-list = by-clerk .2 ∙ ap (λ (l : List Delivery). some record { gave = l; left = by-clerk .0 }) delivered-list
+
+-- ---- the log, newest first, each mark as its kind and numbers: 0 a payload put into a cell, 1 the base set, 2 a packet collected and
+-- 4 delivered (leg, sequence, count), 3 a skip (time, distance)
+
+unfoldable pub marked-as : List Mark → List (List ℕ)
+marked-as [] = []
+marked-as (put cell payload ∷ log) = (0 ∷ cell ∷ payload) ∷ marked-as log
+marked-as (base-set base ∷ log) = (1 ∷ base ∷ []) ∷ marked-as log
+marked-as (collected p ∷ log) = (2 ∷ p .member ∷ p .content .sequence ∷ p .content .count ∷ []) ∷ marked-as log
+marked-as (gap-skipped tested time distance ∷ log) = (3 ∷ time ∷ distance ∷ []) ∷ marked-as log
+marked-as (delivered p ∷ log) = (4 ∷ p .member ∷ p .content .sequence ∷ p .content .count ∷ []) ∷ marked-as log
+
+pub marks : marked-as (log-after calls (made group))
+    ≡ (4 ∷ 7 ∷ 104 ∷ 1 ∷ []) ∷ (3 ∷ 1500 ∷ 1 ∷ []) ∷ (2 ∷ 7 ∷ 104 ∷ 1 ∷ [])
+    ∷ (0 ∷ 0 ∷ 68 ∷ []) ∷ (4 ∷ 8 ∷ 101 ∷ 2 ∷ []) ∷ (2 ∷ 8 ∷ 101 ∷ 2 ∷ []) ∷ (4 ∷ 7 ∷ 100 ∷ 1 ∷ []) ∷ (2 ∷ 7 ∷ 100 ∷ 1 ∷ [])
+    ∷ (0 ∷ 1 ∷ 65 ∷ 66 ∷ []) ∷ (0 ∷ 0 ∷ 64 ∷ []) ∷ (1 ∷ 100 ∷ []) ∷ []
+unfolding definitions group store-0 store-1 store-2 store-3 output sends calls do-call log-after marked-as
+marks = refl
 
 -- ---- the marks, added up: three packets collected, 1 + 2 + 1 delivered, one skipped
 

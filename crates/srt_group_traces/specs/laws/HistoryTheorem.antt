@@ -1,7 +1,7 @@
 -- Demand 3 holds: the proof of specs/Statement.antt's record, claim by claim.
 use Rattle.srt_group_traces.specs.laws.Base.{base-claim}
 use Rattle.srt_group_traces.specs.laws.ScheduleClaim.{schedule-claim}
-use Rattle.srt_group_traces.specs.laws.Corollaries.{rise-is-right-skip}
+use Rattle.srt_group_traces.specs.laws.Corollaries.{unbased-is-still, rise-is-right-skip}
 use Rattle.srt_group_traces.specs.laws.Skips.{skips-claim}
 use Rattle.srt_group_traces.specs.laws.Gateways.{gateways-claim}
 use Rattle.srt_group_traces.specs.laws.CollectedAsQueued.{collected-off-queues, collected-as-queued}
@@ -12,6 +12,7 @@ pub history-theorem : HistoryTheorem
 history-theorem =
     record {
       base = base-claim;
+      unset = unbased-is-still;
       schedule = schedule-claim;
       rises = rise-is-right-skip;
       skips = λ g calls call. skips-claim call (state-after calls (made g));

@@ -390,11 +390,8 @@ module _ (g : Making) where
       → next-receive-sequence (last-shown (made g) (all-shown steps) .receive) ≡ none
       → place-shown g steps ≡ 0
   port-unbased steps h e =
-      let still : (first-base (log-after (calls-of steps) (made g)) ≡ none) × (counts-of (deliveries (calls-of steps) (made g)) ≡ 0)
-      × (skipped-in (state-after (calls-of steps) (made g)) ≡ 0) =
-      unbased-is-still g (calls-of steps) (ap (λ (s : State). next-receive-sequence (s .receive)) (sym (last-shown-is (made g) steps h)) ∙ e)
-      in
-      place-shown-is g steps h ∙ omega (arith, still .1, still .2)
+      place-shown-is g steps h
+      ∙ history-theorem .unset g (calls-of steps) (ap (λ (s : State). next-receive-sequence (s .receive)) (sym (last-shown-is (made g) steps h)) ∙ e) .1
 
   base-shown-fits : (steps : List Taken) → Performed (made g) steps → (base : ℕ)
       → next-receive-sequence (last-shown (made g) (all-shown steps) .receive) ≡ some base → Fits base
