@@ -1,11 +1,14 @@
 -- Document 01's numbers for what a call answers: a refusal's number is its code, with no values; the values of an accepted call are
 -- those of its answer's case. The promises of the public calls use them.
+use mathlib.Core.Path.{_≡_}
+use mathlib.Core.Bool.{Bool}
 use mathlib.Core.List.{List, [], _∷_, _++_}
 use mathlib.Core.Option.{Option, none, some}
 use Prim.Native.Nat.{ℕ}
 use Rattle.srt_group_model.specs.Tools.{bit}
-use Rattle.srt_group_model.specs.Delivery.{nothing, event, packet}
+use Rattle.srt_group_model.specs.Delivery.{Polled, nothing, event, packet}
 use Rattle.srt_group_model.specs.Guards.{Answer, no-answer, truth, number, optional, polled, data-polled, leg-back, membership, memberships}
+use Rattle.srt_group_model.specs.Lent.{Look, look-member, look-time-until-send, look-backup-stability-timeout-micros, look-group-id, look-members, look-mode, look-peer-group-id, look-skipped-receive-packets, look-has-pending-data, look-has-receive-continuation, Call, call-add-member, call-mark-member-broken, call-remove-member-connection, call-refresh-member-states, call-disconnect, call-poll-event, call-poll-data-bounded, call-send, call-can-send, call-can-send-with-pacing, call-look, call-read-leg, call-queue-data, call-queue-event}
 use Rattle.srt_group_model.specs.declared.Packet.{Packet}
 use Rattle.srt_group_model.specs.declared.Leg.{Leg}
 use Rattle.srt_group_model.specs.declared.Membership.{Membership}
@@ -53,3 +56,33 @@ values-of (data-polled gave more) = bit more ∷ packet-values gave
 values-of (leg-back l) = leg-values l
 values-of (membership m) = membership-values m
 values-of (memberships ms) = all-values ms
+
+-- ---- the case that each accepted call and look answers with; a refused one has no answer
+
+abbrev pub LookAnswers : Look → Answer → Type 0
+LookAnswers (look-member id) a = (m : Membership) × (a ≡ membership m)
+LookAnswers (look-time-until-send time) a = (n : ℕ) × (a ≡ number n)
+LookAnswers (look-backup-stability-timeout-micros id) a = (o : Option ℕ) × (a ≡ optional o)
+LookAnswers look-group-id a = (n : ℕ) × (a ≡ number n)
+LookAnswers look-members a = (ms : List Membership) × (a ≡ memberships ms)
+LookAnswers look-mode a = (n : ℕ) × (a ≡ number n)
+LookAnswers look-peer-group-id a = (o : Option ℕ) × (a ≡ optional o)
+LookAnswers look-skipped-receive-packets a = (n : ℕ) × (a ≡ number n)
+LookAnswers look-has-pending-data a = (b : Bool) × (a ≡ truth b)
+LookAnswers look-has-receive-continuation a = (b : Bool) × (a ≡ truth b)
+
+abbrev pub CallAnswers : Call → Answer → Type 0
+CallAnswers (call-add-member id weight l queue) a = a ≡ no-answer
+CallAnswers (call-mark-member-broken id) a = a ≡ no-answer
+CallAnswers (call-remove-member-connection id) a = (l : Leg) × (a ≡ leg-back l)
+CallAnswers call-refresh-member-states a = a ≡ no-answer
+CallAnswers (call-disconnect time) a = a ≡ no-answer
+CallAnswers (call-poll-event time) a = (p : Polled) × (a ≡ polled p)
+CallAnswers (call-poll-data-bounded time max-events) a = (o : Option Packet) × (more : Bool) × (a ≡ data-polled o more)
+CallAnswers (call-send time payload) a = (n : ℕ) × (a ≡ number n)
+CallAnswers call-can-send a = (b : Bool) × (a ≡ truth b)
+CallAnswers (call-can-send-with-pacing time) a = (b : Bool) × (a ≡ truth b)
+CallAnswers (call-look look) a = LookAnswers look a
+CallAnswers (call-read-leg id field n) a = a ≡ no-answer
+CallAnswers (call-queue-data id d payload) a = a ≡ no-answer
+CallAnswers (call-queue-event id kind reason) a = a ≡ no-answer
