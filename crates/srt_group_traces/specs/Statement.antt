@@ -94,9 +94,19 @@ counts-of (x ∷ xs) = x .count + counts-of xs
 abbrev pub skipped-in : State → ℕ
 skipped-in s = s .receive .numbers .skipped
 
--- the place at which they leave the base, counted unreduced
-abbrev pub place-of-base : Making → List Asked → ℕ
-place-of-base g calls = counts-of (deliveries calls (made g)) + skipped-in (state-after calls (made g))
+-- from a new group: the state that they reach, their marks, what they deliver, and the place of the base, counted unreduced
+module _ (g : Making) (calls : List Asked) where
+  abbrev pub reached : State
+  reached = state-after calls (made g)
+
+  abbrev pub marks : List Mark
+  marks = log-after calls (made g)
+
+  abbrev pub delivered-list : List Delivery
+  delivered-list = deliveries calls (made g)
+
+  abbrev pub place-of-base : ℕ
+  place-of-base = counts-of delivered-list + skipped-in reached
 
 -- ---- marks, newest first
 
@@ -231,9 +241,9 @@ OneStore store [] s = Unit {0}
 OneStore store (call ∷ more) s = LendsThis store call s × OneStore (store-left store call s) more (do-call call s .state)
 
 pub record Fair (schedule : List Delivery) (first : ℕ) (g : Making) (calls : List Asked) : Type 0 where
-  pub set-before : SetBefore first (log-after calls (made g))
-  pub near : AllNear schedule (log-after calls (made g))
-  pub below : skipped-in (state-after calls (made g)) < largest-64
+  pub set-before : SetBefore first (marks g calls)
+  pub near : AllNear schedule (marks g calls)
+  pub below : skipped-in (reached g calls) < largest-64
   pub store : List ℕ
   pub one-store : OneStore store calls (made g)
 
@@ -323,7 +333,7 @@ module _ (schedule : List Delivery) (first : ℕ) where
 
   abbrev pub delivers : Gateway schedule first → List Delivery
   delivers w =
-      deliveries (until-skip (w .after) (state-after (w .before) (made (w .making)))) (state-after (w .before) (made (w .making)))
+      deliveries (until-skip (w .after) (reached (w .making) (w .before))) (reached (w .making) (w .before))
 
 -- ---- as it was queued
 
@@ -335,9 +345,9 @@ pub record AsQueued (g : Making) (calls : List Asked) (payload : List ℕ) (d : 
   pub given : Data
   pub lent : Lent
   pub is : calls ≡ before ++ (record { call = call-queue-data id given payload; lent = lent } ∷ after)
-  pub accepted : do-call record { call = call-queue-data id given payload; lent = lent } (state-after before (made g)) .code ≡ 0
+  pub accepted : do-call record { call = call-queue-data id given payload; lent = lent } (reached g before) .code ≡ 0
   pub as-given :
-      d ≡ data-event (taken-cell (cells-of (length (lent .store))) (state-after before (made g))) (length payload) given .content
+      d ≡ data-event (taken-cell (cells-of (length (lent .store))) (reached g before)) (length payload) given .content
 
 -- ---- the claims
 
@@ -345,12 +355,12 @@ pub record HistoryTheorem : Type 0 where
   -- "After it, modulo 2^31, the receive base less its first value equals the delivered packet counts plus the skipped count, if
   -- ... that count is below its ceiling." The first value is the one at the moment of setting; a base that is set has one. That
   -- it was set before a packet was collected is not needed here.
-  pub base : (g : Making) (calls : List Asked) (base : ℕ) → next-receive-sequence (state-after calls (made g) .receive) ≡ some base
-      → (first : ℕ) × (first-base (log-after calls (made g)) ≡ some first)
-      × (skipped-in (state-after calls (made g)) < largest-64 → sequence-distance first base ≡ place-of-base g calls % (half + half))
+  pub base : (g : Making) (calls : List Asked) (base : ℕ) → next-receive-sequence (reached g calls .receive) ≡ some base
+      → (first : ℕ) × (first-base (marks g calls) ≡ some first)
+      × (skipped-in (reached g calls) < largest-64 → sequence-distance first base ≡ place-of-base g calls % (half + half))
   -- While none is set, there is no first value, and nothing was delivered or skipped.
-  pub unset : (g : Making) (calls : List Asked) → next-receive-sequence (state-after calls (made g) .receive) ≡ none
-      → (first-base (log-after calls (made g)) ≡ none) × (place-of-base g calls ≡ 0)
+  pub unset : (g : Making) (calls : List Asked) → next-receive-sequence (reached g calls .receive) ≡ none
+      → (first-base (marks g calls) ≡ none) × (place-of-base g calls ≡ 0)
   -- "If also the packets collected come from one schedule of consecutive runs starting there, each, counted along it, less than
   -- 2^30 from the base on either side when collected, and each accepted call that is lent a store is lent the same one, which
   -- nobody else writes, the delivered list equals that of 01's clerk, byte for byte." The clerk is fed with the calls alone. He
@@ -359,20 +369,20 @@ pub record HistoryTheorem : Type 0 where
   pub schedule : (schedule : List Delivery) (first : ℕ) → Consecutive first schedule → (g : Making) (calls : List Asked)
       → Fair schedule first g calls
       → (left : List Delivery) × (pass-to schedule (place-of-base g calls) ≡ some left)
-      × (clerk schedule 0 (told-by calls (made g)) ≡ some record { gave = deliveries calls (made g); left = left })
+      × (clerk schedule 0 (told-by calls (made g)) ≡ some record { gave = delivered-list g calls; left = left })
   -- "Every skip passes 01's give-up test and ends with empty leg queues." By what a host sees: a call that raises the skipped
   -- count was a poll. The test was made at the poll's time, of the state that the poll then had: its base was set and not
   -- held, it asked for no continuation, and the test was true for the packet nearest in it. After collecting the base was
   -- still not held, and the call delivers the packet then nearest. It leaves every leg's queue empty and no event waiting.
   pub rises : (g : Making) (calls : List Asked) (call : Asked)
-      → (skipped-in (do-call call (state-after calls (made g)) .state) ≡ skipped-in (state-after calls (made g)) → ⊥)
-      → Raised (state-after calls (made g)) (call .call) (delivered-by (do-call call (state-after calls (made g)) .answer))
-      (do-call call (state-after calls (made g)) .state)
+      → (skipped-in (do-call call (reached g calls) .state) ≡ skipped-in (reached g calls) → ⊥)
+      → Raised (reached g calls) (call .call) (delivered-by (do-call call (reached g calls) .answer))
+      (do-call call (reached g calls) .state)
   -- The same of every skip that the marks have, also of those that the count does not show because it stands at its ceiling.
   pub skips : (g : Making) (calls : List Asked) (call : Asked) (tested : State) (time distance : ℕ) (older : List Mark)
-      → Marked (do-call call (state-after calls (made g)) .log) (gap-skipped tested time distance) older
-      → RightSkip (when-of (call .call) (state-after calls (made g)))
-      (delivered-by (do-call call (state-after calls (made g)) .answer)) (do-call call (state-after calls (made g)) .state) tested time distance
+      → Marked (do-call call (reached g calls) .log) (gap-skipped tested time distance) older
+      → RightSkip (when-of (call .call) (reached g calls))
+      (delivered-by (do-call call (reached g calls) .answer)) (do-call call (reached g calls) .state) tested time distance
   -- "Two gateways with any such lists over one schedule, once both stand at one place of it, deliver the same packets, one list a
   -- prefix of the other, each up to its next skip." Places are counted unreduced, delivered plus skipped. The two may differ in
   -- id, mode, store, legs and calls.
@@ -382,11 +392,11 @@ pub record HistoryTheorem : Type 0 where
   -- "Collected: got by polling a leg": what was queued at a leg is what a poll marks as collected from it, in order, and then what
   -- is still queued there.
   pub by-polling : (g : Making) (calls : List Asked) (call : Asked) (id : ℕ) → is-poll (call .call) ≡ true
-      → queued-at id (state-after calls (made g) .members)
-      ≡ collected-from id (do-call call (state-after calls (made g)) .log) ++ queued-at id (do-call call (state-after calls (made g)) .state .members)
+      → queued-at id (reached g calls .members)
+      ≡ collected-from id (do-call call (reached g calls) .log) ++ queued-at id (do-call call (reached g calls) .state .members)
   -- "The packet taken as it was queued": by an accepted call of the list, with the data and the payload that it was given.
   pub as-queued : (g : Making) (calls : List Asked) (p : Packet) (older : List Mark)
-      → Marked (log-after calls (made g)) (collected p) older
+      → Marked (marks g calls) (collected p) older
       → AsQueued g calls (last-put older (p .content .cell)) (p .content)
   -- "32 less the data events popped": the budget left after an event poll and the packets that it collected add up to 32.
   pub budget : (time : ℕ) (r : Run)
