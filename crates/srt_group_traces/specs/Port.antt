@@ -15,9 +15,9 @@ use Rattle.srt_group_model.specs.Tools.{if_then_else_, if-some_give_otherwise_}
 use Rattle.srt_group_model.specs.State.{State, next-receive-sequence}
 use Rattle.srt_group_model.specs.Guards.{Answer, no-answer}
 use Rattle.srt_group_model.specs.Lent.{Lent, Result, delivered-by}
-use Rattle.srt_group_traces.specs.Statement.{Told, Fair, Raised, Asked, do-call, Delivery, delivery-of, Making, made, counts-of, skipped-in}
 use Rattle.srt_group_model.specs.Answers.{values-of}
 use Rattle.srt_group_model.specs.Calls.{new-code}
+use Rattle.srt_group_traces.specs.Statement.{Told, Fair, Raised, Asked, do-call, Delivery, delivery-of, Making, made, counts-of, skipped-in}
 
 -- ---- what a port shows of a call
 

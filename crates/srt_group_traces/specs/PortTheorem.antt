@@ -11,14 +11,17 @@ use Prim.Native.Nat.{ℕ, _+_, _-_, _%_, _<_}
 use Rattle.srt_protocol.specs.Sequence.{half, sequence-distance, sequence-further}
 use Rattle.srt_group_model.specs.Legs.{largest-64}
 use Rattle.srt_group_model.specs.State.{next-receive-sequence, State}
+use Rattle.srt_group_model.specs.Lent.{Lent}
 use Rattle.srt_group_traces.specs.Statement.{Consecutive, clerk, Fair, Prefix, Delivery, Making, made, skipped-in, pass-to, Asked, counts-of}
 use Rattle.srt_group_traces.specs.Port.{Taken, all-shown, calls-of, Performed, shown-deliveries, shown-told, last-shown, first-shown, SkipsShown, Port, port-place, port-delivers, place-shown, Promise, step-made, shows-new, shown-of, Shown, shown-delivery}
-use Rattle.srt_group_model.specs.Lent.{Lent}
 use Rattle.srt_group_traces.specs.ShortSchedule.{FairCalls}
 
 pub record PortTheorem : Type 0 where
-  -- a list begins with a `new` that is accepted, and grows by each call that keeps its promise
-  pub begins : (g : Making) (lent : Lent) (s : State) → shows-new g lent s .code ≡ 0 → shows-new g lent s .state ≡ made g
+  -- a list begins with a `new` that is accepted, where a refused one leaves what stood there; it grows by each call that keeps its
+  -- promise
+  pub begins : (g : Making) (lent : Lent) (s : State)
+      → (shows-new g lent s .code ≡ 0 → shows-new g lent s .state ≡ made g)
+      × ((shows-new g lent s .code ≡ 0 → ⊥) → shows-new g lent s .state ≡ s)
   pub grows : (s : State) (steps : List Taken) → Performed s steps → (short : Bool) (asked : Asked) (x : Shown)
       → Promise short asked (last-shown s (all-shown steps)) x
       → Performed s (steps ++ (step-made short asked x ∷ []))

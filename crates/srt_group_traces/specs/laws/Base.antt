@@ -20,6 +20,7 @@ use Rattle.srt_group_model.specs.Calls.{new}
 use Rattle.srt_group_model.specs.declared.Data.{Data}
 use Rattle.srt_group_model.specs.declared.Packet.{Packet}
 use Rattle.srt_group_model.specs.laws.Reason.{none-some, some-inj}
+use Rattle.srt_group_model.specs.Lent.{Result, delivered-by}
 use Rattle.srt_group_traces.specs.Statement.{first-base, total-skipped, total-delivered, place-after, When, when-of, Asked, do-call, Delivery, delivery-of, given-by, Making, made, state-after, log-after, deliveries, counts-of, skipped-in, place-of-base}
 use Rattle.srt_group_traces.specs.laws.Cases.{each-at}
 use Rattle.srt_group_traces.specs.laws.Marks.{total-delivered-append}
@@ -28,7 +29,6 @@ use Rattle.srt_group_traces.specs.laws.CallWalk.{Fits, Holds, calls-hold
 use Rattle.srt_group_traces.specs.laws.Held.{insert-all, nearest-all, not-covered-all}
 use Rattle.srt_group_traces.specs.laws.Sides.{sides}
 use Rattle.srt_group_traces.specs.laws.Shape.{Quiet, Skip, Shape, call-shape}
-use Rattle.srt_group_model.specs.Lent.{Result, delivered-by}
 
 pub half-above-zero : 0 < half
 unfolding half

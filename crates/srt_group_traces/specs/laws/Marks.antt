@@ -7,10 +7,10 @@ use native.Mathlib.Omega.{arith}
 use lib.Dec.{eqb}
 use Rattle.srt_group_model.specs.Run.{Mark, put, base-set, collected, gap-skipped, delivered}
 use Rattle.srt_group_model.specs.laws.Reason.{if-elim, not-both}
-use Rattle.srt_group_traces.specs.Statement.{total-skipped, total-delivered, last-put, Marked}
-use Rattle.srt_group_traces.specs.laws.Cases.{eq-of, eqb-yes}
 use Rattle.srt_group_model.specs.Tools.{All}
 use Rattle.srt_group_model.specs.declared.Packet.{Packet}
+use Rattle.srt_group_traces.specs.Statement.{total-skipped, total-delivered, last-put, Marked}
+use Rattle.srt_group_traces.specs.laws.Cases.{eq-of, eqb-yes}
 
 pub total-delivered-append : (l m : List Mark) → total-delivered (l ++ m) ≡ total-delivered l + total-delivered m
 unfolding total-delivered

@@ -74,8 +74,16 @@ pub promised-step : (s : State) (steps : List Taken) → Performed s steps → (
 promised-step s steps h short asked x promise =
     one-more-step s steps (step-made short asked x) h (promise-is-step short asked (last-shown s (all-shown steps)) x promise)
 
-pub new-begins : (g : Making) (lent : Lent) (s : State) → shows-new g lent s .code ≡ 0 → shows-new g lent s .state ≡ made g
-new-begins g lent s e = if-true (eqb (new-code (g .id) (g .mode)) 0) (made g) s (ap (λ (n : ℕ). eqb n 0) e ∙ eqb-yes 0)
+pub new-begins : (g : Making) (lent : Lent) (s : State)
+    → (shows-new g lent s .code ≡ 0 → shows-new g lent s .state ≡ made g)
+    × ((shows-new g lent s .code ≡ 0 → ⊥) → shows-new g lent s .state ≡ s)
+new-begins g lent s = (
+  (λ e. if-true (eqb code 0) (made g) s (ap (λ (n : ℕ). eqb n 0) e ∙ eqb-yes 0)),
+  λ refused. if-false (eqb code 0) (made g) s (by-test (eqb code 0) (λ e. absurd (refused (eq-of code 0 e))) (λ e. e)),
+)
+  where
+    code : ℕ
+    code = new-code (g .id) (g .mode)
 
 -- ---- a step, seen as what it shows
 

@@ -6,15 +6,15 @@ use mathlib.Core.Option.{Option, none, some}
 use Prim.Native.Nat.{_<_}
 use lib.Dec.{lit<}
 use lib.ListN.{take, drop}
+use Rattle.srt_protocol.specs.Sequence.{half}
 use Rattle.srt_group_model.specs.State.{State, next-receive-sequence}
 use Rattle.srt_group_model.specs.laws.Computed.{definitions}
 use Rattle.srt_group_model.specs.Lent.{Call, call-add-member, call-mark-member-broken, call-remove-member-connection, call-refresh-member-states, call-disconnect, call-poll-event, call-poll-data-bounded, call-send, call-can-send, call-can-send-with-pacing, call-look, call-read-leg, call-queue-data, call-queue-event}
 use Rattle.srt_group_model.specs.laws.Reason.{none-some}
+use Rattle.srt_group_model.specs.Tools.{All}
 use Rattle.srt_group_traces.specs.Statement.{pass-to, Fair, Asked, do-call, Delivery, made, state-after, counts-of, with-payload}
 use Rattle.srt_group_traces.specs.laws.Example.{group, store-0, store-1, store-2, store-3, output, sends, planned, schedule, runs, calls, one-store}
 use Rattle.srt_group_traces.specs.laws.Cases.{Each, each-at}
-use Rattle.srt_group_model.specs.Tools.{All}
-use Rattle.srt_protocol.specs.Sequence.{half}
 use Rattle.srt_group_traces.specs.ShortSchedule.{QueuesNone, Scheduled, AllScheduled, FairCalls}
 use Rattle.srt_group_traces.specs.laws.ShortSchedule.{short-schedule-is-fair}
 

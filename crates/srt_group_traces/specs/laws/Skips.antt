@@ -16,11 +16,11 @@ use Rattle.srt_group_model.specs.Delivery.{gap-given-up, leg-gives-up}
 use Rattle.srt_group_model.specs.declared.Packet.{Packet}
 use Rattle.srt_group_model.specs.Tools.{All, all}
 use Rattle.srt_group_model.specs.laws.Reason.{if-some-elim, not-both}
+use Rattle.srt_group_model.specs.Lent.{delivered-by}
+use Rattle.srt_group_model.specs.Legs.{is-disconnected}
 use Rattle.srt_group_traces.specs.Statement.{When, when-of, Asked, do-call, Marked, RightSkip}
 use Rattle.srt_group_traces.specs.laws.Sides.{Side, all-members}
 use Rattle.srt_group_traces.specs.laws.Shape.{Quiet, Skip, Shape, call-shape}
-use Rattle.srt_group_model.specs.Lent.{delivered-by}
-use Rattle.srt_group_model.specs.Legs.{is-disconnected}
 use Rattle.srt_group_traces.specs.laws.Marks.{marked-all}
 
 -- The give-up test was true for the packet nearest then: all legs are disconnected (with no members too), or the packet's leg, where

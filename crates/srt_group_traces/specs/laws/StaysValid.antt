@@ -12,6 +12,7 @@ use native.Mathlib.Omega.{arith}
 use lib.Dec.{ltb, eqb}
 use lib.ListN.{length, replicate, length-replicate}
 use Rattle.srt_protocol.specs.Cells.{cell-size, cells-of, max-cells}
+use Rattle.srt_protocol.specs.laws.CellLaws.{overwritten-length}
 use Rattle.srt_group_model.specs.laws.Reason.{if-true, if-elim, by-test, not-both, or-yes-left, and-left, and-right}
 use Rattle.srt_group_model.specs.State.{State, is-backup}
 use Rattle.srt_group_model.specs.Validity.{is-invalid}
@@ -22,13 +23,12 @@ use Rattle.srt_group_model.specs.laws.Refusals.{guard-elim, guard-passed}
 use Rattle.srt_group_model.specs.laws.Fixed.{identity-kept}
 use Rattle.srt_group_model.specs.laws.Valid.{valid-of, of-valid, valid-kept, valid-wider, new-valid}
 use Rattle.srt_group_model.specs.declared.Identity.{Identity}
+use Rattle.srt_group_model.specs.Run.{start}
 use Rattle.srt_group_traces.specs.laws.FailedSends.{failed-send-stays-inside}
 use Rattle.srt_group_traces.specs.laws.Cases.{eq-of, eqb-yes, Each, ge-of, and-true-left}
 use Rattle.srt_group_traces.specs.Statement.{Asked, do-call, takes-store, Making, made, state-after, store-left, LendsThis, OneStore}
 use Rattle.srt_group_traces.specs.laws.CallWalk.{refresh-states-mode}
 use Rattle.srt_group_traces.specs.laws.FreeCells.{taken-cell-within}
-use Rattle.srt_protocol.specs.laws.CellLaws.{overwritten-length}
-use Rattle.srt_group_model.specs.Run.{start}
 
 pub store-length-stays : (call : Asked) (s : State) → do-call call s .state .identity .length ≡ s .identity .length
 unfolding do-call
