@@ -34,7 +34,7 @@ leg-values l =
 -- id, weight, state (0 pending, 1 active, 2 standby, 3 unstable, 4 broken), admitted, reserved, collision: expected, actual
 abbrev pub membership-values : Membership → List ℕ
 membership-values m =
-    m .id ∷ m .weight ∷ m .state ∷ m .admitted ∷ m .reserved ∷ m .collision .expected ∷ m .collision .actual ∷ []
+    m .id ∷ m .weight ∷ m .state ∷ m .admitted ∷ m .account .reserved ∷ m .collision .expected ∷ m .collision .actual ∷ []
 
 unfoldable pub all-values : List Membership → List ℕ
 all-values [] = []

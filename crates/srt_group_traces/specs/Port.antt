@@ -12,12 +12,12 @@ use Prim.Native.Nat.{ℕ, _+_}
 use lib.Dec.{eqb}
 use Rattle.srt_protocol.specs.Sequence.{sequence-distance}
 use Rattle.srt_group_model.specs.Tools.{if_then_else_, if-some_give_otherwise_}
-use Rattle.srt_group_model.specs.State.{State, next-receive-sequence}
+use Rattle.srt_group_model.specs.State.{State, next-receive-sequence, Making}
 use Rattle.srt_group_model.specs.Guards.{Answer, no-answer}
 use Rattle.srt_group_model.specs.Lent.{Lent, Result, delivered-by}
 use Rattle.srt_group_model.specs.Answers.{values-of}
 use Rattle.srt_group_model.specs.Calls.{new-code}
-use Rattle.srt_group_traces.specs.Statement.{Told, Fair, Raised, Asked, do-call, Delivery, delivery-of, Making, made, counts-of, skipped-in}
+use Rattle.srt_group_traces.specs.Statement.{Told, Fair, Raised, Asked, do-call, Delivery, delivery-of, made, counts-of, skipped-in}
 
 -- ---- what a port shows of a call
 
@@ -94,9 +94,9 @@ numbers-of x = x .code ∷ values-of (x .answer)
 abbrev pub shows-new : Making → Lent → State → Shown
 shows-new g lent s =
     record {
-      state = if eqb (new-code (g .id) (g .mode)) 0 then made g else s;
+      state = if eqb (new-code g) 0 then made g else s;
       lent = lent;
-      code = new-code (g .id) (g .mode);
+      code = new-code g;
       answer = no-answer;
       rows = 0;
     }

@@ -10,9 +10,9 @@ use mathlib.Core.Option.{none, some}
 use Prim.Native.Nat.{ℕ, _+_, _-_, _%_, _<_}
 use Rattle.srt_protocol.specs.Sequence.{half, sequence-distance, sequence-further}
 use Rattle.srt_group_model.specs.Legs.{largest-64}
-use Rattle.srt_group_model.specs.State.{next-receive-sequence, State}
+use Rattle.srt_group_model.specs.State.{next-receive-sequence, State, Making}
 use Rattle.srt_group_model.specs.Lent.{Lent}
-use Rattle.srt_group_traces.specs.Statement.{Consecutive, clerk, Fair, Prefix, Delivery, Making, made, skipped-in, pass-to, Asked, counts-of}
+use Rattle.srt_group_traces.specs.Statement.{Consecutive, clerk, Fair, Prefix, Delivery, made, skipped-in, pass-to, Asked, counts-of}
 use Rattle.srt_group_traces.specs.Port.{Taken, all-shown, calls-of, Performed, shown-deliveries, shown-told, last-shown, first-shown, SkipsShown, Port, port-place, port-delivers, place-shown, Promise, step-made, shows-new, shown-of, Shown, shown-delivery}
 use Rattle.srt_group_traces.specs.ShortSchedule.{FairCalls}
 

@@ -6,10 +6,10 @@ use mathlib.Core.Option.{some}
 use Prim.Native.Nat.{ℕ, _<_}
 use Rattle.srt_protocol.specs.Sequence.{half}
 use Rattle.srt_group_model.specs.Tools.{All}
-use Rattle.srt_group_model.specs.State.{State, next-receive-sequence}
+use Rattle.srt_group_model.specs.State.{State, next-receive-sequence, Making}
 use Rattle.srt_group_model.specs.Lent.{call-queue-data}
 use Rattle.srt_group_model.specs.declared.Data.{Data}
-use Rattle.srt_group_traces.specs.Statement.{Asked, do-call, Delivery, with-payload, Making, made, state-after, counts-of, pass-to, OneStore}
+use Rattle.srt_group_traces.specs.Statement.{Asked, do-call, Delivery, with-payload, made, state-after, counts-of, pass-to, OneStore}
 
 -- a call that queues no data
 abbrev pub QueuesNone : Asked → Type 0

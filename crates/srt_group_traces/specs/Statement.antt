@@ -12,7 +12,7 @@ use lib.ListN.{length, take, drop}
 use Rattle.srt_protocol.specs.Cells.{head-size, cells-of}
 use Rattle.srt_protocol.specs.Sequence.{half, sequence-distance, sequence-further}
 use Rattle.srt_group_model.specs.Tools.{if_then_else_, if-some_give_otherwise_, is-set, or-else, All}
-use Rattle.srt_group_model.specs.State.{Member, State, next-receive-sequence, with-continuation}
+use Rattle.srt_group_model.specs.State.{Member, State, next-receive-sequence, with-continuation, Making}
 use Rattle.srt_group_model.specs.Legs.{largest-64}
 use Rattle.srt_group_model.specs.Nearest.{sequence-of, is-held, nearest}
 use Rattle.srt_group_model.specs.Run.{Mark, put, base-set, collected, gap-skipped, delivered, Run, start, refresh-pending-states, refresh-states}
@@ -64,14 +64,9 @@ given-by r = if-some delivered-by (r .answer) give (λ p. delivery-of p (r .lent
 
 -- ---- lists of calls, each from the state that the last one left
 
--- what a new group is made of: an id, a mode, and the store's length given at the start, or 0
-pub record Making : Type 0 where
-  pub id : ℕ
-  pub mode : ℕ
-  pub store-length : ℕ
-
+-- a new group
 abbrev pub made : Making → State
-made g = new (g .id) (g .mode) (g .store-length)
+made = new
 
 -- the state that they leave, all their marks, newest first, and all that they delivered, in order
 unfoldable pub state-after : List Asked → State → State

@@ -12,7 +12,8 @@ use Rattle.srt_group_model.specs.Tools.{if-some_give_otherwise_, bit, at
 use borrow.Author.Tests.{eqb-true}
 use Rattle.srt_group_model.specs.laws.Reason.{and-left, and-right, not-both}
 use Rattle.srt_group_model.specs.State.{Member, State, with-members, with-send, active-state, standby-state}
-use Rattle.srt_group_model.specs.laws.State.{backup-mode}
+use Rattle.srt_group_model.specs.Accounts.{no-packets}
+use Rattle.srt_group_model.specs.laws.State.{backup-mode, ordinary}
 use Rattle.srt_group_model.specs.Legs.{moment}
 use Rattle.srt_group_model.specs.Members.{id-of, promotion}
 use Rattle.srt_group_model.specs.Nearest.{nearest}
@@ -57,7 +58,7 @@ joined id weight state l =
             weight = weight;
             state = state;
             admitted = 1;
-            reserved = 0;
+            account = no-packets;
             collision = record { expected = 0; actual = 0 };
           };
       leg = l;
@@ -88,7 +89,7 @@ taking-over window =
       numbers = record { numbered = 1; next = 53; carried = 1; carrier = 1; gap = 0 };
       history = entry 50 ∷ entry 51 ∷ entry 52 ∷ [];
     }
-    (new 1073741825 backup-mode 0))
+    (new (ordinary backup-mode 0)))
 
 -- ---- the table
 

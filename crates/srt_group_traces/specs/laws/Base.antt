@@ -12,7 +12,7 @@ use Rattle.srt_protocol.specs.laws.Circle.{further-distance, distance-further}
 use Rattle.srt_protocol.specs.Sequence.{half, sequence-distance, sequence-further}
 use Rattle.srt_group_model.specs.Legs.{largest-64}
 use Rattle.srt_group_model.specs.Tools.{if-some_give_otherwise_, flagged, or-else, All}
-use Rattle.srt_group_model.specs.State.{State, Receive, next-receive-sequence}
+use Rattle.srt_group_model.specs.State.{State, Receive, next-receive-sequence, Making}
 use Rattle.srt_group_model.specs.Nearest.{sequence-of, nearest}
 use Rattle.srt_group_model.specs.Run.{Mark, put, base-set, collected, gap-skipped, delivered}
 use Rattle.srt_group_model.specs.Delivery.{pass-run, skip-to}
@@ -21,7 +21,7 @@ use Rattle.srt_group_model.specs.declared.Data.{Data}
 use Rattle.srt_group_model.specs.declared.Packet.{Packet}
 use Rattle.srt_group_model.specs.laws.Reason.{none-some, some-inj}
 use Rattle.srt_group_model.specs.Lent.{Result, delivered-by}
-use Rattle.srt_group_traces.specs.Statement.{first-base, total-skipped, total-delivered, place-after, When, when-of, Asked, do-call, Delivery, delivery-of, given-by, Making, made, state-after, log-after, deliveries, counts-of, skipped-in, place-of-base}
+use Rattle.srt_group_traces.specs.Statement.{first-base, total-skipped, total-delivered, place-after, When, when-of, Asked, do-call, Delivery, delivery-of, given-by, made, state-after, log-after, deliveries, counts-of, skipped-in, place-of-base}
 use Rattle.srt_group_traces.specs.laws.Cases.{each-at}
 use Rattle.srt_group_traces.specs.laws.Marks.{total-delivered-append}
 use Rattle.srt_group_traces.specs.laws.Law.{OfContent, PutLaw}

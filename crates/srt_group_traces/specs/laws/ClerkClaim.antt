@@ -9,13 +9,13 @@ use Prim.Native.Nat.{ℕ, _+_, _-_, _≤_, _<_}
 use native.Mathlib.Omega.{arith}
 use Rattle.srt_group_model.specs.Legs.{largest-64}
 use Rattle.srt_group_model.specs.Tools.{if_then_else_, if-some_give_otherwise_}
-use Rattle.srt_group_model.specs.State.{State}
+use Rattle.srt_group_model.specs.State.{State, Making}
 use Rattle.srt_group_model.specs.Run.{Mark, delivered}
 use Rattle.srt_group_model.specs.Calls.{new}
 use Rattle.srt_group_model.specs.declared.Packet.{Packet}
 use Rattle.srt_group_model.specs.Lent.{delivered-by}
 use Rattle.srt_group_model.specs.laws.Reason.{some-inj}
-use Rattle.srt_group_traces.specs.Statement.{total-skipped, total-delivered, place-after, last-put, Consecutive, pass-to, Told, told-by, give-next, clerk, SetBefore, AllNear, When, when-of, Asked, do-call, Delivery, Making, made, state-after, log-after, skipped-in, with-payload, Went, place-of-base}
+use Rattle.srt_group_traces.specs.Statement.{total-skipped, total-delivered, place-after, last-put, Consecutive, pass-to, Told, told-by, give-next, clerk, SetBefore, AllNear, When, when-of, Asked, do-call, Delivery, made, state-after, log-after, skipped-in, with-payload, Went, place-of-base}
 use Rattle.srt_group_traces.specs.laws.Marks.{total-skipped-append, each-collected-before}
 use Rattle.srt_group_traces.specs.laws.Shape.{Quiet, Given, Shape, call-shape}
 use Rattle.srt_group_traces.specs.laws.Base.{place-is, sums-after, quiet-delivers-nothing, quiet-skips-nothing, before-delivery}

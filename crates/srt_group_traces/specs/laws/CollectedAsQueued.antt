@@ -8,7 +8,7 @@ use mathlib.Core.List.{List, [], _∷_, _++_}
 use Prim.Native.Nat.{ℕ}
 use native.Mathlib.Omega.{arith}
 use Rattle.srt_group_model.specs.Tools.{each}
-use Rattle.srt_group_model.specs.State.{State}
+use Rattle.srt_group_model.specs.State.{State, Making}
 use Rattle.srt_group_model.specs.Members.{id-of}
 use Rattle.srt_group_model.specs.Validity.{one-twice}
 use Rattle.srt_group_model.specs.Calls.{new}
@@ -19,7 +19,7 @@ use Rattle.srt_group_model.specs.laws.Unique.{Named, names-kept}
 use Rattle.srt_group_model.specs.Run.{Mark, collected}
 use Rattle.srt_group_model.specs.declared.Packet.{Packet}
 use Rattle.srt_group_traces.specs.laws.AsQueued.{QueuedBy, collected-was-queued}
-use Rattle.srt_group_traces.specs.Statement.{Asked, do-call, is-poll, Making, made, state-after, log-after, Marked, AsQueued, last-put}
+use Rattle.srt_group_traces.specs.Statement.{Asked, do-call, is-poll, made, state-after, log-after, Marked, AsQueued, last-put}
 
 names-after : (calls : List Asked) (s : State) → Named s → Named (state-after calls s)
 unfolding state-after do-call

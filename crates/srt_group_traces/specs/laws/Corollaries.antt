@@ -11,12 +11,12 @@ use native.Mathlib.Omega.{arith}
 use Rattle.srt_protocol.specs.Sequence.{sequence-further}
 use Rattle.srt_group_model.specs.Legs.{largest-64}
 use Rattle.srt_group_model.specs.Tools.{if-some_give_otherwise_, or-else}
-use Rattle.srt_group_model.specs.State.{State, Receive, next-receive-sequence}
+use Rattle.srt_group_model.specs.State.{State, Receive, next-receive-sequence, Making}
 use Rattle.srt_group_model.specs.Run.{Mark, put, base-set, collected, gap-skipped, delivered}
 use Rattle.srt_group_model.specs.laws.Reason.{if-elim, none-some, some-inj}
 use Rattle.srt_group_model.specs.Lent.{delivered-by}
 use Rattle.srt_group_model.specs.declared.Packet.{Packet}
-use Rattle.srt_group_traces.specs.Statement.{first-base, total-skipped, place-after, Consecutive, pass-to, Told, told-by, give-next, clerk, Fair, when-of, Prefix, Raised, Asked, do-call, is-poll, time-of, Delivery, Making, made, state-after, log-after, deliveries, skipped-in, Went, place-of-base}
+use Rattle.srt_group_traces.specs.Statement.{first-base, total-skipped, place-after, Consecutive, pass-to, Told, told-by, give-next, clerk, Fair, when-of, Prefix, Raised, Asked, do-call, is-poll, time-of, Delivery, made, state-after, log-after, deliveries, skipped-in, Went, place-of-base}
 use Rattle.srt_group_traces.specs.laws.Cases.{by-option}
 use Rattle.srt_group_traces.specs.laws.CallWalk.{Fits, Holds, call-holds}
 use Rattle.srt_group_traces.specs.laws.Shape.{Quiet, Skip, Given, Shape, call-shape}

@@ -10,8 +10,8 @@ use lib.Dec.{lit<, lit≤}
 use lib.ListN.{take, replicate}
 use Rattle.srt_protocol.specs.Cells.{overwritten, output-size, cell-size}
 use Rattle.srt_protocol.specs.Sequence.{half, sequence-distance}
-use Rattle.srt_group_model.specs.State.{State, next-receive-sequence}
-use Rattle.srt_group_model.specs.laws.State.{broadcast-mode}
+use Rattle.srt_group_model.specs.State.{State, next-receive-sequence, Making}
+use Rattle.srt_group_model.specs.laws.State.{broadcast-mode, ordinary}
 use Rattle.srt_group_model.specs.Legs.{moment, no-sequence, largest-64}
 use Rattle.srt_group_model.specs.laws.Computed.{definitions}
 use Rattle.srt_group_model.specs.Lent.{Call, call-add-member, call-mark-member-broken, call-remove-member-connection, call-poll-event, call-send, call-read-leg, call-queue-data, call-queue-event, call-poll-data, delivered-by}
@@ -20,14 +20,14 @@ use Rattle.srt_group_model.specs.declared.Leg.{Leg}
 use Rattle.srt_group_model.specs.laws.Reason.{not-both, some-inj}
 use Rattle.srt_group_model.specs.Sending.{list-size}
 use Rattle.srt_group_model.specs.Run.{Mark, put, base-set, collected, gap-skipped, delivered}
-use Rattle.srt_group_traces.specs.Statement.{first-base, total-skipped, total-delivered, last-put, Consecutive, pass-to, told-by, clerk, SetBefore, AllNear, OneStore, Fair, Raised, place-of-base, packets-collected, Asked, do-call, takes-store, Delivery, given-by, Making, made, state-after, log-after, deliveries, counts-of, store-left, with-payload, Near, place-after, skipped-in}
+use Rattle.srt_group_traces.specs.Statement.{first-base, total-skipped, total-delivered, last-put, Consecutive, pass-to, told-by, clerk, SetBefore, AllNear, OneStore, Fair, Raised, place-of-base, packets-collected, Asked, do-call, takes-store, Delivery, given-by, made, state-after, log-after, deliveries, counts-of, store-left, with-payload, Near, place-after, skipped-in}
 use Rattle.srt_group_traces.specs.laws.HistoryTheorem.{history-theorem}
 use Rattle.srt_group_traces.specs.laws.Marks.{EachCollected, each-collected-at}
 
 -- ---- what is lent
 
 unfoldable pub group : Making
-group = record { id = 1073741825; mode = broadcast-mode; store-length = 4368 }
+group = ordinary broadcast-mode 4368
 
 -- three cells
 unfoldable pub store-0 : List ℕ

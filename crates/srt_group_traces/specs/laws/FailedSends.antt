@@ -73,8 +73,8 @@ refresh-carried s =
     let settled : State = refresh-pending-states (start s) .state in
     all-then (s .members) (admitted .members) _ (admit-all-carried (peer-after (s .peer) (s .members)) (s .members))
     (all-then (admitted .members) (settled .members) _
-    (settle-carried (admitted .mode) (next-send-sequence (admitted .send)) (admitted .members))
-    (requalify-carried (settled .mode) (next-send-sequence (settled .send)) (settled .members)))
+    (settle-carried (admitted .making .mode) (next-send-sequence (admitted .send)) (admitted .members))
+    (requalify-carried (settled .making .mode) (next-send-sequence (settled .send)) (settled .members)))
 
 refresh-pending : (s : State) → refresh-states (start s) .state .receive .pending ≡ s .receive .pending
 unfolding refresh-states refresh-pending-states admit-connected-peer-groups

@@ -10,7 +10,7 @@ use native.Mathlib.Omega.{arith}
 use Rattle.srt_protocol.specs.laws.Circle.{distance-places, before-places, distance-self}
 use Rattle.srt_protocol.specs.Sequence.{half, sequence-distance, sequence-before, sequence-further}
 use Rattle.srt_group_model.specs.Tools.{if-some_give_otherwise_, flagged, or-else, All}
-use Rattle.srt_group_model.specs.State.{State, Receive, next-receive-sequence, with-pending}
+use Rattle.srt_group_model.specs.State.{State, Receive, next-receive-sequence, with-pending, Making}
 use Rattle.srt_group_model.specs.laws.NearestLaw.{nearest-least-far}
 use Rattle.srt_group_model.specs.Nearest.{sequence-of, held-at, insert, nearest, not-covered}
 use Rattle.srt_group_model.specs.Run.{Mark, put, base-set, collected, gap-skipped, delivered}
@@ -20,7 +20,7 @@ use Rattle.srt_group_model.specs.Calls.{new}
 use Rattle.srt_group_model.specs.declared.Data.{Data}
 use Rattle.srt_group_model.specs.declared.Packet.{Packet}
 use Rattle.srt_group_model.specs.laws.Reason.{all-map, some-inj, not-both, or-left}
-use Rattle.srt_group_traces.specs.Statement.{first-base, total-skipped, total-delivered, place-after, last-put, Consecutive, pass-to, SetBefore, AllNear, Asked, do-call, Delivery, Making, made, state-after, log-after, with-payload, Near}
+use Rattle.srt_group_traces.specs.Statement.{first-base, total-skipped, total-delivered, place-after, last-put, Consecutive, pass-to, SetBefore, AllNear, Asked, do-call, Delivery, made, state-after, log-after, with-payload, Near}
 use Rattle.srt_group_traces.specs.laws.Cases.{all-both, each-at}
 use Rattle.srt_group_traces.specs.laws.Marks.{last-put-elsewhere, each-collected-of, EachCollected}
 use Rattle.srt_group_traces.specs.laws.Sides.{sides}

@@ -13,11 +13,11 @@ use Rattle.srt_protocol.specs.laws.Circle.{distance-up, distance-further}
 use Rattle.srt_protocol.specs.Sequence.{half, sequence-distance, sequence-further}
 use Rattle.srt_group_model.specs.Legs.{largest-64}
 use Rattle.srt_group_model.specs.Tools.{if_then_else_, if-some_give_otherwise_, flagged, All}
-use Rattle.srt_group_model.specs.State.{State, next-receive-sequence}
+use Rattle.srt_group_model.specs.State.{State, next-receive-sequence, Making}
 use Rattle.srt_group_model.specs.Calls.{new, new-code}
 use Rattle.srt_group_model.specs.Lent.{Result, delivered-by, Lent, Call, perform}
 use Rattle.srt_group_model.specs.laws.Reason.{if-true, if-false, by-test, none-some, some-inj}
-use Rattle.srt_group_traces.specs.Statement.{first-base, total-skipped, place-after, Consecutive, pass-to, Told, told-by, give-next, clerk, OneStore, Fair, Prefix, until-skip, Gateway, stands-at, delivers, Asked, do-call, Delivery, given-by, Making, made, state-after, log-after, deliveries, skipped-in, counts-of, Went, place-of-base}
+use Rattle.srt_group_traces.specs.Statement.{first-base, total-skipped, place-after, Consecutive, pass-to, Told, told-by, give-next, clerk, OneStore, Fair, Prefix, until-skip, Gateway, stands-at, delivers, Asked, do-call, Delivery, given-by, made, state-after, log-after, deliveries, skipped-in, counts-of, Went, place-of-base}
 use Rattle.srt_group_traces.specs.laws.Cases.{by-option, eq-of, eqb-yes}
 use Rattle.srt_group_traces.specs.laws.CallWalk.{Fits}
 use Rattle.srt_group_traces.specs.laws.Gateways.{state-after-both, log-after-both, deliveries-both}
@@ -83,7 +83,7 @@ new-begins g lent s = (
 )
   where
     code : ℕ
-    code = new-code (g .id) (g .mode)
+    code = new-code g
 
 -- ---- a step, seen as what it shows
 

@@ -3,9 +3,10 @@ use mathlib.Core.Path.{_≡_, sym, ap, _∙_}
 use mathlib.Core.List.{List, []}
 use mathlib.Core.Option.{some}
 use Prim.Native.Nat.{ℕ}
-use Rattle.srt_group_traces.specs.Statement.{Consecutive, told-by, clerk, Fair, Asked, Delivery, Making, made, deliveries, place-of-base, pass-to}
+use Rattle.srt_group_traces.specs.Statement.{Consecutive, told-by, clerk, Fair, Asked, Delivery, made, deliveries, place-of-base, pass-to}
 use Rattle.srt_group_traces.specs.laws.ClerkClaim.{clerk-as-queued, delivered-as-queued}
 use Rattle.srt_group_traces.specs.laws.Bytes.{delivered-is-as-queued, new-alive}
+use Rattle.srt_group_model.specs.State.{Making}
 
 pub schedule-claim : (schedule : List Delivery) (first : ℕ) → Consecutive first schedule → (g : Making) (calls : List Asked)
     → Fair schedule first g calls

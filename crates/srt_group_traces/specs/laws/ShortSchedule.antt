@@ -10,13 +10,13 @@ use native.Mathlib.Omega.{arith}
 use lib.Dec.{leb, eqb}
 use Rattle.srt_protocol.specs.Sequence.{half, sequence-further}
 use Rattle.srt_group_model.specs.Tools.{All}
-use Rattle.srt_group_model.specs.State.{State, next-receive-sequence}
+use Rattle.srt_group_model.specs.State.{State, next-receive-sequence, Making}
 use Rattle.srt_group_model.specs.Run.{Mark, put, base-set, collected, gap-skipped, delivered}
 use Rattle.srt_group_model.specs.Lent.{delivered-by}
 use Rattle.srt_group_model.specs.declared.Data.{Data}
 use Rattle.srt_group_model.specs.declared.Packet.{Packet}
 use Rattle.srt_group_model.specs.laws.Reason.{if-elim, none-some, some-inj}
-use Rattle.srt_group_traces.specs.Statement.{first-base, total-skipped, total-delivered, place-after, last-put, Consecutive, pass-to, Near, Fair, When, when-of, Asked, do-call, Delivery, Making, made, state-after, log-after, counts-of, with-payload, Marked}
+use Rattle.srt_group_traces.specs.Statement.{first-base, total-skipped, total-delivered, place-after, last-put, Consecutive, pass-to, Near, Fair, When, when-of, Asked, do-call, Delivery, made, state-after, log-after, counts-of, with-payload, Marked}
 use Rattle.srt_group_traces.specs.laws.Cases.{le-of, eq-of}
 use Rattle.srt_group_traces.specs.laws.CallWalk.{Fits}
 use Rattle.srt_group_traces.specs.laws.Shape.{Quiet, Skip, Shape, call-shape}
