@@ -235,6 +235,7 @@ abbrev pub OneStore : List ℕ → List Asked → State → Type 0
 OneStore store [] s = Unit {0}
 OneStore store (call ∷ more) s = LendsThis store call s × OneStore (store-left store call s) more (do-call call s .state)
 
+-- All premises of the claims on a schedule; `below`: the skipped count is below its ceiling.
 pub record Fair (schedule : List Delivery) (first : ℕ) (g : Making) (calls : List Asked) : Type 0 where
   pub set-before : SetBefore first (marks g calls)
   pub near : AllNear schedule (marks g calls)
