@@ -1,6 +1,7 @@
 -- The calls with what they are lent: the store, the output and the list of sends. Document 01, "Receiving" and "The stand-in
 -- leg": a payload is put into its cell and its other bytes stay; a delivered payload is written from byte 12 of the output,
 -- the rest stays; the sends fill the list's first rows, the others stay.
+use mathlib.Core.Bool.{Bool, true, false}
 use mathlib.Core.List.{List, [], _∷_}
 use mathlib.Core.Option.{Option, none, some}
 use Prim.Native.Nat.{ℕ, _*_}
@@ -123,6 +124,32 @@ pub data Call : Type 0 where
   call-read-leg : (id field n : ℕ) → Call
   call-queue-data : (id : ℕ) → Data → (payload : List ℕ) → Call
   call-queue-event : (id kind reason : ℕ) → Call
+
+-- What a call is lent: a store (queueing data, the polls and sends), an output (the polls), the list (sends); and the time of a poll.
+pub record Takes : Type 0 where
+  pub store : Bool
+  pub output : Bool
+  pub list : Bool
+  pub time : ℕ
+
+abbrev pub taking : (store output list : Bool) (time : ℕ) → Takes
+taking store output list time = record { store = store; output = output; list = list; time = time }
+
+abbrev pub takes : Call → Takes
+takes (call-add-member id weight l queue) = taking false false false 0
+takes (call-mark-member-broken id) = taking false false false 0
+takes (call-remove-member-connection id) = taking false false false 0
+takes call-refresh-member-states = taking false false false 0
+takes (call-disconnect time) = taking false false false 0
+takes (call-poll-event time) = taking true true false time
+takes (call-poll-data-bounded time max-events) = taking true true false time
+takes (call-send time payload) = taking true false true 0
+takes call-can-send = taking false false false 0
+takes (call-can-send-with-pacing time) = taking false false false 0
+takes (call-look look) = taking false false false 0
+takes (call-read-leg id field n) = taking false false false 0
+takes (call-queue-data id d payload) = taking true false false 0
+takes (call-queue-event id kind reason) = taking false false false 0
 
 -- `poll_data`
 abbrev pub call-poll-data : (time : ℕ) → Call

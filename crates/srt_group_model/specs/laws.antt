@@ -12,6 +12,7 @@ pub mod Flag
 pub mod Circle
 pub mod Arrivals
 pub mod Refusals
+pub mod Answers
 pub mod Moves
 pub mod Frame
 pub mod Walk

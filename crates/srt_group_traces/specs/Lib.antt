@@ -1,7 +1,8 @@
-pub mod Calls
+-- Demand 3: the statement, its premises for a short schedule, and the same over what a port shows.
 pub mod Statement
-pub mod HistoryTheorem
+pub mod ShortSchedule
 pub mod Port
 pub mod PortTheorem
+pub mod Calls
 -- What is proved.
 pub mod laws

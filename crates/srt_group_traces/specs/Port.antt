@@ -5,19 +5,19 @@
 -- of the calls without those refusals. So once the code is proved equal to the model, call by call, the claims are about the
 -- code.
 use mathlib.Core.Path.{_≡_}
-use mathlib.Core.Bool.{true, false}
+use mathlib.Core.Bool.{Bool, true, false}
 use mathlib.Core.List.{List, [], _∷_, _++_}
 use mathlib.Core.Option.{Option, none, some}
-use Prim.Native.Nat.{ℕ, _+_, min}
+use Prim.Native.Nat.{ℕ, _+_}
 use lib.Dec.{eqb}
 use Rattle.srt_protocol.specs.Sequence.{sequence-distance}
-use Rattle.srt_group_model.specs.Legs.{largest-64}
 use Rattle.srt_group_model.specs.Tools.{if_then_else_, if-some_give_otherwise_}
 use Rattle.srt_group_model.specs.State.{State, next-receive-sequence, Making}
 use Rattle.srt_group_model.specs.Guards.{Answer, no-answer}
 use Rattle.srt_group_model.specs.Lent.{Lent, Result, delivered-by}
-use Rattle.srt_group_traces.specs.Statement.{Told, Fair, when-of, RightSkip}
-use Rattle.srt_group_traces.specs.Calls.{Asked, do-call, is-poll, time-of, made, counts-of, skipped-in, Delivery, delivery-of}
+use Rattle.srt_group_model.specs.Answers.{values-of}
+use Rattle.srt_group_model.specs.Calls.{new-code}
+use Rattle.srt_group_traces.specs.Statement.{Told, Fair, Raised, Asked, do-call, Delivery, delivery-of, made, counts-of, skipped-in}
 
 -- ---- what a port shows of a call
 
@@ -65,6 +65,42 @@ abbrev pub Performed : State → List Taken → Type 0
 Performed s [] = Unit {0}
 Performed s (t ∷ steps) = TakenFrom s t × Performed (shown-of t .state) steps
 
+-- ---- what the promise of a public call says
+
+-- what a call shows is what its definition gives: code, answer, state, bytes and the rows filled
+pub record Does (asked : Asked) (s : State) (x : Shown) : Type 0 where
+  pub code : x .code ≡ do-call asked s .code
+  pub answer : x .answer ≡ do-call asked s .answer
+  pub state : x .state ≡ do-call asked s .state
+  pub lent : x .lent ≡ do-call asked s .lent
+  pub rows : x .rows ≡ do-call asked s .rows
+
+-- THE PROMISE of every public call but `new`, from the state s that stands. `short`: a lent table is too short for its rows, which is
+-- tested before all else; the call is refused with 5 and nothing changes. Else it does what its definition says.
+abbrev pub Promise : (short : Bool) → Asked → State → Shown → Type 0
+Promise true asked s x = x ≡ shows-short asked s
+Promise false asked s x = Does asked s x
+
+-- the step that it makes
+abbrev pub step-made : (short : Bool) → Asked → Shown → Taken
+step-made true asked x = refused-short asked x
+step-made false asked x = did asked x
+
+-- in document 01's numbers: the code, 0 if it is accepted, and the values of the answer
+abbrev pub numbers-of : Shown → List ℕ
+numbers-of x = x .code ∷ values-of (x .answer)
+
+-- THE PROMISE of `new`: accepted, a fresh group; refused, with 2 or 1, what stood in its place stays
+abbrev pub shows-new : Making → Lent → State → Shown
+shows-new g lent s =
+    record {
+      state = if eqb (new-code g) 0 then made g else s;
+      lent = lent;
+      code = new-code g;
+      answer = no-answer;
+      rows = 0;
+    }
+
 -- ---- what the customer sees of that
 
 unfoldable pub shown-delivery : Shown → List Delivery
@@ -91,6 +127,10 @@ unfoldable pub last-shown : State → List Shown → State
 last-shown s [] = s
 last-shown s (x ∷ xs) = last-shown (x .state) xs
 
+-- the place at which it then shows the base: the counts that it has shown as delivered, and the skipped count that it shows
+abbrev pub place-shown : Making → List Taken → ℕ
+place-shown g steps = counts-of (shown-deliveries (all-shown steps)) + skipped-in (last-shown (made g) (all-shown steps))
+
 -- ---- the base
 
 -- a base that a step shows, less what the step shows as delivered and skipped
@@ -108,19 +148,9 @@ first-shown (x ∷ xs) =
 
 -- ---- skips
 
--- What a port shows of a skip: the state that the step began with, the call and what is shown of it. The call was a poll; the
--- give-up test was true, as a right skip has it; it delivers the packet then nearest; every leg's queue is empty and no
--- event waits in the state that is shown; and the count rises by the distance the base went, up to its ceiling.
-pub record ShownSkip (s : State) (call : Asked) (x : Shown) : Type 0 where
-  pub poll : is-poll (call .call) ≡ true
-  pub tested : State
-  pub distance : ℕ
-  pub right : RightSkip (when-of (call .call) s) (delivered-by (x .answer)) (x .state) tested (time-of (call .call)) distance
-  pub rise : skipped-in (x .state) ≡ min (skipped-in s + distance) largest-64
-
 -- a step that raises the skipped count made a right skip; a refusal raises nothing
 abbrev pub SkipShown : State → Taken → Type 0
-SkipShown s (did call x) = (skipped-in (x .state) ≡ skipped-in s → ⊥) → ShownSkip s call x
+SkipShown s (did call x) = (skipped-in (x .state) ≡ skipped-in s → ⊥) → Raised s (call .call) (delivered-by (x .answer)) (x .state)
 SkipShown s (refused-short call x) = skipped-in (x .state) ≡ skipped-in s
 
 -- each step of a list
@@ -149,9 +179,9 @@ module _ (schedule : List Delivery) (first : ℕ) where
   abbrev pub port-state : Port schedule first → State
   port-state w = last-shown (made (w .making)) (all-shown (w .before))
 
-  -- the place at which it stands then: the counts that it has shown as delivered, and the skipped count that it shows
+  -- the place at which it stands then
   abbrev pub port-place : Port schedule first → ℕ
-  port-place w = counts-of (shown-deliveries (all-shown (w .before))) + skipped-in (port-state w)
+  port-place w = place-shown (w .making) (w .before)
 
   -- what it shows as delivered from then on, up to its next skip
   abbrev pub port-delivers : Port schedule first → List Delivery

@@ -138,7 +138,7 @@ set-base-send o r =
     if-some-elim (λ (x : Run). x .state .send ≡ r .state .send) _ _ _ (λ b e. refl)
     (λ e. if-some-elim (λ (x : Run). x .state .send ≡ r .state .send) _ _ _ (λ b g. refl) (λ g. refl))
 
-refresh-mode : (r : Run) → refresh-states r .state .making .mode ≡ r .state .making .mode
+pub refresh-mode : (r : Run) → refresh-states r .state .making .mode ≡ r .state .making .mode
 unfolding refresh-states refresh-pending-states admit-connected-peer-groups set-base
 refresh-mode r =
     if-some-elim (λ (q : Run). q .state .making .mode ≡ r .state .making .mode) (next-receive-sequence (r .state .receive)) _ _ (λ b e. refl)

@@ -20,7 +20,8 @@ use Rattle.srt_group_model.specs.Calls.{new}
 use Rattle.srt_group_model.specs.declared.Data.{Data}
 use Rattle.srt_group_model.specs.declared.Packet.{Packet}
 use Rattle.srt_group_model.specs.laws.Reason.{none-some, some-inj}
-use Rattle.srt_group_traces.specs.Statement.{first-base, total-skipped, total-delivered, place-after, BaseClaim, When, when-of}
+use Rattle.srt_group_model.specs.Lent.{Result, delivered-by}
+use Rattle.srt_group_traces.specs.Statement.{first-base, total-skipped, total-delivered, place-after, When, when-of, Asked, do-call, Delivery, delivery-of, given-by, made, state-after, log-after, deliveries, counts-of, skipped-in, place-of-base}
 use Rattle.srt_group_traces.specs.laws.Cases.{each-at}
 use Rattle.srt_group_traces.specs.laws.Marks.{total-delivered-append}
 use Rattle.srt_group_traces.specs.laws.Law.{OfContent, PutLaw}
@@ -28,8 +29,6 @@ use Rattle.srt_group_traces.specs.laws.CallWalk.{Fits, Holds, calls-hold
 use Rattle.srt_group_traces.specs.laws.Held.{insert-all, nearest-all, not-covered-all}
 use Rattle.srt_group_traces.specs.laws.Sides.{sides}
 use Rattle.srt_group_traces.specs.laws.Shape.{Quiet, Skip, Shape, call-shape}
-use Rattle.srt_group_model.specs.Lent.{Result, delivered-by}
-use Rattle.srt_group_traces.specs.Calls.{Asked, do-call, made, state-after, log-after, skipped-in, Delivery, delivery-of, given-by, deliveries, counts-of}
 
 pub half-above-zero : 0 < half
 unfolding half
@@ -236,21 +235,43 @@ delivered-counts (call ∷ more) s =
       counts-append (given-by (do-call call s)) (deliveries more (do-call call s .state)),
     )
 
+-- the base's place by what was delivered and skipped is that by the marks
+pub place-is : (g : Making) (calls : List Asked) → skipped-in (state-after calls (made g)) < largest-64
+    → place-of-base g calls ≡ place-after (log-after calls (made g))
+place-is g calls below = omega (arith, delivered-counts calls (made g), sums-after g calls .skipped)
+
 -- ---- the first claim
 
-pub base-claim : (g : Making) (calls : List Asked) (first : ℕ) → first-base (log-after calls (made g)) ≡ some first
-    → skipped-in (state-after calls (made g)) < largest-64 → BaseClaim g calls first
-base-claim g calls first e below =
-    record {
-      base = sequence-further first (place-after (log-after calls (made g)));
-      is = stands .1;
-      moved =
-          distance-further half first (place-after (log-after calls (made g))) half-above-zero
-          ∙ ap (λ (n : ℕ). n % (half + half)) (omega (arith, delivered-counts calls (made g), sums-after g calls .skipped));
-    }
-  where
-    stands : Stands (some first) (next-receive-sequence (state-after calls (made g) .receive)) (place-after (log-after calls (made g)))
-    stands =
-        subst (λ (o : Option ℕ). Stands o (next-receive-sequence (state-after calls (made g) .receive))
-        (place-after (log-after calls (made g)))) e
-        (sums-after g calls .stands)
+stands-where : (o b : Option ℕ) (place base : ℕ) → b ≡ some base → Stands o b place
+    → (first : ℕ) × (o ≡ some first) × (base ≡ sequence-further first place)
+stands-where none b place base e h = none-some (sym (h .0) ∙ e)
+stands-where (some first) b place base e h = (first, refl, some-inj (sym e ∙ h .1))
+
+pub sums-first : (x : Receive) (log : List Mark) (base : ℕ) → next-receive-sequence x ≡ some base → Sums x log
+    → (first : ℕ) × (first-base log ≡ some first) × (base ≡ sequence-further first (place-after log))
+sums-first x log base e h = stands-where (first-base log) (next-receive-sequence x) (place-after log) base e (h .stands)
+
+-- Where the base is set, it has a first value, from which it went as far as was delivered and skipped.
+pub based-has-first : (g : Making) (calls : List Asked) (base : ℕ)
+    → next-receive-sequence (state-after calls (made g) .receive) ≡ some base
+    → (first : ℕ) × (first-base (log-after calls (made g)) ≡ some first)
+    × (base ≡ sequence-further first (place-after (log-after calls (made g))))
+based-has-first g calls base e =
+    sums-first (state-after calls (made g) .receive) (log-after calls (made g)) base e (sums-after g calls)
+
+pub base-claim : (g : Making) (calls : List Asked) (base : ℕ)
+    → next-receive-sequence (state-after calls (made g) .receive) ≡ some base
+    → (first : ℕ) × (first-base (log-after calls (made g)) ≡ some first)
+    × (skipped-in (state-after calls (made g)) < largest-64 → sequence-distance first base ≡ place-of-base g calls % (half + half))
+base-claim g calls base e =
+    let w : (first : ℕ) × (first-base (log-after calls (made g)) ≡ some first)
+    × (base ≡ sequence-further first (place-after (log-after calls (made g)))) =
+    based-has-first g calls base e
+    in (
+      w .0,
+      w .1,
+      λ below.
+          ap (sequence-distance (w .0)) (w .2)
+          ∙ distance-further half (w .0) (place-after (log-after calls (made g))) half-above-zero
+          ∙ ap (λ (n : ℕ). n % (half + half)) (sym (place-is g calls below)),
+    )

@@ -1,7 +1,7 @@
 -- The delivered list, each payload as it was queued, is the clerk's: after each call he stands at the base's place, the packets
 -- before him are the schedule's from there on, and where a call delivers, what he gives is what was delivered. That there are
 -- packets whose counts add up to each rise of the skipped count is part of it: else he would have no answer.
-use mathlib.Core.Path.{_≡_, refl, sym, ap, _∙_, subst}
+use mathlib.Core.Path.{_≡_, sym, ap, _∙_, subst}
 use mathlib.Core.Bool.{true, false}
 use mathlib.Core.List.{List, [], _∷_, _++_, append-assoc, append-nil}
 use mathlib.Core.Option.{Option, none, some}
@@ -10,17 +10,17 @@ use native.Mathlib.Omega.{arith}
 use Rattle.srt_group_model.specs.Legs.{largest-64}
 use Rattle.srt_group_model.specs.Tools.{if_then_else_, if-some_give_otherwise_}
 use Rattle.srt_group_model.specs.State.{State, Making}
-use Rattle.srt_group_model.specs.Run.{Mark, put, base-set, collected, gap-skipped, delivered}
+use Rattle.srt_group_model.specs.Run.{Mark, delivered}
 use Rattle.srt_group_model.specs.Calls.{new}
 use Rattle.srt_group_model.specs.declared.Packet.{Packet}
 use Rattle.srt_group_model.specs.Lent.{delivered-by}
-use Rattle.srt_group_traces.specs.Statement.{total-skipped, total-delivered, place-after, last-put, Consecutive, pass-to, Told, told-by, give-next, clerk, AtPlace, FromSchedule, When, when-of}
-use Rattle.srt_group_traces.specs.laws.Marks.{total-skipped-append}
+use Rattle.srt_group_model.specs.laws.Reason.{some-inj}
+use Rattle.srt_group_traces.specs.Statement.{total-skipped, total-delivered, place-after, last-put, Consecutive, pass-to, Told, told-by, give-next, clerk, SetBefore, AllNear, When, when-of, Asked, do-call, Delivery, made, state-after, log-after, skipped-in, with-payload, Went, place-of-base}
+use Rattle.srt_group_traces.specs.laws.Marks.{total-skipped-append, each-collected-before}
 use Rattle.srt_group_traces.specs.laws.Shape.{Quiet, Given, Shape, call-shape}
-use Rattle.srt_group_traces.specs.laws.Base.{sums-after, quiet-delivers-nothing, quiet-skips-nothing, before-delivery}
+use Rattle.srt_group_traces.specs.laws.Base.{place-is, sums-after, quiet-delivers-nothing, quiet-skips-nothing, before-delivery}
 use Rattle.srt_group_traces.specs.laws.Schedule.{pass-to-zero, pass-to-next, pass-to-further, sequence-at-place}
-use Rattle.srt_group_traces.specs.laws.Follows.{AtPlaces, Follows, Following, call-following, new-following}
-use Rattle.srt_group_traces.specs.Calls.{Asked, do-call, skipped-in, made, state-after, log-after, Delivery}
+use Rattle.srt_group_traces.specs.laws.Follows.{AtPlaces, FromSchedule, Follows, Following, call-following, new-following, AtPlace, from-schedule-of, calls-following}
 
 -- ---- what was delivered, as it was queued
 
@@ -39,25 +39,21 @@ delivered-as-queued log (call ∷ more) s =
 
 -- ---- small laws
 
--- the premise of a list is that of its beginning
+-- the premises of a list are those of its beginning
 pub from-schedule-before : (schedule : List Delivery) (first : ℕ) (m log : List Mark) → FromSchedule schedule first (m ++ log)
     → FromSchedule schedule first log
-from-schedule-before schedule first [] log h = h
-from-schedule-before schedule first (put cell payload ∷ m) log h = from-schedule-before schedule first m log h
-from-schedule-before schedule first (base-set base ∷ m) log h = from-schedule-before schedule first m log (h .1)
-from-schedule-before schedule first (collected p ∷ m) log h = from-schedule-before schedule first m log (h .2)
-from-schedule-before schedule first (gap-skipped tested time distance ∷ m) log h = from-schedule-before schedule first m log h
-from-schedule-before schedule first (delivered p ∷ m) log h = from-schedule-before schedule first m log h
+from-schedule-before schedule first m log h = (each-collected-before _ m log (h .0), each-collected-before _ m log (h .1))
 
 pub skipped-rises : (m log : List Mark) → total-skipped log ≤ total-skipped (m ++ log)
 skipped-rises m log = omega (arith, total-skipped-append m log)
 
-give-next-some : (o : Option (List Delivery)) (x : Delivery) (xs ys : List Delivery) (go-on : List Delivery → Option (List Delivery)) → o ≡ some (x ∷ xs)
-    → go-on xs ≡ some ys → give-next o go-on ≡ some (x ∷ ys)
+give-next-some : (o : Option (List Delivery)) (x : Delivery) (xs ys left : List Delivery) (go-on : List Delivery → Option Went)
+    → o ≡ some (x ∷ xs) → go-on xs ≡ some record { gave = ys; left = left }
+    → give-next o go-on ≡ some record { gave = x ∷ ys; left = left }
 unfolding give-next if-some_give_otherwise_
-give-next-some o x xs ys go-on e f =
+give-next-some o x xs ys left go-on e f =
     ap (λ (z : Option (List Delivery)). give-next z go-on) e
-    ∙ ap (λ (z : Option (List Delivery)). if-some z give (λ (ys : List Delivery). some (x ∷ ys)) otherwise none) f
+    ∙ ap (λ (z : Option Went). if-some z give (λ (w : Went). some record { gave = x ∷ w .gave; left = w .left }) otherwise none) f
 
 -- ---- one call
 
@@ -69,7 +65,7 @@ module _ (schedule : List Delivery) (first : ℕ) (runs : Consecutive first sche
       (follows : Follows schedule first runs (s .receive) log)
       (follows-after : Follows schedule first runs (after .receive) (m ++ log))
       (from : FromSchedule schedule first (m ++ log)) (below : total-skipped (m ++ log) < largest-64) (told : List Told)
-      (ys : List Delivery) where
+      (ys left : List Delivery) where
     known : s .receive .numbers .skipped ≡ total-skipped log
     known = omega (arith, follows .0 .skipped, skipped-rises m log)
 
@@ -80,10 +76,10 @@ module _ (schedule : List Delivery) (first : ℕ) (runs : Consecutive first sche
     abbrev GoesOn : Type 0
     GoesOn =
         (rest : List Delivery) → pass-to schedule (place-after (m ++ log)) ≡ some rest
-        → clerk rest (after .receive .numbers .skipped) told ≡ some ys
+        → clerk rest (after .receive .numbers .skipped) told ≡ some record { gave = ys; left = left }
 
     -- a call that delivers nothing leaves him there
-    stays : Quiet m → GoesOn → clerk ahead (after .receive .numbers .skipped) told ≡ some ys
+    stays : Quiet m → GoesOn → clerk ahead (after .receive .numbers .skipped) told ≡ some record { gave = ys; left = left }
     stays quiet go-on = go-on ahead (ap (pass-to schedule) same-place ∙ here)
       where
         same-place : place-after (m ++ log) ≡ place-after log
@@ -92,16 +88,11 @@ module _ (schedule : List Delivery) (first : ℕ) (runs : Consecutive first sche
     -- a call that delivers: he passes the rise, gives the next and goes past it
     gives : (p : Packet) → Given when p after m → GoesOn
         → give-next (pass-to ahead (after .receive .numbers .skipped - s .receive .numbers .skipped)) (λ xs. clerk xs (after .receive .numbers .skipped) told)
-        ≡ some (record {
-          sequence = p .content .sequence;
-          count = p .content .count;
-          payload = last-put (m ++ log)
-              (p .content .cell);
-        } ∷ ys)
+        ≡ some record { gave = with-payload (p .content) (last-put (m ++ log) (p .content .cell)) ∷ ys; left = left }
     unfolding total-delivered total-skipped last-put
     gives p given go-on =
         give-next-some (pass-to ahead (after .receive .numbers .skipped - s .receive .numbers .skipped)) (at .scheduled)
-        (at .rest) ys
+        (at .rest) ys left
         (λ xs. clerk xs (after .receive .numbers .skipped) told)
         (ap (pass-to ahead) rise ∙ sym (pass-to-further schedule (place-after log) distance ahead here) ∙ ap
         (pass-to schedule) at-base ∙ at .here)
@@ -110,7 +101,7 @@ module _ (schedule : List Delivery) (first : ℕ) (runs : Consecutive first sche
         ∙ pass-to-further schedule (place-after (given .before ++ log)) (at .scheduled .count) (at .scheduled ∷ at .rest) (at .here)
         ∙ pass-to-next (at .scheduled) (at .rest)
         (sequence-at-place first 0 schedule (place-after (given .before ++ log)) (at .scheduled) (at .rest) runs (at .here) .1)))
-        ∙ ap (λ (x : Delivery). some (x ∷ ys)) (sym same)
+        ∙ ap (λ (x : Delivery). some record { gave = x ∷ ys; left = left }) (sym same)
       where
         at : AtPlace schedule (last-put (given .before ++ log)) (place-after (given .before ++ log)) (p .content)
         at = (subst (λ (z : List Mark). AtPlaces schedule (z ++ log)) (given .is) (follows-after .1 from .at-places)) .0
@@ -139,7 +130,7 @@ module _ (schedule : List Delivery) (first : ℕ) (runs : Consecutive first sche
         past : place-after (m ++ log) ≡ place-after (given .before ++ log) + at .scheduled .count
         past = omega (arith, whole-skipped, whole-delivered, at .count)
 
-        same : _≡_ {A = Delivery} record { sequence = p .content .sequence; count = p .content .count; payload = last-put (m ++ log) (p .content .cell) } (at .scheduled)
+        same : with-payload (p .content) (last-put (m ++ log) (p .content .cell)) ≡ at .scheduled
         same =
             λ i.
             record {
@@ -152,7 +143,7 @@ module _ (schedule : List Delivery) (first : ℕ) (runs : Consecutive first sche
     clerk-of-call : (o : Option Packet) → Shape when o after m → GoesOn
         → clerk ahead (s .receive .numbers .skipped)
         (record { skipped = after .receive .numbers .skipped; delivered = if-some o give (λ p. true) otherwise false } ∷ told)
-        ≡ some (given-as-queued (m ++ log) o ++ ys)
+        ≡ some record { gave = given-as-queued (m ++ log) o ++ ys; left = left }
     unfolding clerk given-as-queued if_then_else_ if-some_give_otherwise_
     clerk-of-call none h go-on = stays h go-on
     clerk-of-call (some p) h go-on = gives p h go-on
@@ -163,17 +154,19 @@ module _ (schedule : List Delivery) (first : ℕ) (runs : Consecutive first sche
       → pass-to schedule (place-after log) ≡ some ahead
       → Following schedule first runs s log → FromSchedule schedule first (log-after calls s ++ log)
       → total-skipped (log-after calls s ++ log) < largest-64
-      → clerk ahead (s .receive .numbers .skipped) (told-by calls s) ≡ some (delivered-as-queued log calls s)
+      → (left : List Delivery) → pass-to schedule (place-after (log-after calls s ++ log)) ≡ some left
+      → clerk ahead (s .receive .numbers .skipped) (told-by calls s) ≡ some record { gave = delivered-as-queued log calls s; left = left }
   unfolding log-after told-by delivered-as-queued clerk
-  clerk-of-calls [] s log ahead here k from below = refl
-  clerk-of-calls (call ∷ more) s log ahead here k from below =
+  clerk-of-calls [] s log ahead here k from below left there =
+      ap (λ (l : List Delivery). some record { gave = []; left = l }) (some-inj (sym here ∙ there))
+  clerk-of-calls (call ∷ more) s log ahead here k from below left there =
       clerk-of-call (when-of (call .call) s) s log ahead here (do-call call s .state) (do-call call s .log) (k .kept)
       (k-after .kept)
       (from-schedule-before schedule first (log-after more (do-call call s .state)) (do-call call s .log ++ log) from-after)
       (omega (arith, below-after, skipped-rises (log-after more (do-call call s .state)) (do-call call s .log ++ log)))
-      (told-by more (do-call call s .state)) (delivered-as-queued (do-call call s .log ++ log) more (do-call call s .state))
+      (told-by more (do-call call s .state)) (delivered-as-queued (do-call call s .log ++ log) more (do-call call s .state)) left
       (delivered-by (do-call call s .answer)) (call-shape call s)
-      (λ rest e. clerk-of-calls more (do-call call s .state) (do-call call s .log ++ log) rest e k-after from-after below-after)
+      (λ rest e. clerk-of-calls more (do-call call s .state) (do-call call s .log ++ log) rest e k-after from-after below-after left there-after)
     where
       k-after : Following schedule first runs (do-call call s .state) (do-call call s .log ++ log)
       k-after = call-following schedule first runs call s log k
@@ -184,10 +177,23 @@ module _ (schedule : List Delivery) (first : ℕ) (runs : Consecutive first sche
       below-after : total-skipped (log-after more (do-call call s .state) ++ (do-call call s .log ++ log)) < largest-64
       below-after = rw append-assoc at below
 
-  pub clerk-as-queued : (g : Making) (calls : List Asked) → FromSchedule schedule first (log-after calls (made g))
+      there-after : pass-to schedule (place-after (log-after more (do-call call s .state) ++ (do-call call s .log ++ log))) ≡ some left
+      there-after = rw append-assoc at there
+
+  pub clerk-as-queued : (g : Making) (calls : List Asked) → SetBefore first (log-after calls (made g)) → AllNear schedule (log-after calls (made g))
       → skipped-in (state-after calls (made g)) < largest-64
-      → clerk schedule 0 (told-by calls (made g)) ≡ some (delivered-as-queued [] calls (made g))
+      → (left : List Delivery) × (pass-to schedule (place-of-base g calls) ≡ some left)
+      × (clerk schedule 0 (told-by calls (made g)) ≡ some record { gave = delivered-as-queued [] calls (made g); left = left })
   unfolding total-delivered total-skipped new
-  clerk-as-queued g calls from below =
-      clerk-of-calls calls (made g) [] schedule (pass-to-zero schedule) (new-following schedule first runs g) (rw append-nil from)
-      (rw append-nil (omega (arith, below, sums-after g calls .skipped)))
+  clerk-as-queued g calls set-before near below =
+      let from : FromSchedule schedule first (log-after calls (made g) ++ []) =
+      rw append-nil (from-schedule-of schedule first (log-after calls (made g)) set-before near)
+      in
+      let end : (left : List Delivery) × (pass-to schedule (place-after (log-after calls (made g) ++ [])) ≡ some left) =
+      calls-following schedule first runs calls (made g) [] (new-following schedule first runs g) .kept .1 from .here
+      in (
+        end .0,
+        ap (pass-to schedule) (place-is g calls below ∙ ap place-after (sym (append-nil (log-after calls (made g))))) ∙ end .1,
+        clerk-of-calls calls (made g) [] schedule (pass-to-zero schedule) (new-following schedule first runs g) from
+            (rw append-nil (omega (arith, below, sums-after g calls .skipped))) (end .0) (end .1),
+      )

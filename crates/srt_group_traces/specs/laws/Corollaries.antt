@@ -3,6 +3,7 @@
 -- list is a prefix of the schedule; and a call that delivers nothing leaves the base where it is.
 use mathlib.Core.Path.{_≡_, refl, sym, ap, _∙_, subst}
 use mathlib.Core.Logic.{⊎-elim}
+use mathlib.Core.Bool.{true}
 use mathlib.Core.List.{List, [], _∷_, _++_}
 use mathlib.Core.Option.{Option, none, some}
 use Prim.Native.Nat.{ℕ, _+_, _-_, _≤_, min}
@@ -13,18 +14,18 @@ use Rattle.srt_group_model.specs.Tools.{if-some_give_otherwise_, or-else}
 use Rattle.srt_group_model.specs.State.{State, Receive, next-receive-sequence, Making}
 use Rattle.srt_group_model.specs.Run.{Mark, put, base-set, collected, gap-skipped, delivered}
 use Rattle.srt_group_model.specs.laws.Reason.{if-elim, none-some, some-inj}
-use Rattle.srt_group_traces.specs.Statement.{first-base, total-skipped, place-after, Consecutive, pass-to, Told, told-by, give-next, clerk, Fair, when-of, RightSkip, Prefix}
-use Rattle.srt_group_traces.specs.laws.Cases.{by-option}
 use Rattle.srt_group_model.specs.Lent.{delivered-by}
 use Rattle.srt_group_model.specs.declared.Packet.{Packet}
+use Rattle.srt_group_traces.specs.Statement.{first-base, total-skipped, place-after, Consecutive, pass-to, Told, told-by, give-next, clerk, Fair, when-of, Prefix, Raised, Asked, do-call, is-poll, time-of, Delivery, made, state-after, log-after, deliveries, skipped-in, Went, place-of-base}
+use Rattle.srt_group_traces.specs.laws.Cases.{by-option}
 use Rattle.srt_group_traces.specs.laws.CallWalk.{Fits, Holds, call-holds}
 use Rattle.srt_group_traces.specs.laws.Shape.{Quiet, Skip, Given, Shape, call-shape}
 use Rattle.srt_group_traces.specs.laws.Skips.{right-skip}
-use Rattle.srt_group_traces.specs.laws.Base.{Stands, SequenceFits, Sums, sums-law, sums-hold, sums-after, delivered-counts, quiet-delivers-nothing, quiet-skips-nothing}
+use Rattle.srt_group_traces.specs.laws.Base.{Stands, SequenceFits, Sums, sums-law, sums-hold, sums-after, delivered-counts, quiet-delivers-nothing, quiet-skips-nothing, sums-first}
 use Rattle.srt_group_traces.specs.laws.Schedule.{pass-to-zero, pass-to-next, pass-to-further, sequence-at-place}
 use Rattle.srt_group_traces.specs.laws.Gateways.{NoSkip, clerk-front}
-use Rattle.srt_group_traces.specs.laws.HistoryTheorem.{history-theorem}
-use Rattle.srt_group_traces.specs.Calls.{Asked, do-call, time-of, made, state-after, log-after, skipped-in, Delivery, deliveries, counts-of}
+use Rattle.srt_group_traces.specs.laws.ScheduleClaim.{schedule-claim}
+use Rattle.srt_group_traces.specs.laws.Bytes.{only-polls-deliver}
 
 -- ---- each at a place of its own, in the schedule's order
 
@@ -36,54 +37,53 @@ InOrder schedule place (x ∷ xs) =
     (at + x .count) xs
 
 module _ (schedule : List Delivery) (first : ℕ) (runs : Consecutive first schedule) where
-  give-next-in-order : (place rise : ℕ) (passed : Option (List Delivery)) (go-on : List Delivery → Option (List Delivery)) (ys : List Delivery)
+  give-next-in-order : (place rise : ℕ) (passed : Option (List Delivery)) (go-on : List Delivery → Option Went) (w : Went)
       → ((ahead : List Delivery) → passed ≡ some ahead → pass-to schedule (place + rise) ≡ some ahead)
-      → ((at : ℕ) (xs zs : List Delivery) → pass-to schedule at ≡ some xs → go-on xs ≡ some zs → InOrder schedule at zs)
-      → give-next passed go-on ≡ some ys → InOrder schedule place ys
+      → ((at : ℕ) (xs : List Delivery) (v : Went) → pass-to schedule at ≡ some xs → go-on xs ≡ some v → InOrder schedule at (v .gave))
+      → give-next passed go-on ≡ some w → InOrder schedule place (w .gave)
   unfolding give-next if-some_give_otherwise_
-  give-next-in-order place rise none go-on ys here order e = none-some e
-  give-next-in-order place rise (some []) go-on ys here order e = none-some e
-  give-next-in-order place rise (some (x ∷ xs)) go-on ys here order e =
+  give-next-in-order place rise none go-on w here order e = none-some e
+  give-next-in-order place rise (some []) go-on w here order e = none-some e
+  give-next-in-order place rise (some (x ∷ xs)) go-on w here order e =
       by-option (go-on xs) (λ n. none-some (sym (ap cons-to n) ∙ e))
-      (λ zs n.
-      subst (InOrder schedule place) (some-inj (sym (ap cons-to n) ∙ e))
-      (place + rise, omega arith, (xs, here (x ∷ xs) refl), order (place + rise + x .count) xs zs past n))
+      (λ v n.
+      subst (λ (z : Went). InOrder schedule place (z .gave)) (some-inj (sym (ap cons-to n) ∙ e))
+      (place + rise, omega arith, (xs, here (x ∷ xs) refl), order (place + rise + x .count) xs v past n))
     where
-      cons-to : Option (List Delivery) → Option (List Delivery)
-      cons-to o = if-some o give (λ (zs : List Delivery). some (x ∷ zs)) otherwise none
+      cons-to : Option Went → Option Went
+      cons-to o = if-some o give (λ (v : Went). some record { gave = x ∷ v .gave; left = v .left }) otherwise none
 
       past : pass-to schedule (place + rise + x .count) ≡ some xs
       past =
           pass-to-further schedule (place + rise) (x .count) (x ∷ xs) (here (x ∷ xs) refl)
           ∙ pass-to-next x xs (sequence-at-place first 0 schedule (place + rise) x xs runs (here (x ∷ xs) refl) .1)
 
-  clerk-in-order : (place : ℕ) (ahead : List Delivery) (known : ℕ) (told : List Told) (ys : List Delivery)
+  clerk-in-order : (place : ℕ) (ahead : List Delivery) (known : ℕ) (told : List Told) (w : Went)
       → pass-to schedule place ≡ some ahead
-      → clerk ahead known told ≡ some ys → InOrder schedule place ys
+      → clerk ahead known told ≡ some w → InOrder schedule place (w .gave)
   unfolding clerk
-  clerk-in-order place ahead known [] ys here e = subst (InOrder schedule place) (some-inj e) tt
-  clerk-in-order place ahead known (told ∷ more) ys here e =
-      if-elim (λ (o : Option (List Delivery)). o ≡ some ys → InOrder schedule place ys) (told .delivered) _ _
+  clerk-in-order place ahead known [] w here e = subst (λ (z : Went). InOrder schedule place (z .gave)) (some-inj e) tt
+  clerk-in-order place ahead known (told ∷ more) w here e =
+      if-elim (λ (o : Option Went). o ≡ some w → InOrder schedule place (w .gave)) (told .delivered) _ _
       (λ d f.
       give-next-in-order place (told .skipped - known) (pass-to ahead (told .skipped - known))
-      (λ xs. clerk xs (told .skipped) more) ys
+      (λ xs. clerk xs (told .skipped) more) w
       (λ passed g. pass-to-further schedule place (told .skipped - known) ahead here ∙ g)
-      (λ at xs zs there g. clerk-in-order at xs (told .skipped) more zs there g) f)
-      (λ d f. clerk-in-order place ahead (told .skipped) more ys here f) e
+      (λ at xs v there g. clerk-in-order at xs (told .skipped) more v there g) f)
+      (λ d f. clerk-in-order place ahead (told .skipped) more w here f) e
 
   -- No packet is delivered twice within a schedule, and what is delivered is in the schedule's order.
   pub delivered-in-order : (g : Making) (calls : List Asked) → Fair schedule first g calls
       → InOrder schedule 0 (deliveries calls (made g))
   delivered-in-order g calls fair =
-      clerk-in-order 0 schedule 0 (told-by calls (made g)) (deliveries calls (made g)) (pass-to-zero schedule)
-      (history-theorem .schedule schedule first runs g calls fair)
+      clerk-in-order 0 schedule 0 (told-by calls (made g)) _ (pass-to-zero schedule)
+      (schedule-claim schedule first runs g calls fair .2)
 
   -- If nothing is skipped, the delivered list is a prefix of the schedule.
   pub unskipped-is-prefix : (g : Making) (calls : List Asked) → Fair schedule first g calls → NoSkip 0 (told-by calls (made g))
       → Prefix (deliveries calls (made g)) schedule
   unskipped-is-prefix g calls fair still =
-      clerk-front schedule 0 (told-by calls (made g)) (deliveries calls (made g)) still
-      (history-theorem .schedule schedule first runs g calls fair)
+      clerk-front schedule 0 (told-by calls (made g)) _ still (schedule-claim schedule first runs g calls fair .2)
 
 -- ---- the base moves only by delivery and skip
 
@@ -97,36 +97,15 @@ first-base-stays (collected p ∷ m) log first e = first-base-stays m log first 
 first-base-stays (gap-skipped tested time distance ∷ m) log first e = first-base-stays m log first e
 first-base-stays (delivered p ∷ m) log first e = first-base-stays m log first e
 
-pub stands-where : (o b : Option ℕ) (place base : ℕ) → b ≡ some base → Stands o b place
-    → (first : ℕ) × (o ≡ some first) × (base ≡ sequence-further first place)
-stands-where none b place base e h = none-some (sym (h .0) ∙ e)
-stands-where (some first) b place base e h = (first, refl, some-inj (sym e ∙ h .1))
-
--- Where the base is set, it has a first value, from which it went as far as was delivered and skipped.
-pub based-has-first : (g : Making) (calls : List Asked) (base : ℕ)
-    → next-receive-sequence (state-after calls (made g) .receive) ≡ some base
-    → (first : ℕ) × (first-base (log-after calls (made g)) ≡ some first)
-    × (base ≡ sequence-further first (place-after (log-after calls (made g))))
-based-has-first g calls base e =
-    stands-where (first-base (log-after calls (made g))) (next-receive-sequence (state-after calls (made g) .receive))
-    (place-after (log-after calls (made g))) base e
-    (sums-after g calls .stands)
-
--- And where it is not set, nothing was delivered and nothing skipped.
+-- Where the base is not set, it has no first value, and nothing was delivered or skipped.
 pub unbased-is-still : (g : Making) (calls : List Asked) → next-receive-sequence (state-after calls (made g) .receive) ≡ none
-    → (first-base (log-after calls (made g)) ≡ none) × (counts-of (deliveries calls (made g)) ≡ 0)
-    × (skipped-in (state-after calls (made g)) ≡ 0)
+    → (first-base (log-after calls (made g)) ≡ none) × (place-of-base g calls ≡ 0)
 unbased-is-still g calls e = go (first-base (log-after calls (made g))) refl (sums-after g calls .stands)
   where
     go : (o : Option ℕ) → first-base (log-after calls (made g)) ≡ o
         → Stands o (next-receive-sequence (state-after calls (made g) .receive)) (place-after (log-after calls (made g)))
-        → (first-base (log-after calls (made g)) ≡ none) × (counts-of (deliveries calls (made g)) ≡ 0)
-        × (skipped-in (state-after calls (made g)) ≡ 0)
-    go none f h = (
-      f,
-      omega (arith, h .1, delivered-counts calls (made g)),
-      omega (arith, h .1, sums-after g calls .skipped),
-    )
+        → (first-base (log-after calls (made g)) ≡ none) × (place-of-base g calls ≡ 0)
+    go none f h = (f, omega (arith, h .1, delivered-counts calls (made g), sums-after g calls .skipped))
     go (some first) f h = none-some (sym e ∙ h .1)
 
 -- A call that delivers nothing leaves the base, once it is set: x and y are the receiving sides before and after it, m its marks.
@@ -135,7 +114,7 @@ pub quiet-leaves-base : (x y : Receive) (m log : List Mark) (base : ℕ) → Sum
     → next-receive-sequence y ≡ some base
 quiet-leaves-base x y m log base h k quiet e =
     let w : (first : ℕ) × (first-base log ≡ some first) × (base ≡ sequence-further first (place-after log)) =
-    stands-where (first-base log) (next-receive-sequence x) (place-after log) base e (h .stands)
+    sums-first x log base e h
     in
     let v : Stands (some (w .0)) (next-receive-sequence y) (place-after (m ++ log)) =
     subst (λ (o : Option ℕ). Stands o (next-receive-sequence y) (place-after (m ++ log))) (first-base-stays m log (w .0) (w .1))
@@ -167,13 +146,10 @@ skips-under-skip tested time distance m z log e = ap (λ (l : List Mark). total-
 -- count rises by the distance, up to its ceiling.
 pub rise-is-right-skip : (g : Making) (calls : List Asked) (call : Asked)
     → (skipped-in (do-call call (state-after calls (made g)) .state) ≡ skipped-in (state-after calls (made g)) → ⊥)
-    → (tested : State) × (distance : ℕ)
-    × RightSkip (when-of (call .call) (state-after calls (made g)))
-    (delivered-by (do-call call (state-after calls (made g)) .answer)) (do-call call (state-after calls (made g)) .state) tested
-    (time-of (call .call)) distance
-    × (skipped-in (do-call call (state-after calls (made g)) .state)
-    ≡ min (skipped-in (state-after calls (made g)) + distance) largest-64)
-rise-is-right-skip g calls call risen = go (delivered-by (do-call call s .answer)) (call-shape call s)
+    → Raised (state-after calls (made g)) (call .call) (delivered-by (do-call call (state-after calls (made g)) .answer))
+    (do-call call (state-after calls (made g)) .state)
+rise-is-right-skip g calls call risen =
+    go (delivered-by (do-call call s .answer)) (λ p e. only-polls-deliver call s p e) (call-shape call s)
   where
     s : State
     s = state-after calls (made g)
@@ -192,15 +168,20 @@ rise-is-right-skip g calls call risen = go (delivered-by (do-call call s .answer
         risen
         (quiet-leaves-count (s .receive) (do-call call s .state .receive) (do-call call s .log) log (before .kept) (after .kept) e)
 
-    go : (o : Option Packet) → Shape (when-of (call .call) s) o (do-call call s .state) (do-call call s .log)
-        → (tested : State) × (distance : ℕ)
-        × RightSkip (when-of (call .call) s) o (do-call call s .state) tested (time-of (call .call)) distance
-        × (skipped-in (do-call call s .state) ≡ min (skipped-in s + distance) largest-64)
-    go none quiet = absurd (same-count (quiet-skips-nothing (do-call call s .log) log quiet))
-    go (some p) given =
+    go : (o : Option Packet) → ((p : Packet) → o ≡ some p → is-poll (call .call) ≡ true)
+        → Shape (when-of (call .call) s) o (do-call call s .state) (do-call call s .log)
+        → Raised s (call .call) o (do-call call s .state)
+    go none polls quiet = absurd (same-count (quiet-skips-nothing (do-call call s .log) log quiet))
+    go (some p) polls given =
         ⊎-elim (λ (quiet : Quiet (given .before)). absurd (same-count (delivered-skips-nothing given quiet)))
         (λ (skip : Skip (when-of (call .call) s) p (do-call call s .state) (given .before)).
-        (skip .tested, skip .distance, right-skip skip (given .past), risen-by given skip))
+        record {
+          poll = polls p refl;
+          tested = skip .tested;
+          distance = skip .distance;
+          right = right-skip skip (given .past);
+          rise = risen-by given skip;
+        })
         (given .how)
       where
         delivered-skips-nothing : (given : Given (when-of (call .call) s) p (do-call call s .state) (do-call call s .log))

@@ -3,24 +3,26 @@
 use mathlib.Core.Path.{_≡_, refl, sym, ap, _∙_}
 use mathlib.Core.Bool.{Bool, true, false}
 use mathlib.Core.List.{List, [], _∷_}
-use mathlib.Core.Option.{Option, some}
-use Prim.Native.Nat.{ℕ, suc}
+use mathlib.Core.Option.{some}
+use Prim.Native.Nat.{ℕ, suc, _+_, _%_, _<_}
 use native.Mathlib.Omega.{arith}
 use lib.Dec.{lit<, lit≤}
-use lib.ListN.{length, replicate}
+use lib.ListN.{take, replicate}
 use Rattle.srt_protocol.specs.Cells.{overwritten, output-size, cell-size}
-use Rattle.srt_group_model.specs.State.{State, Making}
+use Rattle.srt_protocol.specs.Sequence.{half, sequence-distance}
+use Rattle.srt_group_model.specs.State.{State, next-receive-sequence, Making}
 use Rattle.srt_group_model.specs.laws.State.{broadcast-mode, ordinary}
-use Rattle.srt_group_model.specs.Legs.{moment, no-sequence}
+use Rattle.srt_group_model.specs.Legs.{moment, no-sequence, largest-64}
 use Rattle.srt_group_model.specs.laws.Computed.{definitions}
-use Rattle.srt_group_model.specs.Lent.{Call, call-add-member, call-mark-member-broken, call-remove-member-connection, call-poll-event, call-send, call-read-leg, call-queue-data, call-queue-event, call-poll-data}
+use Rattle.srt_group_model.specs.Lent.{Call, call-add-member, call-mark-member-broken, call-remove-member-connection, call-poll-event, call-send, call-read-leg, call-queue-data, call-queue-event, call-poll-data, delivered-by}
 use Rattle.srt_group_model.specs.declared.Data.{Data}
 use Rattle.srt_group_model.specs.declared.Leg.{Leg}
-use Rattle.srt_group_traces.specs.Statement.{first-base, total-skipped, total-delivered, last-put, Consecutive, pass-to, told-by, clerk, FromSchedule, OneStore, Fair}
-use Rattle.srt_group_traces.specs.Calls.{Asked, Delivery, made, do-call, takes-store, given-by, state-after, log-after, deliveries, store-left}
-use Rattle.srt_group_model.specs.laws.Reason.{not-both}
+use Rattle.srt_group_model.specs.laws.Reason.{not-both, some-inj}
 use Rattle.srt_group_model.specs.Sending.{list-size}
+use Rattle.srt_group_model.specs.Run.{Mark, put, base-set, collected, gap-skipped, delivered}
+use Rattle.srt_group_traces.specs.Statement.{first-base, total-skipped, total-delivered, last-put, Consecutive, pass-to, told-by, clerk, SetBefore, AllNear, OneStore, Fair, Raised, place-of-base, packets-collected, Asked, do-call, takes-store, Delivery, given-by, made, state-after, log-after, deliveries, counts-of, store-left, with-payload, Near, place-after, skipped-in}
 use Rattle.srt_group_traces.specs.laws.HistoryTheorem.{history-theorem}
+use Rattle.srt_group_traces.specs.laws.Marks.{EachCollected, each-collected-at}
 
 -- ---- what is lent
 
@@ -113,53 +115,48 @@ codes = refl
 
 -- ---- the premises are met
 
--- the packet at a place of the schedule, not far from the base's
-pub from : FromSchedule schedule 100 (log-after calls (made group))
-unfolding definitions group store-0 store-1 store-2 store-3 output sends calls schedule do-call log-after first-base total-skipped total-delivered last-put pass-to
-from = (
-  refl,
+each-based : EachCollected (λ log p. first-base log ≡ some 100) (log-after calls (made group))
+unfolding definitions group store-0 store-1 store-2 store-3 output sends calls do-call log-after first-base
+each-based = (refl, (refl, (refl, tt)))
+
+-- each packet at its place of the schedule, not far from the base's
+each-near : EachCollected
+    (λ log p. Near schedule (place-after log) (with-payload (p .content) (last-put log (p .content .cell)))) (log-after calls (made group))
+unfolding definitions group store-0 store-1 store-2 store-3 output sends calls schedule do-call log-after total-skipped total-delivered last-put pass-to
+each-near = (
   record {
     place = 4;
-    at = record { scheduled = planned 104 1 (68 ∷ []); rest = []; here = refl; sequence = refl; count = refl; payload = refl };
+    rest = [];
+    here = refl;
     not-far-ahead = lit< tt;
     not-far-behind = lit< tt;
   },
   (
-    refl,
     record {
       place = 1;
-      at =
-          record {
-            scheduled = planned 101 2 (65 ∷ 66 ∷ []);
-            rest = planned 103 1 (67 ∷ []) ∷ planned 104 1 (68 ∷ []) ∷ [];
-            here = refl;
-            sequence = refl;
-            count = refl;
-            payload = refl;
-          };
+      rest = planned 103 1 (67 ∷ []) ∷ planned 104 1 (68 ∷ []) ∷ [];
+      here = refl;
       not-far-ahead = lit< tt;
       not-far-behind = lit< tt;
     },
     (
-      refl,
       record {
         place = 0;
-        at =
-            record {
-              scheduled = planned 100 1 (64 ∷ []);
-              rest = planned 101 2 (65 ∷ 66 ∷ []) ∷ planned 103 1 (67 ∷ []) ∷ planned 104 1 (68 ∷ []) ∷ [];
-              here = refl;
-              sequence = refl;
-              count = refl;
-              payload = refl;
-            };
+        rest = planned 101 2 (65 ∷ 66 ∷ []) ∷ planned 103 1 (67 ∷ []) ∷ planned 104 1 (68 ∷ []) ∷ [];
+        here = refl;
         not-far-ahead = lit< tt;
         not-far-behind = lit< tt;
       },
-      (refl, tt),
+      tt,
     ),
   ),
 )
+
+pub set-before : SetBefore 100 (log-after calls (made group))
+set-before = each-collected-at _ (log-after calls (made group)) each-based
+
+pub near : AllNear schedule (log-after calls (made group))
+near = each-collected-at _ (log-after calls (made group)) each-near
 
 pub never : {A : Type 0} → _≡_ {A = Bool} false true → A
 never e = not-both {t = true} refl (sym e)
@@ -225,13 +222,70 @@ one-store = (
 
 pub fair : Fair schedule 100 group calls
 unfolding definitions group store-0 store-1 store-2 store-3 output sends calls do-call state-after
-fair = record { store = store-0; from = from; below = lit< tt; one-store = one-store }
+fair = record { store = store-0; set-before = set-before; near = near; below = lit< tt; one-store = one-store }
 
 -- ---- so the delivered list is the clerk's, and here it is
 
-pub by-clerk : clerk schedule 0 (told-by calls (made group)) ≡ some (deliveries calls (made group))
+pub by-clerk : (left : List Delivery) × (pass-to schedule (place-of-base group calls) ≡ some left)
+    × (clerk schedule 0 (told-by calls (made group)) ≡ some record { gave = deliveries calls (made group); left = left })
 by-clerk = history-theorem .schedule schedule 100 runs group calls fair
 
 pub clerk-list : clerk schedule 0 (told-by calls (made group))
-    ≡ some (planned 100 1 (64 ∷ []) ∷ planned 101 2 (65 ∷ 66 ∷ []) ∷ planned 104 1 (68 ∷ []) ∷ [])
-clerk-list = by-clerk ∙ ap {B = Option (List Delivery)} some delivered-list
+    ≡ some record { gave = planned 100 1 (64 ∷ []) ∷ planned 101 2 (65 ∷ 66 ∷ []) ∷ planned 104 1 (68 ∷ []) ∷ []; left = by-clerk .0 }
+clerk-list = by-clerk .2 ∙ ap (λ (l : List Delivery). some record { gave = l; left = by-clerk .0 }) delivered-list
+
+-- ---- the log, newest first, each mark as its kind and numbers: 0 a payload put into a cell, 1 the base set, 2 a packet collected and
+-- 4 delivered (leg, sequence, count), 3 a skip (time, distance)
+
+unfoldable pub marked-as : List Mark → List (List ℕ)
+marked-as [] = []
+marked-as (put cell payload ∷ log) = (0 ∷ cell ∷ payload) ∷ marked-as log
+marked-as (base-set base ∷ log) = (1 ∷ base ∷ []) ∷ marked-as log
+marked-as (collected p ∷ log) = (2 ∷ p .member ∷ p .content .sequence ∷ p .content .count ∷ []) ∷ marked-as log
+marked-as (gap-skipped tested time distance ∷ log) = (3 ∷ time ∷ distance ∷ []) ∷ marked-as log
+marked-as (delivered p ∷ log) = (4 ∷ p .member ∷ p .content .sequence ∷ p .content .count ∷ []) ∷ marked-as log
+
+pub marks : marked-as (log-after calls (made group))
+    ≡ (4 ∷ 7 ∷ 104 ∷ 1 ∷ []) ∷ (3 ∷ 1500 ∷ 1 ∷ []) ∷ (2 ∷ 7 ∷ 104 ∷ 1 ∷ [])
+    ∷ (0 ∷ 0 ∷ 68 ∷ []) ∷ (4 ∷ 8 ∷ 101 ∷ 2 ∷ []) ∷ (2 ∷ 8 ∷ 101 ∷ 2 ∷ []) ∷ (4 ∷ 7 ∷ 100 ∷ 1 ∷ []) ∷ (2 ∷ 7 ∷ 100 ∷ 1 ∷ [])
+    ∷ (0 ∷ 1 ∷ 65 ∷ 66 ∷ []) ∷ (0 ∷ 0 ∷ 64 ∷ []) ∷ (1 ∷ 100 ∷ []) ∷ []
+unfolding definitions group store-0 store-1 store-2 store-3 output sends calls do-call log-after marked-as
+marks = refl
+
+-- ---- the marks, added up: three packets collected, 1 + 2 + 1 delivered, one skipped
+
+pub log-adds-up :
+    (first-base (log-after calls (made group)) ≡ some 100)
+    × (packets-collected (log-after calls (made group)) ≡ 3)
+    × (total-delivered (log-after calls (made group)) ≡ 4)
+    × (total-skipped (log-after calls (made group)) ≡ 1)
+unfolding definitions group store-0 store-1 store-2 store-3 output sends calls do-call log-after first-base packets-collected total-delivered total-skipped
+log-adds-up = (refl, refl, refl, refl)
+
+-- ---- the base stands at 105, five from its first value
+
+pub based : next-receive-sequence (state-after calls (made group) .receive) ≡ some 105
+unfolding definitions group store-0 store-1 store-2 store-3 output sends calls do-call state-after
+based = refl
+
+pub by-base : (first : ℕ) × (first-base (log-after calls (made group)) ≡ some first)
+    × (skipped-in (state-after calls (made group)) < largest-64 → sequence-distance first 105 ≡ place-of-base group calls % (half + half))
+by-base = history-theorem .base group calls 105 based
+
+pub first-is-100 : by-base .0 ≡ 100
+first-is-100 = some-inj (sym (by-base .1) ∙ log-adds-up .0)
+
+pub stands-at-5 : place-of-base group calls ≡ 5
+unfolding definitions group store-0 store-1 store-2 store-3 output sends calls do-call state-after given-by deliveries counts-of
+stands-at-5 = refl
+
+-- ---- the last poll, at 1,500, raises the skipped count, so it made a right skip
+
+unfoldable pub before-last : List Asked
+before-last = take 16 calls
+
+pub raised : Raised (state-after before-last (made group)) (call-poll-data 1500)
+    (delivered-by (do-call (over store-3 (call-poll-data 1500)) (state-after before-last (made group)) .answer))
+    (do-call (over store-3 (call-poll-data 1500)) (state-after before-last (made group)) .state)
+unfolding definitions group store-0 store-1 store-2 store-3 output sends calls before-last do-call state-after
+raised = history-theorem .rises group before-last (over store-3 (call-poll-data 1500)) (λ e. absurd (omega (arith, e)))

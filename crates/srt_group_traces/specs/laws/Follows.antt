@@ -1,9 +1,9 @@
 -- Packets of one schedule, each less than 2^30 from the base on either side when it is collected, are delivered as they stand at
--- the base's place. The premise (`FromSchedule` of Statement) and what follows (AtPlaces) are both about the marks.
+-- the base's place. The premises (`SetBefore` and `AllNear` of Statement) and what follows (AtPlaces) are about the marks.
 use mathlib.Core.Path.{_≡_, refl, sym, ap, _∙_, subst}
 use mathlib.Core.Bool.{true, false}
 use mathlib.Core.List.{List, [], _∷_, _++_}
-use mathlib.Core.Option.{Option, none, some}
+use mathlib.Core.Option.{Option, some}
 use Prim.Native.Nat.{ℕ, _+_, _-_, _≤_, _<_}
 use native.Mathlib.Decide.{decLt}
 use native.Mathlib.Omega.{arith}
@@ -19,19 +19,31 @@ use Rattle.srt_group_model.specs.Delivery.{pass-run, skip-to}
 use Rattle.srt_group_model.specs.Calls.{new}
 use Rattle.srt_group_model.specs.declared.Data.{Data}
 use Rattle.srt_group_model.specs.declared.Packet.{Packet}
-use Rattle.srt_group_model.specs.laws.Reason.{all-map, none-some, some-inj, not-both, or-left}
-use Rattle.srt_group_traces.specs.Statement.{first-base, total-skipped, total-delivered, place-after, last-put, Consecutive, pass-to, AtPlace, FromSchedule}
-use Rattle.srt_group_traces.specs.laws.Cases.{all-both, Each, each-at}
-use Rattle.srt_group_traces.specs.laws.Marks.{last-put-elsewhere}
+use Rattle.srt_group_model.specs.laws.Reason.{all-map, some-inj, not-both, or-left}
+use Rattle.srt_group_traces.specs.Statement.{first-base, total-skipped, total-delivered, place-after, last-put, Consecutive, pass-to, SetBefore, AllNear, Asked, do-call, Delivery, made, state-after, log-after, with-payload, Near}
+use Rattle.srt_group_traces.specs.laws.Cases.{all-both, each-at}
+use Rattle.srt_group_traces.specs.laws.Marks.{last-put-elsewhere, each-collected-of, EachCollected}
 use Rattle.srt_group_traces.specs.laws.Sides.{sides}
 use Rattle.srt_group_traces.specs.laws.Law.{OfContent, ElsewhereThan, PutLaw}
 use Rattle.srt_group_traces.specs.laws.CallWalk.{Fits, Holds, call-holds, calls-hold}
 use Rattle.srt_group_traces.specs.laws.Held.{insert-all, nearest-all, held-at-all, held-at-sequence, not-covered-all, not-covered-beyond}
 use Rattle.srt_group_traces.specs.laws.Base.{half-above-zero, further-fits, Stands, SequenceFits, Sums, sums-law}
 use Rattle.srt_group_traces.specs.laws.Schedule.{pass-to-zero, pass-to-next, pass-to-further, sequence-at-place}
-use Rattle.srt_group_traces.specs.Calls.{Asked, do-call, made, state-after, log-after, Delivery}
 
 module _ (schedule : List Delivery) where
+  -- a packet, with the payload that `payloads` has for its cell, is the one at a place of the schedule
+  pub record AtPlace (payloads : ℕ → List ℕ) (place : ℕ) (d : Data) : Type 0 where
+    pub scheduled : Delivery
+    pub rest : List Delivery
+    pub here : pass-to schedule place ≡ some (scheduled ∷ rest)
+    pub sequence : d .sequence ≡ scheduled .sequence
+    pub count : d .count ≡ scheduled .count
+    pub payload : payloads (d .cell) ≡ scheduled .payload
+
+  near-at : (payloads : ℕ → List ℕ) (base : ℕ) (d : Data) (n : Near schedule base (with-payload d (payloads (d .cell)))) → AtPlace payloads (n .place) d
+  near-at payloads base d n =
+      record { scheduled = with-payload d (payloads (d .cell)); rest = n .rest; here = n .here; sequence = refl; count = refl; payload = refl }
+
   -- what follows: each packet delivered stood at the base's place
   abbrev pub AtPlaces : List Mark → Type 0
   AtPlaces [] = Unit {0}
@@ -39,16 +51,26 @@ module _ (schedule : List Delivery) where
   AtPlaces (base-set base ∷ log) = AtPlaces log
   AtPlaces (collected p ∷ log) = AtPlaces log
   AtPlaces (gap-skipped tested time distance ∷ log) = AtPlaces log
-  AtPlaces (delivered p ∷ log) = AtPlace schedule (last-put log) (place-after log) (p .content) × AtPlaces log
+  AtPlaces (delivered p ∷ log) = AtPlace (last-put log) (place-after log) (p .content) × AtPlaces log
 
   -- of a held packet: it stands at the base's place or after, less than half a circle
   pub record Ahead (payloads : ℕ → List ℕ) (base : ℕ) (d : Data) : Type 0 where
     pub place : ℕ
-    pub at : AtPlace schedule payloads place d
+    pub at : AtPlace payloads place d
     pub ahead : place < base + half
     pub from : base ≤ place
 
-  pub record Followed (x : Receive) (log : List Mark) : Type 0 where
+  -- the two premises, mark by mark
+  abbrev pub FromSchedule : ℕ → List Mark → Type 0
+  FromSchedule first log =
+      EachCollected (λ log p. first-base log ≡ some first) log
+      × EachCollected (λ log p. Near schedule (place-after log) (with-payload (p .content) (last-put log (p .content .cell)))) log
+
+  pub from-schedule-of : (first : ℕ) (log : List Mark) → SetBefore first log → AllNear schedule log → FromSchedule first log
+  from-schedule-of first log set-before near = (each-collected-of _ log set-before, each-collected-of _ log near)
+
+  pub record Followed (first : ℕ) (x : Receive) (log : List Mark) : Type 0 where
+    pub based : All (λ (p : Packet). first-base log ≡ some first) (x .pending)
     pub held : All (OfContent (Ahead (last-put log) (place-after log))) (x .pending)
     pub here : (rest : List Delivery) × (pass-to schedule (place-after log) ≡ some rest)
     pub at-places : AtPlaces log
@@ -56,28 +78,13 @@ module _ (schedule : List Delivery) where
   module _ (first : ℕ) (runs : Consecutive first schedule) where
     -- base arithmetic, and the schedule where the premise holds
     abbrev pub Follows : Receive → List Mark → Type 0
-    Follows x log = Sums x log × (FromSchedule schedule first log → Followed x log)
-
-    first-is : (log : List Mark) → FromSchedule schedule first log → Each (λ (b : ℕ). b ≡ first) (first-base log)
-    unfolding first-base or-else
-    first-is [] h = tt
-    first-is (put cell payload ∷ log) h = first-is log h
-    first-is (base-set base ∷ log) h = go (first-base log) (first-is log (h .1))
-      where
-        go : (o : Option ℕ) → Each (λ (b : ℕ). b ≡ first) o → Each (λ (b : ℕ). b ≡ first) (or-else o (some base))
-        go none k = h .0
-        go (some b) k = k
-    first-is (collected p ∷ log) h = first-is log (h .2)
-    first-is (gap-skipped tested time distance ∷ log) h = first-is log h
-    first-is (delivered p ∷ log) h = first-is log h
+    Follows x log = Sums x log × (FromSchedule first log → Followed first x log)
 
     -- the base's number is that of its place
-    base-at : (o b : Option ℕ) (place base : ℕ) → Each (λ (b : ℕ). b ≡ first) o → Stands o b place → b ≡ some base
-        → base ≡ sequence-further first place
-    base-at none b place base k h e = none-some (sym (h .0) ∙ e)
-    base-at (some a) b place base k h e = some-inj (sym e ∙ h .1) ∙ ap (λ (z : ℕ). sequence-further z place) k
+    base-at : (o b : Option ℕ) (place base : ℕ) → o ≡ some first → Stands o b place → b ≡ some base → base ≡ sequence-further first place
+    base-at o b place base is h e = some-inj (sym e ∙ (subst (λ (z : Option ℕ). Stands z b place) is h) .1)
 
-    sequence-of-place : (payloads : ℕ → List ℕ) (place : ℕ) (d : Data) → AtPlace schedule payloads place d
+    sequence-of-place : (payloads : ℕ → List ℕ) (place : ℕ) (d : Data) → AtPlace payloads place d
         → d .sequence ≡ sequence-further first place
     sequence-of-place payloads place d at =
         at .sequence ∙ sequence-at-place first 0 schedule place (at .scheduled) (at .rest) runs (at .here) .0
@@ -98,7 +105,7 @@ module _ (schedule : List Delivery) where
 
     -- a packet behind the base is discarded
     behind-is-before : (payloads : ℕ → List ℕ) (d : Data) (base place at : ℕ) → base ≡ sequence-further first place
-        → AtPlace schedule payloads at d
+        → AtPlace payloads at d
         → at < place → place < at + half → sequence-before (d .sequence) base ≡ true
     behind-is-before payloads d base place at e a l u =
         ap (sequence-before (d .sequence)) e ∙ ap (λ (z : ℕ). sequence-before z (sequence-further first place))
@@ -117,36 +124,46 @@ module _ (schedule : List Delivery) where
     abbrev AheadNow : List Mark → Packet → Type 0
     AheadNow log p = Ahead (last-put log) (place-after log) (p .content)
 
+    abbrev BasedNow : List Mark → Packet → Type 0
+    BasedNow log p = first-base log ≡ some first
+
+    -- a base that is set keeps its first value
+    still-based : (base : ℕ) (log : List Mark) (ps : List Packet) → All (BasedNow log) ps → All (BasedNow (base-set base ∷ log)) ps
+    unfolding first-base or-else
+    still-based base log ps h = all-map (BasedNow log) (BasedNow (base-set base ∷ log)) (λ p e. ap (λ (o : Option ℕ). or-else o (some base)) e) ps h
+
     follow-retained : (x : Receive) (log : List Mark) (p : Packet) → is-discarded p x ≡ false → Follows x log
-        → FromSchedule schedule first (collected p ∷ log)
-        → Followed (with-pending (insert p (x .pending)) x) (collected p ∷ log)
-    unfolding total-delivered total-skipped last-put
+        → FromSchedule first (collected p ∷ log)
+        → Followed first (with-pending (insert p (x .pending)) x) (collected p ∷ log)
+    unfolding first-base total-delivered total-skipped last-put
     follow-retained x log p kept h from =
-        let k : Followed x log = h .1 (from .2) in
+        let k : Followed first x log = h .1 (from .0 .1, from .1 .1) in
         record {
-          held = insert-all (AheadNow log) p (x .pending) (ahead (decLt (from .1 .place) (place-after log))) (k .held);
+          based = insert-all (BasedNow log) p (x .pending) (from .0 .0) (k .based);
+          held = insert-all (AheadNow log) p (x .pending) (ahead (decLt (from .1 .0 .place) (place-after log))) (k .held);
           here = k .here;
           at-places = k .at-places;
         }
       where
         based : next-receive-sequence x ≡ some (sequence-further first (place-after log))
-        based = (subst (λ (o : Option ℕ). Stands o (next-receive-sequence x) (place-after log)) (from .0) (h .0 .stands)) .1
+        based = (subst (λ (o : Option ℕ). Stands o (next-receive-sequence x) (place-after log)) (from .0 .0) (h .0 .stands)) .1
 
-        ahead : Dec (from .1 .place < place-after log) → AheadNow log p
+        ahead : Dec (from .1 .0 .place < place-after log) → AheadNow log p
         ahead (yes l) =
             not-both
             (behind-is-before (last-put log) (p .content) (sequence-further first (place-after log)) (place-after log)
-            (from .1 .place) refl (from .1 .at) l (from .1 .not-far-behind))
+            (from .1 .0 .place) refl (near-at (last-put log) (place-after log) (p .content) (from .1 .0)) l (from .1 .0 .not-far-behind))
             (not-discarded-not-before p x (sequence-further first (place-after log)) based kept)
-        ahead (no l) = record { place = from .1 .place; at = from .1 .at; ahead = from .1 .not-far-ahead; from = omega arith }
+        ahead (no l) = record { place = from .1 .0 .place; at = near-at (last-put log) (place-after log) (p .content) (from .1 .0); ahead = from .1 .0 .not-far-ahead; from = omega arith }
 
     follow-skipped : (x : Receive) (log : List Mark) (base : ℕ) (n : Packet) (tested : State) (time : ℕ)
         → next-receive-sequence x ≡ some base
-        → nearest (x .pending) ≡ some n → Follows x log → FromSchedule schedule first log
-        → Followed (skip-to base (sequence-of n) x) (gap-skipped tested time (sequence-distance base (sequence-of n)) ∷ log)
-    unfolding total-delivered total-skipped last-put skip-to
+        → nearest (x .pending) ≡ some n → Follows x log → FromSchedule first log
+        → Followed first (skip-to base (sequence-of n) x) (gap-skipped tested time (sequence-distance base (sequence-of n)) ∷ log)
+    unfolding first-base total-delivered total-skipped last-put skip-to
     follow-skipped x log base n tested time e near h from =
         record {
+          based = k .based;
           held =
               all-map (λ (p : Packet). AheadNow log p ×
               (sequence-distance base (sequence-of n) ≤ sequence-distance base (sequence-of p)))
@@ -169,11 +186,14 @@ module _ (schedule : List Delivery) where
           at-places = k .at-places;
         }
       where
-        k : Followed x log
+        k : Followed first x log
         k = h .1 from
 
+        first-is : first-base log ≡ some first
+        first-is = each-at (BasedNow log) (nearest (x .pending)) n near (nearest-all (BasedNow log) (x .pending) (k .based))
+
         stands : base ≡ sequence-further first (place-after log)
-        stands = base-at (first-base log) (next-receive-sequence x) (place-after log) base (first-is log from) (h .0 .stands) e
+        stands = base-at (first-base log) (next-receive-sequence x) (place-after log) base first-is (h .0 .stands) e
 
         fits : Fits base
         fits = subst Fits (sym stands) (further-fits first (place-after log))
@@ -203,10 +223,11 @@ module _ (schedule : List Delivery) where
 
     follow-delivered : (x : Receive) (log : List Mark) (base : ℕ) (p : Packet) → next-receive-sequence x ≡ some base
         → held-at base (x .pending) ≡ some p
-        → Follows x log → FromSchedule schedule first log → Followed (pass-run base p x) (delivered p ∷ log)
-    unfolding total-delivered total-skipped last-put pass-run
+        → Follows x log → FromSchedule first log → Followed first (pass-run base p x) (delivered p ∷ log)
+    unfolding first-base total-delivered total-skipped last-put pass-run
     follow-delivered x log base p e found h from =
         record {
+          based = not-covered-all (BasedNow log) base (p .content .count) (x .pending) (k .based);
           held =
               all-map (λ (q : Packet). AheadNow log q × (p .content .count ≤ sequence-distance base (sequence-of q)))
               (OfContent (Ahead (last-put log) (total-delivered log + p .content .count + total-skipped log)))
@@ -224,14 +245,17 @@ module _ (schedule : List Delivery) where
               (not-covered-all (AheadNow log) base (p .content .count) (x .pending) (k .held))
               (not-covered-beyond base (p .content .count) (x .pending)));
           here = (delivered-ahead .at .rest, there);
-          at-places = (subst (λ (z : ℕ). AtPlace schedule (last-put log) z (p .content)) at-base (delivered-ahead .at), k .at-places);
+          at-places = (subst (λ (z : ℕ). AtPlace (last-put log) z (p .content)) at-base (delivered-ahead .at), k .at-places);
         }
       where
-        k : Followed x log
+        k : Followed first x log
         k = h .1 from
 
+        first-is : first-base log ≡ some first
+        first-is = each-at (BasedNow log) (held-at base (x .pending)) p found (held-at-all (BasedNow log) base (x .pending) (k .based))
+
         stands : base ≡ sequence-further first (place-after log)
-        stands = base-at (first-base log) (next-receive-sequence x) (place-after log) base (first-is log from) (h .0 .stands) e
+        stands = base-at (first-base log) (next-receive-sequence x) (place-after log) base first-is (h .0 .stands) e
 
         delivered-ahead : AheadNow log p
         delivered-ahead =
@@ -265,7 +289,7 @@ module _ (schedule : List Delivery) where
 
     -- a payload put into another cell leaves a packet where it is
     at-place-after-put : (cell : ℕ) (payload : List ℕ) (log : List Mark) (place : ℕ) (d : Data) → ElsewhereThan cell d
-        → AtPlace schedule (last-put log) place d → AtPlace schedule (last-put (put cell payload ∷ log)) place d
+        → AtPlace (last-put log) place d → AtPlace (last-put (put cell payload ∷ log)) place d
     at-place-after-put cell payload log place d elsewhere at =
         record {
           scheduled = at .scheduled;
@@ -277,7 +301,7 @@ module _ (schedule : List Delivery) where
         }
 
     pub follows-law : PutLaw SequenceFits Fits Follows
-    unfolding total-delivered total-skipped last-put flagged
+    unfolding first-base total-delivered total-skipped last-put flagged
     follows-law =
         record {
           calling =
@@ -290,8 +314,8 @@ module _ (schedule : List Delivery) where
                                 λ x log p ok e h. (
                                   sums-law .calling .polling .collecting .on-discarded x log p ok e (h .0),
                                   λ from.
-                                      let k : Followed x log = h .1 (from .2) in
-                                      record { held = k .held; here = k .here; at-places = k .at-places },
+                                      let k : Followed first x log = h .1 (from .0 .1, from .1 .1) in
+                                      record { based = k .based; held = k .held; here = k .here; at-places = k .at-places },
                                 );
                             on-retained =
                                 λ x log p ok e h. (
@@ -303,15 +327,15 @@ module _ (schedule : List Delivery) where
                           λ x log base e fits h. (
                             sums-law .calling .polling .on-base-set x log base e fits (h .0),
                             λ from.
-                                let k : Followed x log = h .1 (from .1) in
-                                record { held = k .held; here = k .here; at-places = k .at-places },
+                                let k : Followed first x log = h .1 from in
+                                record { based = still-based base log (x .pending) (k .based); held = k .held; here = k .here; at-places = k .at-places },
                           );
                       on-nearest-sets =
                           λ x log p e near h. (
                             sums-law .calling .polling .on-nearest-sets x log p e near (h .0),
                             λ from.
-                                let k : Followed x log = h .1 (from .1) in
-                                record { held = k .held; here = k .here; at-places = k .at-places },
+                                let k : Followed first x log = h .1 from in
+                                record { based = still-based (sequence-of p) log (x .pending) (k .based); held = k .held; here = k .here; at-places = k .at-places },
                           );
                       on-skipped =
                           λ x log base p tested time e near h. (
@@ -328,16 +352,17 @@ module _ (schedule : List Delivery) where
                     λ x log ps among h. (
                       sums-law .calling .on-removed x log ps among (h .0),
                       λ from.
-                          let k : Followed x log = h .1 from in
-                          record { held = among (AheadNow log) (λ p a. a) (k .held); here = k .here; at-places = k .at-places },
+                          let k : Followed first x log = h .1 from in
+                          record { based = among (BasedNow log) (λ p a. a) (k .based); held = among (AheadNow log) (λ p a. a) (k .held); here = k .here; at-places = k .at-places },
                     );
               };
           on-put =
               λ x log cell payload elsewhere h. (
                 sums-law .on-put x log cell payload elsewhere (h .0),
                 λ from.
-                    let k : Followed x log = h .1 from in
+                    let k : Followed first x log = h .1 from in
                     record {
+                      based = k .based;
                       held =
                           all-map (λ (p : Packet). AheadNow log p × ElsewhereThan cell (p .content))
                           (OfContent (Ahead (last-put (put cell payload ∷ log)) (place-after log)))
@@ -375,6 +400,6 @@ module _ (schedule : List Delivery) where
           sides-ok = tt;
           kept = (
             record { stands = (refl, refl); skipped = omega arith; held = tt },
-            λ from. record { held = tt; here = (schedule, pass-to-zero schedule); at-places = tt },
+            λ from. record { based = tt; held = tt; here = (schedule, pass-to-zero schedule); at-places = tt },
           );
         }

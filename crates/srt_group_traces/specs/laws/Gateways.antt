@@ -11,14 +11,13 @@ use Rattle.srt_group_model.specs.Tools.{if-some_give_otherwise_}
 use Rattle.srt_group_model.specs.State.{State}
 use Rattle.srt_group_model.specs.Run.{Mark}
 use Rattle.srt_group_model.specs.laws.Reason.{if-elim, none-some, some-inj}
-use Rattle.srt_group_traces.specs.Statement.{total-skipped, place-after, last-put, Consecutive, pass-to, Told, told-by, give-next, clerk, FromSchedule, OneStore, Prefix, until-skip, Gateway, stands-at, delivers}
+use Rattle.srt_group_traces.specs.Statement.{total-skipped, place-after, last-put, Consecutive, pass-to, Told, told-by, give-next, clerk, OneStore, Prefix, until-skip, Gateway, stands-at, delivers, Asked, do-call, Delivery, given-by, made, state-after, log-after, deliveries, skipped-in, Went}
 use Rattle.srt_group_traces.specs.laws.Cases.{by-option, eq-of}
 use Rattle.srt_group_traces.specs.laws.Base.{delivered-counts, sums-after}
 use Rattle.srt_group_traces.specs.laws.Schedule.{pass-to-zero}
-use Rattle.srt_group_traces.specs.laws.Follows.{Following, calls-following, new-following}
+use Rattle.srt_group_traces.specs.laws.Follows.{FromSchedule, Following, calls-following, new-following, from-schedule-of}
 use Rattle.srt_group_traces.specs.laws.ClerkClaim.{delivered-as-queued, from-schedule-before, skipped-rises, clerk-of-calls}
 use Rattle.srt_group_traces.specs.laws.Bytes.{Live, InCell, delivered-is-as-queued, one-store-after, one-store-begins, new-alive}
-use Rattle.srt_group_traces.specs.Calls.{Asked, do-call, skipped-in, made, state-after, log-after, Delivery, given-by, deliveries}
 
 -- ---- a prefix
 
@@ -49,32 +48,34 @@ abbrev pub NoSkip : ℕ → List Told → Type 0
 NoSkip known [] = Unit {0}
 NoSkip known (told ∷ more) = (told .skipped ≡ known) × NoSkip known more
 
-give-next-front : (ahead : List Delivery) (go-on : List Delivery → Option (List Delivery)) (ys : List Delivery)
-    → ((xs zs : List Delivery) → go-on xs ≡ some zs → Prefix zs xs) → give-next (some ahead) go-on ≡ some ys → Prefix ys ahead
+give-next-front : (ahead : List Delivery) (go-on : List Delivery → Option Went) (w : Went)
+    → ((xs : List Delivery) (v : Went) → go-on xs ≡ some v → Prefix (v .gave) xs) → give-next (some ahead) go-on ≡ some w → Prefix (w .gave) ahead
 unfolding give-next if-some_give_otherwise_
-give-next-front [] go-on ys front e = none-some e
-give-next-front (x ∷ xs) go-on ys front e =
+give-next-front [] go-on w front e = none-some e
+give-next-front (x ∷ xs) go-on w front e =
     by-option (go-on xs) (λ n. none-some (sym (ap cons-to n) ∙ e))
-    (λ zs n.
-    let same : x ∷ zs ≡ ys = some-inj (sym (ap cons-to n) ∙ e) in
-    let f : Prefix zs xs = front xs zs n in
-    (f .0, ap (λ (l : List Delivery). l ++ f .0) (sym same) ∙ ap {B = List Delivery} (λ (l : List Delivery). x ∷ l) (f .1)))
+    (λ v n.
+    let f : Prefix (v .gave) xs = front xs v n in (
+      f .0,
+      ap (λ (z : Went). z .gave ++ f .0) (sym (some-inj (sym (ap cons-to n) ∙ e)))
+          ∙ ap {B = List Delivery} (λ (l : List Delivery). x ∷ l) (f .1),
+    ))
   where
-    cons-to : Option (List Delivery) → Option (List Delivery)
-    cons-to o = if-some o give (λ (zs : List Delivery). some (x ∷ zs)) otherwise none
+    cons-to : Option Went → Option Went
+    cons-to o = if-some o give (λ (v : Went). some record { gave = x ∷ v .gave; left = v .left }) otherwise none
 
 -- he gives what stands before him, from the front
-pub clerk-front : (ahead : List Delivery) (known : ℕ) (told : List Told) (ys : List Delivery) → NoSkip known told
-    → clerk ahead known told ≡ some ys → Prefix ys ahead
+pub clerk-front : (ahead : List Delivery) (known : ℕ) (told : List Told) (w : Went) → NoSkip known told
+    → clerk ahead known told ≡ some w → Prefix (w .gave) ahead
 unfolding clerk
-clerk-front ahead known [] ys h e = (ahead, ap (λ (l : List Delivery). l ++ ahead) (sym (some-inj e)))
-clerk-front ahead known (told ∷ more) ys h e =
-    if-elim (λ (o : Option (List Delivery)). o ≡ some ys → Prefix ys ahead) (told .delivered) _ _
+clerk-front ahead known [] w h e = (ahead, ap (λ (z : Went). z .gave ++ ahead) (sym (some-inj e)))
+clerk-front ahead known (told ∷ more) w h e =
+    if-elim (λ (o : Option Went). o ≡ some w → Prefix (w .gave) ahead) (told .delivered) _ _
     (λ d f.
-    give-next-front ahead (λ xs. clerk xs (told .skipped) more) ys (λ xs zs n. clerk-front xs (told .skipped) more zs still n)
+    give-next-front ahead (λ xs. clerk xs (told .skipped) more) w (λ xs v n. clerk-front xs (told .skipped) more v still n)
     (ap (λ (o : Option (List Delivery)). give-next o (λ xs. clerk xs (told .skipped) more))
     (sym (ap (pass-to ahead) no-rise ∙ pass-to-zero ahead)) ∙ f))
-    (λ d f. clerk-front ahead (told .skipped) more ys still f) e
+    (λ d f. clerk-front ahead (told .skipped) more w still f) e
   where
     still : NoSkip (told .skipped) more
     still = subst (λ (z : ℕ). NoSkip z more) (sym (h .0)) (h .1)
@@ -144,10 +145,10 @@ module _ (schedule : List Delivery) (first : ℕ) where
       ap (pass-to schedule) same-place ∙ k .kept .1 from-before .here .1,
       subst (λ (xs : List Delivery). Prefix xs (k .kept .1 from-before .here .0)) (sym as-queued)
           (clerk-front (k .kept .1 from-before .here .0) (skipped-in reached) (told-by on reached)
-          (delivered-as-queued log on reached)
+          record { gave = delivered-as-queued log on reached; left = end .0 }
           (until-skip-no-skip (w .after) reached)
           (clerk-of-calls schedule first runs on reached log (k .kept .1 from-before .here .0)
-          (k .kept .1 from-before .here .1) k from-on below-on)),
+          (k .kept .1 from-before .here .1) k from-on below-on (end .0) (end .1))),
     )
       where
         reached : State
@@ -173,7 +174,7 @@ module _ (schedule : List Delivery) (first : ℕ) where
         from-on : FromSchedule schedule first (log-after on reached ++ log)
         from-on =
             from-schedule-before schedule first (log-after (rest .0) (state-after on reached)) (log-after on reached ++ log)
-            (subst (FromSchedule schedule first) whole (w .fair .from))
+            (subst (FromSchedule schedule first) whole (from-schedule-of schedule first (log-after (w .before ++ w .after) (made (w .making))) (w .fair .set-before) (w .fair .near)))
 
         from-before : FromSchedule schedule first log
         from-before = from-schedule-before schedule first (log-after on reached) log from-on
@@ -192,6 +193,9 @@ module _ (schedule : List Delivery) (first : ℕ) where
         k =
             subst (Following schedule first runs reached) (append-nil log)
             (calls-following schedule first runs (w .before) (made (w .making)) [] (new-following schedule first runs (w .making)))
+
+        end : (left : List Delivery) × (pass-to schedule (place-after (log-after on reached ++ log)) ≡ some left)
+        end = calls-following schedule first runs on reached log k .kept .1 from-on .here
 
         same-place : stands-at schedule first w ≡ place-after log
         same-place =

@@ -4,6 +4,7 @@
 use mathlib.Core.Path.{_≡_, refl}
 use mathlib.Core.Logic.{_⊎_}
 use mathlib.Core.List.{List, [], _∷_, _++_}
+use mathlib.Core.Option.{some}
 use Prim.Native.Nat.{ℕ}
 use lib.Dec.{lit<}
 use lib.ListN.{replicate, take, drop}
@@ -11,10 +12,10 @@ use Rattle.srt_protocol.specs.Cells.{overwritten, cell-size}
 use Rattle.srt_group_model.specs.laws.State.{backup-mode, ordinary}
 use Rattle.srt_group_model.specs.laws.Computed.{definitions}
 use Rattle.srt_group_model.specs.Lent.{call-add-member, call-send, call-queue-data, call-poll-data}
-use Rattle.srt_group_traces.specs.Statement.{first-base, total-skipped, total-delivered, last-put, pass-to, FromSchedule, OneStore, Prefix, until-skip, Gateway, stands-at, delivers}
-use Rattle.srt_group_traces.specs.Calls.{Asked, made, do-call, takes-store, given-by, state-after, log-after, deliveries, counts-of, store-left}
+use Rattle.srt_group_traces.specs.Statement.{first-base, total-skipped, total-delivered, last-put, pass-to, SetBefore, AllNear, OneStore, Prefix, until-skip, Gateway, stands-at, delivers, Asked, do-call, takes-store, given-by, made, state-after, log-after, deliveries, counts-of, store-left, with-payload, Near, place-after}
 use Rattle.srt_group_traces.specs.laws.HistoryTheorem.{history-theorem}
 use Rattle.srt_group_traces.specs.laws.Example.{leg, content, plain, over, output, sends, planned, schedule, runs, never, store-0, store-1, store-2, store-3, group, calls, fair}
+use Rattle.srt_group_traces.specs.laws.Marks.{EachCollected, each-collected-at}
 use Rattle.srt_group_model.specs.State.{Making}
 
 -- ---- gateway a
@@ -59,69 +60,57 @@ after-b =
     ∷ over cells-3 (call-queue-data 3 (content 103 1 0) (67 ∷ [])) ∷ over cells-4 (call-queue-data 3 (content 104 1 0) (68 ∷ []))
     ∷ over cells-5 (call-poll-data 0) ∷ over cells-5 (call-poll-data 0) ∷ over cells-5 (call-poll-data 0) ∷ []
 
-pub from-b : FromSchedule schedule 100 (log-after (before-b ++ after-b) (made backup-group))
-unfolding definitions backup-group cells-0 cells-1 cells-2 cells-3 cells-4 cells-5 output sends before-b after-b schedule do-call log-after first-base total-skipped total-delivered last-put pass-to
-from-b = (
-  refl,
+each-based-b : EachCollected (λ log p. first-base log ≡ some 100) (log-after (before-b ++ after-b) (made backup-group))
+unfolding definitions backup-group cells-0 cells-1 cells-2 cells-3 cells-4 cells-5 output sends before-b after-b do-call log-after first-base
+each-based-b = (refl, (refl, (refl, (refl, tt))))
+
+-- each packet at its place of the schedule, not far from the base's
+each-near-b : EachCollected
+    (λ log p. Near schedule (place-after log) (with-payload (p .content) (last-put log (p .content .cell)))) (log-after (before-b ++ after-b) (made backup-group))
+unfolding definitions backup-group cells-0 cells-1 cells-2 cells-3 cells-4 cells-5 output sends before-b after-b schedule do-call log-after total-skipped total-delivered last-put pass-to
+each-near-b = (
   record {
     place = 4;
-    at = record { scheduled = planned 104 1 (68 ∷ []); rest = []; here = refl; sequence = refl; count = refl; payload = refl };
+    rest = [];
+    here = refl;
     not-far-ahead = lit< tt;
     not-far-behind = lit< tt;
   },
   (
-    refl,
     record {
       place = 3;
-      at =
-          record {
-            scheduled = planned 103 1 (67 ∷ []);
-            rest = planned 104 1 (68 ∷ []) ∷ [];
-            here = refl;
-            sequence = refl;
-            count = refl;
-            payload = refl;
-          };
+      rest = planned 104 1 (68 ∷ []) ∷ [];
+      here = refl;
       not-far-ahead = lit< tt;
       not-far-behind = lit< tt;
     },
     (
-      refl,
       record {
         place = 1;
-        at =
-            record {
-              scheduled = planned 101 2 (65 ∷ 66 ∷ []);
-              rest = planned 103 1 (67 ∷ []) ∷ planned 104 1 (68 ∷ []) ∷ [];
-              here = refl;
-              sequence = refl;
-              count = refl;
-              payload = refl;
-            };
+        rest = planned 103 1 (67 ∷ []) ∷ planned 104 1 (68 ∷ []) ∷ [];
+        here = refl;
         not-far-ahead = lit< tt;
         not-far-behind = lit< tt;
       },
       (
-        refl,
         record {
           place = 0;
-          at =
-              record {
-                scheduled = planned 100 1 (64 ∷ []);
-                rest = planned 101 2 (65 ∷ 66 ∷ []) ∷ planned 103 1 (67 ∷ []) ∷ planned 104 1 (68 ∷ []) ∷ [];
-                here = refl;
-                sequence = refl;
-                count = refl;
-                payload = refl;
-              };
+          rest = planned 101 2 (65 ∷ 66 ∷ []) ∷ planned 103 1 (67 ∷ []) ∷ planned 104 1 (68 ∷ []) ∷ [];
+          here = refl;
           not-far-ahead = lit< tt;
           not-far-behind = lit< tt;
         },
-        (refl, tt),
+        tt,
       ),
     ),
   ),
 )
+
+pub set-before-b : SetBefore 100 (log-after (before-b ++ after-b) (made backup-group))
+set-before-b = each-collected-at _ (log-after (before-b ++ after-b) (made backup-group)) each-based-b
+
+pub near-b : AllNear schedule (log-after (before-b ++ after-b) (made backup-group))
+near-b = each-collected-at _ (log-after (before-b ++ after-b) (made backup-group)) each-near-b
 
 pub one-store-b : OneStore cells-0 (before-b ++ after-b) (made backup-group)
 unfolding definitions backup-group cells-0 cells-1 cells-2 cells-3 cells-4 cells-5 output sends before-b after-b do-call takes-store store-left
@@ -143,7 +132,7 @@ gateway-b =
       making = backup-group;
       before = before-b;
       after = after-b;
-      fair = record { store = cells-0; from = from-b; below = lit< tt; one-store = one-store-b };
+      fair = record { store = cells-0; set-before = set-before-b; near = near-b; below = lit< tt; one-store = one-store-b };
     }
 
 -- ---- both stand at place 1

@@ -1,9 +1,10 @@
 -- What is proved of the definitions in specs/Port.antt, with what the proofs need.
 use mathlib.Core.Path.{_≡_, refl, sym, ap, _∙_, subst, fun-ext}
+use mathlib.Core.Bool.{Bool, true, false}
 use mathlib.Core.Logic.{_⊎_}
 use mathlib.Core.List.{List, [], _∷_, _++_, append-assoc, append-nil}
 use mathlib.Core.Option.{Option, none, some}
-use Prim.Native.Nat.{ℕ, _+_, _-_, _%_, _<_, min}
+use Prim.Native.Nat.{ℕ, _+_, _-_, _%_, _<_}
 use native.Mathlib.Nat.{add-comm, mod-eq-of-lt}
 use native.Mathlib.Omega.{arith}
 use lib.Dec.{eqb}
@@ -13,21 +14,21 @@ use Rattle.srt_protocol.specs.Sequence.{half, sequence-distance, sequence-furth
 use Rattle.srt_group_model.specs.Legs.{largest-64}
 use Rattle.srt_group_model.specs.Tools.{if_then_else_, if-some_give_otherwise_, flagged, All}
 use Rattle.srt_group_model.specs.State.{State, next-receive-sequence, Making}
-use Rattle.srt_group_model.specs.Calls.{new}
-use Rattle.srt_group_model.specs.Lent.{Result, delivered-by}
+use Rattle.srt_group_model.specs.Calls.{new, new-code}
+use Rattle.srt_group_model.specs.Lent.{Result, delivered-by, Lent, Call, perform}
 use Rattle.srt_group_model.specs.laws.Reason.{if-true, if-false, by-test, none-some, some-inj}
-use Rattle.srt_group_traces.specs.Statement.{first-base, total-skipped, place-after, BaseClaim, Consecutive, pass-to, Told, told-by, give-next, clerk, OneStore, Fair, when-of, RightSkip, Prefix, until-skip, Gateway, stands-at, delivers}
+use Rattle.srt_group_traces.specs.Statement.{first-base, total-skipped, place-after, Consecutive, pass-to, Told, told-by, give-next, clerk, OneStore, Fair, Prefix, until-skip, Gateway, stands-at, delivers, Asked, do-call, Delivery, given-by, made, state-after, log-after, deliveries, skipped-in, counts-of, Went, place-of-base}
 use Rattle.srt_group_traces.specs.laws.Cases.{by-option, eq-of, eqb-yes}
 use Rattle.srt_group_traces.specs.laws.CallWalk.{Fits}
 use Rattle.srt_group_traces.specs.laws.Gateways.{state-after-both, log-after-both, deliveries-both}
-use Rattle.srt_group_traces.specs.laws.Base.{half-above-zero, further-twice, further-none, further-fits, Stands, sums-after, delivered-counts, counts-append}
+use Rattle.srt_group_traces.specs.laws.Base.{half-above-zero, further-twice, further-none, further-fits, Stands, sums-after, delivered-counts, counts-append, based-has-first}
 use Rattle.srt_group_traces.specs.laws.ClerkClaim.{skipped-rises}
-use Rattle.srt_group_traces.specs.laws.Bytes.{only-polls-deliver}
-use Rattle.srt_group_traces.specs.laws.Corollaries.{first-base-stays, based-has-first, unbased-is-still, rise-is-right-skip}
+use Rattle.srt_group_traces.specs.laws.Corollaries.{first-base-stays, unbased-is-still}
 use Rattle.srt_group_traces.specs.laws.AsQueued.{GivenToQueue, nothing-made-up}
 use Rattle.srt_group_traces.specs.laws.HistoryTheorem.{history-theorem}
-use Rattle.srt_group_traces.specs.Calls.{Asked, do-call, time-of, made, state-after, log-after, counts-of, skipped-in, Delivery, given-by, deliveries}
-use Rattle.srt_group_traces.specs.Port.{Shown, shows, shows-short, Taken, did, refused-short, shown-of, all-shown, calls-of, TakenFrom, Performed, shown-delivery, shown-deliveries, told-of, shown-told, last-shown, less-moved, first-shown, SkipShown, SkipsShown, shown-until-skip, Port, port-state, port-place, port-delivers}
+use Rattle.srt_group_traces.specs.Port.{Shown, shows, shows-short, Taken, did, refused-short, shown-of, all-shown, calls-of, TakenFrom, Performed, shown-delivery, shown-deliveries, told-of, shown-told, last-shown, less-moved, first-shown, SkipsShown, shown-until-skip, Port, port-state, port-place, port-delivers, place-shown, Promise, step-made, shows-new, Does}
+use Rattle.srt_group_traces.specs.ShortSchedule.{FairCalls}
+use Rattle.srt_group_traces.specs.laws.ShortSchedule.{short-schedule-is-fair}
 
 -- ---- the model itself is such a port, for every list of calls
 
@@ -44,6 +45,45 @@ pub calls-of-taking : (calls : List Asked) (s : State) → calls-of (taking call
 unfolding taking calls-of
 calls-of-taking [] s = refl
 calls-of-taking (call ∷ more) s = ap {B = List Asked} (λ (cs : List Asked). call ∷ cs) (calls-of-taking more (do-call call s .state))
+
+-- ---- a list grows by each call that keeps its promise
+
+-- from the equations of a contract, as `Performs` of srt_group_shown has them, with the rows filled
+pub performs-does : (call : Call) (bytes : Lent) (s : State) (x : Shown) → x .code ≡ perform call bytes s .code
+    → x .answer ≡ perform call bytes s .answer → x .state ≡ perform call bytes s .state → x .lent ≡ perform call bytes s .lent
+    → x .rows ≡ perform call bytes s .rows
+    → Does record { call = call; lent = bytes } s x
+unfolding do-call
+performs-does call bytes s x code answer state lent rows =
+    record { code = code; answer = answer; state = state; lent = lent; rows = rows }
+
+pub promise-is-step : (short : Bool) (asked : Asked) (s : State) (x : Shown) → Promise short asked s x → TakenFrom s (step-made short asked x)
+promise-is-step true asked s x h = h
+promise-is-step false asked s x h =
+    λ i. record { state = h .state i; lent = h .lent i; code = h .code i; answer = h .answer i; rows = h .rows i }
+
+pub one-more-step : (s : State) (steps : List Taken) (t : Taken) → Performed s steps → TakenFrom (last-shown s (all-shown steps)) t
+    → Performed s (steps ++ (t ∷ []))
+unfolding last-shown all-shown
+one-more-step s [] t h e = (e, tt)
+one-more-step s (x ∷ steps) t h e = (h .0, one-more-step (shown-of x .state) steps t (h .1) e)
+
+pub promised-step : (s : State) (steps : List Taken) → Performed s steps → (short : Bool) (asked : Asked) (x : Shown)
+    → Promise short asked (last-shown s (all-shown steps)) x
+    → Performed s (steps ++ (step-made short asked x ∷ []))
+promised-step s steps h short asked x promise =
+    one-more-step s steps (step-made short asked x) h (promise-is-step short asked (last-shown s (all-shown steps)) x promise)
+
+pub new-begins : (g : Making) (lent : Lent) (s : State)
+    → (shows-new g lent s .code ≡ 0 → shows-new g lent s .state ≡ made g)
+    × ((shows-new g lent s .code ≡ 0 → ⊥) → shows-new g lent s .state ≡ s)
+new-begins g lent s = (
+  (λ e. if-true (eqb code 0) (made g) s (ap (λ (n : ℕ). eqb n 0) e ∙ eqb-yes 0)),
+  λ refused. if-false (eqb code 0) (made g) s (by-test (eqb code 0) (λ e. absurd (refused (eq-of code 0 e))) (λ e. e)),
+)
+  where
+    code : ℕ
+    code = new-code g
 
 -- ---- a step, seen as what it shows
 
@@ -89,6 +129,12 @@ last-shown-is s (t ∷ steps) h =
     → last-shown (shown-of t .state) (all-shown steps) ≡ state-after (calls-of (t ∷ steps)) s)
     s (λ call k. last-shown-is (do-call call s .state) steps k) (λ call k. last-shown-is s steps k) t (h .0) (h .1)
 
+-- the place that it shows is the base's
+pub place-shown-is : (g : Making) (steps : List Taken) → Performed (made g) steps → place-shown g steps ≡ place-of-base g (calls-of steps)
+place-shown-is g steps h =
+    ap (λ (l : List Delivery). counts-of l + skipped-in (last-shown (made g) (all-shown steps))) (shown-deliveries-are (made g) steps h)
+    ∙ ap (λ (s : State). counts-of (deliveries (calls-of steps) (made g)) + skipped-in s) (last-shown-is (made g) steps h)
+
 -- a refusal leaves the clerk where he is
 clerk-passes-short : (call : Asked) (s : State) (told : List Told) (ahead : List Delivery)
     → clerk ahead (skipped-in s) (told-of (shows-short call s) ∷ told) ≡ clerk ahead (skipped-in s) told
@@ -101,7 +147,7 @@ clerk-goes-on : (known : ℕ) (x : Told) (told more : List Told)
 unfolding clerk
 clerk-goes-on known x told more h ahead =
     ap
-    (λ (go-on : List Delivery → Option (List Delivery)).
+    (λ (go-on : List Delivery → Option Went).
     if x .delivered then give-next (pass-to ahead (x .skipped - known)) go-on else go-on ahead)
     (fun-ext h)
 
@@ -124,14 +170,22 @@ shown-clerk-is s (t ∷ steps) h =
 
 -- ---- the clerk's list
 
--- The delivered list that a port shows is the clerk's, who is told what the port shows.
+-- The delivered list that a port shows is the clerk's, who is told what the port shows; and he stands at the base's place.
 pub port-has-clerks-list : (schedule : List Delivery) (first : ℕ) → Consecutive first schedule → (g : Making) (steps : List Taken)
     → Performed (made g) steps → Fair schedule first g (calls-of steps)
-    → clerk schedule 0 (shown-told (all-shown steps)) ≡ some (shown-deliveries (all-shown steps))
+    → (left : List Delivery) × (pass-to schedule (place-shown g steps) ≡ some left)
+    × (clerk schedule 0 (shown-told (all-shown steps)) ≡ some record { gave = shown-deliveries (all-shown steps); left = left })
 unfolding new
 port-has-clerks-list schedule first runs g steps h fair =
-    shown-clerk-is (made g) steps h schedule ∙ history-theorem .schedule schedule first runs g (calls-of steps) fair
-    ∙ ap {B = Option (List Delivery)} some (sym (shown-deliveries-are (made g) steps h))
+    let w : (left : List Delivery) × (pass-to schedule (place-of-base g (calls-of steps)) ≡ some left)
+    × (clerk schedule 0 (told-by (calls-of steps) (made g)) ≡ some record { gave = deliveries (calls-of steps) (made g); left = left }) =
+    history-theorem .schedule schedule first runs g (calls-of steps) fair
+    in (
+      w .0,
+      ap (pass-to schedule) (place-shown-is g steps h) ∙ w .1,
+      shown-clerk-is (made g) steps h schedule ∙ w .2
+          ∙ ap (λ (l : List Delivery). some record { gave = l; left = w .0 }) (sym (shown-deliveries-are (made g) steps h)),
+    )
 
 -- ---- the base
 
@@ -318,44 +372,34 @@ module _ (g : Making) where
       first-shown-from [] refl steps h
       (subst (λ (s : State). skipped-in s < largest-64) (last-shown-is (made g) steps h) below)
 
-  -- The base that a port shows, less its first value, is what it shows as delivered and skipped, modulo 2^31.
+  -- A base that a port shows has a first value by what it shows; the base less that is what it shows as delivered and skipped,
+  -- modulo 2^31.
   pub port-base : (steps : List Taken) → Performed (made g) steps
       → skipped-in (last-shown (made g) (all-shown steps)) < largest-64
-      → (first : ℕ) → first-shown (all-shown steps) ≡ some first
-      → (base : ℕ)
-      × (next-receive-sequence (last-shown (made g) (all-shown steps) .receive) ≡ some base)
-      × (sequence-distance first base
-      ≡ (counts-of (shown-deliveries (all-shown steps)) + skipped-in (last-shown (made g) (all-shown steps))) % (half + half))
-  port-base steps h below first e = (
-    claim .base,
-    ap (λ (s : State). next-receive-sequence (s .receive)) (last-shown-is (made g) steps h) ∙ claim .is,
-    claim .moved
-        ∙ ap (λ (n : ℕ). n % (half + half))
-        (sym
-        (ap (λ (l : List Delivery). counts-of l + skipped-in (last-shown (made g) (all-shown steps)))
-        (shown-deliveries-are (made g) steps h)
-        ∙ ap (λ (s : State). counts-of (deliveries (calls-of steps) (made g)) + skipped-in s) (last-shown-is (made g) steps h))),
-  )
-    where
-      claim : BaseClaim g (calls-of steps) first
-      claim =
-          history-theorem .base g (calls-of steps) first (sym (first-shown-is steps h below) ∙ e)
-          (subst (λ (s : State). skipped-in s < largest-64) (last-shown-is (made g) steps h) below)
+      → (base : ℕ) → next-receive-sequence (last-shown (made g) (all-shown steps) .receive) ≡ some base
+      → (first : ℕ)
+      × (first-shown (all-shown steps) ≡ some first)
+      × (sequence-distance first base ≡ place-shown g steps % (half + half))
+  port-base steps h below base e =
+      let w : (first : ℕ) × (first-base (log-after (calls-of steps) (made g)) ≡ some first)
+      × (skipped-in (state-after (calls-of steps) (made g)) < largest-64
+      → sequence-distance first base ≡ place-of-base g (calls-of steps) % (half + half)) =
+      history-theorem .base g (calls-of steps) base
+      (ap (λ (s : State). next-receive-sequence (s .receive)) (sym (last-shown-is (made g) steps h)) ∙ e)
+      in (
+        w .0,
+        first-shown-is steps h below ∙ w .1,
+        w .2 (subst (λ (s : State). skipped-in s < largest-64) (last-shown-is (made g) steps h) below)
+            ∙ ap (λ (n : ℕ). n % (half + half)) (sym (place-shown-is g steps h)),
+      )
 
   -- While it shows no base, it shows nothing delivered and nothing skipped.
   pub port-unbased : (steps : List Taken) → Performed (made g) steps
       → next-receive-sequence (last-shown (made g) (all-shown steps) .receive) ≡ none
-      → (counts-of (shown-deliveries (all-shown steps)) ≡ 0) × (skipped-in (last-shown (made g) (all-shown steps)) ≡ 0)
-  port-unbased steps h e = (
-    ap counts-of (shown-deliveries-are (made g) steps h) ∙ still .1,
-    ap (λ (s : State). skipped-in s) (last-shown-is (made g) steps h) ∙ still .2,
-  )
-    where
-      still : (first-base (log-after (calls-of steps) (made g)) ≡ none) × (counts-of (deliveries (calls-of steps) (made g)) ≡ 0)
-          × (skipped-in (state-after (calls-of steps) (made g)) ≡ 0)
-      still =
-          unbased-is-still g (calls-of steps)
-          (ap (λ (s : State). next-receive-sequence (s .receive)) (sym (last-shown-is (made g) steps h)) ∙ e)
+      → place-shown g steps ≡ 0
+  port-unbased steps h e =
+      place-shown-is g steps h
+      ∙ history-theorem .unset g (calls-of steps) (ap (λ (s : State). next-receive-sequence (s .receive)) (sym (last-shown-is (made g) steps h)) ∙ e) .1
 
   base-shown-fits : (steps : List Taken) → Performed (made g) steps → (base : ℕ)
       → next-receive-sequence (last-shown (made g) (all-shown steps) .receive) ≡ some base → Fits base
@@ -505,26 +549,6 @@ port-makes-up-nothing g steps h store one =
 
 -- ---- skips
 
--- a call that raises the count, wherever a list of calls has come to
-raising-call : (g : Making) (before : List Asked) (call : Asked)
-    → SkipShown (state-after before (made g)) (did call (shows (do-call call (state-after before (made g)))))
-raising-call g before call risen =
-    let w : (tested : State) × (distance : ℕ)
-    × RightSkip (when-of (call .call) (state-after before (made g)))
-    (delivered-by (do-call call (state-after before (made g)) .answer)) (do-call call (state-after before (made g)) .state) tested
-    (time-of (call .call)) distance
-    × (skipped-in (do-call call (state-after before (made g)) .state)
-    ≡ min (skipped-in (state-after before (made g)) + distance) largest-64) =
-    rise-is-right-skip g before call risen
-    in
-    record {
-      poll = only-polls-deliver call (state-after before (made g)) (w .2 .given) (w .2 .gives);
-      tested = w .0;
-      distance = w .1;
-      right = w .2;
-      rise = w .3;
-    }
-
 skips-shown-from : (g : Making) (before : List Asked) (steps : List Taken) → Performed (state-after before (made g)) steps
     → SkipsShown (state-after before (made g)) steps
 skips-shown-from g before [] h = tt
@@ -533,7 +557,7 @@ skips-shown-from g before (t ∷ steps) h =
     (λ (t : Taken). Performed (shown-of t .state) steps → SkipsShown (state-after before (made g)) (t ∷ steps))
     (state-after before (made g))
     (λ call k. (
-      raising-call g before call,
+      history-theorem .rises g before call,
       subst (λ (x : State). SkipsShown x steps) (sym (performed-on g before call))
           (skips-shown-from g (before ++ (call ∷ [])) steps
           (subst (λ (x : State). Performed x steps) (performed-on g before call) k)),
@@ -591,11 +615,7 @@ module _ (schedule : List Delivery) (first : ℕ) where
   begun w = performed-begins (made (w .making)) (w .before) (w .after) (w .performed)
 
   place-is : (w : Port schedule first) → port-place schedule first w ≡ stands-at schedule first (as-gateway w)
-  place-is w =
-      ap (λ (l : List Delivery). counts-of l + skipped-in (port-state schedule first w))
-      (shown-deliveries-are (made (w .making)) (w .before) (begun w))
-      ∙ ap (λ (s : State). counts-of (deliveries (calls-of (w .before)) (made (w .making))) + skipped-in s)
-      (last-shown-is (made (w .making)) (w .before) (begun w))
+  place-is w = place-shown-is (w .making) (w .before) (begun w)
 
   delivers-is : (w : Port schedule first) → port-delivers schedule first w ≡ delivers schedule first (as-gateway w)
   delivers-is w =
@@ -610,3 +630,10 @@ module _ (schedule : List Delivery) (first : ℕ) where
   ports-agree runs a b e =
       rw (delivers-is a, delivers-is b)
       (history-theorem .gateways schedule first runs (as-gateway a) (as-gateway b) (sym (place-is a) ∙ e ∙ place-is b))
+
+-- For a short schedule the premises follow from the calls.
+pub short-port-is-fair : (schedule : List Delivery) (first : ℕ) → Consecutive first schedule → (g : Making) (before after : List Taken)
+    → FairCalls schedule first g (calls-of before) (calls-of after) → Fair schedule first g (calls-of (before ++ after))
+short-port-is-fair schedule first runs g before after h =
+    subst (Fair schedule first g) (sym (calls-of-both before after))
+    (short-schedule-is-fair schedule first runs g (calls-of before) (calls-of after) h)

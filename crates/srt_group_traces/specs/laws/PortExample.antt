@@ -4,9 +4,8 @@ use mathlib.Core.List.{List, _∷_}
 use mathlib.Core.Option.{some}
 use Rattle.srt_group_model.specs.laws.Computed.{definitions}
 use Rattle.srt_group_model.specs.Lent.{call-poll-data}
-use Rattle.srt_group_traces.specs.Statement.{clerk, Fair}
-use Rattle.srt_group_traces.specs.Calls.{do-call, made, counts-of, skipped-in}
-use Rattle.srt_group_traces.specs.Port.{shows-short, Taken, refused-short, all-shown, calls-of, Performed, shown-delivery, shown-deliveries, shown-told, last-shown, first-shown, SkipsShown}
+use Rattle.srt_group_traces.specs.Statement.{clerk, Fair, do-call, made, counts-of, skipped-in, Delivery, pass-to}
+use Rattle.srt_group_traces.specs.Port.{shows-short, Taken, refused-short, all-shown, calls-of, Performed, shown-delivery, shown-deliveries, shown-told, last-shown, first-shown, SkipsShown, place-shown}
 use Rattle.srt_group_traces.specs.laws.Port.{taking, taking-performs, calls-of-taking, port-has-clerks-list, port-skips}
 use Rattle.srt_group_traces.specs.laws.Example.{group, store-0, store-1, store-2, store-3, output, sends, plain, schedule, runs, calls, fair}
 
@@ -24,7 +23,8 @@ unfolding steps calls-of
 same-calls = calls-of-taking calls (made group)
 
 -- So the list that it shows is the clerk's, who was told of the refusal too.
-pub clerks-list : clerk schedule 0 (shown-told (all-shown steps)) ≡ some (shown-deliveries (all-shown steps))
+pub clerks-list : (left : List Delivery) × (pass-to schedule (place-shown group steps) ≡ some left)
+    × (clerk schedule 0 (shown-told (all-shown steps)) ≡ some record { gave = shown-deliveries (all-shown steps); left = left })
 clerks-list =
     port-has-clerks-list schedule 100 runs group steps performed (subst (Fair schedule 100 group) (sym same-calls) fair)
 

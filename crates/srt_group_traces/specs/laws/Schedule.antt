@@ -9,9 +9,8 @@ use native.Mathlib.Omega.{arith}
 use lib.Dec.{leb, eqb}
 use Rattle.srt_protocol.specs.Sequence.{sequence-further}
 use Rattle.srt_group_model.specs.laws.Reason.{if-true, if-false, if-elim, by-test, not-both, none-some, some-inj}
-use Rattle.srt_group_traces.specs.Statement.{RunsFrom, pass-to}
+use Rattle.srt_group_traces.specs.Statement.{RunsFrom, pass-to, Delivery}
 use Rattle.srt_group_traces.specs.laws.Cases.{le-of, eq-of, leb-yes, eqb-yes}
-use Rattle.srt_group_traces.specs.Calls.{Delivery}
 
 -- ---- laws of places
 
