@@ -16,6 +16,7 @@ pub mod Validity
 pub mod Guards
 pub mod Calls
 pub mod Lent
+pub mod Codes
 -- The replay listing.
 pub mod Listing
 -- Words of the inner functions' contracts.

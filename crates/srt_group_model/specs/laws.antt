@@ -14,6 +14,7 @@ pub mod Arrivals
 pub mod Refusals
 pub mod Moves
 pub mod Frame
+pub mod Codes
 pub mod Walk
 pub mod Base
 pub mod CellLaws
