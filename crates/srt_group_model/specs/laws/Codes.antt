@@ -5,19 +5,19 @@ use mathlib.Core.Bool.{Bool, true, false, not, _&&_, _||_}
 use mathlib.Core.List.{List, [], _∷_, _++_, append-assoc}
 use mathlib.Core.Option.{Option, none, some}
 use Prim.Native.Nat.{ℕ}
-use borrow.Author.Tests.{eqb-true, not-true}
+use borrow.Author.Tests.{eq-eqb, eqb-true, not-true}
 use lib.Dec.{eqb}
 use lib.ListN.{length}
 use Rattle.srt_protocol.specs.Cells.{cells-of, overwritten}
 use Rattle.srt_protocol.specs.Handshake.{has-group-mask}
-use Rattle.srt_group_model.specs.Tools.{any, all, each}
-use Rattle.srt_group_model.specs.laws.Reason.{if-elim, if-true, if-false, by-test, if-some-elim, not-both, none-some, and-left, and-right, or-cases}
+use Rattle.srt_group_model.specs.Tools.{any, all, each, All}
+use Rattle.srt_group_model.specs.laws.Reason.{if-elim, if-true, if-false, by-test, if-some-elim, not-both, none-some, and-left, and-right, and-yes, or-cases, or-yes-left, or-yes-right, all-map, all-append}
 use Rattle.srt_group_model.specs.State.{Member, Receive, Send, State, is-backup, next-receive-sequence, next-send-sequence, backup-carrier, with-receive, with-send, with-members, with-peer, active-state}
 use Rattle.srt_group_model.specs.Legs.{handed, on-sender}
 use Rattle.srt_group_model.specs.Members.{base-after, peer-after, admit-peer-group}
 use Rattle.srt_group_model.specs.Run.{Run, start, set-base, admit-connected-peer-groups, refresh-pending-states, refresh-states}
 use Rattle.srt_group_model.specs.Sending.{Sent, Flow, _and-then_, send-broadcast}
-use Rattle.srt_group_model.specs.Backup.{drop-before, trim-backup-history, trim-by-carrier, replay-on, replay-flight, align-carrier, take-over-backup-flight, send-own, send-after-promotion, send-at-place, send-backup}
+use Rattle.srt_group_model.specs.Backup.{drop-before, trim-backup-history, trim-by-carrier, Replayed, replay-entries, replay-on, replay-flight, align-carrier, take-over-backup-flight, send-own, send-after-promotion, send-at-place, send-backup}
 use Rattle.srt_group_model.specs.Cells.{is-among}
 use Rattle.srt_group_model.specs.Guards.{Step, Check, guard}
 use Rattle.srt_group_model.specs.Calls.{taken-cell, new-code, new-member, add-body, add-member, mark-member-broken, remove-body, remove-member-connection, member, refresh-member-states, disconnect, poll-event-call, poll-data-call, left-by-send, send-flow, send-body, send, can-send-body, can-send-call, can-send-with-pacing-body, can-send-with-pacing-call, time-until-send, backup-stability-timeout-micros, group-id, members-call, mode, peer-group-id, skipped-receive-packets, has-pending-data-call, has-receive-continuation, event-poll-body, data-poll-body, read-leg, queue-data-body, queue-data, queue-event}
@@ -611,6 +611,139 @@ send-before-trying time payload lent s =
   where
     After : Step → Type 0
     After x = Only-refreshed lent s (with-bytes lent x)
+
+-- ---- what a refused send has sent: replays alone
+
+-- the row is of an entry of the history
+abbrev pub Replays : List Entry → Sent → Type 0
+Replays h x = any (λ (e : Entry). eqb (e .sequence) (x .sequence) && eqb (e .cell) (x .cell)) h ≡ true
+
+abbrev Only-replays : List Entry → Flow → Type 0
+Only-replays h f = All (Replays h) (f .sends)
+
+any-behind : (test : Entry → Bool) (front rest : List Entry) → any test rest ≡ true → any test (front ++ rest) ≡ true
+unfolding any
+any-behind test [] rest h = h
+any-behind test (e ∷ es) rest h = or-yes-right (test e) _ (any-behind test es rest h)
+
+replays-wider : (h rest : List Entry) → Rest-of h rest → (rows : List Sent) → All (Replays rest) rows → All (Replays h) rows
+replays-wider h rest part =
+    all-map (Replays rest) (Replays h) (λ x r. subst (λ (es : List Entry). Replays es x) (part .1) (any-behind _ (part .0) rest r))
+
+replay-entries-replay : (time id : ℕ) (es : List Entry) (l : Leg) → All (Replays es) (replay-entries time id es l .sends)
+unfolding replay-entries any
+replay-entries-replay time id [] l = tt
+replay-entries-replay time id (e ∷ es) l =
+    if-some-elim (λ (x : Replayed). All (Replays (e ∷ es)) (x .sends)) _ _ _
+    (λ k g. (
+      or-yes-left (eqb (e .sequence) (e .sequence) && eqb (e .cell) (e .cell)) _ (and-yes (eqb (e .sequence) (e .sequence)) (eqb (e .cell) (e .cell)) (eq-eqb (e .sequence) (e .sequence) refl) (eq-eqb (e .cell) (e .cell) refl)),
+      replays-wider (e ∷ es) es (e ∷ [], refl) (replay-entries time id es k .sends) (replay-entries-replay time id es k),
+    ))
+    (λ g. tt)
+
+replay-on-replays : (time i : ℕ) (m : Member) (l : Leg) (s : State) → Only-replays (s .send .history) (replay-on time i m l s)
+unfolding replay-on
+replay-on-replays time i m l s =
+    if-elim (Only-replays (s .send .history)) _ _ _ (λ e. tt) (λ e. replay-entries-replay time _ (s .send .history) l)
+
+replay-flight-replays : (time i : ℕ) (m : Member) (e : Entry) (s : State) → Only-replays (s .send .history) (replay-flight time i m e s)
+unfolding replay-flight
+replay-flight-replays time i m e s =
+    if-elim (Only-replays (s .send .history)) _ _ _ (λ h. tt)
+    (λ h.
+    if-elim (Only-replays (s .send .history)) _ _ _ (λ k. replay-on-replays time i m (m .leg) s)
+    (λ k. if-some-elim (Only-replays (s .send .history)) _ _ _ (λ l g. replay-on-replays time i m l s) (λ g. tt)))
+
+align-carrier-replays : (h : List Entry) (i : ℕ) (s : State) → Only-replays h (align-carrier i s)
+unfolding align-carrier
+align-carrier-replays h i s =
+    if-elim (Only-replays h) _ _ _ (λ e. if-some-elim (Only-replays h) _ _ _ (λ ms g. tt) (λ g. tt)) (λ e. tt)
+
+take-over-replays : (time i : ℕ) (s : State) → Only-replays (s .send .history) (take-over-backup-flight time i s)
+unfolding take-over-backup-flight
+take-over-replays time i s =
+    if-some-elim (Only-replays (s .send .history)) _ _ _
+    (λ m at.
+    if-elim (Only-replays (s .send .history)) _ _ _
+    (λ h.
+    if-some-elim (Only-replays (s .send .history)) _ _ _
+    (λ e k.
+    replays-wider (s .send .history) _ (trims-by-carrier s .history) (replay-flight time i m e (trim-by-carrier s) .sends)
+    (replay-flight-replays time i m e (trim-by-carrier s)))
+    (λ k. align-carrier-replays (s .send .history) i _))
+    (λ h. align-carrier-replays (s .send .history) i s))
+    (λ at. tt)
+
+abbrev Refused-replays : State → Flow → Type 0
+Refused-replays s f = eqb (f .code) 0 ≡ false → Only-replays (s .send .history) f
+
+and-then-replays : (s : State) (x : Flow) (f : State → Flow) → Only-replays (s .send .history) x → Flow-trims s x → Refused-replays (x .state) (f (x .state))
+    → Refused-replays s (x and-then f)
+unfolding _and-then_
+and-then-replays s x f h t k =
+    if-elim (Refused-replays s) _ _ _
+    (λ e refused.
+    all-append (Replays (s .send .history)) (x .sends) (f (x .state) .sends) h
+    (replays-wider (s .send .history) _ (t .history) (f (x .state) .sends) (k refused)))
+    (λ e refused. h)
+
+send-own-replays : (time size cell sequence i : ℕ) (failed : Member → State → Flow) (s : State)
+    → ((m : Member) → Refused-replays s (failed m s)) → Refused-replays s (send-own time size cell sequence i failed s)
+unfolding send-own
+send-own-replays time size cell sequence i failed s h =
+    if-some-elim (Refused-replays s) _ _ _
+    (λ m at. if-some-elim (Refused-replays s) _ _ _ (λ l g refused. not-both refl refused) (λ g. h m))
+    (λ at refused. tt)
+
+send-after-promotion-replays : (time size cell sequence i : ℕ) (m : Member) (s : State)
+    → Refused-replays s (send-after-promotion time size cell sequence i m s)
+unfolding send-after-promotion
+send-after-promotion-replays time size cell sequence i m s =
+    if-some-elim (Refused-replays s) _ _ _
+    (λ j g.
+    and-then-replays s (take-over-backup-flight time j _) _ (take-over-replays time j _) (take-over-trims time j _)
+    (send-own-replays time size cell sequence j _ _ (λ n refused. tt)))
+    (λ g refused. tt)
+
+send-at-place-replays : (time size cell i : ℕ) (s : State) → Refused-replays s (send-at-place time size cell i s)
+unfolding send-at-place
+send-at-place-replays time size cell i s =
+    if-some-elim (Refused-replays s) _ _ _
+    (λ m at.
+    if-elim (Refused-replays s) _ _ _ (λ h refused. tt)
+    (λ h. send-own-replays time size cell _ i _ s (λ n. send-after-promotion-replays time size cell _ i n s)))
+    (λ at refused. tt)
+
+backup-replays : (time size cell : ℕ) (s : State) → Refused-replays s (send-backup time size cell s)
+unfolding send-backup
+backup-replays time size cell s =
+    if-some-elim (Refused-replays s) _ _ _
+    (λ i g.
+    and-then-replays s (take-over-backup-flight time i _) _ (take-over-replays time i _) (take-over-trims time i _) (send-at-place-replays time size cell i _))
+    (λ g refused. tt)
+
+flow-replays : (cell time : ℕ) (payload : List ℕ) (s : State) → Refused-replays s (send-flow cell time payload s (refresh-states (start s)))
+unfolding send-flow
+flow-replays cell time payload s =
+    let r = refresh-states (start s) .state in
+    let same : r .send .history ≡ s .send .history = ap (λ (x : State). x .send .history) (refresh-admits s .rest) in
+    if-elim (Refused-replays s) _ _ _ (λ e refused. tt)
+    (λ e.
+    if-elim (Refused-replays s) _ _ _
+    (λ b refused.
+    subst (λ (h : List Entry). Only-replays h (send-backup time (length payload) cell r)) same (backup-replays time (length payload) cell r refused))
+    (λ b refused. subst (All (Replays (s .send .history))) (sym (broadcast-unsent time (length payload) r refused .sends)) tt))
+
+-- A refused send has not sent its own payload: every row that it wrote is a replay.
+pub refused-send-replays : (store list time : ℕ) (payload : List ℕ) (s : State) → (send store list time payload s .code ≡ 0 → ⊥)
+    → All (Replays (s .send .history)) (send store list time payload s .sends)
+unfolding send send-body left-by-send
+refused-send-replays store list time payload s =
+    guard-elim After _ s _ (λ code h. tt)
+    (if-elim After _ _ _ (λ e h. absurd (h refl)) (λ e h. flow-replays (taken-cell (cells-of store) s) time payload s e))
+  where
+    After : Step → Type 0
+    After x = (x .code ≡ 0 → ⊥) → All (Replays (s .send .history)) (x .sends)
 
 -- ---- computed: a take-over of three sends from 50 on
 
