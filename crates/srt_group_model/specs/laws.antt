@@ -15,6 +15,7 @@ pub mod Refusals
 pub mod Moves
 pub mod Frame
 pub mod Codes
+pub mod Midway
 pub mod Walk
 pub mod Base
 pub mod CellLaws

@@ -174,7 +174,7 @@ send-backup-ends time size cell s =
     (λ i g. and-then-ends (take-over-backup-flight time i _) _ (take-over-ends time i _) (send-at-place-ends time size cell i))
     (λ g. refl)
 
-send-broadcast-ends : (time size : ℕ) (s : State) → Gives broadcast-codes (send-broadcast time size s)
+pub send-broadcast-ends : (time size : ℕ) (s : State) → Gives broadcast-codes (send-broadcast time size s)
 unfolding send-broadcast any
 send-broadcast-ends time size s =
     if-elim (Gives broadcast-codes) _ _ _ (λ h. refl)
