@@ -8,14 +8,15 @@ use borrow.Author.Tests.{eq-eqb}
 use lib.Dec.{eqb}
 use lib.ListN.{replicate}
 use Rattle.srt_protocol.specs.Cells.{output-size}
+use Rattle.srt_group_model.specs.State.{Making}
 use Rattle.srt_group_model.specs.Legs.{moment}
 use Rattle.srt_group_model.specs.Sending.{list-size}
 use Rattle.srt_group_model.specs.Lent.{Call, call-add-member, call-queue-data}
 use Rattle.srt_group_model.specs.laws.Reason.{not-both, and-yes}
-use Rattle.srt_group_traces.specs.Calls.{Asked, Delivery, Making}
+use Rattle.srt_group_traces.specs.Calls.{Asked, Delivery}
 
 unfoldable pub group : Making
-group = record { id = 1073741825; mode = 0; store-length = 0 }
+group = record { id = 1073741825; mode = 0; length = 0 }
 
 unfoldable pub store-0 : List ℕ
 store-0 = replicate 5824 0

@@ -13,7 +13,7 @@ group-of members =
             counts = record { members = members; pending = 0; waiting = 0 };
             receiving = record { based = 0; base = 0; skipped = 0 };
             visit = record { continuation = 0; round = 0 };
-            owned = 0;
+            own = record { reserved = 0 };
           };
       sending = record { numbered = 0; next = 0; carried = 0; carrier = 0; gap = 0 };
       ring = record { start = 0; length = 0 };

@@ -15,6 +15,7 @@ use cell_set::lowest_free;
 use cell_set::take;
 use srt_connection_members::pop_at;
 use srt_group::Group;
+use srt_group_model::Account;
 use srt_group_model::Core;
 use srt_group_model::Counts;
 use srt_group_model::Data;
@@ -87,7 +88,7 @@ fn made(members: usize) -> Group
             continuation: 0,
             round: 0,
         },
-        owned: 0,
+        own: Account { reserved: 0 },
     };
     Group {
         identity: Identity {

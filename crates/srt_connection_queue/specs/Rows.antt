@@ -69,13 +69,13 @@ membership-of w =
       weight = word w 1;
       state = word w 2;
       admitted = word w 3;
-      reserved = word w 4;
+      account = record { reserved = word w 4 };
       collision = record { expected = word w 5; actual = word w 6 };
     }
 
 unfoldable pub membership-words : Membership → List ℕ
 membership-words x =
-    x .id ∷ x .weight ∷ x .state ∷ x .admitted ∷ x .reserved ∷ x .collision .expected ∷ x .collision .actual ∷ 0 ∷ 0 ∷ []
+    x .id ∷ x .weight ∷ x .state ∷ x .admitted ∷ x .account .reserved ∷ x .collision .expected ∷ x .collision .actual ∷ 0 ∷ 0 ∷ []
 
 unfoldable pub link-part-of : List ℕ → LinkPart
 link-part-of w =

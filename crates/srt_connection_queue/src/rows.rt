@@ -5,6 +5,7 @@ ghost use Prim.Native.Nat.{_<_};
 ghost use lib.ListN.{length};
 ghost use Rattle.srt_connection_queue.specs.Rows.{part-size, link-part, receiver-part, parts, row-size, part, put-part, membership-of, membership-words, link-part-of, link-part-words, sender-of, sender-words, receiver-of, receiver-in, ring-of, ring-in, event-of, event-words, member-of, Kept, with-membership, with-link-trip, with-sender, with-receiver};
 ghost use Rattle.srt_group_model.specs.State.{with-leg};
+use srt_group_model::Account;
 use srt_group_model::Collision;
 use srt_group_model::Data;
 use srt_group_model::Event;
@@ -78,7 +79,7 @@ fn read_membership(words: &[u64]) -> Membership
         weight: words[1],
         state: words[2],
         admitted: words[3],
-        reserved: words[4],
+        account: Account { reserved: words[4] },
         collision: Collision {
             expected: words[5],
             actual: words[6],
@@ -94,7 +95,7 @@ fn write_membership(words: &mut [u64], membership: Membership)
     words[1] = membership.weight;
     words[2] = membership.state;
     words[3] = membership.admitted;
-    words[4] = membership.reserved;
+    words[4] = membership.account.reserved;
     words[5] = membership.collision.expected;
     words[6] = membership.collision.actual;
     words[7] = 0;

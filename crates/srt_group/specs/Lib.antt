@@ -1,3 +1,1 @@
 pub mod Made
--- What is proved.
-pub mod laws

@@ -5,6 +5,7 @@ ghost use lib.ListN.{length};
 ghost use Rattle.srt_group_model.specs.Backup.{max-history};
 ghost use Rattle.srt_group_model.specs.Calls.{new};
 ghost use Rattle.srt_group.specs.Made.{Fresh};
+use srt_group_model::Account;
 use srt_group_model::Core;
 use srt_group_model::Counts;
 use srt_group_model::Identity;
@@ -36,7 +37,7 @@ impl Group {
     // A fresh group over tables of which no row is in use. The store's length is fixed by it, or 0. The mode is 0 for Broadcast, 1 for
     // Backup.
     pub fn new(id: u64, mode: u64, length: usize) -> Self
-        ensures { λ r. ⌜ Fresh r (new id mode length) ⌝ }
+        ensures { λ r. ⌜ Fresh r (new record { id = id; mode = mode; length = length }) ⌝ }
     {
         let core = Core {
             mode,
@@ -55,7 +56,7 @@ impl Group {
                 continuation: 0,
                 round: 0,
             },
-            owned: 0,
+            own: Account { reserved: 0 },
         };
         Self {
             identity: Identity { id, length },

@@ -31,7 +31,7 @@ pub record Holdable (held : ℕ) (pending : List ℕ) (p : Packet) (m : Member) 
   pub sequence : p .content .sequence ≤ largest-sequence
   pub cell : p .content .cell < max-cells
   pub apart : is-among (p .content .cell) (pending-cells (packets held pending)) ≡ false
-  pub reserved : m .membership .reserved + p .content .count < 18446744073709551616
+  pub reserved : m .membership .account .reserved + p .content .count < 18446744073709551616
 
 -- over any waiting events, which stay
 pub record Retained (i : ℕ) (p : Packet) (core : Core) (ms ps : List ℕ) (after : Core) (ms′ ps′ : List ℕ) : Type 0 where

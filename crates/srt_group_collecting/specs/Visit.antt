@@ -26,25 +26,6 @@ use Rattle.srt_group_collecting.specs.Collect.{Holdable}
 
 -- ---- definitions
 
-abbrev pub with-visit : Visit → Core → Core
-with-visit v c =
-    record {
-      counts = c .counts;
-      mode = c .mode;
-      peer = c .peer;
-      receiving = c .receiving;
-      visit = v;
-      owned = c .owned;
-    }
-
--- the round goes on at a place
-abbrev pub with-next : ℕ → Core → Core
-with-next n c = with-visit record { continuation = c .visit .continuation; round = n } c
-
--- the continuation's word is another
-abbrev pub continued : ℕ → Core → Core
-continued n c = with-visit record { continuation = n; round = c .visit .round } c
-
 abbrev pub packet-from : ℕ → Event → Packet
 packet-from id e = record { member = id; owned = 0; content = e .content }
 

@@ -7,7 +7,8 @@ ghost use lib.Dec.{eqb};
 ghost use lib.ListN.{length};
 ghost use Rattle.srt_protocol.specs.Sequence.{sequence-before};
 ghost use Rattle.srt_group_model.specs.Tools.{is-set, bit, flagged, if-some_give_otherwise_};
-ghost use Rattle.srt_group_model.specs.State.{on-membership, with-reserved};
+ghost use Rattle.srt_group_model.specs.State.{on-membership, on-account};
+ghost use Rattle.srt_group_model.specs.Accounts.{reserve};
 ghost use Rattle.srt_group_model.specs.Collecting.{is-discarded, take-front, collect-one-event, has-pending-data};
 ghost use Rattle.srt_group_model.specs.Nearest.{is-held};
 ghost use Rattle.srt_group_model.specs.Validity.{max-waiting, max-pending, max-members, ascends};
@@ -16,6 +17,7 @@ ghost use Rattle.srt_connection_queue.specs.Rows.{row-size};
 ghost use Rattle.srt_group_members.specs.Scan.{Became};
 ghost use Rattle.srt_group_tables.specs.Packets.{pending-size, packets};
 ghost use Rattle.srt_group_tables.specs.Waitings.{waiting-size};
+ghost use Rattle.srt_group_shown.specs.Cores.{with-next, continued};
 ghost use Rattle.srt_group_shown.specs.Tables.{receive-tables};
 ghost use Rattle.cell_set.specs.Sets.{Freed};
 ghost use Rattle.cell_set.specs.Shows.{freed-by};
@@ -24,7 +26,7 @@ ghost use Rattle.srt_group_collecting.specs.Leaves.{Usable};
 ghost use Rattle.srt_group_collecting.specs.Follows.{Follows};
 ghost use Rattle.srt_group_collecting.specs.Collect.{receive-of, Holdable, Retained, broken-by, Reported};
 ghost use Rattle.srt_group_collecting.specs.Gather.{Shows, HeldVisit, Gathers, Empties};
-ghost use Rattle.srt_group_collecting.specs.Visit.{freed-by-event, with-next, continued, Collectable, Collected, Visits, Collects};
+ghost use Rattle.srt_group_collecting.specs.Visit.{freed-by-event, Collectable, Collected, Visits, Collects};
 use cell_set::free;
 use srt_connection_members::Found as FoundMember;
 use srt_connection_members::membership_at;
@@ -32,6 +34,7 @@ use srt_connection_members::poll_event_for_group_at;
 use srt_connection_members::put_membership_at;
 use srt_connection_members::release_data_reservation_at;
 use srt_connection_queue::queue::LegPoll;
+use srt_group_members::accounts;
 use srt_group_members::collecting::in_turn;
 use srt_group_members::promotion::promote_backup_member;
 use srt_group_members::states::BROKEN;
@@ -103,12 +106,13 @@ fn is_late(receiving: Receiving, sequence: u64) -> bool
 // The count of a packet that is held for a member is added to its sum.
 fn reserve_at(members: &mut [u64], index: usize, count: u64)
     requires { ⌜ has-row index (now members) ⌝ }
-    requires { ⌜ member-at (now members) index .membership .reserved + count < 18446744073709551616 ⌝ }
-    ensures { λ _. ⌜ Changed index (on-membership (λ x. with-reserved (x .reserved + count) x))
+    requires { ⌜ member-at (now members) index .membership .account .reserved + count < 18446744073709551616 ⌝ }
+    ensures { λ _. ⌜ Changed index (on-account (reserve count))
         (now (members .entry)) (now (members .exit)) ⌝ }
 {
     let mut membership = membership_at(members, index);
-    membership.reserved += count;
+    let account = accounts::reserve_packet(membership.account, count);
+    membership.account = account;
     put_membership_at(members, index, membership);
 }
 

@@ -9,12 +9,14 @@ use Rattle.srt_group_model.specs.declared.Core.{Core}
 use Rattle.srt_group_model.specs.declared.Leg.{Leg}
 use Rattle.srt_group_model.specs.declared.Packet.{Packet}
 use Rattle.srt_group_model.specs.Tools.{if-some_give_otherwise_}
-use Rattle.srt_group_model.specs.State.{Member, on-leg, on-membership, with-reserved}
+use Rattle.srt_group_model.specs.State.{Member, on-leg, on-membership, on-account}
+use Rattle.srt_group_model.specs.Accounts.{release}
 use Rattle.srt_group_model.specs.Legs.{gives-up-at, release-data-reservation}
 use Rattle.srt_group_model.specs.Validity.{max-pending, max-members, ascends}
 use Rattle.srt_group_model.specs.Delivery.{release-all, deliver-packet}
 use Rattle.srt_connection_members.specs.Members.{members-size}
 use Rattle.srt_group_tables.specs.Packets.{pending-size, packets}
+use Rattle.srt_group_shown.specs.Cores.{with-own-account}
 use Rattle.srt_group_shown.specs.Shown.{Rest, shown}
 use Rattle.srt_group_shown.specs.Tables.{receive-tables}
 use Rattle.srt_group_collecting.specs.Leaves.{Leaves}
@@ -40,23 +42,12 @@ leg-given-up time source l = if-some gives-up-at source l give (λ moment. leb m
 -- a member's sum and its leg's reservation, less a count
 abbrev pub release-member : ℕ → Member → Member
 release-member count m =
-    on-leg (release-data-reservation count) (on-membership (λ x. with-reserved (x .reserved - count) x) m)
-
-abbrev pub with-owned-sum : ℕ → Core → Core
-with-owned-sum n c =
-    record {
-      counts = c .counts;
-      mode = c .mode;
-      peer = c .peer;
-      receiving = c .receiving;
-      visit = c .visit;
-      owned = n;
-    }
+    on-leg (release-data-reservation count) (on-account (release count) m)
 
 -- these packets' reservations are released, over any held packets and waiting events: only the group's own sum and the members'
 -- sums change
 pub record Released (l : List Packet) (core : Core) (ms : List ℕ) (after : Core) (ms′ : List ℕ) : Type 0 where
-  pub rest : after ≡ with-owned-sum (after .owned) core
+  pub rest : after ≡ with-own-account (after .own) core
   pub long : length ms′ ≡ length ms
   pub state : (others : Rest) (ps ws : List ℕ) → release-all l (shown core others ms ps ws) ≡ shown after others ms′ ps ws
 

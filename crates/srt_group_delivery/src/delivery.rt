@@ -25,7 +25,7 @@ ghost use Rattle.srt_group_delivery.specs.Poll.{Polls, Skips, Bases};
 use cell_set::free;
 use srt_connection::legs;
 use srt_connection::legs::Deadline;
-use srt_connection::legs::less;
+use srt_group_members::accounts;
 use srt_group_members::states::all_disconnected;
 use srt_group_model::Core;
 use srt_group_model::Leg;
@@ -106,8 +106,8 @@ fn release_at(members: &mut [u64], index: usize, count: u64)
     ensures { λ _. ⌜ Changed index (release-member count) (now (members .entry)) (now (members .exit)) ⌝ }
 {
     let mut membership = srt_connection_members::membership_at(members, index);
-    let reserved = less(membership.reserved, count);
-    membership.reserved = reserved;
+    let account = accounts::release_packet(membership.account, count);
+    membership.account = account;
     srt_connection_members::put_membership_at(members, index, membership);
     srt_connection_members::release_data_reservation_at(members, index, count);
 }
@@ -119,8 +119,8 @@ fn release_pending_reservation(mut core: Core, members: &mut [u64], packet: Pack
 {
     let run = packet.content.count;
     if packet.owned == 1 {
-        let owned = less(core.owned, run);
-        core.owned = owned;
+        let own = accounts::release_packet(core.own, run);
+        core.own = own;
         return core;
     }
     let count = core.counts.members;

@@ -225,7 +225,7 @@ send-at-place time size cell i =
 
 unfoldable pub send-backup : (time size cell : ℕ) → State → Flow
 send-backup time size cell s =
-    let ready = with-members (promote-if-none (s .mode) (demote-stale-backup-carrier time (s .members))) s in
+    let ready = with-members (promote-if-none (s .making .mode) (demote-stale-backup-carrier time (s .members))) s in
     if-some first-active (ready .members)
     give (λ i. take-over-backup-flight time i ready and-then send-at-place time size cell i)
     otherwise ends-with 24 ready

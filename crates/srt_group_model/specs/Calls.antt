@@ -9,7 +9,8 @@ use lib.ListN.{length}
 use Rattle.srt_protocol.specs.Handshake.{has-group-mask}
 use Rattle.srt_protocol.specs.Cells.{cell-size, cells-of, max-cells, output-size}
 use Rattle.srt_group_model.specs.Tools.{if_then_else_, if-some_give_otherwise_, is-set, is-empty, any, first-such, change, each}
-use Rattle.srt_group_model.specs.State.{Member, State, is-backup, next-send-sequence, with-members, with-peer, on-leg, with-queue, turned, pending-state, active-state, standby-state, broken-state}
+use Rattle.srt_group_model.specs.State.{Member, Making, State, is-backup, next-send-sequence, with-members, with-peer, on-leg, with-queue, turned, pending-state, active-state, standby-state, broken-state}
+use Rattle.srt_group_model.specs.Accounts.{no-packets}
 use Rattle.srt_group_model.specs.Legs.{reading-of, goes-back, handed, is-connected, disconnect-leg, can-send, can-send-with-pacing, has-sender, add-reservation, largest-sequence, largest-16, largest-32, largest-64}
 use Rattle.srt_group_model.specs.Members.{has-id, find, is-active, has-active-member, promote-if-none, base-after, peer-after, admit-peer-group, align-member-sequence, found}
 use Rattle.srt_group_model.specs.Run.{put, Run, start, set-base, refresh-states}
@@ -30,7 +31,7 @@ use Rattle.srt_group_model.specs.declared.Leg.{Leg}
 -- 5: the store's length differs from the one given at the start, if any was, or is below one cell
 unfoldable pub store-unfit : ℕ → State → Bool
 store-unfit store s =
-    (not (eqb (s .identity .length) 0) && not (eqb store (s .identity .length))) || ltb store cell-size
+    (not (eqb (s .making .length) 0) && not (eqb store (s .making .length))) || ltb store cell-size
 
 -- 5: no room for the head and a whole payload
 abbrev pub output-unfit : ℕ → Bool
@@ -42,7 +43,7 @@ list-unfit list = ltb list list-size
 
 -- the cells of a call that is lent no store: those of the length given at the start, else the most that there can be
 unfoldable pub cells-given : State → ℕ
-cells-given s = if eqb (s .identity .length) 0 then max-cells else cells-of (s .identity .length)
+cells-given s = if eqb (s .making .length) 0 then max-cells else cells-of (s .making .length)
 
 -- 6, of a call that is lent no store
 abbrev pub breaks-rule : State → Bool
@@ -61,22 +62,22 @@ change-member id f s = if-some find id (s .members) give (λ i. with-members (ch
 
 -- ---- `new`: 2 for an id or a mode out of range, 1 for an id without the mark
 
-unfoldable pub new : (id mode store-length : ℕ) → State
-new id mode store-length =
+unfoldable pub new : Making → State
+new making =
     record {
-      identity = record { id = id; length = store-length };
-      mode = mode;
+      making = making;
       peer = 0;
       receive = record { numbers = record { based = 0; base = 0; skipped = 0 }; pending = [] };
       send = record { numbers = record { numbered = 0; next = 0; carried = 0; carrier = 0; gap = 0 }; history = [] };
       visit = record { continuation = 0; round = 0 };
-      owned = 0;
+      own = no-packets;
       members = [];
       waiting = [];
     }
 
-unfoldable pub new-code : (id mode : ℕ) → ℕ
-new-code id mode = if above largest-32 id || above 1 mode then 2 else (if has-group-mask id then 0 else 1)
+unfoldable pub new-code : Making → ℕ
+new-code making =
+    if above largest-32 (making .id) || above 1 (making .mode) then 2 else (if has-group-mask (making .id) then 0 else 1)
 
 -- ---- members
 
@@ -94,9 +95,9 @@ new-member id weight l s =
           record {
             id = id;
             weight = weight;
-            state = state-at-addition (s .mode) l (s .members);
+            state = state-at-addition (s .making .mode) l (s .members);
             admitted = 0;
-            reserved = 0;
+            account = no-packets;
             collision = record { expected = 0; actual = 0 };
           };
       leg = l;
@@ -194,7 +195,7 @@ poll-data-call store output time max-events s =
 -- What a send under way leaves. A Backup send that succeeds has put its payload into the cell.
 unfoldable pub left-by-send : ℕ → List ℕ → Run → Flow → Step
 left-by-send cell payload r flow =
-    let backup = is-backup (r .state .mode) in
+    let backup = is-backup (r .state .making .mode) in
     if eqb (flow .code) 0
     then
     record {
@@ -215,7 +216,7 @@ send-flow cell time payload s r =
     if above-limit size (r .state .members)
     then ends-with 23 (r .state)
     else
-    (if is-backup (s .mode) then send-backup time size cell (r .state) else send-broadcast time size (r .state))
+    (if is-backup (s .making .mode) then send-backup time size cell (r .state) else send-broadcast time size (r .state))
 
 unfoldable pub send-body : (cell time : ℕ) → List ℕ → State → Step
 send-body cell time payload s =
@@ -235,13 +236,13 @@ send store list time payload s =
     guard
     ((5 when (store-unfit store s || list-unfit list)) ∷ (6 when is-invalid (cells-of store) s)
     ∷ (2 when above largest-64 time) ∷ (4 when above cell-size (length payload))
-    ∷ (30 when (is-backup (s .mode) && no-free-cell (cells-of store) s)) ∷ [])
+    ∷ (30 when (is-backup (s .making .mode) && no-free-cell (cells-of store) s)) ∷ [])
     s (send-body (taken-cell (cells-of store) s) time payload s)
 
 unfoldable pub can-send-body : State → Step
 can-send-body s =
     let r = refresh-states (start s) in
-    if is-backup (s .mode)
+    if is-backup (s .making .mode)
     then
     (let t = trim-by-carrier (r .state) in
     record { state = t; code = 0; answer = truth (backup-send-ready none t); put = none; sends = []; log = r .log })
@@ -253,10 +254,10 @@ can-send-call s = guard ((6 when breaks-rule s) ∷ []) s (can-send-body s)
 unfoldable pub can-send-with-pacing-body : (time : ℕ) → State → Step
 can-send-with-pacing-body time s =
     let r = refresh-states (start s) in
-    if is-backup (s .mode)
+    if is-backup (s .making .mode)
     then
     (let demoted =
-    with-members (promote-if-none (s .mode) (demote-stale-backup-carrier time (r .state .members))) (r .state)
+    with-members (promote-if-none (s .making .mode) (demote-stale-backup-carrier time (r .state .members))) (r .state)
     in
     let t = trim-by-carrier demoted in
     record { state = t; code = 0; answer = truth (backup-send-ready (some time) t); put = none; sends = []; log = r .log })
@@ -289,11 +290,11 @@ members-call s =
     guard ((6 when breaks-rule s) ∷ []) s (accept s (memberships (each (λ m. m .membership) (s .members))))
 
 unfoldable pub group-id : State → Step
-group-id s = guard ((6 when breaks-rule s) ∷ []) s (accept s (number (s .identity .id)))
+group-id s = guard ((6 when breaks-rule s) ∷ []) s (accept s (number (s .making .id)))
 
 -- 0 Broadcast, 1 Backup
 unfoldable pub mode : State → Step
-mode s = guard ((6 when breaks-rule s) ∷ []) s (accept s (number (s .mode)))
+mode s = guard ((6 when breaks-rule s) ∷ []) s (accept s (number (s .making .mode)))
 
 unfoldable pub peer-group-id : State → Step
 peer-group-id s =

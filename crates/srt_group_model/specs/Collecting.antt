@@ -8,7 +8,8 @@ use lib.Dec.{leb, eqb}
 use lib.ListN.{length, drop}
 use Rattle.srt_protocol.specs.Sequence.{sequence-before}
 use Rattle.srt_group_model.specs.Tools.{if_then_else_, if-some_give_otherwise_, is-set, is-empty, place-of, at-place, change}
-use Rattle.srt_group_model.specs.State.{Member, Receive, State, is-backup, next-receive-sequence, with-receive, with-members, with-waiting, with-pending, with-continuation, with-round, on-leg, with-queue, on-membership, turned, with-reserved, broken-state}
+use Rattle.srt_group_model.specs.State.{Member, Receive, State, is-backup, next-receive-sequence, with-receive, with-members, with-waiting, with-pending, with-continuation, with-round, on-leg, with-queue, on-membership, turned, broken-state, on-account}
+use Rattle.srt_group_model.specs.Accounts.{reserve}
 use Rattle.srt_group_model.specs.Legs.{release-data-reservation}
 use Rattle.srt_group_model.specs.Members.{id-of, promote-backup-member}
 use Rattle.srt_group_model.specs.Nearest.{sequence-of, is-held, insert}
@@ -35,7 +36,7 @@ retain-group-packet i p s =
     else
     with-receive (with-pending (insert p (s .receive .pending)) (s .receive))
     (with-members
-    (change i (on-membership (λ x. with-reserved (x .reserved + p .content .count) x)) (s .members))
+    (change i (on-account (reserve (p .content .count))) (s .members))
     s)
 
 -- an event that is no data waits to be given; an error or a disconnect breaks its member and, in Backup, promotes another
@@ -47,7 +48,7 @@ report-event i w s =
     (if leb 2 (w .kind)
     then
     (let broken = change i (turned broken-state) ms in
-    if is-backup (s .mode) then promote-backup-member broken else broken)
+    if is-backup (s .making .mode) then promote-backup-member broken else broken)
     else ms)
     s)
 

@@ -7,7 +7,8 @@ use lib.Dec.{leb, eqb}
 use lib.ListN.{drop}
 use Rattle.srt_protocol.specs.Sequence.{sequence-distance, sequence-further}
 use Rattle.srt_group_model.specs.Tools.{if_then_else_, if-some_give_otherwise_, is-set, or-else, is-empty, all, first-such, at-place, change, each}
-use Rattle.srt_group_model.specs.State.{Member, Receive, State, with-receive, with-owned, with-members, with-waiting, with-base, with-pending, on-leg, on-membership, with-reserved}
+use Rattle.srt_group_model.specs.State.{Member, Receive, State, with-receive, with-members, with-waiting, with-base, with-pending, on-leg, on-membership, with-own, on-account}
+use Rattle.srt_group_model.specs.Accounts.{release}
 use Rattle.srt_group_model.specs.Legs.{is-disconnected, gives-up-at, release-data-reservation, advance-receive-sequence, largest-64}
 use Rattle.srt_group_model.specs.Members.{has-id, find}
 use Rattle.srt_group_model.specs.Nearest.{sequence-of, is-held, held-at, nearest, covered, not-covered}
@@ -40,7 +41,7 @@ unfoldable pub release-pending-reservation : Packet → State → State
 release-pending-reservation p s =
     let count = p .content .count in
     if eqb (p .owned) 1
-    then with-owned (s .owned - count) s
+    then with-own (release count (s .own)) s
     else
     (if-some find (p .member) (s .members)
     give
@@ -48,7 +49,7 @@ release-pending-reservation p s =
     with-members
     (change i
     (λ m.
-    on-leg (release-data-reservation count) (on-membership (λ x. with-reserved (x .reserved - count) x) m))
+    on-leg (release-data-reservation count) (on-account (release count) m))
     (s .members))
     s)
     otherwise s)

@@ -1,6 +1,7 @@
 -- The definitions, in the order in which to read them. They are all that a reader has to believe.
 pub mod Tools
 pub mod State
+pub mod Accounts
 pub mod Legs
 pub mod Members
 pub mod Nearest

@@ -7,7 +7,7 @@ use lib.Dec.{eqb}
 use lib.ListN.{getD}
 use Rattle.srt_protocol.specs.Cells.{cell-size, output-size}
 use Rattle.srt_group_model.specs.Tools.{if_then_else_, if-some_give_otherwise_, at-place}
-use Rattle.srt_group_model.specs.State.{State}
+use Rattle.srt_group_model.specs.State.{State, Making}
 use Rattle.srt_group_model.specs.Legs.{moment}
 use Rattle.srt_group_model.specs.Delivery.{max-visits}
 use Rattle.srt_group_model.specs.Validity.{above}
@@ -106,13 +106,11 @@ pub record Told : Type 0 where
 -- verb 1: a new group in place of the old, which stays if the line is refused
 unfoldable pub tell-new : Line → Option State → Told
 tell-new line old =
-    let code = new-code (column 1 line) (column 2 line) in
+    let making : Making = record { id = column 1 line; mode = column 2 line; length = store-length } in
+    let code = new-code making in
     if eqb code 0
     then
-    record {
-      group = some (new (column 1 line) (column 2 line) store-length);
-      line = 1 ∷ 0 ∷ 0 ∷ 0 ∷ 0 ∷ 0 ∷ [];
-    }
+    record { group = some (new making); line = 1 ∷ 0 ∷ 0 ∷ 0 ∷ 0 ∷ 0 ∷ [] }
     else record { group = old; line = refused-line 1 code }
 
 unfoldable pub tell-verb : (Line → State → Step) → Line → Option State → Told

@@ -5,7 +5,8 @@ use Prim.Native.Nat.{ℕ, zero, suc, _+_, _-_, min, max}
 use lib.Dec.{leb, eqb}
 use lib.ListN.{length}
 use Rattle.srt_group_model.specs.Tools.{if_then_else_, if-some_give_otherwise_, such-that, each, without-place}
-use Rattle.srt_group_model.specs.State.{Member, State, next-receive-sequence, with-receive, with-owned, with-members, with-pending, with-round}
+use Rattle.srt_group_model.specs.State.{Member, State, next-receive-sequence, with-receive, with-members, with-pending, with-round, with-own}
+use Rattle.srt_group_model.specs.Accounts.{release, add-account}
 use Rattle.srt_group_model.specs.Legs.{with-reservation}
 use Rattle.srt_group_model.specs.Members.{id-of}
 use Rattle.srt_group_model.specs.Nearest.{sequence-of, has-sequence, nearest, farthest}
@@ -27,7 +28,7 @@ largest-window window (m ∷ ms) = max (m .leg .receiver .window) (largest-windo
 -- the one packet with that sequence is retired, and the group's sum falls by its count
 unfoldable pub retire : Packet → State → State
 retire p s =
-    with-owned (s .owned - p .content .count)
+    with-own (release (p .content .count) (s .own))
     (with-receive (with-pending (such-that (λ q. not (has-sequence (sequence-of p) q)) (s .receive .pending)) (s .receive)) s)
 
 -- While the sum of the group's own exceeds the limit, the one farthest ahead of `base` is retired: at most as many as are held.
@@ -35,7 +36,7 @@ unfoldable pub bound-group-owned-pending : (left limit base : ℕ) → State →
 bound-group-owned-pending zero limit base s = s
 bound-group-owned-pending (suc left) limit base s =
     if-some farthest base (such-that is-owned (s .receive .pending))
-    give (λ p. let later = bound-group-owned-pending left limit base (retire p s) in if leb (s .owned) limit then s else later)
+    give (λ p. let later = bound-group-owned-pending left limit base (retire p s) in if leb (s .own .reserved) limit then s else later)
     otherwise s
 
 -- where distances are taken from: the base, if unset the nearest held packet
@@ -49,7 +50,7 @@ retirement-base s =
 unfoldable pub take-out : ℕ → Member → State → State
 take-out i m s =
     let rest = without-place i (s .members) in
-    with-owned (s .owned + m .membership .reserved)
+    with-own (add-account (m .membership .account) (s .own))
     (with-receive (with-pending (each (own-packet (id-of m)) (s .receive .pending)) (s .receive))
     (with-round (min (s .visit .round) (length rest - 1)) (with-members rest s)))
 

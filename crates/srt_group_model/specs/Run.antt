@@ -57,8 +57,8 @@ on-members f = on-state (λ s. with-members (f s (s .members)) s)
 
 unfoldable pub refresh-pending-states : Run → Run
 refresh-pending-states r =
-    on-members (λ s. settle-members (s .mode) (next-send-sequence (s .send))) (admit-connected-peer-groups r)
+    on-members (λ s. settle-members (s .making .mode) (next-send-sequence (s .send))) (admit-connected-peer-groups r)
 
 unfoldable pub refresh-states : Run → Run
 refresh-states r =
-    on-members (λ s. requalify-members (s .mode) (next-send-sequence (s .send))) (refresh-pending-states r)
+    on-members (λ s. requalify-members (s .making .mode) (next-send-sequence (s .send))) (refresh-pending-states r)

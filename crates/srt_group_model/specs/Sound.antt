@@ -73,7 +73,7 @@ held-own (p ∷ ps) = own-count p + held-own ps
 
 -- a member's sums, over these held packets
 pub record Summed (ps : List Packet) (m : Member) : Type 0 where
-  pub reserved : m .membership .reserved ≡ held-for (id-of m) ps
+  pub reserved : m .membership .account .reserved ≡ held-for (id-of m) ps
   pub reservation : m .leg .receiver .reserved ≡ held-for (id-of m) ps + queued-count (m .queue)
 
 -- a packet is the group's own, or its member is there
@@ -84,7 +84,7 @@ pub record Sums (ps : List Packet) (s : State) : Type 0 where
   pub unique : one-twice (ids (s .members)) ≡ false
   pub members : All (Summed ps) (s .members)
   pub placed : All (Placed (ids (s .members))) ps
-  pub own : s .owned ≡ held-own ps
+  pub own : s .own .reserved ≡ held-own ps
 
 abbrev pub Sums-right : State → Type 0
 Sums-right s = Sums (s .receive .pending) s

@@ -10,7 +10,7 @@ use Rattle.srt_group_model.specs.declared.Packet.{Packet}
 use Rattle.srt_group_model.specs.declared.Waiting.{Waiting}
 use Rattle.srt_group_model.specs.declared.Leg.{Leg}
 use Rattle.srt_group_model.specs.declared.Membership.{Membership}
-use Rattle.srt_group_model.specs.declared.Identity.{Identity}
+use Rattle.srt_group_model.specs.declared.Account.{Account}
 use Rattle.srt_group_model.specs.declared.Receiving.{Receiving}
 use Rattle.srt_group_model.specs.declared.Sending.{Sending}
 use Rattle.srt_group_model.specs.declared.Visit.{Visit}
@@ -32,16 +32,21 @@ pub record Send : Type 0 where
   pub numbers : Sending
   pub history : List Entry
 
--- `SrtGroup`. The identity and the mode are fixed at creation; `peer` is the peer group, 0 while the group is not bound; `owned` is
--- the sum of the counts of the packets that the group holds itself; `waiting` the events not yet given
-pub record State : Type 0 where
-  pub identity : Identity
+-- What a group is made of, fixed at creation: its id, its mode, 0 for Broadcast or 1 for Backup, and the store's length, 0 if none is given.
+pub record Making : Type 0 where
+  pub id : ℕ
   pub mode : ℕ
+  pub length : ℕ
+
+-- `SrtGroup`. `peer` is the peer group, 0 while the group is not bound; `own` the account of the packets that the group holds
+-- itself; `waiting` the events not yet given
+pub record State : Type 0 where
+  pub making : Making
   pub peer : ℕ
   pub receive : Receive
   pub send : Send
   pub visit : Visit
-  pub owned : ℕ
+  pub own : Account
   pub members : List Member
   pub waiting : List Waiting
 
@@ -65,13 +70,12 @@ backup-carrier x = flagged (is-set (x .numbers .carried)) (x .numbers .carrier)
 abbrev pub with-receive : Receive → State → State
 with-receive x s =
     record {
-      identity = s .identity;
-      mode = s .mode;
+      making = s .making;
       peer = s .peer;
       receive = x;
       send = s .send;
       visit = s .visit;
-      owned = s .owned;
+      own = s .own;
       members = s .members;
       waiting = s .waiting;
     }
@@ -79,13 +83,12 @@ with-receive x s =
 abbrev pub with-send : Send → State → State
 with-send x s =
     record {
-      identity = s .identity;
-      mode = s .mode;
+      making = s .making;
       peer = s .peer;
       receive = s .receive;
       send = x;
       visit = s .visit;
-      owned = s .owned;
+      own = s .own;
       members = s .members;
       waiting = s .waiting;
     }
@@ -93,27 +96,25 @@ with-send x s =
 abbrev pub with-visit : Visit → State → State
 with-visit x s =
     record {
-      identity = s .identity;
-      mode = s .mode;
+      making = s .making;
       peer = s .peer;
       receive = s .receive;
       send = s .send;
       visit = x;
-      owned = s .owned;
+      own = s .own;
       members = s .members;
       waiting = s .waiting;
     }
 
-abbrev pub with-owned : ℕ → State → State
-with-owned n s =
+abbrev pub with-own : Account → State → State
+with-own x s =
     record {
-      identity = s .identity;
-      mode = s .mode;
+      making = s .making;
       peer = s .peer;
       receive = s .receive;
       send = s .send;
       visit = s .visit;
-      owned = n;
+      own = x;
       members = s .members;
       waiting = s .waiting;
     }
@@ -121,13 +122,12 @@ with-owned n s =
 abbrev pub with-members : List Member → State → State
 with-members ms s =
     record {
-      identity = s .identity;
-      mode = s .mode;
+      making = s .making;
       peer = s .peer;
       receive = s .receive;
       send = s .send;
       visit = s .visit;
-      owned = s .owned;
+      own = s .own;
       members = ms;
       waiting = s .waiting;
     }
@@ -135,13 +135,12 @@ with-members ms s =
 abbrev pub with-waiting : List Waiting → State → State
 with-waiting ws s =
     record {
-      identity = s .identity;
-      mode = s .mode;
+      making = s .making;
       peer = s .peer;
       receive = s .receive;
       send = s .send;
       visit = s .visit;
-      owned = s .owned;
+      own = s .own;
       members = s .members;
       waiting = ws;
     }
@@ -149,13 +148,12 @@ with-waiting ws s =
 abbrev pub with-peer : ℕ → State → State
 with-peer n s =
     record {
-      identity = s .identity;
-      mode = s .mode;
+      making = s .making;
       peer = n;
       receive = s .receive;
       send = s .send;
       visit = s .visit;
-      owned = s .owned;
+      own = s .own;
       members = s .members;
       waiting = s .waiting;
     }
@@ -207,15 +205,18 @@ broken-state = 4
 abbrev pub turned : ℕ → Member → Member
 turned n =
     on-membership
-    (λ x. record { id = x .id; weight = x .weight; state = n; admitted = x .admitted; reserved = x .reserved; collision = x .collision })
+    (λ x. record { id = x .id; weight = x .weight; state = n; admitted = x .admitted; account = x .account; collision = x .collision })
 
-abbrev pub with-reserved : ℕ → Membership → Membership
-with-reserved n x =
-    record { id = x .id; weight = x .weight; state = x .state; admitted = x .admitted; reserved = n; collision = x .collision }
+abbrev pub with-account : Account → Membership → Membership
+with-account a x =
+    record { id = x .id; weight = x .weight; state = x .state; admitted = x .admitted; account = a; collision = x .collision }
+
+abbrev pub on-account : (Account → Account) → Member → Member
+on-account f = on-membership (λ x. with-account (f (x .account)) x)
 
 abbrev pub with-admitted : Membership → Membership
 with-admitted x =
-    record { id = x .id; weight = x .weight; state = x .state; admitted = 1; reserved = x .reserved; collision = x .collision }
+    record { id = x .id; weight = x .weight; state = x .state; admitted = 1; account = x .account; collision = x .collision }
 
 -- a member that answered from another receiving group: Broken, and the collision stays readable until its removal
 abbrev pub with-collision : ℕ → ℕ → Membership → Membership
@@ -225,6 +226,6 @@ with-collision expected actual x =
       weight = x .weight;
       state = broken-state;
       admitted = x .admitted;
-      reserved = x .reserved;
+      account = x .account;
       collision = record { expected = expected; actual = actual };
     }

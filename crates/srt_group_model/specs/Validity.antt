@@ -26,7 +26,7 @@ above limit n = ltb limit n
 -- ---- blank: not made by `new`, so without the mark of a group id
 
 unfoldable pub is-blank : State → Bool
-is-blank s = not (has-group-mask (s .identity .id))
+is-blank s = not (has-group-mask (s .making .id))
 
 -- ---- a count above its limit
 
@@ -110,7 +110,7 @@ queued-count q = total (λ e. e .content .count) (such-that is-data q)
 -- the member's sum is that of its held packets, its leg's reservation that of the held and the queued ones
 unfoldable pub member-sum-wrong : List Packet → Member → Bool
 member-sum-wrong ps m =
-    not (eqb (m .membership .reserved) (held-count (id-of m) ps))
+    not (eqb (m .membership .account .reserved) (held-count (id-of m) ps))
     || not (eqb (m .leg .receiver .reserved) (held-count (id-of m) ps + queued-count (m .queue)))
 
 -- a held packet is counted nowhere: not the group's own, and of no member
@@ -121,7 +121,7 @@ unfoldable pub reserved-sum-wrong : State → Bool
 reserved-sum-wrong s =
     any (member-sum-wrong (s .receive .pending)) (s .members)
     || (any (is-unreserved (s .members)) (s .receive .pending)
-    || not (eqb (s .owned) (total (λ p. p .content .count) (such-that is-owned (s .receive .pending)))))
+    || not (eqb (s .own .reserved) (total (λ p. p .content .count) (such-that is-owned (s .receive .pending)))))
 
 -- ---- a word above its range
 
@@ -143,7 +143,7 @@ any-above words = any (λ word. above (word .largest) (word .value)) words
 -- rows is among the counts or the sums; any word is a length of the store, a skipped total.
 unfoldable pub record-words : State → List Ranged
 record-words s =
-    (s .identity .id at-most largest-32) ∷ (s .mode at-most 1) ∷ (s .peer at-most largest-32)
+    (s .making .id at-most largest-32) ∷ (s .making .mode at-most 1) ∷ (s .peer at-most largest-32)
     ∷ (s .receive .numbers .based at-most 1) ∷ (s .send .numbers .numbered at-most 1)
     ∷ (s .send .numbers .carried at-most 1) ∷ (s .send .numbers .carrier at-most largest-32)
     ∷ (s .send .numbers .gap at-most 1) ∷ (s .visit .continuation at-most 1) ∷ []

@@ -100,6 +100,13 @@ pub struct Collision {
     pub actual: u64,
 }
 
+// The packets held for a member, or by the group itself: the sum of their counts. What is kept of them moves together.
+#[repr(C)]
+pub struct Account {
+    // reserved_packets of a member, owned_packets of the group
+    pub reserved: u64,
+}
+
 // `SrtGroupMember` without its connection. The state is 0 pending, 1 active, 2 standby, 3 unstable, 4 broken.
 pub struct Membership {
     pub id: u64,
@@ -107,8 +114,7 @@ pub struct Membership {
     pub state: u64,
     // peer_group_admitted
     pub admitted: u64,
-    // reserved_packets
-    pub reserved: u64,
+    pub account: Account,
     pub collision: Collision,
 }
 
@@ -175,8 +181,8 @@ pub struct Core {
     pub counts: Counts,
     pub receiving: Receiving,
     pub visit: Visit,
-    // owned_packets
-    pub owned: u64,
+    // of the packets that the group holds itself
+    pub own: Account,
 }
 
 // An entry of backup_history: the payload that was sent at a sequence, in its cell, with its source time.

@@ -5,10 +5,12 @@ use mathlib.Core.List.{List}
 use Prim.Native.Nat.{ℕ, suc, _+_, _*_, _≤_, _<_}
 use lib.ListN.{length}
 use Rattle.srt_group_model.specs.declared.Core.{Core}
+use Rattle.srt_group_model.specs.declared.Account.{Account}
 use Rattle.srt_group_model.specs.Legs.{largest-16}
 use Rattle.srt_group_model.specs.Removal.{take-out, remove-member-at, leg-given-back}
 use Rattle.srt_group_model.specs.Validity.{max-pending, max-members}
 use Rattle.srt_connection_members.specs.Members.{members-size, member-at}
+use Rattle.srt_group_shown.specs.Cores.{with-own-account, with-member-count, with-next}
 use Rattle.srt_group_shown.specs.Shown.{Rest, shown}
 use Rattle.srt_group_removal.specs.declared.removal.Removed.{Removed}
 use Rattle.srt_group_removal.specs.Retire.{Held}
@@ -21,25 +23,17 @@ pub record Removable (i : ℕ) (core : Core) (members pending : List ℕ) : Type
   pub members-few : core .counts .members ≤ max-members
   pub there : i < core .counts .members
   pub held : Held core pending
-  pub sum : core .owned + member-at members i .membership .reserved ≤ largest-16 * max-pending
+  pub sum : core .own .reserved + member-at members i .membership .account .reserved ≤ largest-16 * max-pending
 
 -- a member less, the round's place and the group's own sum
-abbrev pub taken-out : (left round owned : ℕ) → Core → Core
-taken-out left round owned c =
-    record {
-      mode = c .mode;
-      peer = c .peer;
-      counts = record { members = left; pending = c .counts .pending; waiting = c .counts .waiting };
-      receiving = c .receiving;
-      visit = record { continuation = c .visit .continuation; round = round };
-      owned = owned;
-    }
+abbrev pub taken-out : (left round : ℕ) → Account → Core → Core
+taken-out left round own c = with-member-count left (with-next round (with-own-account own c))
 
 pub record TakesOut (i : ℕ) (core : Core) (ms ps : List ℕ) (after : Core) (ms′ ps′ : List ℕ) : Type 0 where
   pub members-long : length ms′ ≡ length ms
   pub pending-long : length ps′ ≡ length ps
   pub one-less : suc (after .counts .members) ≡ core .counts .members
-  pub rest : after ≡ taken-out (after .counts .members) (after .visit .round) (after .owned) core
+  pub rest : after ≡ taken-out (after .counts .members) (after .visit .round) (after .own) core
   pub state : (others : Rest) (ws : List ℕ)
       → take-out i (member-at ms i) (shown core others ms ps ws) ≡ shown after others ms′ ps′ ws
 

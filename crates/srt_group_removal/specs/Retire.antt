@@ -6,11 +6,13 @@ use mathlib.Core.List.{List}
 use Prim.Native.Nat.{ℕ, suc, _≤_}
 use lib.ListN.{length}
 use Rattle.srt_group_model.specs.declared.Core.{Core}
+use Rattle.srt_group_model.specs.declared.Account.{Account}
 use Rattle.srt_group_model.specs.declared.Packet.{Packet}
 use Rattle.srt_group_model.specs.State.{State}
 use Rattle.srt_group_model.specs.Removal.{retire}
 use Rattle.srt_group_model.specs.Validity.{max-pending, ascends}
 use Rattle.srt_group_tables.specs.Packets.{pending-size, packets}
+use Rattle.srt_group_shown.specs.Cores.{with-own-account, with-held}
 use Rattle.srt_group_shown.specs.Shown.{Rest, shown}
 
 -- ---- what retirement may rely on, and what it leaves
@@ -22,21 +24,13 @@ pub record Held (core : Core) (pending : List ℕ) : Type 0 where
   pub ascending : ascends (packets (core .counts .pending) pending) ≡ true
 
 -- so many packets are held, and the group's own sum is this
-abbrev pub holding : (held owned : ℕ) → Core → Core
-holding held owned c =
-    record {
-      mode = c .mode;
-      peer = c .peer;
-      counts = record { members = c .counts .members; pending = held; waiting = c .counts .waiting };
-      receiving = c .receiving;
-      visit = c .visit;
-      owned = owned;
-    }
+abbrev pub holding : (held : ℕ) → Account → Core → Core
+holding held own c = with-held held (with-own-account own c)
 
 -- only the held packets and the group's own sum change, over any rest of the group, members and waiting events
 pub record Retires (f : State → State) (core : Core) (ps : List ℕ) (after : Core) (ps′ : List ℕ) : Type 0 where
   pub pending-long : length ps′ ≡ length ps
-  pub rest : after ≡ holding (after .counts .pending) (after .owned) core
+  pub rest : after ≡ holding (after .counts .pending) (after .own) core
   pub state : (others : Rest) (ms ws : List ℕ) → f (shown core others ms ps ws) ≡ shown after others ms ps′ ws
 
 -- one packet is retired

@@ -4,6 +4,7 @@ ghost use Prim.Native.Nat.{_-_, min};
 ghost use Rattle.srt_group_removal.specs.Removal.{Removable, TakesOut, Removes};
 use crate::retirement::bound_group_owned_pending;
 use crate::retirement::retirement_base;
+use srt_group_members::accounts;
 use srt_group_members::removal::largest_window;
 use srt_group_model::Core;
 use srt_group_model::Leg;
@@ -39,10 +40,10 @@ fn take_out(mut core: Core, members: &mut [u64], pending: &mut [u64], index: usi
     srt_connection_members::remove_member(members, count, index);
     let left = count - 1;
     let round = lowered(core.visit.round, left);
-    let owned = core.owned + membership.reserved;
+    let own = accounts::add_account(membership.account, core.own);
     core.counts.members = left;
     core.visit.round = round;
-    core.owned = owned;
+    core.own = own;
     core
 }
 

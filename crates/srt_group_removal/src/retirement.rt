@@ -6,7 +6,7 @@ ghost use Rattle.srt_group_model.specs.Removal.{bound-group-owned-pending, reti
 ghost use Rattle.srt_group_tables.specs.Packets.{packet-at};
 ghost use Rattle.srt_group_shown.specs.Shown.{Rest, shown};
 ghost use Rattle.srt_group_removal.specs.Retire.{Held, Retires, Retired};
-use srt_connection::legs::less;
+use srt_group_members::accounts;
 use srt_group_model::Core;
 use srt_group_tables::pending;
 
@@ -20,10 +20,10 @@ fn retire_at(mut core: Core, pending: &mut [u64], at: usize) -> Core
     let packet = pending::packet(pending, at);
     let held = core.counts.pending;
     pending::remove(pending, held, at);
-    let owned = less(core.owned, packet.content.count);
+    let own = accounts::release_packet(core.own, packet.content.count);
     let left = held - 1;
     core.counts.pending = left;
-    core.owned = owned;
+    core.own = own;
     core
 }
 
@@ -33,7 +33,7 @@ pub fn bound_group_owned_pending(mut core: Core, pending: &mut [u64], limit: u64
     ensures { λ r. ⌜ Retires (bound-group-owned-pending (core .counts .pending) limit base) core (now (pending .entry))
         r (now (pending .exit)) ⌝ }
 {
-    while limit < core.owned {
+    while limit < core.own.reserved {
         let held = core.counts.pending;
         let farthest = pending::farthest_owned(pending, held, base);
         let pending::Found::At(at) = farthest else {

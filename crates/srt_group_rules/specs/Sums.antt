@@ -47,7 +47,7 @@ sum-place ms p = if is-owned p then At own-place else found-of (find (p .member)
 -- a member whose held packets have this sum: one of its two reservations is another
 unfoldable pub differs : ℕ → Member → Bool
 differs held m =
-    not (eqb (m .membership .reserved) held) || not (eqb (m .leg .receiver .reserved) (held + queued-count (m .queue)))
+    not (eqb (m .membership .account .reserved) held) || not (eqb (m .leg .receiver .reserved) (held + queued-count (m .queue)))
 
 -- the rule over the two tables and the group's own sum
 unfoldable pub sums-wrong : List Member → List Packet → ℕ → Bool

@@ -67,7 +67,7 @@ fn member_differs(row: &[u64], held: u64) -> bool
     let member = membership(row);
     let receiving = receiver(row);
     let both = held + queued;
-    (member.reserved != held) | (receiving.reserved != both)
+    (member.account.reserved != held) | (receiving.reserved != both)
 }
 
 // ---- the held packets

@@ -1,3 +1,4 @@
+pub mod Cores
 pub mod Shown
 pub mod Tables
 pub mod Ready

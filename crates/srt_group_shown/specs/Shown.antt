@@ -5,7 +5,7 @@ use Rattle.srt_group_model.specs.declared.Core.{Core}
 use Rattle.srt_group_model.specs.declared.Identity.{Identity}
 use Rattle.srt_group_model.specs.declared.Sending.{Sending}
 use Rattle.srt_group_model.specs.declared.Entry.{Entry}
-use Rattle.srt_group_model.specs.State.{State, Send}
+use Rattle.srt_group_model.specs.State.{State, Send, Making}
 use Rattle.srt_connection_members.specs.Members.{members-of}
 use Rattle.srt_group_tables.specs.Packets.{packets}
 use Rattle.srt_group_tables.specs.Waitings.{waitings}
@@ -18,16 +18,19 @@ pub record Rest : Type 0 where
 abbrev pub rest : Identity → Sending → List Entry → Rest
 rest identity sending history = record { identity = identity; send = record { numbers = sending; history = history } }
 
+-- what the group was made of, read from the record
+abbrev pub making-of : Identity → (mode : ℕ) → Making
+making-of identity mode = record { id = identity .id; mode = mode; length = identity .length }
+
 abbrev pub shown : Core → Rest → (members pending waiting : List ℕ) → State
 shown core others members pending waiting =
     record {
-      identity = others .identity;
-      mode = core .mode;
+      making = making-of (others .identity) (core .mode);
       peer = core .peer;
       receive = record { numbers = core .receiving; pending = packets (core .counts .pending) pending };
       send = others .send;
       visit = core .visit;
-      owned = core .owned;
+      own = core .own;
       members = members-of (core .counts .members) members;
       waiting = waitings (core .counts .waiting) waiting;
     }

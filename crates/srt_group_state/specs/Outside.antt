@@ -75,4 +75,4 @@ unfoldable pub rows-disagree : Core → (members pending : List ℕ) → Bool
 rows-disagree c members pending =
     one-twice (each id-of (members-of (c .counts .members) members))
     || (not (ascends (packets (c .counts .pending) pending))
-    || sums-wrong (members-of (c .counts .members) members) (packets (c .counts .pending) pending) (c .owned))
+    || sums-wrong (members-of (c .counts .members) members) (packets (c .counts .pending) pending) (c .own .reserved))

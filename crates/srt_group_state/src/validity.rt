@@ -106,7 +106,8 @@ fn rows_disagree(core: Core, members: &[u64], pending: &[u64]) -> bool
     if id_twice(members, count) {
         return true;
     }
-    !is_ascending(pending, held) | reserved_sum_wrong(core.owned, members, count, pending, held)
+    !is_ascending(pending, held)
+        | reserved_sum_wrong(core.own.reserved, members, count, pending, held)
 }
 
 // Every rule that needs no history and no cell.

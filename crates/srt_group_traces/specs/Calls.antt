@@ -8,7 +8,7 @@ use lib.Dec.{eqb}
 use lib.ListN.{take, drop}
 use Rattle.srt_protocol.specs.Cells.{head-size}
 use Rattle.srt_group_model.specs.Tools.{if_then_else_, if-some_give_otherwise_}
-use Rattle.srt_group_model.specs.State.{State}
+use Rattle.srt_group_model.specs.State.{State, Making}
 use Rattle.srt_group_model.specs.Run.{Mark}
 use Rattle.srt_group_model.specs.Calls.{new}
 use Rattle.srt_group_model.specs.Lent.{Lent, Result, Call, call-add-member, call-mark-member-broken, call-remove-member-connection, call-refresh-member-states, call-disconnect, call-poll-event, call-poll-data-bounded, call-send, call-can-send, call-can-send-with-pacing, call-look, call-read-leg, call-queue-data, call-queue-event, delivered-by, perform}
@@ -99,14 +99,9 @@ given-by r = if-some delivered-by (r .answer) give (λ p. delivery-of p (r .lent
 
 -- ---- lists of calls
 
--- what a new group is made of: an id, a mode, and the store's length given at the start, or 0
-pub record Making : Type 0 where
-  pub id : ℕ
-  pub mode : ℕ
-  pub store-length : ℕ
-
+-- a group that was just made
 abbrev pub made : Making → State
-made g = new (g .id) (g .mode) (g .store-length)
+made = new
 
 -- the state that a list of calls leaves
 unfoldable pub state-after : List Asked → State → State

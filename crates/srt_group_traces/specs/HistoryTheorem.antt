@@ -9,7 +9,8 @@ use mathlib.Core.Option.{some}
 use Prim.Native.Nat.{ℕ, _<_}
 use Rattle.srt_group_model.specs.Legs.{largest-64}
 use Rattle.srt_group_traces.specs.Statement.{first-base, BaseClaim, Consecutive, told-by, clerk, Fair, SkipsRight, Prefix, Gateway, stands-at, delivers}
-use Rattle.srt_group_traces.specs.Calls.{Asked, Making, made, state-after, log-after, skipped-in, Delivery, deliveries}
+use Rattle.srt_group_traces.specs.Calls.{Asked, made, state-after, log-after, skipped-in, Delivery, deliveries}
+use Rattle.srt_group_model.specs.State.{Making}
 
 pub record HistoryTheorem : Type 0 where
   -- "After it, modulo 2^31, the receive base less its first value equals the delivered packet counts plus the skipped count, if

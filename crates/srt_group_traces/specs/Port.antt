@@ -13,11 +13,11 @@ use lib.Dec.{eqb}
 use Rattle.srt_protocol.specs.Sequence.{sequence-distance}
 use Rattle.srt_group_model.specs.Legs.{largest-64}
 use Rattle.srt_group_model.specs.Tools.{if_then_else_, if-some_give_otherwise_}
-use Rattle.srt_group_model.specs.State.{State, next-receive-sequence}
+use Rattle.srt_group_model.specs.State.{State, next-receive-sequence, Making}
 use Rattle.srt_group_model.specs.Guards.{Answer, no-answer}
 use Rattle.srt_group_model.specs.Lent.{Lent, Result, delivered-by}
 use Rattle.srt_group_traces.specs.Statement.{Told, Fair, when-of, RightSkip}
-use Rattle.srt_group_traces.specs.Calls.{Asked, do-call, is-poll, time-of, Making, made, counts-of, skipped-in, Delivery, delivery-of}
+use Rattle.srt_group_traces.specs.Calls.{Asked, do-call, is-poll, time-of, made, counts-of, skipped-in, Delivery, delivery-of}
 
 -- ---- what a port shows of a call
 

@@ -8,10 +8,10 @@ use mathlib.Core.Option.{some}
 use Prim.Native.Nat.{ℕ, _+_, _%_, _<_}
 use Rattle.srt_protocol.specs.Sequence.{half, sequence-distance}
 use Rattle.srt_group_model.specs.Legs.{largest-64}
-use Rattle.srt_group_model.specs.State.{next-receive-sequence}
+use Rattle.srt_group_model.specs.State.{next-receive-sequence, Making}
 use Rattle.srt_group_traces.specs.Statement.{Consecutive, clerk, Fair, Prefix}
 use Rattle.srt_group_traces.specs.Port.{Taken, all-shown, calls-of, Performed, shown-deliveries, shown-told, last-shown, first-shown, SkipsShown, Port, port-place, port-delivers}
-use Rattle.srt_group_traces.specs.Calls.{Making, made, counts-of, skipped-in, Delivery}
+use Rattle.srt_group_traces.specs.Calls.{made, counts-of, skipped-in, Delivery}
 
 pub record PortTheorem : Type 0 where
   -- the base less its first value is the delivered packet counts plus the skipped count, modulo 2^31

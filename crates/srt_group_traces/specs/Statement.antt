@@ -8,7 +8,7 @@ use Prim.Native.Nat.{ℕ, zero, suc, _+_, _-_, _%_, _≤_, _<_}
 use lib.Dec.{leb, eqb}
 use Rattle.srt_protocol.specs.Sequence.{half, sequence-distance, sequence-further}
 use Rattle.srt_group_model.specs.Tools.{if_then_else_, if-some_give_otherwise_, is-set, or-else, all, All}
-use Rattle.srt_group_model.specs.State.{Member, State, next-receive-sequence, with-continuation}
+use Rattle.srt_group_model.specs.State.{Member, State, next-receive-sequence, with-continuation, Making}
 use Rattle.srt_group_model.specs.Legs.{is-disconnected, largest-64}
 use Rattle.srt_group_model.specs.Nearest.{sequence-of, is-held, nearest}
 use Rattle.srt_group_model.specs.Run.{Mark, put, base-set, collected, gap-skipped, delivered, Run, start, refresh-pending-states, refresh-states}
@@ -18,7 +18,7 @@ use Rattle.srt_group_model.specs.Polls.{delivery-budget, poll-event}
 use Rattle.srt_group_model.specs.Lent.{Call, delivered-by}
 use Rattle.srt_group_model.specs.declared.Data.{Data}
 use Rattle.srt_group_model.specs.declared.Packet.{Packet}
-use Rattle.srt_group_traces.specs.Calls.{Asked, do-call, takes-store, time-of, Delivery, deliveries, Making, made, state-after, log-after, counts-of, skipped-in, store-left}
+use Rattle.srt_group_traces.specs.Calls.{Asked, do-call, takes-store, time-of, Delivery, deliveries, made, state-after, log-after, counts-of, skipped-in, store-left}
 
 -- ---- the marks of a list of calls, newest first
 

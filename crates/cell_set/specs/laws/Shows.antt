@@ -11,7 +11,7 @@ use lib.Dec.{eqb, leb, ltb}
 use lib.ListN.{length}
 use Rattle.srt_group_model.specs.Tools.{any, each, at-place}
 use Rattle.srt_group_model.specs.laws.Reason.{if-elim, by-test, not-both}
-use Rattle.srt_group_model.specs.State.{Member, State}
+use Rattle.srt_group_model.specs.State.{Member, State, Making}
 use Rattle.srt_group_model.specs.Cells.{queued-cells, used-cells, is-among, free-cell}
 use Rattle.srt_group_model.specs.Validity.{cell-twice, cell-beyond-store, is-invalid}
 use Rattle.srt_group_model.specs.laws.Valid.{valid-of}
@@ -178,6 +178,6 @@ of-exactly cells words s few valid long exactly =
     }
 
 -- a group that was just made uses no cell
-pub shows-new : (words : List ℕ) (id mode store : ℕ) → ShowsCells words [] → Shows words (new id mode store)
+pub shows-new : (words : List ℕ) (making : Making) → ShowsCells words [] → Shows words (new making)
 unfolding new used-cells queued-cells each
-shows-new words id mode store fresh = record { cells = fresh }
+shows-new words making fresh = record { cells = fresh }

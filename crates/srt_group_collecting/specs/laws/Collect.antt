@@ -13,7 +13,8 @@ use Rattle.srt_group_model.specs.declared.Waiting.{Waiting}
 use Rattle.srt_group_model.specs.Tools.{if_then_else_, if-some_give_otherwise_, is-set, flagged, any, place-of, change}
 use Rattle.srt_group_model.specs.laws.Flag.{other-set}
 use Rattle.srt_group_model.specs.laws.Reason.{not-both, or-right, or-yes-left}
-use Rattle.srt_group_model.specs.State.{Member, State, on-leg, on-membership, with-reserved, with-members, with-receive, with-pending, with-waiting, is-backup, turned, broken-state}
+use Rattle.srt_group_model.specs.State.{Member, State, on-leg, on-membership, with-members, with-receive, with-pending, with-waiting, is-backup, turned, broken-state, on-account}
+use Rattle.srt_group_model.specs.Accounts.{reserve}
 use Rattle.srt_group_model.specs.Legs.{release-data-reservation}
 use Rattle.srt_group_model.specs.Members.{promote-backup-member}
 use Rattle.srt_group_model.specs.Nearest.{sequence-of, has-sequence, is-held, insert}
@@ -24,21 +25,11 @@ use Rattle.srt_group_members.specs.laws.Scan.{became-changed, became-same, beca
 use Rattle.srt_group_tables.specs.Packets.{packets, Holds, found, place-found}
 use Rattle.srt_group_tables.specs.Waitings.{waitings, HoldsWaiting}
 use Rattle.srt_group_tables.specs.declared.pending.Found.the-variants.{At, Nothing}
+use Rattle.srt_group_shown.specs.Cores.{with-held, with-waiting-count}
 use Rattle.srt_group_shown.specs.Shown.{shown}
 use Rattle.srt_group_collecting.specs.Collect.{Retained, receive-of, broken-by, Reported}
 
 -- ---- a packet is held or discarded
-
-abbrev pub with-held : ℕ → Core → Core
-with-held n c =
-    record {
-      counts = record { members = c .counts .members; pending = n; waiting = c .counts .waiting };
-      mode = c .mode;
-      peer = c .peer;
-      receiving = c .receiving;
-      visit = c .visit;
-      owned = c .owned;
-    }
 
 discards : (i : ℕ) (p : Packet) (s : State) → is-discarded p (s .receive) ≡ true
     → retain-group-packet i p s ≡ with-members (change i (on-leg (release-data-reservation (p .content .count))) (s .members)) s
@@ -48,7 +39,7 @@ discards i p s yes-discarded = rw yes-discarded
 holds : (i : ℕ) (p : Packet) (s : State) → is-discarded p (s .receive) ≡ false
     → retain-group-packet i p s
     ≡ with-receive (with-pending (insert p (s .receive .pending)) (s .receive))
-    (with-members (change i (on-membership (λ x. with-reserved (x .reserved + p .content .count) x)) (s .members)) s)
+    (with-members (change i (on-account (reserve (p .content .count))) (s .members)) s)
 unfolding retain-group-packet if_then_else_
 holds i p s not-discarded = rw not-discarded
 
@@ -74,7 +65,7 @@ module _ (core : Core) (ms ps : List ℕ) (i : ℕ) (p : Packet) where
 
   pub held : (ms′ ps′ : List ℕ) → is-discarded p (receive-of core ps) ≡ false
       → Holds (length ps) ps′ (core .counts .pending + 1) (insert p (packets (core .counts .pending) ps))
-      → Changed i (on-membership (λ x. with-reserved (x .reserved + p .content .count) x)) ms ms′
+      → Changed i (on-account (reserve (p .content .count))) ms ms′
       → Retained i p core ms ps (with-held (core .counts .pending + 1) core) ms′ ps′
   held ms′ ps′ is inserted changed =
       record {
@@ -184,17 +175,6 @@ module _ (n mode kind i : ℕ) (t : List ℕ) where
   broken-promoted {backup} {u} {v} high is in-backup changed became =
       rw (le-leb 2 kind high, ← is, in-backup)
       (became-then n promote-backup-member t u v (became-changed n i t u changed) became)
-
-abbrev pub with-waiting-count : ℕ → Core → Core
-with-waiting-count n c =
-    record {
-      counts = record { members = c .counts .members; pending = c .counts .pending; waiting = n };
-      mode = c .mode;
-      peer = c .peer;
-      receiving = c .receiving;
-      visit = c .visit;
-      owned = c .owned;
-    }
 
 pub reported : (i : ℕ) (w : Waiting) (core : Core) (ms ws ms′ ws′ : List ℕ)
     → Became (core .counts .members) (broken-by (core .mode) (w .kind) i (members-of (core .counts .members) ms)) ms ms′

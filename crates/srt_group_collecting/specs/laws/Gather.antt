@@ -21,6 +21,7 @@ use Rattle.srt_group_model.specs.laws.Sound.{sound-law}
 use Rattle.srt_group_model.specs.Validity.{max-waiting, max-pending}
 use Rattle.srt_group_tables.specs.Packets.{packets, packet-at}
 use Rattle.srt_group_tables.specs.Waitings.{waiting-at}
+use Rattle.srt_group_shown.specs.Cores.{continued}
 use Rattle.srt_group_shown.specs.Shown.{Rest, shown}
 use Rattle.srt_group_shown.specs.Tables.{ReceiveTables, receive-tables}
 use Rattle.srt_group_shown.specs.laws.Shown.{held-few}
@@ -28,7 +29,7 @@ use Rattle.srt_group_collecting.specs.declared.collecting.Visited.{Visit
 use Rattle.srt_group_collecting.specs.declared.collecting.Visiting.{Visiting}
 use Rattle.srt_group_collecting.specs.declared.collecting.Emptied.{Emptied}
 use Rattle.srt_group_collecting.specs.Leaves.{blank, Usable, under-way}
-use Rattle.srt_group_collecting.specs.Visit.{continued, Collects}
+use Rattle.srt_group_collecting.specs.Visit.{Collects}
 use Rattle.srt_group_collecting.specs.Gather.{Shows, run-of, HeldVisit, Gathers, Empties}
 
 -- ---- a flag's word

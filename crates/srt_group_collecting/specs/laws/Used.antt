@@ -24,6 +24,7 @@ use Rattle.srt_connection_members.specs.laws.Members.{members-place, changed-by
 use Rattle.srt_connection_queue.specs.Queue.{leg-poll, queue-after}
 use Rattle.srt_connection_queue.specs.laws.Queue.{nothing-goes}
 use Rattle.srt_connection_queue.specs.declared.queue.LegPoll.the-variants.{Nothing, Continuation, Event as PolledEvent}
+use Rattle.srt_group_shown.specs.Cores.{with-next, continued}
 use Rattle.srt_group_shown.specs.Shown.{Rest, shown}
 use Rattle.srt_group_shown.specs.Tables.{receive-tables}
 use Rattle.cell_set.specs.Sets.{Freed}
@@ -34,7 +35,7 @@ use Rattle.srt_group_collecting.specs.Leaves.{nothing-sent}
 use Rattle.srt_group_collecting.specs.Follows.{Follows}
 use Rattle.srt_group_collecting.specs.laws.Follows.{follows-as, follows-freed}
 use Rattle.srt_group_collecting.specs.Collect.{receive-of}
-use Rattle.srt_group_collecting.specs.Visit.{with-next, continued, packet-from, waiting-from, collect-event, freed-by-event, Collected}
+use Rattle.srt_group_collecting.specs.Visit.{packet-from, waiting-from, collect-event, freed-by-event, Collected}
 use Rattle.srt_group_collecting.specs.laws.Visit.{gave-nothing, gave-continuation, gave-event, queue-goes, queue-stays, members-stay}
 
 -- ---- a packet is held or discarded

@@ -28,12 +28,13 @@ use Rattle.srt_connection_queue.specs.laws.Queue.{nothing-goes}
 use Rattle.srt_connection_members.specs.declared.Found.the-variants.{At, Nothing as Nowhere}
 use Rattle.srt_connection_queue.specs.declared.queue.LegPoll.the-variants.{Nothing, Continuation, Event as PolledEvent}
 use Rattle.srt_group_tables.specs.Packets.{packet-at}
+use Rattle.srt_group_shown.specs.Cores.{with-next, continued}
 use Rattle.srt_group_shown.specs.Shown.{shown}
 use Rattle.srt_group_shown.specs.Tables.{receive-tables}
 use Rattle.srt_group_collecting.specs.declared.collecting.Visited.{Visited}
 use Rattle.srt_group_collecting.specs.Leaves.{blank, Usable, under-way}
 use Rattle.srt_group_collecting.specs.Collect.{Retained, Reported}
-use Rattle.srt_group_collecting.specs.Visit.{with-next, continued, packet-from, waiting-from, collect-event, Collectable, Collected, Visits, Collects}
+use Rattle.srt_group_collecting.specs.Visit.{packet-from, waiting-from, collect-event, Collectable, Collected, Visits, Collects}
 
 -- ---- an event of a member
 
@@ -316,7 +317,7 @@ module _ (core : Core) (ms ps ws : List ℕ) (usable : Usable core (receive-tabl
         holdable =
             λ is.
             let f = data-front e (g .front) is in
-            let same : member-at ms₁ i .membership .reserved ≡ member-at ms i .membership .reserved = ap (λ (m : Member). m .membership .reserved) (changed .here) in
+            let same : member-at ms₁ i .membership .account .reserved ≡ member-at ms i .membership .account .reserved = ap (λ (m : Member). m .membership .account .reserved) (changed .here) in
             record {
               long = usable .pending-long;
               few = omega (arith, f .held, tab-length (core .counts .pending) (packet-at ps));

@@ -12,11 +12,13 @@ use Rattle.srt_protocol.specs.Sequence.{sequence-distance, sequence-further}
 use Rattle.srt_protocol.specs.declared.time.Timestamp.{Timestamp}
 use Rattle.word_rows.specs.Tab.{tab}
 use Rattle.srt_group_model.specs.declared.Core.{Core}
+use Rattle.srt_group_model.specs.declared.Account.{Account}
 use Rattle.srt_group_model.specs.declared.Leg.{Leg}
 use Rattle.srt_group_model.specs.declared.Membership.{Membership}
 use Rattle.srt_group_model.specs.declared.Packet.{Packet}
 use Rattle.srt_group_model.specs.Tools.{if_then_else_, if-some_give_otherwise_, or-else, all, first-such, such-that, place-of, at-place}
-use Rattle.srt_group_model.specs.State.{Member, State, with-members, with-receive, with-base, with-pending, on-leg, with-reserved}
+use Rattle.srt_group_model.specs.State.{Member, State, with-members, with-receive, with-base, with-pending, on-leg, with-account}
+use Rattle.srt_group_model.specs.Accounts.{release}
 use Rattle.srt_group_model.specs.Legs.{is-disconnected, gives-up-at, release-data-reservation, advance-receive-sequence}
 use Rattle.srt_group_model.specs.Members.{has-id, find}
 use Rattle.srt_group_model.specs.Nearest.{sequence-of, nearest, covered, not-covered}
@@ -32,11 +34,12 @@ use Rattle.srt_group_tables.specs.Packets.{packet-at, packets, Holds, FoundPack
 use Rattle.srt_group_tables.specs.laws.PacketLaws.{drop-zero}
 use Rattle.srt_group_tables.specs.declared.pending.Found.{Found}
 use Rattle.srt_group_tables.specs.declared.pending.Found.the-variants.{At as PendingAt, Nothing as NothingPending}
+use Rattle.srt_group_shown.specs.Cores.{with-own-account, with-held, with-base-at}
 use Rattle.srt_group_shown.specs.Shown.{Rest, shown}
 use Rattle.srt_group_shown.specs.Tables.{receive-tables}
 use Rattle.srt_group_collecting.specs.Leaves.{blank, Usable}
 use Rattle.srt_group_shown.specs.laws.Shown.{held-few}
-use Rattle.srt_group_delivery.specs.Delivery.{Deliverable, leg-given-up, release-member, with-owned-sum, Released, Delivered}
+use Rattle.srt_group_delivery.specs.Delivery.{Deliverable, leg-given-up, release-member, Released, Delivered}
 
 -- ---- what delivery may rely on
 
@@ -136,10 +139,10 @@ unfolding release-all
 released-none core ms = record { rest = refl; long = refl; state = λ others ps ws. refl }
 
 module _ (core : Core) (ms : List ℕ) (p : Packet) where
-  pub released-own : {sum : ℕ} → p .owned ≡ 1 → sum ≡ core .owned - p .content .count
-      → Released (p ∷ []) core ms (with-owned-sum sum core) ms
+  pub released-own : {own : Account} → p .owned ≡ 1 → own ≡ release (p .content .count) (core .own)
+      → Released (p ∷ []) core ms (with-own-account own core) ms
   unfolding release-all release-pending-reservation if_then_else_
-  released-own own is = record { rest = refl; long = refl; state = λ others ps ws. rw (eq-eqb (p .owned) 1 own, is) }
+  released-own mine is = record { rest = refl; long = refl; state = λ others ps ws. rw (eq-eqb (p .owned) 1 mine, is) }
 
   pub released-nowhere : (p .owned ≡ 1 → ⊥) → Nothing ≡ found-of (find (p .member) (members-of (core .counts .members) ms))
       → Released (p ∷ []) core ms core ms
@@ -166,13 +169,13 @@ module _ (core : Core) (ms : List ℕ) (p : Packet) where
       }
 
 -- the member at a row: its sum was put, then its leg released
-pub member-released : {m : Membership} {reserved : ℕ} (i count : ℕ) (t u v : List ℕ) → m ≡ member-at t i .membership
-    → reserved ≡ m .reserved - count → Changed i (with-membership (with-reserved reserved m)) t u
+pub member-released : {m : Membership} {account : Account} (i count : ℕ) (t u v : List ℕ) → m ≡ member-at t i .membership
+    → account ≡ release count (m .account) → Changed i (with-membership (with-account account m)) t u
     → Changed i (on-leg (release-data-reservation count)) u v → Changed i (release-member count) t v
 member-released {m} i count t u v is less put released =
     changed-twice i t u v
-    (membership-changed (λ x. with-reserved (x .reserved - count) x) put
-    (ap (λ (n : ℕ). with-reserved n m) less ∙ ap (λ (x : Membership). with-reserved (x .reserved - count) x) is))
+    (membership-changed (λ x. with-account (release count (x .account)) x) put
+    (ap (λ (a : Account). with-account a m) less ∙ ap (λ (x : Membership). with-account (release count (x .account)) x) is))
     released
 
 -- ---- what a run covers is released, packet by packet
@@ -185,7 +188,7 @@ one-more-released false p l s = refl
 
 -- the packets before `at` are released, and releasing what is left gives what releasing all gives
 pub record Releasing (test : Packet → Bool) (count at : ℕ) (pending : List ℕ) (core : Core) (ms : List ℕ) (after : Core) (ms′ : List ℕ) : Type 0 where
-  pub rest : after ≡ with-owned-sum (after .owned) core
+  pub rest : after ≡ with-own-account (after .own) core
   pub long : length ms′ ≡ length ms
   pub state : (others : Rest) (ps ws : List ℕ)
       → release-all (such-that test (drop at (packets count pending))) (shown after others ms′ ps ws)
@@ -207,7 +210,7 @@ module _ (test : Packet → Bool) (count : ℕ) (pending : List ℕ) (core : Cor
   unfolding such-that
   releasing-on at here next ms₁ ms₂ below so-far one =
       record {
-        rest = one .rest ∙ ap (with-owned-sum (next .owned)) (so-far .rest);
+        rest = one .rest ∙ ap (with-own-account (next .own)) (so-far .rest);
         long = one .long ∙ so-far .long;
         state =
             λ others ps ws.
@@ -259,15 +262,7 @@ module _ (core : Core) (ms : List ℕ) (p : Packet) (base run : ℕ) where
 
 -- so many are held, and the base is set
 abbrev pub passed : (held base : ℕ) → Core → Core
-passed held base c =
-    record {
-      counts = record { members = c .counts .members; pending = held; waiting = c .counts .waiting };
-      mode = c .mode;
-      peer = c .peer;
-      receiving = record { based = 1; base = base; skipped = c .receiving .skipped };
-      visit = c .visit;
-      owned = c .owned;
-    }
+passed held base c = with-held held (with-base-at base c)
 
 module _ (base : ℕ) (p : Packet) (core : Core) (ms ps : List ℕ) where
   abbrev run : ℕ
@@ -279,11 +274,11 @@ module _ (base : ℕ) (p : Packet) (core : Core) (ms ps : List ℕ) where
     pub advanced : ChangedAll (between .counts .members) (on-leg (advance-receive-sequence next)) ms₁ ms₂
     pub removed : Holds (length ps) ps′ left (not-covered base run (packets (between .counts .pending) ps))
 
-  delivered-by : (owned : ℕ) (ms₁ ms₂ : List ℕ) (left : ℕ) (ps′ : List ℕ)
-      → Parts (sequence-further base run) (with-owned-sum owned core) ms₁ ms₂ left ps′
-      → Delivered base p core ms ps (passed left (sequence-further base run) (with-owned-sum owned core)) ms₂ ps′
+  delivered-by : (own : Account) (ms₁ ms₂ : List ℕ) (left : ℕ) (ps′ : List ℕ)
+      → Parts (sequence-further base run) (with-own-account own core) ms₁ ms₂ left ps′
+      → Delivered base p core ms ps (passed left (sequence-further base run) (with-own-account own core)) ms₂ ps′
   unfolding deliver-packet advance-legs pass-run
-  delivered-by owned ms₁ ms₂ left ps′ parts =
+  delivered-by own ms₁ ms₂ left ps′ parts =
       record {
         waiting-same = refl;
         leaves =
@@ -302,7 +297,7 @@ module _ (base : ℕ) (p : Packet) (core : Core) (ms ps : List ℕ) where
                   ∙ ap₂
                   (λ (l : List Packet) (x : List Member).
                   with-receive (with-base (sequence-further base run) (with-pending l (shown core others ms ps ws .receive)))
-                  (with-members x (shown (with-owned-sum owned core) others ms₁ ps ws)))
+                  (with-members x (shown (with-own-account own core) others ms₁ ps ws)))
                   (sym (parts .removed .is)) (sym (parts .advanced .members));
             };
       }
@@ -313,5 +308,5 @@ module _ (base : ℕ) (p : Packet) (core : Core) (ms ps : List ℕ) where
       subst (λ (n : ℕ). Parts n between ms₁ ms₂ left ps′ → Delivered base p core ms ps (passed left n between) ms₂ ps′) (sym is)
       (subst
       (λ (c : Core). Parts (sequence-further base run) c ms₁ ms₂ left ps′ → Delivered base p core ms ps (passed left (sequence-further base run) c) ms₂ ps′)
-      (sym (parts .released .rest)) (delivered-by (between .owned) ms₁ ms₂ left ps′))
+      (sym (parts .released .rest)) (delivered-by (between .own) ms₁ ms₂ left ps′))
       parts

@@ -23,12 +23,12 @@ use Rattle.srt_connection_queue.specs.laws.Tab.{tab-place, place-below}
 use Rattle.srt_group_tables.specs.Packets.{packet-at, packets, found, place-found}
 use Rattle.srt_group_tables.specs.Waitings.{waiting-at, waitings, HoldsWaiting}
 use Rattle.srt_group_tables.specs.declared.pending.Found.the-variants.{At as PendingAt, Nothing as NothingPending}
+use Rattle.srt_group_shown.specs.Cores.{with-waiting-count, with-numbers}
 use Rattle.srt_group_shown.specs.Shown.{Rest, shown}
 use Rattle.srt_group_shown.specs.Tables.{receive-tables, shown-by}
 use Rattle.srt_group_delivery.specs.declared.delivery.Poll.{Poll}
 use Rattle.srt_group_delivery.specs.declared.delivery.Polled.the-variants.{Nothing, Event as AnEvent, Packet as APacket}
 use Rattle.srt_group_collecting.specs.Leaves.{under-way}
-use Rattle.srt_group_collecting.specs.laws.Collect.{with-waiting-count}
 use Rattle.srt_group_delivery.specs.Delivery.{Delivered}
 use Rattle.srt_group_delivery.specs.laws.Delivery.{first-place}
 use Rattle.srt_group_delivery.specs.Poll.{Polls, Skips, Bases}
@@ -161,17 +161,6 @@ module _ (core : Core) (ms ps ws : List ℕ) where
       }
 
 -- ---- the base is skipped ahead, or first set
-
-abbrev pub with-numbers : (base skipped : ℕ) → Core → Core
-with-numbers base skipped c =
-    record {
-      counts = c .counts;
-      mode = c .mode;
-      peer = c .peer;
-      receiving = record { based = 1; base = base; skipped = skipped };
-      visit = c .visit;
-      owned = c .owned;
-    }
 
 pub skips : {skipped : ℕ} (base next : ℕ) (core : Core) → skipped ≡ min (core .receiving .skipped + sequence-distance base next) largest-64
     → Skips base next core (with-numbers next skipped core)

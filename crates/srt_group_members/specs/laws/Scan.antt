@@ -24,7 +24,7 @@ use Rattle.srt_group_members.specs.Scan.{is-some, Became}
 
 abbrev pub with-state : ℕ → Membership → Membership
 with-state n x =
-    record { id = x .id; weight = x .weight; state = n; admitted = x .admitted; reserved = x .reserved; collision = x .collision }
+    record { id = x .id; weight = x .weight; state = n; admitted = x .admitted; account = x .account; collision = x .collision }
 
 -- an answer, as the option that it stands for
 pub sequence-some : (o : Option ℕ) (n : ℕ) → Some n ≡ sequence-of o → o ≡ some n

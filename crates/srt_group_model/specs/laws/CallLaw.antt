@@ -10,7 +10,8 @@ use lib.ListN.{length, drop}
 use Rattle.srt_protocol.specs.Cells.{cell-size}
 use Rattle.srt_protocol.specs.Sequence.{sequence-distance, sequence-further}
 use Rattle.srt_group_model.specs.Tools.{any, such-that, at-place, change}
-use Rattle.srt_group_model.specs.State.{Member, State, next-receive-sequence, next-send-sequence, with-receive, with-send, with-members, with-waiting, with-peer, with-base, with-pending, with-continuation, with-round, with-leg, on-leg, on-membership, turned, with-reserved, with-admitted, with-collision, broken-state}
+use Rattle.srt_group_model.specs.State.{Member, State, next-receive-sequence, next-send-sequence, with-receive, with-send, with-members, with-waiting, with-peer, with-base, with-pending, with-continuation, with-round, with-leg, on-leg, on-membership, turned, with-admitted, with-collision, broken-state, on-account}
+use Rattle.srt_group_model.specs.Accounts.{reserve}
 use Rattle.srt_group_model.specs.Legs.{largest-16, largest-32, largest-64, goes-back, handed, peer-initial-sequence, send-shared-with-sequence, synchronize-send-sequence, release-data-reservation, add-reservation, advance-receive-sequence, disconnect-leg}
 use Rattle.srt_group_model.specs.Members.{id-of, has-id, in-state, arrives, alignment-source, align-leg}
 use Rattle.srt_group_model.specs.Nearest.{sequence-of, is-held, held-at, insert, nearest, farthest}
@@ -102,7 +103,7 @@ pub record Poll-law (P : Option ℕ → State → List Mark → Type 0) : Type 0
       → is-discarded (packet-of m e) (s .receive) ≡ false
       → P hand s log
       → P hand (with-receive (with-pending (insert (packet-of m e) (s .receive .pending)) (s .receive))
-      (with-members (change i (λ x. on-membership (λ y. with-reserved (y .reserved + e .content .count) y) (pop x)) (s .members)) s)) (collected (packet-of m e) ∷ log)
+      (with-members (change i (λ x. on-account (reserve (e .content .count)) (pop x)) (s .members)) s)) (collected (packet-of m e) ∷ log)
   -- an event is collected and waits, while fewer than 64 do; the first that waits is given
   pub reports : {hand : Option ℕ} {log : List Mark} (s : State) (i : ℕ) (m : Member) (e : Event) → In-front s i m e → eqb (e .kind) 0 ≡ false → length (s .waiting) < max-waiting
       → P hand s log

@@ -11,8 +11,9 @@ use Rattle.srt_protocol.specs.Sequence.{sequence-before}
 use Rattle.srt_group_model.specs.Tools.{if-some_give_otherwise_, bit, at-place, each, All}
 use borrow.Author.Tests.{eqb-true}
 use Rattle.srt_group_model.specs.laws.Reason.{and-left, and-right, not-both}
-use Rattle.srt_group_model.specs.State.{Member, State, with-receive, with-members, with-send, on-leg, on-membership, with-reserved, active-state, standby-state}
-use Rattle.srt_group_model.specs.laws.State.{broadcast-mode, backup-mode}
+use Rattle.srt_group_model.specs.State.{Member, State, with-receive, with-members, with-send, on-leg, on-account, active-state, standby-state}
+use Rattle.srt_group_model.specs.Accounts.{no-packets}
+use Rattle.srt_group_model.specs.laws.State.{broadcast-mode, backup-mode, ordinary}
 use Rattle.srt_group_model.specs.Legs.{moment, with-reservation}
 use Rattle.srt_group_model.specs.Members.{id-of, promotion}
 use Rattle.srt_group_model.specs.Nearest.{nearest}
@@ -59,7 +60,7 @@ joined id weight state l =
             weight = weight;
             state = state;
             admitted = 1;
-            reserved = 0;
+            account = no-packets;
             collision = record { expected = 0; actual = 0 };
           };
       leg = l;
@@ -74,16 +75,16 @@ promoted-id ms =
 unfoldable pub holding : (base : ℕ) → List Packet → List Member → State
 holding base ps ms =
     with-members ms
-    (with-receive record { numbers = record { based = 1; base = base; skipped = 0 }; pending = ps } (new 1073741825 broadcast-mode 0))
+    (with-receive record { numbers = record { based = 1; base = base; skipped = 0 }; pending = ps } (new (ordinary broadcast-mode 0)))
 
 -- member 1, with so much reserved by it and on its leg
 unfoldable pub reserving : (count : ℕ) → Member
-reserving count = on-membership (with-reserved count) (on-leg (with-reservation count) (joined 1 0 active-state (leg 0 8 0 0)))
+reserving count = on-account (λ x. record { reserved = count }) (on-leg (with-reservation count) (joined 1 0 active-state (leg 0 8 0 0)))
 
 -- what the members and their legs have reserved
 unfoldable pub reserved-by : List Member → List ℕ
 reserved-by [] = []
-reserved-by (m ∷ ms) = m .membership .reserved ∷ m .leg .receiver .reserved ∷ reserved-by ms
+reserved-by (m ∷ ms) = m .membership .account .reserved ∷ m .leg .receiver .reserved ∷ reserved-by ms
 
 -- the state of the carrier after a look at its silence, with a connected standby beside it
 unfoldable pub carrier-after : (time srtt rttvar : ℕ) → ℕ
@@ -105,7 +106,7 @@ taking-over window =
       numbers = record { numbered = 1; next = 53; carried = 1; carrier = 1; gap = 0 };
       history = entry 50 ∷ entry 51 ∷ entry 52 ∷ [];
     }
-    (new 1073741825 backup-mode 0))
+    (new (ordinary backup-mode 0)))
 
 -- ---- the table
 

@@ -133,16 +133,16 @@ unfolding changes-nothing any
 thirty = refl
 
 -- a send gives 30 only in Backup, and only if every cell is used
-pub send-30-full : (store list time : ℕ) (payload : List ℕ) (s : State) → send store list time payload s .code ≡ 30 → (is-backup (s .mode) ≡ true) × All-used (cells-of store) s
+pub send-30-full : (store list time : ℕ) (payload : List ℕ) (s : State) → send store list time payload s .code ≡ 30 → (is-backup (s .making .mode) ≡ true) × All-used (cells-of store) s
 unfolding send
 send-30-full store list time payload s =
     only-when 30 _ s _
-    (λ e k. absurd (omega arith), (λ e k. absurd (omega arith), (λ e k. absurd (omega arith), (λ e k. absurd (omega arith), (λ e k. (and-left (is-backup (s .mode)) _ e, full-all-used (cells-of store) s (and-right (is-backup (s .mode)) _ e)), tt)))))
+    (λ e k. absurd (omega arith), (λ e k. absurd (omega arith), (λ e k. absurd (omega arith), (λ e k. absurd (omega arith), (λ e k. (and-left (is-backup (s .making .mode)) _ e, full-all-used (cells-of store) s (and-right (is-backup (s .making .mode)) _ e)), tt)))))
     (λ k.
     not-both (ap changes-nothing k ∙ thirty)
     (send-body-midway (taken-cell (cells-of store) s) time payload s))
 
-pub full-send-30 : (store list time : ℕ) (payload : List ℕ) (s : State) → is-backup (s .mode) ≡ true → All-used (cells-of store) s
+pub full-send-30 : (store list time : ℕ) (payload : List ℕ) (s : State) → is-backup (s .making .mode) ≡ true → All-used (cells-of store) s
     → (store-unfit store s || list-unfit list) ≡ false → is-invalid (cells-of store) s ≡ false → above largest-64 time ≡ false → above cell-size (length payload) ≡ false
     → send store list time payload s .code ≡ 30
 unfolding send
@@ -150,5 +150,5 @@ full-send-30 store list time payload s backup full a b c e =
     first-failing
     ((5 when (store-unfit store s || list-unfit list)) ∷ (6 when is-invalid (cells-of store) s) ∷ (2 when above largest-64 time)
     ∷ (4 when above cell-size (length payload)) ∷ [])
-    [] (30 when (is-backup (s .mode) && no-free-cell (cells-of store) s)) s _ (a, (b, (c, (e, tt))))
+    [] (30 when (is-backup (s .making .mode) && no-free-cell (cells-of store) s)) s _ (a, (b, (c, (e, tt))))
     (ap (λ (x : Bool). x && no-free-cell (cells-of store) s) backup ∙ all-used-full (cells-of store) s full)

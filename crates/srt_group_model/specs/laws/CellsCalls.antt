@@ -11,7 +11,8 @@ use lib.ListN.{length, drop}
 use Rattle.srt_protocol.specs.Cells.{cells-of}
 use Rattle.srt_group_model.specs.Tools.{if_then_else_, such-that, change, each, without-place}
 use Rattle.srt_group_model.specs.laws.Reason.{if-elim, if-some-elim, by-test, not-both, none-some}
-use Rattle.srt_group_model.specs.State.{Member, Send, State, on-leg, on-membership, with-reserved}
+use Rattle.srt_group_model.specs.State.{Member, Send, State, on-leg, on-membership, on-account}
+use Rattle.srt_group_model.specs.Accounts.{reserve}
 use Rattle.srt_group_model.specs.Legs.{handed, release-data-reservation, add-reservation}
 use Rattle.srt_group_model.specs.Members.{id-of}
 use Rattle.srt_group_model.specs.Nearest.{sequence-of, has-sequence, is-covered}
@@ -208,7 +209,7 @@ cells-polls cells =
             h n,
             popped-data n i m e (s .members) (f .stands) (f .first) d,
             inserted n (packet-of m e) (s .receive .pending),
-            ap (occurs n) (changed-cells i (λ x. on-membership (λ y. with-reserved (y .reserved + e .content .count) y) (pop x)) pop (s .members) (λ x. refl)),
+            ap (occurs n) (changed-cells i (λ x. on-account (reserve (e .content .count)) (pop x)) pop (s .members) (λ x. refl)),
           );
       reports = λ s i m e f d few h n. omega (arith, h n, ap (occurs n) (popped-event i m e (s .members) (f .stands) (f .first) d));
       gives = λ s h. h;

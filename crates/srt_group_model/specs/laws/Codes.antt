@@ -9,7 +9,7 @@ use Rattle.srt_protocol.specs.Cells.{cells-of}
 use Rattle.srt_protocol.specs.Handshake.{has-group-mask}
 use Rattle.srt_group_model.specs.Tools.{any, all}
 use Rattle.srt_group_model.specs.laws.Reason.{if-elim, if-true, if-false, by-test, if-some-elim, not-both, and-left, and-right, or-cases}
-use Rattle.srt_group_model.specs.State.{State, is-backup}
+use Rattle.srt_group_model.specs.State.{Making, State, is-backup}
 use Rattle.srt_group_model.specs.Cells.{is-among}
 use Rattle.srt_group_model.specs.Guards.{Step, Check, guard}
 use Rattle.srt_group_model.specs.Calls.{taken-cell, new-code, add-body, add-member, mark-member-broken, remove-body, remove-member-connection, member, refresh-member-states, disconnect, poll-event-call, poll-data-call, send-body, send, can-send-body, can-send-call, can-send-with-pacing-body, can-send-with-pacing-call, time-until-send, backup-stability-timeout-micros, group-id, members-call, mode, peer-group-id, skipped-receive-packets, has-pending-data-call, has-receive-continuation, event-poll-body, data-poll-body, read-leg, queue-data-body, queue-data, queue-event}
@@ -54,27 +54,27 @@ add-body-coded id weight l s =
     (λ e. if-some-elim (Coded (0 ∷ 6 ∷ 2 ∷ 20 ∷ 21 ∷ 22 ∷ [])) _ _ _ (λ ms g. record { is = refl }) (λ g. record { is = refl }))
     (λ e. record { is = refl })
 
-send-coded : (store list time : ℕ) (payload : List ℕ) (s : State) → Coded (0 ∷ codes-of (s .mode) (call-send time payload)) (send store list time payload s)
+send-coded : (store list time : ℕ) (payload : List ℕ) (s : State) → Coded (0 ∷ codes-of (s .making .mode) (call-send time payload)) (send store list time payload s)
 unfolding send codes-of any all
 send-coded store list time payload s =
-    by-test (is-backup (s .mode))
+    by-test (is-backup (s .making .mode))
     (λ b.
     let codes : List ℕ = 0 ∷ 5 ∷ 6 ∷ 2 ∷ 4 ∷ 30 ∷ 23 ∷ backup-codes in
     let given = subst (λ (x : List ℕ). is-among (send-body cell time payload s .code) (0 ∷ 23 ∷ x) ≡ true) (if-true _ _ _ b) (send-body-gives cell time payload s) in
-    subst (λ (x : List ℕ). Coded (0 ∷ 5 ∷ 6 ∷ 2 ∷ 4 ∷ x) (send store list time payload s)) (sym (if-true (is-backup (s .mode)) _ _ b))
+    subst (λ (x : List ℕ). Coded (0 ∷ 5 ∷ 6 ∷ 2 ∷ 4 ∷ x) (send store list time payload s)) (sym (if-true (is-backup (s .making .mode)) _ _ b))
     (guard-coded codes _ s _ refl
     record { is = among-passes (λ n. is-among n codes) (0 ∷ 23 ∷ backup-codes) refl (send-body cell time payload s .code) given }))
     (λ b.
     let codes : List ℕ = 0 ∷ 5 ∷ 6 ∷ 2 ∷ 4 ∷ 23 ∷ broadcast-codes in
     let given = subst (λ (x : List ℕ). is-among (send-body cell time payload s .code) (0 ∷ 23 ∷ x) ≡ true) (if-false _ _ _ b) (send-body-gives cell time payload s) in
-    subst (λ (x : List ℕ). Coded (0 ∷ 5 ∷ 6 ∷ 2 ∷ 4 ∷ x) (send store list time payload s)) (sym (if-false (is-backup (s .mode)) _ _ b))
+    subst (λ (x : List ℕ). Coded (0 ∷ 5 ∷ 6 ∷ 2 ∷ 4 ∷ x) (send store list time payload s)) (sym (if-false (is-backup (s .making .mode)) _ _ b))
     (guard-coded codes _ s _ (rw b)
     record { is = among-passes (λ n. is-among n codes) (0 ∷ 23 ∷ broadcast-codes) refl (send-body cell time payload s .code) given }))
   where
     cell : ℕ
     cell = taken-cell (cells-of store) s
 
-step-coded : (store output list : ℕ) (c : Call) (s : State) → Coded (0 ∷ codes-of (s .mode) c) (step-of store output list c s)
+step-coded : (store output list : ℕ) (c : Call) (s : State) → Coded (0 ∷ codes-of (s .making .mode) c) (step-of store output list c s)
 unfolding step-of codes-of add-member mark-member-broken remove-body remove-member-connection refresh-member-states disconnect event-poll-body poll-event-call data-poll-body poll-data-call can-send-body can-send-call can-send-with-pacing-body can-send-with-pacing-call read-leg queue-data-body queue-data queue-event any all
 step-coded store output list (call-add-member id weight l queue) s =
     guard-coded _ _ s _ refl (add-body-coded id weight l s)
@@ -99,12 +99,12 @@ step-coded store output list (call-queue-event id kind reason) s =
     guard-coded _ _ s _ refl record { is = refl }
 
 -- A call ends with 0 or with one of its codes, whatever the state and what it is lent.
-pub call-code : (c : Call) (lent : Lent) (s : State) → is-among (perform c lent s .code) (0 ∷ codes-of (s .mode) c) ≡ true
+pub call-code : (c : Call) (lent : Lent) (s : State) → is-among (perform c lent s .code) (0 ∷ codes-of (s .making .mode) c) ≡ true
 unfolding perform with-bytes
 call-code c lent s = step-coded _ _ _ c s .is
 
-pub new-coded : (id mode : ℕ) → is-among (new-code id mode) (0 ∷ new-codes) ≡ true
+pub new-coded : (making : Making) → is-among (new-code making) (0 ∷ new-codes) ≡ true
 unfolding new-code any
-new-coded id mode =
+new-coded making =
     if-elim (λ (n : ℕ). is-among n (0 ∷ new-codes) ≡ true) _ _ _ (λ e. refl)
-    (λ e. if-elim (λ (n : ℕ). is-among n (0 ∷ new-codes) ≡ true) (has-group-mask id) 0 1 (λ g. refl) (λ g. refl))
+    (λ e. if-elim (λ (n : ℕ). is-among n (0 ∷ new-codes) ≡ true) (has-group-mask (making .id)) 0 1 (λ g. refl) (λ g. refl))

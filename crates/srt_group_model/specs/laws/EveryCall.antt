@@ -130,11 +130,11 @@ set-base-send o r =
     if-some-elim (λ (x : Run). x .state .send ≡ r .state .send) _ _ _ (λ b e. refl)
     (λ e. if-some-elim (λ (x : Run). x .state .send ≡ r .state .send) _ _ _ (λ b g. refl) (λ g. refl))
 
-refresh-mode : (r : Run) → refresh-states r .state .mode ≡ r .state .mode
+refresh-mode : (r : Run) → refresh-states r .state .making .mode ≡ r .state .making .mode
 unfolding refresh-states refresh-pending-states admit-connected-peer-groups set-base
 refresh-mode r =
-    if-some-elim (λ (q : Run). q .state .mode ≡ r .state .mode) (next-receive-sequence (r .state .receive)) _ _ (λ b e. refl)
-    (λ e. if-some-elim (λ (q : Run). q .state .mode ≡ r .state .mode) (base-after none (r .state .members)) _ _ (λ b e. refl) (λ e. refl))
+    if-some-elim (λ (q : Run). q .state .making .mode ≡ r .state .making .mode) (next-receive-sequence (r .state .receive)) _ _ (λ b e. refl)
+    (λ e. if-some-elim (λ (q : Run). q .state .making .mode ≡ r .state .making .mode) (base-after none (r .state .members)) _ _ (λ b e. refl) (λ e. refl))
 
 admission-move : (s : State) (m : Member) → Member-move s m (admit-peer-group (s .peer) m)
 unfolding admit-peer-group
@@ -270,12 +270,12 @@ module _ (P : Option ℕ → State → List Mark → Type 0) (law : Poll-law P) 
   pub refreshes-pending : (hand : Option ℕ) (r : Run) → Has hand r → Has hand (refresh-pending-states r)
   unfolding refresh-pending-states
   refreshes-pending hand r h =
-      let a = admit-connected-peer-groups r in settles hand (a .log) (a .state) (a .state .mode) (a .state .members) (admits-all hand r h)
+      let a = admit-connected-peer-groups r in settles hand (a .log) (a .state) (a .state .making .mode) (a .state .members) (admits-all hand r h)
 
   pub refreshes : (hand : Option ℕ) (r : Run) → Has hand r → Has hand (refresh-states r)
   unfolding refresh-states
   refreshes hand r h =
-      let a = refresh-pending-states r in requalifies hand (a .log) (a .state) (a .state .mode) (a .state .members) (refreshes-pending hand r h)
+      let a = refresh-pending-states r in requalifies hand (a .log) (a .state) (a .state .making .mode) (a .state .members) (refreshes-pending hand r h)
 
   -- ---- collecting
 
@@ -577,8 +577,8 @@ module _ (c : Call) (cells : ℕ) (P : Option ℕ → State → List Mark → Ty
     sends-backup : (s : State) → P (some cell) s log → Ended (send-backup time (length payload) cell s)
     unfolding send-backup
     sends-backup s h =
-        let ready : State = with-members (promote-if-none (s .mode) (demote-stale-backup-carrier time (s .members))) s in
-        let begun : P (some cell) ready log = demotes-and-promotes (some cell) log time (s .mode) s h in
+        let ready : State = with-members (promote-if-none (s .making .mode) (demote-stale-backup-carrier time (s .members))) s in
+        let begun : P (some cell) ready log = demotes-and-promotes (some cell) log time (s .making .mode) s h in
         if-some-elim Ended _ _ _
         (λ i g.
         then-ends (take-over-backup-flight time i ready) (send-at-place time (length payload) cell i) (takes-over-flight (some cell) log time fits i ready begun)
@@ -672,16 +672,16 @@ module _ (c : Call) (cells : ℕ) (P : Option ℕ → State → List Mark → Ty
   unfolding can-send-with-pacing-body
   reads-paced-ready time s h =
       let fresh = refreshes P (law .polling) none (start s) h in
-      if-elim Keeps _ _ _ (λ e. trims-by-carrier none _ _ (demotes-and-promotes none _ time (s .mode) _ fresh)) (λ e. fresh)
+      if-elim Keeps _ _ _ (λ e. trims-by-carrier none _ _ (demotes-and-promotes none _ time (s .making .mode) _ fresh)) (λ e. fresh)
 
-  sends : (time : ℕ) (payload : List ℕ) (s : State) → time ≤ largest-64 → length payload ≤ cell-size → is-backup (s .mode) && no-free-cell cells s ≡ false
+  sends : (time : ℕ) (payload : List ℕ) (s : State) → time ≤ largest-64 → length payload ≤ cell-size → is-backup (s .making .mode) && no-free-cell cells s ≡ false
       → P none s [] → Keeps (send-body (taken-cell cells s) time payload s)
   unfolding send-body send-flow left-by-send
   sends time payload s fits short free h =
       let r = refresh-states (start s) in
       let cell = taken-cell cells s in
-      let same : is-backup (r .state .mode) ≡ is-backup (s .mode) = ap is-backup (refresh-mode (start s)) in
-      by-test (is-backup (s .mode))
+      let same : is-backup (r .state .making .mode) ≡ is-backup (s .making .mode) = ap is-backup (refresh-mode (start s)) in
+      by-test (is-backup (s .making .mode))
       (λ b.
       let fresh : P (some cell) (r .state) (r .log) = refreshes P (law .polling) (some cell) (start s) (law .takes s (ap (λ (x : Bool). x && no-free-cell cells s) (sym b) ∙ free) h) in
       let ended : Ended time fits (r .log) cell payload short (send-flow cell time payload s r) =

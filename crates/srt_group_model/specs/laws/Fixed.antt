@@ -1,22 +1,21 @@
--- What is fixed at creation stays: no call moves the group's id, the store's length or the mode.
+-- What is fixed at creation stays: no call moves what the group was made of.
 use mathlib.Core.Path.{_≡_, refl, _∙_}
 use mathlib.Core.List.{List}
 use mathlib.Core.Option.{Option}
 use Prim.Native.Nat.{ℕ}
-use Rattle.srt_group_model.specs.State.{State}
+use Rattle.srt_group_model.specs.State.{Making, State}
 use Rattle.srt_group_model.specs.Run.{Mark}
 use Rattle.srt_group_model.specs.Removal.{retire, take-out}
 use Rattle.srt_group_model.specs.Lent.{Lent, Call, perform}
 use Rattle.srt_group_model.specs.laws.CallLaw.{Poll-law, Call-law}
 use Rattle.srt_group_model.specs.laws.EveryCall.{call-keeps}
 use Rattle.srt_group_model.specs.laws.MemberMoves.{deliver-frame}
-use Rattle.srt_group_model.specs.declared.Identity.{Identity}
 
-abbrev pub Given : Identity → (mode : ℕ) → Option ℕ → State → List Mark → Type 0
-Given x mode hand s log = (s .identity ≡ x) × (s .mode ≡ mode)
+abbrev pub Given : Making → Option ℕ → State → List Mark → Type 0
+Given making hand s log = s .making ≡ making
 
-pub given-polls : (x : Identity) (mode : ℕ) → Poll-law (Given x mode)
-given-polls x mode =
+pub given-polls : (making : Making) → Poll-law (Given making)
+given-polls making =
     record {
       moves = λ s i m f at move h. h;
       binds = λ s i m at a h. h;
@@ -28,15 +27,14 @@ given-polls x mode =
       reports = λ s i m e f d few h. h;
       gives = λ s h. h;
       skips = λ s base p tested time b n near h. h;
-      delivers =
-          λ s base p b e h. let frame = deliver-frame base p s in (frame .identity ∙ h .0, frame .mode ∙ h .1);
+      delivers = λ s base p b e h. deliver-frame base p s .making ∙ h;
     }
 
-pub given-law : (x : Identity) (mode : ℕ) (c : Call) (cells : ℕ) → Call-law c cells (Given x mode)
+pub given-law : (making : Making) (c : Call) (cells : ℕ) → Call-law c cells (Given making)
 unfolding take-out retire
-given-law x mode c cells =
+given-law making c cells =
     record {
-      polling = given-polls x mode;
+      polling = given-polls making;
       joins = λ s id weight l queue is j h. h;
       leaves = λ s i m is at h. h;
       retires = λ s base p e h. h;
@@ -50,7 +48,5 @@ given-law x mode c cells =
       trims = λ s l h. h;
     }
 
-pub identity-kept : (c : Call) (lent : Lent) (s : State)
-    → (perform c lent s .state .identity ≡ s .identity) × (perform c lent s .state .mode ≡ s .mode)
-identity-kept c lent s =
-    call-keeps (Given (s .identity) (s .mode)) c lent s (given-law (s .identity) (s .mode) c _) (refl, refl)
+pub making-kept : (c : Call) (lent : Lent) (s : State) → perform c lent s .state .making ≡ s .making
+making-kept c lent s = call-keeps (Given (s .making)) c lent s (given-law (s .making) c _) refl

@@ -25,20 +25,20 @@ use Rattle.srt_group_model.specs.declared.Membership.{Membership}
 
 pub record Carried (m n : Member) : Type 0 where
   pub id : id-of n ≡ id-of m
-  pub reserved : n .membership .reserved ≡ m .membership .reserved
+  pub account : n .membership .account ≡ m .membership .account
   pub queue : n .queue ≡ m .queue
   pub receiver : n .leg .receiver ≡ m .leg .receiver
   pub link : n .leg .link ≡ m .leg .link
   pub broken : in-state broken-state m ≡ true → in-state broken-state n ≡ true
 
 pub carried-same : (m : Member) → Carried m m
-carried-same m = record { id = refl; reserved = refl; queue = refl; receiver = refl; link = refl; broken = λ h. h }
+carried-same m = record { id = refl; account = refl; queue = refl; receiver = refl; link = refl; broken = λ h. h }
 
 pub carried-then : (a b c : Member) → Carried a b → Carried b c → Carried a c
 carried-then a b c h k =
     record {
       id = k .id ∙ h .id;
-      reserved = k .reserved ∙ h .reserved;
+      account = k .account ∙ h .account;
       queue = k .queue ∙ h .queue;
       receiver = k .receiver ∙ h .receiver;
       link = k .link ∙ h .link;
@@ -68,7 +68,7 @@ pub kept-carried : (m n : Member) → Kept m n → Carried m n
 kept-carried m n h =
     record {
       id = ap (λ (x : Membership). x .id) (h .membership);
-      reserved = ap (λ (x : Membership). x .reserved) (h .membership);
+      account = ap (λ (x : Membership). x .account) (h .membership);
       queue = h .queue;
       receiver = h .receiver;
       link = h .link;
@@ -95,10 +95,10 @@ all-change = each-to-change Carried carried-same
 
 -- a member that is not Broken may take any state
 pub turned-carried : (n : ℕ) (m : Member) → in-state broken-state m ≡ false → Carried m (turned n m)
-turned-carried n m e = record { id = refl; reserved = refl; queue = refl; receiver = refl; link = refl; broken = λ h. not-both h e }
+turned-carried n m e = record { id = refl; account = refl; queue = refl; receiver = refl; link = refl; broken = λ h. not-both h e }
 
 pub broken-carried : (m : Member) → Carried m (turned broken-state m)
-broken-carried m = record { id = refl; reserved = refl; queue = refl; receiver = refl; link = refl; broken = λ h. refl }
+broken-carried m = record { id = refl; account = refl; queue = refl; receiver = refl; link = refl; broken = λ h. refl }
 
 -- a member in another state is not Broken
 pub not-broken : (m : Member) (n : ℕ) → in-state n m ≡ true → eqb n broken-state ≡ false → in-state broken-state m ≡ false
@@ -263,8 +263,8 @@ admit-carried peer m =
     if-elim (Carried m) _ _ _
     (λ e.
     if-elim (Carried m) _ _ _
-    (λ g. record { id = refl; reserved = refl; queue = refl; receiver = refl; link = refl; broken = λ h. h })
-    (λ g. record { id = refl; reserved = refl; queue = refl; receiver = refl; link = refl; broken = λ h. refl }))
+    (λ g. record { id = refl; account = refl; queue = refl; receiver = refl; link = refl; broken = λ h. h })
+    (λ g. record { id = refl; account = refl; queue = refl; receiver = refl; link = refl; broken = λ h. refl }))
     (λ e. carried-same m)
 
 pub admit-all-carried : (peer : ℕ) (ms : List Member) → All-carried ms (each (admit-peer-group peer) ms)
@@ -327,50 +327,47 @@ requalify-carried mode number ms =
 
 -- what a send leaves alone, and what the rest of receiving needs of it
 pub record Framed (R : Member → Member → Type 0) (s t : State) : Type 0 where
-  pub identity : t .identity ≡ s .identity
-  pub mode : t .mode ≡ s .mode
+  pub making : t .making ≡ s .making
   pub peer : t .peer ≡ s .peer
   pub receive : t .receive ≡ s .receive
   pub visit : t .visit ≡ s .visit
-  pub owned : t .owned ≡ s .owned
+  pub own : t .own ≡ s .own
   pub waiting : t .waiting ≡ s .waiting
   pub members : Each-to R (s .members) (t .members)
 
 module _ (R : Member → Member → Type 0) (r : (m : Member) → R m m) (r-then : (a b c : Member) → R a b → R b c → R a c) where
   pub framed-same : (s : State) → Framed R s s
   framed-same s =
-      record { identity = refl; mode = refl; peer = refl; receive = refl; visit = refl; owned = refl; waiting = refl; members = each-to-same R r (s .members) }
+      record { making = refl; peer = refl; receive = refl; visit = refl; own = refl; waiting = refl; members = each-to-same R r (s .members) }
 
   pub framed-then : (s t u : State) → Framed R s t → Framed R t u → Framed R s u
   framed-then s t u h k =
       record {
-        identity = k .identity ∙ h .identity;
-        mode = k .mode ∙ h .mode;
+        making = k .making ∙ h .making;
         peer = k .peer ∙ h .peer;
         receive = k .receive ∙ h .receive;
         visit = k .visit ∙ h .visit;
-        owned = k .owned ∙ h .owned;
+        own = k .own ∙ h .own;
         waiting = k .waiting ∙ h .waiting;
         members = each-to-then R r-then (s .members) (t .members) (u .members) (h .members) (k .members);
       }
 
   pub send-framed : (x : Send) (s : State) → Framed R s (with-send x s)
   send-framed x s =
-      record { identity = refl; mode = refl; peer = refl; receive = refl; visit = refl; owned = refl; waiting = refl; members = each-to-same R r (s .members) }
+      record { making = refl; peer = refl; receive = refl; visit = refl; own = refl; waiting = refl; members = each-to-same R r (s .members) }
 
 pub members-framed : (R : Member → Member → Type 0) (s : State) (ms : List Member) → Each-to R (s .members) ms → Framed R s (with-members ms s)
 members-framed R s ms h =
-    record { identity = refl; mode = refl; peer = refl; receive = refl; visit = refl; owned = refl; waiting = refl; members = h }
+    record { making = refl; peer = refl; receive = refl; visit = refl; own = refl; waiting = refl; members = h }
 
 pub kept-framed : (s t : State) → Framed Kept s t → Framed Carried s t
 kept-framed s t h =
     record {
-      identity = h .identity;
-      mode = h .mode;
+      making = h .making;
       peer = h .peer;
       receive = h .receive;
       visit = h .visit;
-      owned = h .owned;
+      own = h .own;
       waiting = h .waiting;
       members = all-kept-carried (s .members) (t .members) (h .members);
     }
@@ -577,12 +574,11 @@ send-own-framed time size cell sequence i failed s h =
     if-some-elim (Flows s) _ _ _
     (λ l g.
     record {
-      identity = refl;
-      mode = refl;
+      making = refl;
       peer = refl;
       receive = refl;
       visit = refl;
-      owned = refl;
+      own = refl;
       waiting = refl;
       members =
           all-kept-carried (s .members) _
@@ -621,10 +617,10 @@ pub backup-framed : (time size cell : ℕ) (s : State) → Flows s (send-backup 
 unfolding send-backup
 backup-framed time size cell s =
     let silent = demote-stale-backup-carrier time (s .members) in
-    let ready : State = with-members (promote-if-none (s .mode) silent) s in
+    let ready : State = with-members (promote-if-none (s .making .mode) silent) s in
     let h =
-    members-framed Carried s (promote-if-none (s .mode) silent)
-    (all-then (s .members) silent _ (demote-carried time (s .members)) (promote-if-none-carried (s .mode) silent))
+    members-framed Carried s (promote-if-none (s .making .mode) silent)
+    (all-then (s .members) silent _ (demote-carried time (s .members)) (promote-if-none-carried (s .making .mode) silent))
     in
     if-some-elim (Flows s) _ _ _
     (λ i g.

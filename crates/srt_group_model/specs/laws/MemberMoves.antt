@@ -47,30 +47,30 @@ read-leaves field n l =
 pub record Same-account (m n : Member) : Type 0 where
   pub id : id-of n ≡ id-of m
   pub queue : n .queue ≡ m .queue
-  pub reserved : n .membership .reserved ≡ m .membership .reserved
+  pub account : n .membership .account ≡ m .membership .account
   pub reservation : n .leg .receiver .reserved ≡ m .leg .receiver .reserved
   pub first : n .leg .receiver .first ≡ m .leg .receiver .first
   pub broken : in-state broken-state m ≡ true → in-state broken-state n ≡ true
 
 same-account : (m : Member) → Same-account m m
-same-account m = record { id = refl; queue = refl; reserved = refl; reservation = refl; first = refl; broken = λ b. b }
+same-account m = record { id = refl; queue = refl; account = refl; reservation = refl; first = refl; broken = λ b. b }
 
 same-legs : (m : Member) (l : Leg) → Same-leg (m .leg) l → Same-account m record { membership = m .membership; leg = l; queue = m .queue }
-same-legs m l h = record { id = refl; queue = refl; reserved = refl; reservation = ap (λ (x : Receiver). x .reserved) (h .receiver); first = ap (λ (x : Receiver). x .first) (h .receiver); broken = λ b. b }
+same-legs m l h = record { id = refl; queue = refl; account = refl; reservation = ap (λ (x : Receiver). x .reserved) (h .receiver); first = ap (λ (x : Receiver). x .first) (h .receiver); broken = λ b. b }
 
 pub moved-account : {s : State} {m n : Member} → Member-move s m n → Same-account m n
 moved-account {s} {m} unmoved = same-account m
 moved-account (turn n fits stays) =
-    record { id = refl; queue = refl; reserved = refl; reservation = refl; first = refl; broken = λ b. ap (λ (k : ℕ). eqb k broken-state) (stays b) }
-moved-account (admission e) = record { id = refl; queue = refl; reserved = refl; reservation = refl; first = refl; broken = λ b. b }
-moved-account (colliding e) = record { id = refl; queue = refl; reserved = refl; reservation = refl; first = refl; broken = λ b. refl }
+    record { id = refl; queue = refl; account = refl; reservation = refl; first = refl; broken = λ b. ap (λ (k : ℕ). eqb k broken-state) (stays b) }
+moved-account (admission e) = record { id = refl; queue = refl; account = refl; reservation = refl; first = refl; broken = λ b. b }
+moved-account (colliding e) = record { id = refl; queue = refl; account = refl; reservation = refl; first = refl; broken = λ b. refl }
 moved-account {s} {m} (alignment sequence l source e) = same-legs m l (align-gives sequence (m .leg) l e)
 moved-account {s} {m} (catching-up entry l there e) = same-legs m l (synchronize-gives (entry .sequence) (m .leg) l e)
 moved-account {s} {m} (leg-send time size sequence l fits e) = same-legs m l (send-gives time size sequence (m .leg) l e)
-moved-account leg-end = record { id = refl; queue = refl; reserved = refl; reservation = refl; first = refl; broken = λ b. b }
+moved-account leg-end = record { id = refl; queue = refl; account = refl; reservation = refl; first = refl; broken = λ b. b }
 moved-account {s} {m} (leg-reading field n fits forth) =
-    record { id = refl; queue = refl; reserved = refl; reservation = read-leaves field n (m .leg) .0; first = read-leaves field n (m .leg) .1; broken = λ b. b }
-moved-account (advance base count) = record { id = refl; queue = refl; reserved = refl; reservation = refl; first = refl; broken = λ b. b }
+    record { id = refl; queue = refl; account = refl; reservation = read-leaves field n (m .leg) .0; first = read-leaves field n (m .leg) .1; broken = λ b. b }
+moved-account (advance base count) = record { id = refl; queue = refl; account = refl; reservation = refl; first = refl; broken = λ b. b }
 
 -- the member at a place moves, and the others stay
 pub moved-at : (R : Member → Member → Type 0) → ((m : Member) → R m m) → (i : ℕ) (m : Member) (f : Member → Member) (ms : List Member) → at-place i ms ≡ some m
@@ -92,8 +92,7 @@ relabelled-then : (a b c : Member) → Relabelled a b → Relabelled b c → Rel
 relabelled-then a b c h k = record { id = k .id ∙ h .id; queue = k .queue ∙ h .queue; broken = λ e. k .broken (h .broken e) }
 
 pub record Delivery-frame (s t : State) : Type 0 where
-  pub identity : t .identity ≡ s .identity
-  pub mode : t .mode ≡ s .mode
+  pub making : t .making ≡ s .making
   pub peer : t .peer ≡ s .peer
   pub send : t .send ≡ s .send
   pub visit : t .visit ≡ s .visit
@@ -104,26 +103,24 @@ release-frame : (p : Packet) (s : State) → Delivery-frame s (release-pending-r
 unfolding release-pending-reservation
 release-frame p s =
     let same = each-to-same Relabelled relabelled-same (s .members) in
-    if-elim (Delivery-frame s) _ _ _ (λ e. record { identity = refl; mode = refl; peer = refl; send = refl; visit = refl; waiting = refl; members = same })
+    if-elim (Delivery-frame s) _ _ _ (λ e. record { making = refl; peer = refl; send = refl; visit = refl; waiting = refl; members = same })
     (λ e.
     if-some-elim (Delivery-frame s) _ _ _
     (λ i g.
     record {
-      identity = refl;
-      mode = refl;
+      making = refl;
       peer = refl;
       send = refl;
       visit = refl;
       waiting = refl;
       members = each-to-change Relabelled relabelled-same i _ (s .members) (λ m at. record { id = refl; queue = refl; broken = λ b. b });
     })
-    (λ g. record { identity = refl; mode = refl; peer = refl; send = refl; visit = refl; waiting = refl; members = same }))
+    (λ g. record { making = refl; peer = refl; send = refl; visit = refl; waiting = refl; members = same }))
 
 frame-then : (s t u : State) → Delivery-frame s t → Delivery-frame t u → Delivery-frame s u
 frame-then s t u h k =
     record {
-      identity = k .identity ∙ h .identity;
-      mode = k .mode ∙ h .mode;
+      making = k .making ∙ h .making;
       peer = k .peer ∙ h .peer;
       send = k .send ∙ h .send;
       visit = k .visit ∙ h .visit;
@@ -133,7 +130,7 @@ frame-then s t u h k =
 
 release-all-frame : (ps : List Packet) (s : State) → Delivery-frame s (release-all ps s)
 unfolding release-all
-release-all-frame [] s = record { identity = refl; mode = refl; peer = refl; send = refl; visit = refl; waiting = refl; members = each-to-same Relabelled relabelled-same (s .members) }
+release-all-frame [] s = record { making = refl; peer = refl; send = refl; visit = refl; waiting = refl; members = each-to-same Relabelled relabelled-same (s .members) }
 release-all-frame (p ∷ ps) s = frame-then s _ _ (release-frame p s) (release-all-frame ps (release-pending-reservation p s))
 
 pub deliver-frame : (base : ℕ) (p : Packet) (s : State) → Delivery-frame s (deliver-packet base p s)
@@ -142,8 +139,7 @@ deliver-frame base p s =
     let released = release-all (covered base (p .content .count) (s .receive .pending)) s in
     let h = release-all-frame (covered base (p .content .count) (s .receive .pending)) s in
     record {
-      identity = h .identity;
-      mode = h .mode;
+      making = h .making;
       peer = h .peer;
       send = h .send;
       visit = h .visit;

@@ -44,8 +44,7 @@ pub record Only-trimmed (x y : Send) : Type 0 where
   pub history : Rest-of (x .history) (y .history)
 
 pub record Stays (s t : State) : Type 0 where
-  pub identity : t .identity ≡ s .identity
-  pub mode : t .mode ≡ s .mode
+  pub making : t .making ≡ s .making
   -- a peer group, once the group is bound to it; a base, once it is set
   pub peer : eqb (s .peer) 0 ≡ false → t .peer ≡ s .peer
   pub base : (b : ℕ) → next-receive-sequence (s .receive) ≡ some b → t .receive ≡ s .receive
@@ -53,7 +52,7 @@ pub record Stays (s t : State) : Type 0 where
   pub skipped : t .receive .numbers .skipped ≡ s .receive .numbers .skipped
   pub send : Only-trimmed (s .send) (t .send)
   pub visit : t .visit ≡ s .visit
-  pub owned : t .owned ≡ s .owned
+  pub own : t .own ≡ s .own
   pub waiting : t .waiting ≡ s .waiting
 
 -- 22 at an addition: the leg is a member, admitted, and only not aligned; nothing was sent
@@ -76,9 +75,9 @@ pub record Send-refused (s : State) (step : Step) : Type 0 where
   pub members : All-carried (s .members) (step .state .members)
   -- the call's own payload was sent on no leg
   pub replays : All (Replays (s .send .history)) (step .sends)
-  pub broadcast : is-backup (s .mode) ≡ false → (step .state .send ≡ s .send) × (step .sends ≡ [])
+  pub broadcast : is-backup (s .making .mode) ≡ false → (step .state .send ≡ s .send) × (step .sends ≡ [])
   -- what the refresh leaves, and nothing sent
-  pub untried : is-untried (s .mode) (step .code) ≡ true → (step .state ≡ refresh-states (start s) .state) × (step .sends ≡ [])
+  pub untried : is-untried (s .making .mode) (step .code) ≡ true → (step .state ≡ refresh-states (start s) .state) × (step .sends ≡ [])
 
 -- ---- the sending side
 
@@ -254,7 +253,7 @@ send-at-place-left time size cell i s taken =
 
 -- the members that a Backup send goes by
 abbrev readied : ℕ → State → List Member
-readied time s = promote-if-none (s .mode) (demote-stale-backup-carrier time (s .members))
+readied time s = promote-if-none (s .making .mode) (demote-stale-backup-carrier time (s .members))
 
 record Backup-left (time : ℕ) (s : State) (f : Flow) : Type 0 where
   send : Only-trimmed (s .send) (f .state .send)
@@ -444,45 +443,42 @@ refresh-carried s =
 stays-same : (s : State) → Stays s s
 stays-same s =
     record {
-      identity = refl;
-      mode = refl;
+      making = refl;
       peer = λ e. refl;
       base = λ b e. refl;
       pending = refl;
       skipped = refl;
       send = only-same (s .send);
       visit = refl;
-      owned = refl;
+      own = refl;
       waiting = refl;
     }
 
 admits-stays : (s t : State) → Admits s t → Stays s t
 admits-stays s t h =
     record {
-      identity = ap (λ (x : State). x .identity) (h .rest);
-      mode = ap (λ (x : State). x .mode) (h .rest);
+      making = ap (λ (x : State). x .making) (h .rest);
       peer = h .peer;
       base = h .base;
       pending = h .pending;
       skipped = h .skipped;
       send = subst (λ (x : State). Only-trimmed (x .send) (t .send)) (h .rest) (only-same (t .send));
       visit = ap (λ (x : State). x .visit) (h .rest);
-      owned = ap (λ (x : State). x .owned) (h .rest);
+      own = ap (λ (x : State). x .own) (h .rest);
       waiting = ap (λ (x : State). x .waiting) (h .rest);
     }
 
 stays-framed : (s t u : State) → Stays s t → Framed Carried t u → Only-trimmed (t .send) (u .send) → Stays s u
 stays-framed s t u h f k =
     record {
-      identity = f .identity ∙ h .identity;
-      mode = f .mode ∙ h .mode;
+      making = f .making ∙ h .making;
       peer = λ e. f .peer ∙ h .peer e;
       base = λ b e. f .receive ∙ h .base b e;
       pending = ap (λ (x : Receive). x .pending) (f .receive) ∙ h .pending;
       skipped = ap (λ (x : Receive). x .numbers .skipped) (f .receive) ∙ h .skipped;
       send = only-then (s .send) (t .send) (u .send) (h .send) k;
       visit = f .visit ∙ h .visit;
-      owned = f .owned ∙ h .owned;
+      own = f .own ∙ h .own;
       waiting = f .waiting ∙ h .waiting;
     }
 
@@ -521,14 +517,14 @@ flow-refused cell time payload s =
             broadcast = λ c. not-both b c;
             untried =
                 λ u.
-                or-cases (eqb (backup .code) 23) (eqb (backup .code) 24 || (eqb (backup .code) 25 && not (is-backup (s .mode)))) u
+                or-cases (eqb (backup .code) 23) (eqb (backup .code) 24 || (eqb (backup .code) 25 && not (is-backup (s .making .mode)))) u
                 (λ g. not-both g (not-true _ (among-passes (λ c. not (eqb c 23)) (0 ∷ backup-codes) refl (backup .code) (send-backup-ends time size cell r))))
                 (λ g.
-                or-cases (eqb (backup .code) 24) (eqb (backup .code) 25 && not (is-backup (s .mode))) g
+                or-cases (eqb (backup .code) 24) (eqb (backup .code) 25 && not (is-backup (s .making .mode))) g
                 (λ k.
                 let ended = left .at-24 k in
-                let mode = ap (λ (x : State). is-backup (x .mode)) (refresh-admits s .rest) ∙ b in
-                let members = none-readied (r .mode) time (r .members) mode (ended .0) in (
+                let mode = ap (λ (x : State). is-backup (x .making .mode)) (refresh-admits s .rest) ∙ b in
+                let members = none-readied (r .making .mode) time (r .members) mode (ended .0) in (
                   ap (λ (f : Flow). f .state) (ended .1) ∙ ap (λ (ms : List Member). with-members ms r) members,
                   ap (λ (f : Flow). f .sends) (ended .1),
                 ))
@@ -546,11 +542,11 @@ flow-refused cell time payload s =
             broadcast = λ c. (unsent .send ∙ same, unsent .sends);
             untried =
                 λ u.
-                or-cases (eqb (cast .code) 23) (eqb (cast .code) 24 || (eqb (cast .code) 25 && not (is-backup (s .mode)))) u
+                or-cases (eqb (cast .code) 23) (eqb (cast .code) 24 || (eqb (cast .code) 25 && not (is-backup (s .making .mode)))) u
                 (λ g. not-both g (not-true _ (among-passes (λ c. not (eqb c 23)) (0 ∷ broadcast-codes) refl (cast .code) (send-broadcast-ends time size r))))
                 (λ g. (
                   unsent .untried
-                      (or-cases (eqb (cast .code) 24) (eqb (cast .code) 25 && not (is-backup (s .mode))) g (λ k. or-yes-left (eqb (cast .code) 24) _ k)
+                      (or-cases (eqb (cast .code) 24) (eqb (cast .code) 25 && not (is-backup (s .making .mode))) g (λ k. or-yes-left (eqb (cast .code) 24) _ k)
                       (λ k. or-yes-right (eqb (cast .code) 24) _ (and-left (eqb (cast .code) 25) _ k))),
                   unsent .sends,
                 ));
@@ -583,15 +579,15 @@ send-stays store list time payload s =
     (if-elim (Refused-stays s) _ _ _ (λ e h. absurd (h refl)) (λ e h. flow-refused (taken-cell (cells-of store) s) time payload s e .stays))
 
 -- A call all of whose codes change nothing has changed nothing, wherever it is refused.
-pub refused-unmoved : (c : Call) (lent : Lent) (s : State) → all changes-nothing (codes-of (s .mode) c) ≡ true → (perform c lent s .code ≡ 0 → ⊥)
+pub refused-unmoved : (c : Call) (lent : Lent) (s : State) → all changes-nothing (codes-of (s .making .mode) c) ≡ true → (perform c lent s .code ≡ 0 → ⊥)
     → Unchanged lent s (perform c lent s)
 unfolding any
 refused-unmoved c lent s h refused =
     let code = perform c lent s .code in
-    or-cases (eqb 0 code) (is-among code (codes-of (s .mode) c)) (call-code c lent s) (λ e. absurd (refused (sym (eqb-true 0 code e))))
-    (λ e. refusal-leaves-everything c lent s (among-passes changes-nothing (codes-of (s .mode) c) h code e))
+    or-cases (eqb 0 code) (is-among code (codes-of (s .making .mode) c)) (call-code c lent s) (λ e. absurd (refused (sym (eqb-true 0 code e))))
+    (λ e. refusal-leaves-everything c lent s (among-passes changes-nothing (codes-of (s .making .mode) c) h code e))
 
-unmoved-stays : (c : Call) (lent : Lent) (s : State) → all changes-nothing (codes-of (s .mode) c) ≡ true → (perform c lent s .code ≡ 0 → ⊥)
+unmoved-stays : (c : Call) (lent : Lent) (s : State) → all changes-nothing (codes-of (s .making .mode) c) ≡ true → (perform c lent s .code ≡ 0 → ⊥)
     → Stays s (perform c lent s .state)
 unmoved-stays c lent s h refused = subst (Stays s) (sym (refused-unmoved c lent s h refused .state)) (stays-same s)
 
@@ -661,7 +657,7 @@ pub send-refused : (store list time : ℕ) (payload : List ℕ) (s : State) → 
     → Send-refused s (send store list time payload s)
 unfolding send send-body left-by-send all
 send-refused store list time payload s =
-    guard-elim-coded After (λ n. not (is-untried (s .mode) n)) _ s _ refl
+    guard-elim-coded After (λ n. not (is-untried (s .making .mode) n)) _ s _ refl
     (λ code passes h.
     record { members = all-same (s .members); replays = tt; broadcast = λ b. (refl, refl); untried = λ u. not-both u (not-true _ passes) })
     (if-elim After _ _ _ (λ e h. absurd (h refl))

@@ -5,7 +5,7 @@ use mathlib.Core.List.{List, [], _∷_, _++_}
 use Prim.Native.Nat.{ℕ}
 use lib.ListN.{length, replicate}
 use Rattle.srt_group_model.specs.State.{State}
-use Rattle.srt_group_model.specs.laws.State.{broadcast-mode}
+use Rattle.srt_group_model.specs.laws.State.{broadcast-mode, ordinary}
 use Rattle.srt_group_model.specs.Legs.{moment, no-sequence, on-sender, on-receiver}
 use Rattle.srt_group_model.specs.Lent.{Lent, Result, Call, call-add-member, call-queue-data, call-send, call-poll-data, perform}
 use Rattle.srt_group_model.specs.Calls.{new}
@@ -41,7 +41,7 @@ busy =
 -- It cannot be aligned with the first leg's number: 22, and it is a member from then on.
 unaligned : List Result
 unaligned =
-    after lent (new 1073741825 broadcast-mode 2912)
+    after lent (new (ordinary broadcast-mode 2912))
     (call-add-member 1 0 (leg 0 8 0 0) [] ∷ call-add-member 2 0 busy [] ∷ call-add-member 2 0 busy [] ∷ [])
 
 addition-stays-added : (codes unaligned ≡ 0 ∷ 22 ∷ 21 ∷ []) × (members-left unaligned ≡ 1 ∷ 2 ∷ 2 ∷ [])
@@ -53,7 +53,7 @@ addition-stays-added = (refl, refl)
 -- a packet 0 with two bytes, delivered; the leg has no first sequence, so the packet sets the base
 delivering : List Result
 delivering =
-    after lent (new 1073741825 broadcast-mode 2912)
+    after lent (new (ordinary broadcast-mode 2912))
     (call-add-member 1 0 (on-receiver (λ x. record { first = no-sequence; window = 8192; latency = 0; reserved = 0; advanced = 0 }) (leg 0 8 0 0)) []
     ∷ call-queue-data 1 record { sequence = 0; count = 1; message = 0; timestamp = 0; source = moment 0; cell = 0; length = 0 } (65 ∷ 66 ∷ [])
     ∷ call-poll-data 0 ∷ call-send 5 (67 ∷ []) ∷ [])

@@ -14,6 +14,7 @@ use Rattle.srt_group_model.specs.Tools.{if_then_else_, if-some_give_othe
 use Rattle.srt_group_model.specs.laws.Flag.{bit-most}
 use Rattle.srt_group_model.specs.laws.Reason.{if-elim, by-test, not-both, none-some, some-inj, and-left, and-right, or-left, or-right, no-either, first-such-of, all-append}
 use Rattle.srt_group_model.specs.State.{Member, Send, State, next-send-sequence, with-receive, with-send, with-members, on-leg}
+use Rattle.srt_group_model.specs.Accounts.{reserve}
 use Rattle.srt_group_model.specs.Legs.{Reading, readings, reading-of, goes-back, read-state, acknowledge, handed, disconnect-leg, add-reservation, has-sender, is-connected, oldest-unacked-sequence, largest-sequence, largest-16, largest-32, largest-64}
 use Rattle.srt_group_model.specs.Members.{id-of}
 use Rattle.srt_group_model.specs.Nearest.{sequence-of, nearest}
@@ -32,7 +33,7 @@ use Rattle.srt_group_model.specs.laws.EveryCall.{call-keeps}
 use Rattle.srt_group_model.specs.laws.Acknowledging.{acknowledged-less}
 use Rattle.srt_group_model.specs.Sound.{Leg-fit, Event-fit, Member-fit, All-fit, Packet-fit, Entry-fit, Waiting-fit, Receiving-fit, Sending-fit, Fit}
 use Rattle.srt_group_model.specs.laws.Ranges.{further-fits, synchronize-fit, send-fit, align-leg-fit, turned-fit, with-leg-fit, at-fit, at-change-fit, source-fit, first-fit, admitted-fit, collided-fit}
-use Rattle.srt_group_model.specs.laws.RangesKept.{number-fit, drop-fit, pop-fit, release-leg-fit, advance-leg-fit, reserved-fit, front-fit, packet-fit, waiting-fit, members-fit, receive-fit, sending-fit, events-fit, peer-fit, visit-fit, delivers-fit, nearest-fit}
+use Rattle.srt_group_model.specs.laws.RangesKept.{number-fit, drop-fit, pop-fit, release-leg-fit, advance-leg-fit, account-fit, front-fit, packet-fit, waiting-fit, members-fit, receive-fit, sending-fit, events-fit, peer-fit, visit-fit, delivers-fit, nearest-fit}
 use Rattle.srt_group_model.specs.declared.Leg.{Leg}
 use Rattle.srt_group_model.specs.declared.Data.{Data}
 use Rattle.srt_group_model.specs.declared.Event.{Event}
@@ -379,7 +380,7 @@ fit-polls =
           λ s i m e f d g h.
           let mine = at-fit i m (s .members) (f .stands) (h .members) in
           receive-fit _ _ (inserted-all Packet-fit (packet-of m e) (s .receive .pending) (packet-fit m e mine (front-fit (m .queue) e (f .first) (mine .queue)) d) (h .pending)) (h .receiving)
-          (changes-fit s i m _ (f .stands) (λ k. reserved-fit (λ n. n + e .content .count) (pop m) (pop-fit m k)) h);
+          (changes-fit s i m _ (f .stands) (λ k. account-fit (reserve (e .content .count)) (pop m) (pop-fit m k)) h);
       reports = λ s i m e f d few h. reports-fit s i m e f d h;
       gives = λ s h. events-fit _ s (drop-fit Waiting-fit (s .waiting) (h .waiting)) h;
       skips = λ s base p tested time b n near h. skips-fit s base p near h;

@@ -10,7 +10,8 @@ use lib.Dec.{eqb}
 use lib.ListN.{length, drop}
 use Rattle.srt_group_model.specs.Tools.{is-set, or-else, at-place, All}
 use Rattle.srt_group_model.specs.laws.Reason.{if-elim, if-some-elim, none-some, some-inj, or-left, or-right}
-use Rattle.srt_group_model.specs.State.{Member, Receive, Send, State, next-send-sequence, with-receive, with-send, with-visit, with-members, with-waiting, with-peer, on-leg, on-membership, with-reserved}
+use Rattle.srt_group_model.specs.State.{Member, Receive, Send, State, next-send-sequence, with-receive, with-send, with-visit, with-members, with-waiting, with-peer, on-leg, on-membership, on-account}
+use Rattle.srt_group_model.specs.Accounts.{release}
 use Rattle.srt_group_model.specs.Legs.{release-data-reservation, advance-receive-sequence, largest-sequence, largest-32}
 use Rattle.srt_group_model.specs.Members.{id-of}
 use Rattle.srt_group_model.specs.Nearest.{lowest, nearest, covered}
@@ -24,6 +25,7 @@ use Rattle.srt_group_model.specs.Sound.{Event-fit, Member-fit, All-fit}
 use Rattle.srt_group_model.specs.laws.Ranges.{further-fits, Option-fit, change-fit, each-fit, flagged-fit}
 use Rattle.srt_group_model.specs.declared.Event.{Event}
 use Rattle.srt_group_model.specs.declared.Packet.{Packet}
+use Rattle.srt_group_model.specs.declared.Account.{Account}
 use Rattle.srt_group_model.specs.declared.Waiting.{Waiting}
 use Rattle.srt_group_model.specs.declared.Visit.{Visit}
 use Rattle.srt_group_model.specs.Sound.{Packet-fit, Entry-fit, Waiting-fit, Receiving-fit, Sending-fit, Fit}
@@ -125,8 +127,8 @@ advance-leg-fit n m b h =
       short = h .short;
     }
 
-pub reserved-fit : (f : ℕ → ℕ) (m : Member) → Member-fit m → Member-fit (on-membership (λ x. with-reserved (f (x .reserved)) x) m)
-reserved-fit f m h =
+pub account-fit : (f : Account → Account) (m : Member) → Member-fit m → Member-fit (on-account f m)
+account-fit f m h =
     record {
       leg = h .leg;
       id = h .id;
@@ -205,7 +207,7 @@ release-fit p s h =
     if-some-elim Fit _ _ _
     (λ i g.
     record {
-      members = change-fit i _ (s .members) (λ m k. release-leg-fit (p .content .count) _ (reserved-fit (λ n. n - p .content .count) m k)) (h .members);
+      members = change-fit i _ (s .members) (λ m k. release-leg-fit (p .content .count) _ (account-fit (release (p .content .count)) m k)) (h .members);
       pending = h .pending;
       history = h .history;
       remembered = h .remembered;

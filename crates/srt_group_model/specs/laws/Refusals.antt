@@ -185,32 +185,32 @@ send-broadcast-ends time size s =
 abbrev send-codes : ℕ → List ℕ
 send-codes mode = 23 ∷ (if is-backup mode then backup-codes else broadcast-codes)
 
-flow-gives : (cell time : ℕ) (payload : List ℕ) (s : State) (r : Run) → Gives (send-codes (s .mode)) (send-flow cell time payload s r)
+flow-gives : (cell time : ℕ) (payload : List ℕ) (s : State) (r : Run) → Gives (send-codes (s .making .mode)) (send-flow cell time payload s r)
 unfolding send-flow any all
 flow-gives cell time payload s r =
-    if-elim (Gives (send-codes (s .mode))) _ _ _ (λ e. refl)
+    if-elim (Gives (send-codes (s .making .mode))) _ _ _ (λ e. refl)
     (λ e.
-    if-elim (Gives (send-codes (s .mode))) _ _ _
+    if-elim (Gives (send-codes (s .making .mode))) _ _ _
     (λ b.
-    subst (λ (codes : List ℕ). Gives (23 ∷ codes) (send-backup time (length payload) cell (r .state))) (sym (if-true (is-backup (s .mode)) backup-codes broadcast-codes b))
+    subst (λ (codes : List ℕ). Gives (23 ∷ codes) (send-backup time (length payload) cell (r .state))) (sym (if-true (is-backup (s .making .mode)) backup-codes broadcast-codes b))
     (among-passes (λ n. is-among n (0 ∷ 23 ∷ backup-codes)) (0 ∷ backup-codes) refl (send-backup time (length payload) cell (r .state) .code) (send-backup-ends time (length payload) cell (r .state))))
     (λ b.
-    subst (λ (codes : List ℕ). Gives (23 ∷ codes) (send-broadcast time (length payload) (r .state))) (sym (if-false (is-backup (s .mode)) backup-codes broadcast-codes b))
+    subst (λ (codes : List ℕ). Gives (23 ∷ codes) (send-broadcast time (length payload) (r .state))) (sym (if-false (is-backup (s .making .mode)) backup-codes broadcast-codes b))
     (among-passes (λ n. is-among n (0 ∷ 23 ∷ broadcast-codes)) (0 ∷ broadcast-codes) refl (send-broadcast time (length payload) (r .state) .code) (send-broadcast-ends time (length payload) (r .state)))))
 
 -- a send's body ends with 0 or with a code of its mode
-pub send-body-gives : (cell time : ℕ) (payload : List ℕ) (s : State) → is-among (send-body cell time payload s .code) (0 ∷ send-codes (s .mode)) ≡ true
+pub send-body-gives : (cell time : ℕ) (payload : List ℕ) (s : State) → is-among (send-body cell time payload s .code) (0 ∷ send-codes (s .making .mode)) ≡ true
 unfolding send-body left-by-send any
 send-body-gives cell time payload s =
-    if-elim (λ (x : Step). is-among (x .code) (0 ∷ send-codes (s .mode)) ≡ true) _ _ _ (λ e. refl) (λ e. flow-gives cell time payload s _)
+    if-elim (λ (x : Step). is-among (x .code) (0 ∷ send-codes (s .making .mode)) ≡ true) _ _ _ (λ e. refl) (λ e. flow-gives cell time payload s _)
 
 -- none of them is a code after which nothing has changed
 pub send-body-midway : (cell time : ℕ) (payload : List ℕ) (s : State) → changes-nothing (send-body cell time payload s .code) ≡ false
 unfolding changes-nothing any all
 send-body-midway cell time payload s =
     not-true _
-    (among-passes (λ n. not (changes-nothing n)) (0 ∷ send-codes (s .mode))
-    (if-elim (λ (ns : List ℕ). all (λ n. not (changes-nothing n)) ns ≡ true) (is-backup (s .mode)) backup-codes broadcast-codes (λ b. refl) (λ b. refl))
+    (among-passes (λ n. not (changes-nothing n)) (0 ∷ send-codes (s .making .mode))
+    (if-elim (λ (ns : List ℕ). all (λ n. not (changes-nothing n)) ns ≡ true) (is-backup (s .making .mode)) backup-codes broadcast-codes (λ b. refl) (λ b. refl))
     (send-body cell time payload s .code) (send-body-gives cell time payload s))
 
 send-body-ends : (cell time : ℕ) (payload : List ℕ) (s : State) → Ends s (send-body cell time payload s)

@@ -143,7 +143,7 @@ pub record Front-data (s : State) (m : Member) (e : Event) : Type 0 where
   pub cell : e .content .cell < max-cells
   pub apart : is-among (e .content .cell) (pending-cells (s .receive .pending)) ≡ false
   pub held : length (s .receive .pending) < max-pending
-  pub reserved : m .membership .reserved ≤ largest-16 * max-pending
+  pub reserved : m .membership .account .reserved ≤ largest-16 * max-pending
   pub id : id-of m ≤ largest-32
 
 right-of : (a b : Bool) → a ≡ true → a && b ≡ false → b ≡ false

@@ -28,8 +28,8 @@ popped i s = with-members (change i pop (s .members)) s
 
 pub record State-law (Good : State → Type 0) : Type 0 where
   pub admits : (r : Run) → Good (r .state) → Good (admit-connected-peer-groups r .state)
-  pub settles : (s : State) → Good s → Good (with-members (settle-members (s .mode) (next-send-sequence (s .send)) (s .members)) s)
-  pub requalifies : (s : State) → Good s → Good (with-members (requalify-members (s .mode) (next-send-sequence (s .send)) (s .members)) s)
+  pub settles : (s : State) → Good s → Good (with-members (settle-members (s .making .mode) (next-send-sequence (s .send)) (s .members)) s)
+  pub requalifies : (s : State) → Good s → Good (with-members (requalify-members (s .making .mode) (next-send-sequence (s .send)) (s .members)) s)
   pub continues : (s : State) (b : Bool) → Good s → Good (with-continuation b s)
   pub turns : (s : State) (i : ℕ) (m : Member) → at-place i (s .members) ≡ some m → Good s → Good (with-round (suc i % length (s .members)) s)
   pub takes : (s : State) (i : ℕ) (m : Member) (e : Event) → at-place i (s .members) ≡ some m → front (m .queue) ≡ some e
@@ -53,8 +53,8 @@ module _ (P : Option ℕ → State → List Mark → Type 0) (Good : State → T
   state-law-of reports delivers skips bases =
       record {
         admits = λ r h. from _ _ (admits-all P law none r (to _ _ h));
-        settles = λ s h. from _ [] (settles P law none [] s (s .mode) (s .members) (to s [] h));
-        requalifies = λ s h. from _ [] (requalifies P law none [] s (s .mode) (s .members) (to s [] h));
+        settles = λ s h. from _ [] (settles P law none [] s (s .making .mode) (s .members) (to s [] h));
+        requalifies = λ s h. from _ [] (requalifies P law none [] s (s .making .mode) (s .members) (to s [] h));
         continues = λ s b h. from _ [] (law .continues s b (to s [] h));
         turns = λ s i m at h. from _ [] (law .turns s i m at (to s [] h));
         takes = λ s i m e at f d h. from _ _ (retains P law none [] s i m e record { stands = at; first = f } d (to s [] h));

@@ -12,7 +12,8 @@ use lib.ListN.{drop}
 use Rattle.srt_group_model.specs.Tools.{if_then_else_, any, such-that, at-place, place-of, change, each, total, All}
 use Rattle.srt_group_model.specs.laws.Reason.{if-elim, if-some-elim, not-both, none-some, some-inj, and-left, and-right, and-yes, or-left, or-right, all-map, all-append, each-to-each}
 use Rattle.srt_protocol.specs.Sequence.{sequence-further}
-use Rattle.srt_group_model.specs.State.{Member, State, with-receive, with-members, with-waiting, with-pending, on-leg, on-membership, with-reserved}
+use Rattle.srt_group_model.specs.State.{Member, State, with-receive, with-members, with-waiting, with-pending, on-leg, on-membership, on-account}
+use Rattle.srt_group_model.specs.Accounts.{reserve, release}
 use Rattle.srt_group_model.specs.Legs.{release-data-reservation, advance-receive-sequence}
 use Rattle.srt_group_model.specs.Members.{id-of, has-id, find}
 use Rattle.srt_group_model.specs.Nearest.{insert, is-covered}
@@ -31,6 +32,7 @@ use Rattle.srt_group_model.specs.laws.Unique.{among-any, changed-ids}
 use Rattle.srt_group_model.specs.declared.Event.{Event}
 use Rattle.srt_group_model.specs.declared.Waiting.{Waiting}
 use Rattle.srt_group_model.specs.declared.Packet.{Packet}
+use Rattle.srt_group_model.specs.declared.Account.{Account}
 use Rattle.srt_group_model.specs.Sound.{for-member, own-count, held-for, held-own, Summed, Placed, Sums, Sums-right}
 
 -- ---- the statement, over any list of held packets
@@ -145,14 +147,14 @@ account-summed : (ps : List Packet) (m n : Member) → Same-account m n → Summ
 account-summed ps m n h k =
     let same = ap (λ (id : ℕ). held-for id ps) (h .id) in
     record {
-      reserved = h .reserved ∙ k .reserved ∙ sym same;
+      reserved = ap (λ (a : Account). a .reserved) (h .account) ∙ k .reserved ∙ sym same;
       reservation = h .reservation ∙ k .reservation ∙ ap₂ (λ (a b : ℕ). a + b) (sym same) (ap queued-count (sym (h .queue)));
     }
 
 -- the sums where one member is changed
 pub sums-changed : (ps qs : List Packet) (i : ℕ) (m : Member) (f : Member → Member) (s t : State) → t .members ≡ change i f (s .members) → at-place i (s .members) ≡ some m
     → ids (change i f (s .members)) ≡ ids (s .members) → Sums ps s → ((x : Member) → Summed ps x → (id-of x ≡ id-of m → ⊥) → Summed qs x)
-    → (Summed ps m → Summed qs (f m)) → All (Placed (ids (s .members))) qs → t .owned ≡ held-own qs → Sums qs t
+    → (Summed ps m → Summed qs (f m)) → All (Placed (ids (s .members))) qs → t .own .reserved ≡ held-own qs → Sums qs t
 sums-changed ps qs i m f s t e at keeps k other same placed own =
     let names : ids (t .members) ≡ ids (s .members) = ap ids e ∙ keeps in
     record {
@@ -171,7 +173,7 @@ discard-member ps e m f d h =
     record { reserved = h .reserved; reservation = omega (arith, h .reservation, front-count (m .queue) e f d) }
 
 retain-member : (ps : List Packet) (e : Event) (m : Member) → front (m .queue) ≡ some e → eqb (e .kind) 0 ≡ true → Summed ps m
-    → Summed (insert (packet-of m e) ps) (on-membership (λ x. with-reserved (x .reserved + e .content .count) x) (pop m))
+    → Summed (insert (packet-of m e) ps) (on-account (reserve (e .content .count)) (pop m))
 retain-member ps e m f d h =
     let more = inserted-for (id-of m) (packet-of m e) ps in
     let mine = for-own-member (packet-of m e) refl in
@@ -189,12 +191,12 @@ moves-sums s i m f at move h =
 
 -- one member is changed, its id is not, and its sums are right by themselves
 pub changes-sums : (s : State) (i : ℕ) (m : Member) (f : Member → Member) (t : State) → t .members ≡ change i f (s .members) → t .receive .pending ≡ s .receive .pending
-    → t .owned ≡ s .owned → at-place i (s .members) ≡ some m → ((x : Member) → id-of (f x) ≡ id-of x)
+    → t .own ≡ s .own → at-place i (s .members) ≡ some m → ((x : Member) → id-of (f x) ≡ id-of x)
     → (Summed (s .receive .pending) m → Summed (s .receive .pending) (f m)) → Sums-right s → Sums-right t
-changes-sums s i m f t e held owned at keeps g h =
+changes-sums s i m f t e held own at keeps g h =
     let ps = s .receive .pending in
     subst (λ (l : List Packet). Sums l t) (sym held)
-    (sums-changed ps ps i m f s t e at (changed-ids i f (s .members) keeps) h (λ x k n. k) g (h .placed) (owned ∙ h .own))
+    (sums-changed ps ps i m f s t e at (changed-ids i f (s .members) keeps) h (λ x k n. k) g (h .placed) (ap (λ (a : Account). a .reserved) own ∙ h .own))
 
 pub discards-sums : (s : State) (i : ℕ) (m : Member) (e : Event) → In-front s i m e → eqb (e .kind) 0 ≡ true → Sums-right s
     → Sums-right (with-members (change i (λ x. on-leg (release-data-reservation (e .content .count)) (pop x)) (s .members)) s)
@@ -202,11 +204,11 @@ discards-sums s i m e f d h = changes-sums s i m _ _ refl refl refl (f .stands) 
 
 pub holds-sums : (s : State) (i : ℕ) (m : Member) (e : Event) → In-front s i m e → eqb (e .kind) 0 ≡ true → Sums-right s
     → Sums-right (with-receive (with-pending (insert (packet-of m e) (s .receive .pending)) (s .receive))
-    (with-members (change i (λ x. on-membership (λ y. with-reserved (y .reserved + e .content .count) y) (pop x)) (s .members)) s))
+    (with-members (change i (λ x. on-account (reserve (e .content .count)) (pop x)) (s .members)) s))
 holds-sums s i m e f d h =
     let ps = s .receive .pending in
     let p = packet-of m e in
-    sums-changed ps (insert p ps) i m (λ x. on-membership (λ y. with-reserved (y .reserved + e .content .count) y) (pop x)) s _
+    sums-changed ps (insert p ps) i m (λ x. on-account (reserve (e .content .count)) (pop x)) s _
     refl (f .stands) (changed-ids i _ (s .members) (λ x. refl)) h
     (λ x k n.
     let none-more : for-member (id-of x) p ≡ 0 = for-other (id-of x) p n in
@@ -230,7 +232,7 @@ pub record Standing (i : ℕ) (ms : List Member) : Type 0 where
   pub at : at-place i ms ≡ some member
 
 release-member : (p : Packet) (qs : List Packet) (m : Member) → id-of m ≡ p .member → is-owned p ≡ false → Summed (p ∷ qs) m
-    → Summed qs (on-leg (release-data-reservation (p .content .count)) (on-membership (λ x. with-reserved (x .reserved - p .content .count) x) m))
+    → Summed qs (on-leg (release-data-reservation (p .content .count)) (on-account (release (p .content .count)) m))
 unfolding held-for
 release-member p qs m same o h =
     let mine : for-member (id-of m) p ≡ p .content .count = ap (λ (id : ℕ). for-member id p) same ∙ for-own-member p o in
@@ -385,11 +387,11 @@ delivers-sums s base p h =
     let done = advance-sums _ (sequence-further base count) _ (release-all-sums _ _ s (parted-sums test (s .receive .pending) s h)) in
     record { unique = done .unique; members = done .members; placed = done .placed; own = done .own }
 
-pub same-sums : (s t : State) → t .members ≡ s .members → t .receive .pending ≡ s .receive .pending → t .owned ≡ s .owned → Sums-right s → Sums-right t
+pub same-sums : (s t : State) → t .members ≡ s .members → t .receive .pending ≡ s .receive .pending → t .own ≡ s .own → Sums-right s → Sums-right t
 same-sums s t a b c h =
     record {
       unique = ap (λ (ms : List Member). one-twice (ids ms)) a ∙ h .unique;
       members = subst (λ (ms : List Member). All (Summed (t .receive .pending)) ms) (sym a) (subst (λ (ps : List Packet). All (Summed ps) (s .members)) (sym b) (h .members));
       placed = subst (λ (ms : List Member). All (Placed (ids ms)) (t .receive .pending)) (sym a) (subst (λ (ps : List Packet). All (Placed (ids (s .members))) ps) (sym b) (h .placed));
-      own = c ∙ h .own ∙ ap held-own (sym b);
+      own = ap (λ (a : Account). a .reserved) c ∙ h .own ∙ ap held-own (sym b);
     }

@@ -95,7 +95,7 @@ joins-sums s id weight l j h =
 -- ---- every call
 
 -- the members, the held packets and the group's own sum stay
-right-same : (s t : State) → t .members ≡ s .members → t .receive .pending ≡ s .receive .pending → t .owned ≡ s .owned → Right s → Right t
+right-same : (s t : State) → t .members ≡ s .members → t .receive .pending ≡ s .receive .pending → t .own ≡ s .own → Right s → Right t
 right-same s t a b c h = record { sums = same-sums s t a b c (h .sums); ascending = ap ascends b ∙ h .ascending }
 
 deliver-right : (s : State) (base : ℕ) (p : Packet) → Right s → Right (deliver-packet base p s)
@@ -184,9 +184,9 @@ unfolding member-sum-wrong
 summed-of-rule ps m h =
     let held = held-for-is (id-of m) ps in
     record {
-      reserved = eqb-true _ _ (not-false _ (or-left (not (eqb (m .membership .reserved) (held-count (id-of m) ps))) _ h)) ∙ held;
+      reserved = eqb-true _ _ (not-false _ (or-left (not (eqb (m .membership .account .reserved) (held-count (id-of m) ps))) _ h)) ∙ held;
       reservation =
-          eqb-true _ _ (not-false _ (or-right (not (eqb (m .membership .reserved) (held-count (id-of m) ps))) _ h))
+          eqb-true _ _ (not-false _ (or-right (not (eqb (m .membership .account .reserved) (held-count (id-of m) ps))) _ h))
           ∙ ap (λ (k : ℕ). k + queued-count (m .queue)) held;
     }
 

@@ -12,12 +12,12 @@ use Rattle.srt_protocol.specs.Handshake.{has-group-mask}
 use Rattle.srt_protocol.specs.Cells.{cell-size, cells-of, max-cells}
 use Rattle.srt_group_model.specs.Tools.{if_then_else_, any, such-that, each, total, All}
 use Rattle.srt_group_model.specs.laws.Reason.{by-test, or-left, or-right, no-either, all-map}
-use Rattle.srt_group_model.specs.State.{Member, State}
+use Rattle.srt_group_model.specs.State.{Member, Making, State}
 use Rattle.srt_group_model.specs.Legs.{largest-sequence, largest-32, largest-64}
 use Rattle.srt_group_model.specs.Cells.{is-data, queued-cells, used-cells}
 use Rattle.srt_group_model.specs.Validity.{above, is-too-large, is-blank, max-members, max-pending, max-waiting, count-above-limit, leg-sequence-too-large, sequence-too-large, one-twice, id-twice, ascends, held-sequence-twice, cell-twice, cell-beyond-store, reserved-sum-wrong, data-out-of-range, event-out-of-range, leg-out-of-range, member-out-of-range, any-above, membership-words, record-words, record-out-of-range, field-out-of-range, broken-rules, is-invalid, max-queued}
 use Rattle.srt_group_model.specs.Lent.{Lent, Call, perform}
-use Rattle.srt_group_model.specs.laws.Fixed.{identity-kept}
+use Rattle.srt_group_model.specs.laws.Fixed.{making-kept}
 use Rattle.srt_group_model.specs.laws.Unique.{names-kept}
 use Rattle.srt_group_model.specs.laws.Ascending.{ascending-kept}
 use Rattle.srt_group_model.specs.laws.CellsKept.{apart-of-rules}
@@ -30,7 +30,6 @@ use Rattle.srt_group_model.specs.laws.Counts.{pending-few, waiting-kept}
 use Rattle.srt_group_model.specs.laws.Rounds.{round-kept}
 use Rattle.srt_group_model.specs.Calls.{new, new-code}
 use Rattle.srt_group_model.specs.Backup.{max-history}
-use Rattle.srt_group_model.specs.declared.Identity.{Identity}
 use Rattle.srt_group_model.specs.declared.Event.{Event}
 use Rattle.srt_group_model.specs.declared.Packet.{Packet}
 use Rattle.srt_group_model.specs.declared.Entry.{Entry}
@@ -239,8 +238,8 @@ of-counted s h =
 
 -- each word of the record, in the order of `record-words`
 pub record Words-fit (s : State) : Type 0 where
-  pub id : s .identity .id ≤ largest-32
-  pub mode : s .mode ≤ 1
+  pub id : s .making .id ≤ largest-32
+  pub mode : s .making .mode ≤ 1
   pub peer : s .peer ≤ largest-32
   pub based : s .receive .numbers .based ≤ 1
   pub numbered : s .send .numbers .numbered ≤ 1
@@ -364,12 +363,12 @@ valid-kept c lent s invalid =
     sums-kept c lent s
     record { sums = sums-of-rule s (h .ids-once) (h .sums); ascending = not-false (ascends (s .receive .pending)) (h .ascending) }
     in
-    let fixed = identity-kept c lent s in
+    let fixed = making-kept c lent s in
     let words = words-of s (h .words) in
     let fit = fit-kept c lent s (fit-of cells s h) in
     of-valid cells t
     record {
-      blank = ap (λ (x : Identity). not (has-group-mask (x .id))) (fixed .0) ∙ h .blank;
+      blank = ap (λ (x : Making). not (has-group-mask (x .id))) fixed ∙ h .blank;
       counts =
           of-counted t
           record {
@@ -389,8 +388,8 @@ valid-kept c lent s invalid =
       words =
           of-words t
           record {
-            id = subst (λ (x : Identity). x .id ≤ largest-32) (sym (fixed .0)) (words .id);
-            mode = subst (λ (n : ℕ). n ≤ 1) (sym (fixed .1)) (words .mode);
+            id = subst (λ (x : Making). x .id ≤ largest-32) (sym fixed) (words .id);
+            mode = subst (λ (x : Making). x .mode ≤ 1) (sym fixed) (words .mode);
             peer = fit .peer;
             based = fit .receiving .based;
             numbered = fit .sending .numbered;
@@ -403,9 +402,9 @@ valid-kept c lent s invalid =
     }
 
 -- a group that was just made is valid
-pub new-valid : (id length cells mode : ℕ) → new-code id mode ≡ 0 → is-invalid cells (new id mode length) ≡ false
+pub new-valid : (making : Making) (cells : ℕ) → new-code making ≡ 0 → is-invalid cells (new making) ≡ false
 unfolding new is-invalid broken-rules any is-blank count-above-limit sequence-too-large id-twice one-twice held-sequence-twice ascends cell-twice cell-beyond-store used-cells queued-cells each reserved-sum-wrong such-that total record-out-of-range any-above record-words field-out-of-range new-code if_then_else_
-new-valid id length cells mode h = accepted (above largest-32 id) (above 1 mode) (has-group-mask id) h
+new-valid making cells h = accepted (above largest-32 (making .id)) (above 1 (making .mode)) (has-group-mask (making .id)) h
   where
     accepted : (a b mask : Bool) → _≡_ {A = ℕ} (if a || b then 2 else (if mask then 0 else 1)) 0 → (not mask || ((a || (b || false)) || false)) ≡ false
     accepted true b mask e = absurd (omega (arith, e))

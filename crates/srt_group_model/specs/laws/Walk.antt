@@ -6,7 +6,8 @@ use mathlib.Core.Option.{Option, none}
 use Prim.Native.Nat.{ℕ, _+_}
 use Rattle.srt_protocol.specs.Cells.{cells-of}
 use Rattle.srt_group_model.specs.Tools.{change}
-use Rattle.srt_group_model.specs.State.{Member, Receive, State, on-leg, on-membership, with-reserved}
+use Rattle.srt_group_model.specs.State.{Member, Receive, State, on-leg, on-membership, on-account}
+use Rattle.srt_group_model.specs.Accounts.{reserve}
 use Rattle.srt_group_model.specs.Legs.{release-data-reservation}
 use Rattle.srt_group_model.specs.Members.{id-of}
 use Rattle.srt_group_model.specs.Run.{Mark, delivered, Run}
@@ -86,7 +87,7 @@ module _ (J : List Member → List Mark → Type 0) (law : Queue-law J) where
             (law .takes-data (s .members) _ i m e (f .stands) (f .first) d h);
         holds =
             λ s i m e f d g h.
-            counts-after (s .members) _ i (on-membership (λ y. with-reserved (y .reserved + e .content .count) y)) (λ x. record { id = refl; queue = refl; broken = λ b. b })
+            counts-after (s .members) _ i (on-account (reserve (e .content .count))) (λ x. record { id = refl; queue = refl; broken = λ b. b })
             (law .takes-data (s .members) _ i m e (f .stands) (f .first) d h);
         reports = λ s i m e f d few h. law .takes-event (s .members) _ i m e (f .stands) (f .first) d h;
         gives = λ s h. h;

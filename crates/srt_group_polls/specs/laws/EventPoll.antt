@@ -20,12 +20,12 @@ use Rattle.srt_group_model.specs.Polls.{delivery-budget, deliver-next, poll-eve
 use Rattle.srt_group_model.specs.laws.Steps.{refresh-has, give-waiting-has, deliver-next-has}
 use Rattle.srt_group_model.specs.laws.Sound.{sound-law}
 use Rattle.srt_group_tables.specs.Waitings.{waiting-at}
+use Rattle.srt_group_shown.specs.Cores.{continued}
 use Rattle.srt_group_shown.specs.Shown.{Rest, shown}
 use Rattle.srt_group_shown.specs.Tables.{receive-tables}
 use Rattle.srt_group_collecting.specs.declared.collecting.Gathered.{Gathered}
 use Rattle.srt_group_delivery.specs.declared.delivery.Poll.{Poll}
 use Rattle.srt_group_collecting.specs.Leaves.{every, sends, Usable, under-way, At}
-use Rattle.srt_group_collecting.specs.Visit.{continued}
 use Rattle.srt_group_collecting.specs.Gather.{Gathers}
 use Rattle.srt_group_collecting.specs.laws.Gather.{tab-full, tab-spent, run-is, usable-continued}
 use Rattle.srt_group_delivery.specs.Poll.{Polls}

@@ -8,9 +8,9 @@ use Rattle.srt_group_model.specs.declared.Sending.{Sending}
 use Rattle.srt_group_model.specs.laws.CellsMoved.{refresh-pending-keeps, refresh-keeps}
 use Rattle.srt_group_model.specs.Run.{refresh-pending-states, refresh-states}
 use Rattle.cell_set.specs.Bits.{set-size}
+use Rattle.srt_group_shown.specs.Cores.{continued}
 use Rattle.srt_group_shown.specs.Tables.{receive-tables}
 use Rattle.srt_group_delivery.specs.declared.delivery.Poll.{Poll}
-use Rattle.srt_group_collecting.specs.Visit.{continued}
 use Rattle.srt_group_collecting.specs.Leaves.{sends, under-way}
 use Rattle.srt_group_collecting.specs.Follows.{Follows}
 use Rattle.srt_group_collecting.specs.laws.Follows.{follows-kept}

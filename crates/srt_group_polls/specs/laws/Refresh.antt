@@ -20,6 +20,7 @@ use Rattle.srt_connection_members.specs.Members.{members-of}
 use Rattle.srt_group_members.specs.declared.admission.Admission.{Admission}
 use Rattle.srt_group_members.specs.Admission.{Admitted, base-in}
 use Rattle.srt_group_members.specs.Scan.{Became}
+use Rattle.srt_group_shown.specs.Cores.{with-peer-group}
 use Rattle.srt_group_shown.specs.Shown.{Rest, shown}
 use Rattle.srt_group_shown.specs.Tables.{receive-tables}
 use Rattle.srt_group_collecting.specs.Leaves.{remembering, every, sends, Usable, under-way, At}
@@ -43,17 +44,6 @@ refreshes-among among refreshes =
     }
 
 -- ---- admission
-
-abbrev pub with-peer-group : ℕ → Core → Core
-with-peer-group n c =
-    record {
-      mode = c .mode;
-      peer = n;
-      counts = c .counts;
-      receiving = c .receiving;
-      visit = c .visit;
-      owned = c .owned;
-    }
 
 module _ (core : Core) (ms ms′ : List ℕ) (answer : Admission)
     (admitted : Admitted (core .counts .members) (core .peer) ms answer ms′) where
@@ -127,7 +117,7 @@ module _ (sending : Sending) (core : Core) (ms : List ℕ) (after : Core) (u v :
       → Refreshes (sends sending) refresh-pending-states core ms after v
   unfolding refresh-pending-states
   settles so-far became =
-      refreshes-then sending admit-connected-peer-groups (λ s. settle-members (s .mode) (next-send-sequence (s .send))) core ms after u v
+      refreshes-then sending admit-connected-peer-groups (λ s. settle-members (s .making .mode) (next-send-sequence (s .send))) core ms after u v
       (refreshes-among (sends sending) so-far) (became .long)
       (λ ps ws others same.
       became .is
@@ -141,7 +131,7 @@ module _ (sending : Sending) (core : Core) (ms : List ℕ) (after : Core) (u v :
       → Refreshes (sends sending) refresh-states core ms after v
   unfolding refresh-states
   requalifies so-far became =
-      refreshes-then sending refresh-pending-states (λ s. requalify-members (s .mode) (next-send-sequence (s .send))) core ms after u v
+      refreshes-then sending refresh-pending-states (λ s. requalify-members (s .making .mode) (next-send-sequence (s .send))) core ms after u v
       so-far (became .long)
       (λ ps ws others same.
       became .is

@@ -7,12 +7,14 @@ use native.Mathlib.Omega.{arith}
 use lib.ListN.{length}
 use Rattle.word_rows.specs.laws.Tab.{tab-length}
 use Rattle.srt_group_model.specs.declared.Core.{Core}
+use Rattle.srt_group_model.specs.declared.Account.{Account}
 use Rattle.srt_group_model.specs.declared.Leg.{Leg}
 use Rattle.srt_group_model.specs.declared.Membership.{Membership}
 use Rattle.srt_group_model.specs.declared.Packet.{Packet}
 use Rattle.srt_group_model.specs.Tools.{if-some_give_otherwise_, each, without-place, All}
 use Rattle.srt_group_model.specs.laws.Reason.{if-elim, by-test}
-use Rattle.srt_group_model.specs.State.{Member, State, with-owned, with-receive, with-pending, with-round, with-members}
+use Rattle.srt_group_model.specs.State.{Member, State, with-receive, with-pending, with-round, with-members, with-own}
+use Rattle.srt_group_model.specs.Accounts.{add-account}
 use Rattle.srt_group_model.specs.Legs.{with-reservation, largest-16}
 use Rattle.srt_group_model.specs.Members.{id-of, has-id, find}
 use Rattle.srt_group_model.specs.laws.Frame.{found-at}
@@ -84,12 +86,12 @@ removable i core others ms ps ws members-long pending-long members-few sound the
 
 -- ---- the member is taken out
 
-pub taken-all : {x : Membership} {left round owned : ℕ} (i : ℕ) (core : Core) (ms ps ms′ ps′ : List ℕ) → i < core .counts .members
+pub taken-all : {x : Membership} {left round : ℕ} {own : Account} (i : ℕ) (core : Core) (ms ps ms′ ps′ : List ℕ) → i < core .counts .members
     → x ≡ member-at ms i .membership → Holds (length ps) ps′ (core .counts .pending) (each (own-packet (x .id)) (packets (core .counts .pending) ps))
     → RowRemoved i (core .counts .members) ms ms′ → left ≡ core .counts .members - 1 → round ≡ min (core .visit .round) (left - 1)
-    → owned ≡ core .owned + x .reserved → TakesOut i core ms ps (taken-out left round owned core) ms′ ps′
+    → own ≡ add-account (x .account) (core .own) → TakesOut i core ms ps (taken-out left round own core) ms′ ps′
 unfolding take-out
-taken-all {x} {left} {round} {owned} i core ms ps ms′ ps′ there is owns goes fewer lowered sum =
+taken-all {x} {left} {round} {own} i core ms ps ms′ ps′ there is owns goes fewer lowered sum =
     record {
       members-long = goes .long;
       pending-long = owns .length-kept;
@@ -100,16 +102,16 @@ taken-all {x} {left} {round} {owned} i core ms ps ms′ ps′ there is owns goes
           let s = shown core others ms ps ws in
           ap₂
           (λ (l : List Member) (q : List Packet).
-          with-owned (core .owned + member-at ms i .membership .reserved)
+          with-own (add-account (member-at ms i .membership .account) (core .own))
           (with-receive (with-pending q (s .receive)) (with-round (min (core .visit .round) (length l - 1)) (with-members l s))))
           those-left own-now
           ∙ ap₂
-          (λ (r o : ℕ).
-          with-owned o
+          (λ (r : ℕ) (a : Account).
+          with-own a
           (with-receive (with-pending (packets (core .counts .pending) ps′) (s .receive))
           (with-round r (with-members (members-of left ms′) s))))
           (ap (λ (n : ℕ). min (core .visit .round) (n - 1)) (members-length left ms′) ∙ sym lowered)
-          (ap (λ (m : Membership). core .owned + m .reserved) (sym is) ∙ sym sum);
+          (ap (λ (m : Membership). add-account (m .account) (core .own)) (sym is) ∙ sym sum);
     }
   where
     those-left : without-place i (members-of (core .counts .members) ms) ≡ members-of left ms′

@@ -10,11 +10,13 @@ use lib.Dec.{leb}
 use lib.ListN.{length}
 use Rattle.word_rows.specs.Tab.{removed}
 use Rattle.srt_group_model.specs.declared.Core.{Core}
+use Rattle.srt_group_model.specs.declared.Account.{Account}
 use Rattle.srt_group_model.specs.declared.Packet.{Packet}
 use Rattle.srt_group_model.specs.Tools.{if_then_else_, if-some_give_otherwise_, flagged, such-that, at-place}
 use Rattle.srt_group_model.specs.laws.Flag.{other-set}
 use Rattle.srt_group_model.specs.laws.Reason.{none-some, some-inj}
-use Rattle.srt_group_model.specs.State.{State, with-owned, with-receive, with-pending}
+use Rattle.srt_group_model.specs.State.{State, with-receive, with-pending, with-own}
+use Rattle.srt_group_model.specs.Accounts.{release}
 use Rattle.srt_group_model.specs.Nearest.{sequence-of, has-sequence, nearest, farthest}
 use Rattle.srt_group_model.specs.Removal.{is-owned, retire, bound-group-owned-pending, retirement-base}
 use Rattle.srt_group_model.specs.Validity.{ascends}
@@ -72,12 +74,12 @@ module _ (core : Core) (ps : List ℕ) (at : ℕ) (held : Held core ps) (inside 
       removed-by-sequence at (packets (core .counts .pending) ps) (packet-at ps at) (held .ascending)
       (tab-place (core .counts .pending) (packet-at ps) at inside)
 
-  pub retired-one : {p : Packet} {owned left : ℕ} (ps′ : List ℕ) → p ≡ packet-at ps at → left ≡ core .counts .pending - 1
-      → owned ≡ core .owned - p .content .count
+  pub retired-one : {p : Packet} {left : ℕ} {own : Account} (ps′ : List ℕ) → p ≡ packet-at ps at → left ≡ core .counts .pending - 1
+      → own ≡ release (p .content .count) (core .own)
       → Holds (length ps) ps′ (core .counts .pending - 1) (removed at (packets (core .counts .pending) ps))
-      → Retired (packet-at ps at) core ps (holding left owned core) ps′
+      → Retired (packet-at ps at) core ps (holding left own core) ps′
   unfolding retire
-  retired-one {p} {owned} {left} ps′ is fewer sum taken =
+  retired-one {p} {left} {own} ps′ is fewer sum taken =
       record {
         one-less = omega arith;
         retires =
@@ -87,10 +89,10 @@ module _ (core : Core) (ps : List ℕ) (at : ℕ) (held : Held core ps) (inside 
               state =
                   λ others ms ws.
                   ap₂
-                  (λ (l : List Packet) (n : ℕ).
-                  with-owned n (with-receive (with-pending l (shown core others ms ps ws .receive)) (shown core others ms ps ws)))
+                  (λ (l : List Packet) (a : Account).
+                  with-own a (with-receive (with-pending l (shown core others ms ps ws .receive)) (shown core others ms ps ws)))
                   (sym left-over ∙ sym (taken .is) ∙ ap (λ (n : ℕ). packets n ps′) (sym fewer))
-                  (ap (λ (q : Packet). core .owned - q .content .count) (sym is) ∙ sym sum);
+                  (ap (λ (q : Packet). release (q .content .count) (core .own)) (sym is) ∙ sym sum);
             };
       }
 
@@ -113,7 +115,7 @@ still-held p core after ps ps′ held one =
 pub record Bounding (limit base : ℕ) (core : Core) (ps : List ℕ) (here : Core) (ps₁ : List ℕ) : Type 0 where
   pub held : Held here ps₁
   pub pending-long : length ps₁ ≡ length ps
-  pub rest : here ≡ holding (here .counts .pending) (here .owned) core
+  pub rest : here ≡ holding (here .counts .pending) (here .own) core
   pub state : (others : Rest) (ms ws : List ℕ)
       → bound-group-owned-pending (core .counts .pending) limit base (shown core others ms ps ws)
       ≡ bound-group-owned-pending (here .counts .pending) limit base (shown here others ms ps₁ ws)
@@ -123,16 +125,16 @@ bounding-start limit base core ps held =
     record { held = held; pending-long = refl; rest = refl; state = λ others ms ws. refl }
 
 -- the definition, by what it finds
-within-limit : (left limit base : ℕ) (s : State) → s .owned ≤ limit → bound-group-owned-pending left limit base s ≡ s
+within-limit : (left limit base : ℕ) (s : State) → s .own .reserved ≤ limit → bound-group-owned-pending left limit base s ≡ s
 unfolding bound-group-owned-pending if-some_give_otherwise_ if_then_else_
 within-limit zero limit base s h = refl
 within-limit (suc left) limit base s h = go (farthest base (such-that is-owned (s .receive .pending)))
   where
     go : (o : Option Packet)
-        → (if-some o give (λ p. let later = bound-group-owned-pending left limit base (retire p s) in if leb (s .owned) limit then s else later) otherwise s)
+        → (if-some o give (λ p. let later = bound-group-owned-pending left limit base (retire p s) in if leb (s .own .reserved) limit then s else later) otherwise s)
         ≡ s
     go none = refl
-    go (some p) = rw (le-leb (s .owned) limit h)
+    go (some p) = rw (le-leb (s .own .reserved) limit h)
 
 none-owned : (left limit base : ℕ) (s : State) → farthest base (such-that is-owned (s .receive .pending)) ≡ none
     → bound-group-owned-pending left limit base s ≡ s
@@ -140,21 +142,21 @@ unfolding bound-group-owned-pending if-some_give_otherwise_
 none-owned zero limit base s e = refl
 none-owned (suc left) limit base s e = rw e
 
-one-retired : (left limit base : ℕ) (s : State) (p : Packet) → limit < s .owned
+one-retired : (left limit base : ℕ) (s : State) (p : Packet) → limit < s .own .reserved
     → farthest base (such-that is-owned (s .receive .pending)) ≡ some p
     → bound-group-owned-pending (suc left) limit base s ≡ bound-group-owned-pending left limit base (retire p s)
 unfolding bound-group-owned-pending if-some_give_otherwise_ if_then_else_
-one-retired left limit base s p h e = rw (e, lt-leb (s .owned) limit h)
+one-retired left limit base s p h e = rw (e, lt-leb (s .own .reserved) limit h)
 
 module _ (limit base : ℕ) (core : Core) (ps : List ℕ) (here : Core) (ps₁ : List ℕ) (so-far : Bounding limit base core ps here ps₁) where
-  pub bounding-on : {r : Found} (at : ℕ) (next : Core) (ps₂ : List ℕ) → limit < here .owned
+  pub bounding-on : {r : Found} (at : ℕ) (next : Core) (ps₂ : List ℕ) → limit < here .own .reserved
       → FoundPacket ps₁ (here .counts .pending) r (farthest base (such-that is-owned (packets (here .counts .pending) ps₁)))
       → r ≡ At at → Retired (packet-at ps₁ at) here ps₁ next ps₂ → Bounding limit base core ps next ps₂
   bounding-on {r} at next ps₂ over far e one =
       record {
         held = still-held (packet-at ps₁ at) here next ps₁ ps₂ (so-far .held) one;
         pending-long = one .retires .pending-long ∙ so-far .pending-long;
-        rest = one .retires .rest ∙ ap (holding (next .counts .pending) (next .owned)) (so-far .rest);
+        rest = one .retires .rest ∙ ap (holding (next .counts .pending) (next .own)) (so-far .rest);
         state =
             λ others ms ws.
             so-far .state others ms ws
@@ -174,7 +176,7 @@ module _ (limit base : ℕ) (core : Core) (ps : List ℕ) (here : Core) (ps₁ :
         state = λ others ms ws. so-far .state others ms ws ∙ ends others ms ws;
       }
 
-  pub bounded-within : here .owned ≤ limit → Retires (bound-group-owned-pending (core .counts .pending) limit base) core ps here ps₁
+  pub bounded-within : here .own .reserved ≤ limit → Retires (bound-group-owned-pending (core .counts .pending) limit base) core ps here ps₁
   bounded-within h = bounded (λ others ms ws. within-limit (here .counts .pending) limit base (shown here others ms ps₁ ws) h)
 
   pub bounded-none : {r : Found}

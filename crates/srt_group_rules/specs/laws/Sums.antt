@@ -43,7 +43,7 @@ use Rattle.srt_group_rules.specs.Sums.{counted, sum-of, packet-count, ev
 
 -- ---- definitions
 
-pub sums-wrong-is : (s : State) → sums-wrong (s .members) (s .receive .pending) (s .owned) ≡ reserved-sum-wrong s
+pub sums-wrong-is : (s : State) → sums-wrong (s .members) (s .receive .pending) (s .own .reserved) ≡ reserved-sum-wrong s
 unfolding sums-wrong reserved-sum-wrong
 sums-wrong-is s = refl
 
@@ -424,10 +424,10 @@ member-good t count good i below = none-there member-breaks-rule count (member-a
 -- what was read of a member, compared
 pub differs-tested : (held : ℕ) (m : Member) (x : Membership) (y : Receiver) (queued : ℕ) → x ≡ m .membership → y ≡ m .leg .receiver
     → queued ≡ queued-count (m .queue)
-    → (not (eqb (x .reserved) held) || not (eqb (y .reserved) (held + queued))) ≡ differs held m
+    → (not (eqb (x .account .reserved) held) || not (eqb (y .reserved) (held + queued))) ≡ differs held m
 unfolding differs
 differs-tested held m x y queued x-is y-is queued-is =
-    ap₂ _||_ (ap (λ (v : Membership). not (eqb (v .reserved) held)) x-is)
+    ap₂ _||_ (ap (λ (v : Membership). not (eqb (v .account .reserved) held)) x-is)
     (ap₂ (λ (v : Receiver) (n : ℕ). not (eqb (v .reserved) (held + n))) y-is queued-is)
 
 -- the whole rule, from the walk and the comparison

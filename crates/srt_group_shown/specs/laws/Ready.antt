@@ -8,12 +8,12 @@ use lib.Dec.{eqb, ltb}
 use lib.ListN.{length}
 use Rattle.srt_protocol.specs.Cells.{cell-size, cells-of, overwritten}
 use Rattle.srt_group_model.specs.laws.Reason.{or-right}
-use Rattle.srt_group_model.specs.State.{State}
+use Rattle.srt_group_model.specs.State.{State, Making}
 use Rattle.srt_group_model.specs.Validity.{is-invalid}
 use Rattle.srt_group_model.specs.Guards.{Answer, no-answer, Step, refuse}
 use Rattle.srt_group_model.specs.Calls.{new, new-code, store-unfit}
 use Rattle.srt_group_model.specs.Lent.{Lent, Call, stored, delivered-by, written-out, list-rows, with-bytes, step-of, perform}
-use Rattle.srt_group_model.specs.laws.Fixed.{identity-kept}
+use Rattle.srt_group_model.specs.laws.Fixed.{making-kept}
 use Rattle.srt_group_model.specs.laws.Valid.{valid-kept, new-valid}
 use Rattle.srt_group_model.specs.declared.Identity.{Identity}
 use Rattle.cell_set.specs.Sets.{ShowsCells}
@@ -68,8 +68,8 @@ module _ (call : Call) (p : Parts) (t : Tables) (lent : Lent) (used : List ℕ) 
   unfolding perform with-bytes store-unfit
   performs-accepted x p′ t′ lent′ used′ is code answer same bytes size long shows =
       let after : state-of p′ t′ ≡ perform call lent s .state = same ∙ ap (λ (y : Step). y .state) (sym is) in
-      let kept : state-of p′ t′ .identity .length ≡ s .identity .length =
-      ap (λ (z : State). z .identity .length) after ∙ ap (λ (i : Identity). i .length) (identity-kept call lent s .0)
+      let kept : state-of p′ t′ .making .length ≡ s .making .length =
+      ap (λ (z : State). z .making .length) after ∙ ap (λ (x : Making). x .length) (making-kept call lent s)
       in
       record {
         code = code ∙ sym (ap (λ (y : Step). y .code) is);
@@ -86,12 +86,12 @@ module _ (call : Call) (p : Parts) (t : Tables) (lent : Lent) (used : List ℕ) 
       }
 
 -- a group that was just made is ready, over tables that are long and words that show no cell: what a form rests on can be met
-pub ready-new : (p : Parts) (t : Tables) (id mode given store : ℕ) (used : List ℕ) → state-of p t ≡ new id mode given
-    → new-code id mode ≡ 0 → Long t → store-unfit store (new id mode given) ≡ false → ShowsCells used [] → Ready p t store used
-ready-new p t id mode given store used is accepted long fits fresh =
+pub ready-new : (p : Parts) (t : Tables) (making : Making) (store : ℕ) (used : List ℕ) → state-of p t ≡ new making
+    → new-code making ≡ 0 → Long t → store-unfit store (new making) ≡ false → ShowsCells used [] → Ready p t store used
+ready-new p t making store used is accepted long fits fresh =
     record {
       long = long;
       fits = ap (store-unfit store) is ∙ fits;
-      valid = ap (is-invalid (cells-of store)) is ∙ new-valid id given (cells-of store) mode accepted;
-      shows = subst (Shows used) (sym is) (shows-new used id mode given fresh);
+      valid = ap (is-invalid (cells-of store)) is ∙ new-valid making (cells-of store) accepted;
+      shows = subst (Shows used) (sym is) (shows-new used making fresh);
     }

@@ -369,7 +369,7 @@ module _ (c : Core) (members pending : List ℕ) where
     disagree-by-id it = sym (or-yes-left (one-twice (each id-of (members-of (c .counts .members) members))) _ (sym id-is ∙ it))
 
     pub disagree-else : (up wrong : Bool) → id ≡ false → up ≡ ascends (packets (c .counts .pending) pending)
-        → wrong ≡ sums-wrong (members-of (c .counts .members) members) (packets (c .counts .pending) pending) (c .owned)
+        → wrong ≡ sums-wrong (members-of (c .counts .members) members) (packets (c .counts .pending) pending) (c .own .reserved)
         → (not up || wrong) ≡ rows-disagree c members pending
     unfolding rows-disagree
     disagree-else up wrong once up-is wrong-is =
@@ -378,7 +378,7 @@ module _ (c : Core) (members pending : List ℕ) where
         (λ (b : Bool).
         b
         || (not (ascends (packets (c .counts .pending) pending))
-        || sums-wrong (members-of (c .counts .members) members) (packets (c .counts .pending) pending) (c .owned)))
+        || sums-wrong (members-of (c .counts .members) members) (packets (c .counts .pending) pending) (c .own .reserved)))
         (sym once ∙ id-is)
 
 module _ (c : Core) (members pending waiting : List ℕ) where

@@ -11,7 +11,7 @@ use Prim.Native.Nat.{ℕ}
 use lib.ListN.{length}
 use Rattle.srt_protocol.specs.Cells.{cells-of}
 use Rattle.srt_group_model.specs.Tools.{if_then_else_, All}
-use Rattle.srt_group_model.specs.State.{State, Receive, is-backup}
+use Rattle.srt_group_model.specs.State.{State, Receive, is-backup, Making}
 use Rattle.srt_group_model.specs.Run.{Mark, put, base-set, collected, gap-skipped, delivered, start, refresh-states}
 use Rattle.srt_group_model.specs.Nearest.{held-at}
 use Rattle.srt_group_model.specs.Delivery.{pass-run, skip-to}
@@ -36,7 +36,7 @@ use Rattle.srt_group_traces.specs.laws.ClerkClaim.{given-as-queued, deli
 use Rattle.srt_group_traces.specs.laws.Bytes.{Live, sides-change, held-change, delivered-is-as-queued, new-alive}
 use Rattle.srt_group_traces.specs.laws.Gateways.{state-after-both, log-after-both}
 use Rattle.srt_group_model.specs.Lent.{Call, call-add-member, call-mark-member-broken, call-remove-member-connection, call-refresh-member-states, call-disconnect, call-poll-event, call-poll-data-bounded, call-send, call-can-send, call-can-send-with-pacing, call-look, call-read-leg, call-queue-data, call-queue-event, Lent, delivered-by, with-bytes, step-of, perform}
-use Rattle.srt_group_traces.specs.Calls.{Asked, do-call, Making, made, state-after, log-after, Delivery, deliveries}
+use Rattle.srt_group_traces.specs.Calls.{Asked, do-call, made, state-after, log-after, Delivery, deliveries}
 use Rattle.srt_group_traces.specs.laws.Calls.{step}
 
 -- ---- a packet that a call of a list queued
@@ -389,16 +389,16 @@ module _ (g : Making) (before : List Asked) where
           if-elim (Fine asked) _ _ _
           (λ e.
           let m : List Mark =
-          if is-backup (refresh-states (start reached) .state .mode)
+          if is-backup (refresh-states (start reached) .state .making .mode)
           then put cell payload ∷ refresh-states (start reached) .log
           else refresh-states (start reached) .log
           in
           let w : AsGiven g before log m × Live (Then asked m) _ =
-          sent-fine (is-backup (refresh-states (start reached) .state .mode)) cell payload _
+          sent-fine (is-backup (refresh-states (start reached) .state .making .mode)) cell payload _
           (send-flow-leaves cell time payload reached)
           (λ backup.
           taken-cell-unused (cells-of store) reached
-          (and-true-left (is-backup (reached .mode)) (no-free-cell (cells-of store) reached)
+          (and-true-left (is-backup (reached .making .mode)) (no-free-cell (cells-of store) reached)
           (ap is-backup (sym (refresh-states-mode (start reached))) ∙ backup) (c .1 .1 .1 .1 .0)))
           in
           record { ok = w .0; left = w .1 })

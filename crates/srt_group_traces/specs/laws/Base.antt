@@ -12,7 +12,7 @@ use Rattle.srt_protocol.specs.laws.Circle.{further-distance, distance-further}
 use Rattle.srt_protocol.specs.Sequence.{half, sequence-distance, sequence-further}
 use Rattle.srt_group_model.specs.Legs.{largest-64}
 use Rattle.srt_group_model.specs.Tools.{if-some_give_otherwise_, flagged, or-else, All}
-use Rattle.srt_group_model.specs.State.{State, Receive, next-receive-sequence}
+use Rattle.srt_group_model.specs.State.{State, Receive, next-receive-sequence, Making}
 use Rattle.srt_group_model.specs.Nearest.{sequence-of, nearest}
 use Rattle.srt_group_model.specs.Run.{Mark, put, base-set, collected, gap-skipped, delivered}
 use Rattle.srt_group_model.specs.Delivery.{pass-run, skip-to}
@@ -29,7 +29,7 @@ use Rattle.srt_group_traces.specs.laws.Held.{insert-all, nearest-all, no
 use Rattle.srt_group_traces.specs.laws.Sides.{sides}
 use Rattle.srt_group_traces.specs.laws.Shape.{Quiet, Skip, Shape, call-shape}
 use Rattle.srt_group_model.specs.Lent.{Result, delivered-by}
-use Rattle.srt_group_traces.specs.Calls.{Asked, do-call, Making, made, state-after, log-after, skipped-in, Delivery, delivery-of, given-by, deliveries, counts-of}
+use Rattle.srt_group_traces.specs.Calls.{Asked, do-call, made, state-after, log-after, skipped-in, Delivery, delivery-of, given-by, deliveries, counts-of}
 
 pub half-above-zero : 0 < half
 unfolding half

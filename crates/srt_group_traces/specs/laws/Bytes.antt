@@ -14,7 +14,7 @@ use lib.ListN.{length, take, drop, length-take, length-drop}
 use Rattle.srt_protocol.specs.Cells.{cell-size, head-size, cells-of, overwritten, cell-bytes}
 use Rattle.srt_protocol.specs.laws.CellLaws.{overwritten-length, overwritten-there, overwritten-run}
 use Rattle.srt_group_model.specs.Tools.{if_then_else_, if-some_give_otherwise_, flagged, All}
-use Rattle.srt_group_model.specs.State.{State, Receive, is-backup, next-send-sequence}
+use Rattle.srt_group_model.specs.State.{State, Receive, is-backup, next-send-sequence, Making}
 use Rattle.srt_group_model.specs.Legs.{no-sequence}
 use Rattle.srt_group_model.specs.Members.{align-member-sequence, has-id, found}
 use Rattle.srt_group_model.specs.Nearest.{held-at}
@@ -43,7 +43,7 @@ use Rattle.srt_group_traces.specs.laws.Held.{insert-all, held-at-all, no
 use Rattle.srt_group_traces.specs.laws.Shape.{Shape, polled-shape, poll-event-shape, poll-data-bounded-shape}
 use Rattle.srt_group_traces.specs.laws.ClerkClaim.{given-as-queued, delivered-as-queued}
 use Rattle.srt_group_model.specs.Lent.{Call, call-add-member, call-mark-member-broken, call-remove-member-connection, call-refresh-member-states, call-disconnect, call-poll-event, call-poll-data-bounded, call-send, call-can-send, call-can-send-with-pacing, Look, look-at, call-look, call-read-leg, call-queue-data, call-queue-event, Lent, stored, delivered-by, written-out, with-bytes, step-of, perform}
-use Rattle.srt_group_traces.specs.Calls.{Asked, do-call, takes-store, is-poll, store-left, Delivery, delivery-of, given-by, deliveries, Making, made, state-after, log-after}
+use Rattle.srt_group_traces.specs.Calls.{Asked, do-call, takes-store, is-poll, store-left, Delivery, delivery-of, given-by, deliveries, made, state-after, log-after}
 use Rattle.srt_group_traces.specs.laws.Calls.{step}
 
 -- ---- a payload in its cell
@@ -519,11 +519,11 @@ module _ (s : State) (store : List ℕ) (log : List Mark) (alive : Live (InCell 
       let cell : ℕ = taken-cell (cells-of (length (lent .store))) s in
       if-elim (AfterIf s store log alive lent) _ _ _
       (λ e same.
-      sent-after s store log alive lent (is-backup (refresh-states (start s) .state .mode)) cell payload _ _ _ refl
+      sent-after s store log alive lent (is-backup (refresh-states (start s) .state .making .mode)) cell payload _ _ _ refl
       (send-flow-leaves cell time payload s)
       (λ backup.
       let free : no-free-cell (cells-of (length (lent .store))) s ≡ false =
-      and-true-left (is-backup (s .mode)) (no-free-cell (cells-of (length (lent .store))) s)
+      and-true-left (is-backup (s .making .mode)) (no-free-cell (cells-of (length (lent .store))) s)
       (ap is-backup (sym (refresh-states-mode (start s))) ∙ backup) (c .1 .1 .1 .1 .0)
       in (
         taken-cell-unused (cells-of (length (lent .store))) s free,

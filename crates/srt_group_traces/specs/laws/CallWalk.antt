@@ -135,12 +135,12 @@ pub refresh-states-pending : (r : Run) → refresh-states r .state .receive .pen
 unfolding refresh-states refresh-pending-states admit-connected-peer-groups
 refresh-states-pending r = set-base-pending (base-after none (r .state .members)) r
 
-pub refresh-states-mode : (r : Run) → refresh-states r .state .mode ≡ r .state .mode
+pub refresh-states-mode : (r : Run) → refresh-states r .state .making .mode ≡ r .state .making .mode
 unfolding refresh-states refresh-pending-states admit-connected-peer-groups set-base
 refresh-states-mode r =
-    if-some-elim (λ (q : Run). q .state .mode ≡ r .state .mode) (next-receive-sequence (r .state .receive)) _ _
+    if-some-elim (λ (q : Run). q .state .making .mode ≡ r .state .making .mode) (next-receive-sequence (r .state .receive)) _ _
     (λ b e. refl)
-    (λ e. if-some-elim (λ (q : Run). q .state .mode ≡ r .state .mode) (base-after none (r .state .members)) _ _
+    (λ e. if-some-elim (λ (q : Run). q .state .making .mode ≡ r .state .making .mode) (base-after none (r .state .members)) _ _
     (λ b e. refl) (λ e. refl))
 
 trim-leaves : (s : State) → Leaves s (trim-by-carrier s)
@@ -335,7 +335,7 @@ module _ (P : Data → Type 0) (F : ℕ → Type 0) (I : Receive → List Mark �
             (all-then (refresh-states (start s) .state .members)
             (demote-stale-backup-carrier time (refresh-states (start s) .state .members)) _
             (demote-carried time (refresh-states (start s) .state .members))
-            (promote-if-none-carried (s .mode)
+            (promote-if-none-carried (s .making .mode)
             (demote-stale-backup-carrier time (refresh-states (start s) .state .members))));
       })
       (λ e. refreshed _ record { receive = refl; sides = refl }))
@@ -343,7 +343,7 @@ module _ (P : Data → Type 0) (F : ℕ → Type 0) (I : Receive → List Mark �
       demoted : State
       demoted =
           with-members
-          (promote-if-none (s .mode) (demote-stale-backup-carrier time (refresh-states (start s) .state .members)))
+          (promote-if-none (s .making .mode) (demote-stale-backup-carrier time (refresh-states (start s) .state .members)))
           (refresh-states (start s) .state)
 
   -- ---- an addition
@@ -447,7 +447,7 @@ module _ (P : Data → Type 0) (F : ℕ → Type 0) (I : Receive → List Mark �
 
   -- a send: refreshed first; then nothing that receiving sees moves; a Backup send that succeeds puts its payload
   left-by-send-kept : Puts → (cell : ℕ) (payload : List ℕ) (flow : Flow) → Leaves (refresh-states (start s) .state) (flow .state)
-      → (is-backup (s .mode) ≡ true → All (OfContent (ElsewhereThan cell)) (s .receive .pending))
+      → (is-backup (s .making .mode) ≡ true → All (OfContent (ElsewhereThan cell)) (s .receive .pending))
       → Kept P F I (left-by-send cell payload (refresh-states (start s)) flow)
   unfolding left-by-send
   left-by-send-kept on-put cell payload flow e unused =
@@ -457,10 +457,10 @@ module _ (P : Data → Type 0) (F : ℕ → Type 0) (I : Receive → List Mark �
         sides-ok = subst (All (SideOk P F)) (sym (e .sides)) (g .sides-ok);
         kept =
             subst (λ (x : Receive). I x
-            (if is-backup (refresh-states (start s) .state .mode) then put cell payload ∷ refresh-states
+            (if is-backup (refresh-states (start s) .state .making .mode) then put cell payload ∷ refresh-states
             (start s) .log else refresh-states (start s) .log)) (sym (e .receive))
             (if-elim (I (refresh-states (start s) .state .receive))
-            (is-backup (refresh-states (start s) .state .mode)) _ _
+            (is-backup (refresh-states (start s) .state .making .mode)) _ _
             (λ backup.
             on-put (refresh-states (start s) .state .receive) (refresh-states (start s) .log) cell payload
             (subst (All (OfContent (ElsewhereThan cell))) (sym (refresh-states-pending (start s)))
@@ -485,7 +485,7 @@ module _ (P : Data → Type 0) (F : ℕ → Type 0) (I : Receive → List Mark �
       left-by-send-kept on-put (taken-cell (cells-of store) s) payload _
       (send-flow-leaves (taken-cell (cells-of store) s) time payload s)
       (λ backup. taken-cell-unused (cells-of store) s
-      (and-true-left (is-backup (s .mode)) (no-free-cell (cells-of store) s) backup (c .1 .1 .1 .1 .0)) .held))
+      (and-true-left (is-backup (s .making .mode)) (no-free-cell (cells-of store) s) backup (c .1 .1 .1 .1 .0)) .held))
 
   -- every call, lent a store, an output and a list of these lengths
   pub step-of-kept : Puts → ((n : ℕ) → Fits n → F n) → ((d : Data) → Fits (d .sequence) → P d)

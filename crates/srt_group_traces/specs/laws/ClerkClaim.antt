@@ -9,7 +9,7 @@ use Prim.Native.Nat.{ℕ, _+_, _-_, _≤_, _<_}
 use native.Mathlib.Omega.{arith}
 use Rattle.srt_group_model.specs.Legs.{largest-64}
 use Rattle.srt_group_model.specs.Tools.{if_then_else_, if-some_give_otherwise_}
-use Rattle.srt_group_model.specs.State.{State}
+use Rattle.srt_group_model.specs.State.{State, Making}
 use Rattle.srt_group_model.specs.Run.{Mark, put, base-set, collected, gap-skipped, delivered}
 use Rattle.srt_group_model.specs.Calls.{new}
 use Rattle.srt_group_model.specs.declared.Packet.{Packet}
@@ -20,7 +20,7 @@ use Rattle.srt_group_traces.specs.laws.Shape.{Quiet, Given, Shape, call-
 use Rattle.srt_group_traces.specs.laws.Base.{sums-after, quiet-delivers-nothing, quiet-skips-nothing, before-delivery}
 use Rattle.srt_group_traces.specs.laws.Schedule.{pass-to-zero, pass-to-next, pass-to-further, sequence-at-place}
 use Rattle.srt_group_traces.specs.laws.Follows.{AtPlaces, Follows, Following, call-following, new-following}
-use Rattle.srt_group_traces.specs.Calls.{Asked, do-call, skipped-in, Making, made, state-after, log-after, Delivery}
+use Rattle.srt_group_traces.specs.Calls.{Asked, do-call, skipped-in, made, state-after, log-after, Delivery}
 
 -- ---- what was delivered, as it was queued
 

@@ -8,7 +8,7 @@ use Prim.Native.Nat.{ℕ, _+_, _-_, _≤_}
 use native.Mathlib.Omega.{arith}
 use Rattle.srt_group_model.specs.Legs.{largest-64}
 use Rattle.srt_group_model.specs.Tools.{if_then_else_, if-some_give_otherwise_}
-use Rattle.srt_group_model.specs.State.{State}
+use Rattle.srt_group_model.specs.State.{State, Making}
 use Rattle.srt_group_model.specs.Calls.{new}
 use Rattle.srt_group_model.specs.Lent.{delivered-by}
 use Rattle.srt_group_model.specs.declared.Packet.{Packet}
@@ -23,7 +23,7 @@ use Rattle.srt_group_traces.specs.laws.Gateways.{state-after-both, log-a
 use Rattle.srt_group_traces.specs.laws.HistoryTheorem.{history-theorem}
 use Rattle.srt_group_traces.specs.Port.{Shown, shows, Taken, shown-of, all-shown, calls-of, Performed, shown-deliveries, told-of, shown-told, last-shown}
 use Rattle.srt_group_traces.specs.laws.Port.{by-step, performed-on, port-has-clerks-list}
-use Rattle.srt_group_traces.specs.Calls.{Asked, do-call, skipped-in, Making, made, state-after, log-after, Delivery, deliveries, counts-of}
+use Rattle.srt_group_traces.specs.Calls.{Asked, do-call, skipped-in, made, state-after, log-after, Delivery, deliveries, counts-of}
 
 -- ---- what is left before the clerk
 

@@ -9,14 +9,14 @@ use mathlib.Core.List.{List, _++_}
 use Prim.Native.Nat.{ℕ}
 use Rattle.srt_protocol.specs.Cells.{cells-of}
 use Rattle.srt_group_model.specs.Tools.{each}
-use Rattle.srt_group_model.specs.State.{State}
+use Rattle.srt_group_model.specs.State.{State, Making}
 use Rattle.srt_group_model.specs.Members.{id-of}
 use Rattle.srt_group_model.specs.Validity.{one-twice, id-twice}
 use Rattle.srt_group_model.specs.Calls.{new-code}
 use Rattle.srt_group_model.specs.Lent.{Lent, call-poll-event, call-poll-data-bounded}
 use Rattle.srt_group_model.specs.laws.HonestLog.{queued-at, collected-from, event-poll-honest, data-poll-honest}
 use Rattle.srt_group_model.specs.laws.Valid.{valid-of}
-use Rattle.srt_group_traces.specs.Calls.{Asked, do-call, Making, made, state-after}
+use Rattle.srt_group_traces.specs.Calls.{Asked, do-call, made, state-after}
 use Rattle.srt_group_traces.specs.laws.StaysValid.{OneLength, ValidAt, reaches-valid}
 
 -- no id twice in a valid state
@@ -24,7 +24,7 @@ ids-once : (n : ℕ) (s : State) → ValidAt n s → one-twice (each id-of (s .m
 unfolding id-twice
 ids-once n s h = valid-of (cells-of n) s h .ids-once
 
-module _ (g : Making) (n : ℕ) (calls : List Asked) (accepted : new-code (g .id) (g .mode) ≡ 0) (lent : OneLength n calls (made g)) where
+module _ (g : Making) (n : ℕ) (calls : List Asked) (accepted : new-code g ≡ 0) (lent : OneLength n calls (made g)) where
   -- the state that the list reaches
   abbrev reached : State
   reached = state-after calls (made g)

@@ -10,7 +10,7 @@ use native.Mathlib.Omega.{arith}
 use Rattle.srt_protocol.specs.Sequence.{sequence-further}
 use Rattle.srt_group_model.specs.Legs.{largest-64}
 use Rattle.srt_group_model.specs.Tools.{if-some_give_otherwise_, or-else}
-use Rattle.srt_group_model.specs.State.{State, Receive, next-receive-sequence}
+use Rattle.srt_group_model.specs.State.{State, Receive, next-receive-sequence, Making}
 use Rattle.srt_group_model.specs.Run.{Mark, put, base-set, collected, gap-skipped, delivered}
 use Rattle.srt_group_model.specs.laws.Reason.{if-elim, none-some, some-inj}
 use Rattle.srt_group_traces.specs.Statement.{first-base, total-skipped, place-after, Consecutive, pass-to, Told, told-by, give-next, clerk, Fair, when-of, RightSkip, Prefix}
@@ -24,7 +24,7 @@ use Rattle.srt_group_traces.specs.laws.Base.{Stands, SequenceFits, Sums,
 use Rattle.srt_group_traces.specs.laws.Schedule.{pass-to-zero, pass-to-next, pass-to-further, sequence-at-place}
 use Rattle.srt_group_traces.specs.laws.Gateways.{NoSkip, clerk-front}
 use Rattle.srt_group_traces.specs.laws.HistoryTheorem.{history-theorem}
-use Rattle.srt_group_traces.specs.Calls.{Asked, do-call, time-of, Making, made, state-after, log-after, skipped-in, Delivery, deliveries, counts-of}
+use Rattle.srt_group_traces.specs.Calls.{Asked, do-call, time-of, made, state-after, log-after, skipped-in, Delivery, deliveries, counts-of}
 
 -- ---- each at a place of its own, in the schedule's order
 

@@ -5,12 +5,12 @@ use mathlib.Core.List.{List, [], _∷_, _++_}
 use Prim.Native.Nat.{ℕ, suc}
 use lib.ListN.{replicate}
 use Rattle.srt_group_model.specs.Tools.{if-some_give_otherwise_}
-use Rattle.srt_group_model.specs.State.{State, next-receive-sequence}
-use Rattle.srt_group_model.specs.laws.State.{broadcast-mode}
+use Rattle.srt_group_model.specs.State.{State, next-receive-sequence, Making}
+use Rattle.srt_group_model.specs.laws.State.{broadcast-mode, ordinary}
 use Rattle.srt_group_model.specs.Legs.{no-sequence}
 use Rattle.srt_group_model.specs.laws.Computed.{definitions}
 use Rattle.srt_group_model.specs.Lent.{Result, delivered-by, Call, call-add-member, call-remove-member-connection, call-poll-data-bounded, call-send, call-read-leg, call-queue-data, call-poll-data}
-use Rattle.srt_group_traces.specs.Calls.{Asked, Making, made, do-call}
+use Rattle.srt_group_traces.specs.Calls.{Asked, made, do-call}
 use Rattle.srt_group_traces.specs.laws.Example.{leg, content, plain, output, sends}
 
 unfoldable pub row : Result → List ℕ
@@ -27,7 +27,7 @@ rows (call ∷ more) s = row (do-call call s) ∷ rows more (do-call call s .sta
 
 -- two cells, with no length given at the start
 unfoldable pub group : Making
-group = record { id = 1073741825; mode = broadcast-mode; store-length = 0 }
+group = ordinary broadcast-mode 0
 
 unfoldable pub store : List ℕ
 store = replicate 2912 0

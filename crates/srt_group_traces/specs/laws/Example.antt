@@ -9,15 +9,15 @@ use native.Mathlib.Omega.{arith}
 use lib.Dec.{lit<, lit≤}
 use lib.ListN.{length, replicate}
 use Rattle.srt_protocol.specs.Cells.{overwritten, output-size, cell-size}
-use Rattle.srt_group_model.specs.State.{State}
-use Rattle.srt_group_model.specs.laws.State.{broadcast-mode}
+use Rattle.srt_group_model.specs.State.{State, Making}
+use Rattle.srt_group_model.specs.laws.State.{broadcast-mode, ordinary}
 use Rattle.srt_group_model.specs.Legs.{moment, no-sequence}
 use Rattle.srt_group_model.specs.laws.Computed.{definitions}
 use Rattle.srt_group_model.specs.Lent.{Call, call-add-member, call-mark-member-broken, call-remove-member-connection, call-poll-event, call-send, call-read-leg, call-queue-data, call-queue-event, call-poll-data}
 use Rattle.srt_group_model.specs.declared.Data.{Data}
 use Rattle.srt_group_model.specs.declared.Leg.{Leg}
 use Rattle.srt_group_traces.specs.Statement.{first-base, total-skipped, total-delivered, last-put, Consecutive, pass-to, told-by, clerk, FromSchedule, OneStore, Fair}
-use Rattle.srt_group_traces.specs.Calls.{Asked, Delivery, Making, made, do-call, takes-store, given-by, state-after, log-after, deliveries, store-left}
+use Rattle.srt_group_traces.specs.Calls.{Asked, Delivery, made, do-call, takes-store, given-by, state-after, log-after, deliveries, store-left}
 use Rattle.srt_group_model.specs.laws.Reason.{not-both}
 use Rattle.srt_group_model.specs.Sending.{list-size}
 use Rattle.srt_group_traces.specs.laws.HistoryTheorem.{history-theorem}
@@ -25,7 +25,7 @@ use Rattle.srt_group_traces.specs.laws.HistoryTheorem.{history-theorem}
 -- ---- what is lent
 
 unfoldable pub group : Making
-group = record { id = 1073741825; mode = broadcast-mode; store-length = 4368 }
+group = ordinary broadcast-mode 4368
 
 -- three cells
 unfoldable pub store-0 : List ℕ

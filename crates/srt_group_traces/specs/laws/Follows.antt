@@ -10,7 +10,7 @@ use native.Mathlib.Omega.{arith}
 use Rattle.srt_protocol.specs.laws.Circle.{distance-places, before-places, distance-self}
 use Rattle.srt_protocol.specs.Sequence.{half, sequence-distance, sequence-before, sequence-further}
 use Rattle.srt_group_model.specs.Tools.{if-some_give_otherwise_, flagged, or-else, All}
-use Rattle.srt_group_model.specs.State.{State, Receive, next-receive-sequence, with-pending}
+use Rattle.srt_group_model.specs.State.{State, Receive, next-receive-sequence, with-pending, Making}
 use Rattle.srt_group_model.specs.laws.NearestLaw.{nearest-least-far}
 use Rattle.srt_group_model.specs.Nearest.{sequence-of, held-at, insert, nearest, not-covered}
 use Rattle.srt_group_model.specs.Run.{Mark, put, base-set, collected, gap-skipped, delivered}
@@ -29,7 +29,7 @@ use Rattle.srt_group_traces.specs.laws.CallWalk.{Fits, Holds, call-holds
 use Rattle.srt_group_traces.specs.laws.Held.{insert-all, nearest-all, held-at-all, held-at-sequence, not-covered-all, not-covered-beyond}
 use Rattle.srt_group_traces.specs.laws.Base.{half-above-zero, further-fits, Stands, SequenceFits, Sums, sums-law}
 use Rattle.srt_group_traces.specs.laws.Schedule.{pass-to-zero, pass-to-next, pass-to-further, sequence-at-place}
-use Rattle.srt_group_traces.specs.Calls.{Asked, do-call, Making, made, state-after, log-after, Delivery}
+use Rattle.srt_group_traces.specs.Calls.{Asked, do-call, made, state-after, log-after, Delivery}
 
 module _ (schedule : List Delivery) where
   -- what follows: each packet delivered stood at the base's place

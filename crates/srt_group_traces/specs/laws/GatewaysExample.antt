@@ -8,13 +8,14 @@ use Prim.Native.Nat.{ℕ}
 use lib.Dec.{lit<}
 use lib.ListN.{replicate, take, drop}
 use Rattle.srt_protocol.specs.Cells.{overwritten, cell-size}
-use Rattle.srt_group_model.specs.laws.State.{backup-mode}
+use Rattle.srt_group_model.specs.laws.State.{backup-mode, ordinary}
 use Rattle.srt_group_model.specs.laws.Computed.{definitions}
 use Rattle.srt_group_model.specs.Lent.{call-add-member, call-send, call-queue-data, call-poll-data}
 use Rattle.srt_group_traces.specs.Statement.{first-base, total-skipped, total-delivered, last-put, pass-to, FromSchedule, OneStore, Prefix, until-skip, Gateway, stands-at, delivers}
-use Rattle.srt_group_traces.specs.Calls.{Asked, Making, made, do-call, takes-store, given-by, state-after, log-after, deliveries, counts-of, store-left}
+use Rattle.srt_group_traces.specs.Calls.{Asked, made, do-call, takes-store, given-by, state-after, log-after, deliveries, counts-of, store-left}
 use Rattle.srt_group_traces.specs.laws.HistoryTheorem.{history-theorem}
 use Rattle.srt_group_traces.specs.laws.Example.{leg, content, plain, over, output, sends, planned, schedule, runs, never, store-0, store-1, store-2, store-3, group, calls, fair}
+use Rattle.srt_group_model.specs.State.{Making}
 
 -- ---- gateway a
 
@@ -25,7 +26,7 @@ gateway-a = record { making = group; before = take 9 calls; after = drop 9 calls
 -- ---- gateway b
 
 unfoldable pub backup-group : Making
-backup-group = record { id = 1073741826; mode = backup-mode; store-length = 0 }
+backup-group = ordinary backup-mode 0
 
 -- four cells, as the calls leave them
 unfoldable pub cells-0 : List ℕ

@@ -12,7 +12,7 @@ use Rattle.srt_protocol.specs.laws.Circle.{distance-up, distance-further}
 use Rattle.srt_protocol.specs.Sequence.{half, sequence-distance, sequence-further}
 use Rattle.srt_group_model.specs.Legs.{largest-64}
 use Rattle.srt_group_model.specs.Tools.{if_then_else_, if-some_give_otherwise_, flagged, All}
-use Rattle.srt_group_model.specs.State.{State, next-receive-sequence}
+use Rattle.srt_group_model.specs.State.{State, next-receive-sequence, Making}
 use Rattle.srt_group_model.specs.Calls.{new}
 use Rattle.srt_group_model.specs.Lent.{Result, delivered-by}
 use Rattle.srt_group_model.specs.laws.Reason.{if-true, if-false, by-test, none-some, some-inj}
@@ -26,7 +26,7 @@ use Rattle.srt_group_traces.specs.laws.Bytes.{only-polls-deliver}
 use Rattle.srt_group_traces.specs.laws.Corollaries.{first-base-stays, based-has-first, unbased-is-still, rise-is-right-skip}
 use Rattle.srt_group_traces.specs.laws.AsQueued.{GivenToQueue, nothing-made-up}
 use Rattle.srt_group_traces.specs.laws.HistoryTheorem.{history-theorem}
-use Rattle.srt_group_traces.specs.Calls.{Asked, do-call, time-of, Making, made, state-after, log-after, counts-of, skipped-in, Delivery, given-by, deliveries}
+use Rattle.srt_group_traces.specs.Calls.{Asked, do-call, time-of, made, state-after, log-after, counts-of, skipped-in, Delivery, given-by, deliveries}
 use Rattle.srt_group_traces.specs.Port.{Shown, shows, shows-short, Taken, did, refused-short, shown-of, all-shown, calls-of, TakenFrom, Performed, shown-delivery, shown-deliveries, told-of, shown-told, last-shown, less-moved, first-shown, SkipShown, SkipsShown, shown-until-skip, Port, port-state, port-place, port-delivers}
 
 -- ---- the model itself is such a port, for every list of calls

@@ -12,21 +12,20 @@ use lib.ListN.{length, replicate, length-replicate}
 use Rattle.srt_protocol.specs.Cells.{cell-size, cells-of, max-cells}
 use Rattle.srt_group_model.specs.Tools.{any}
 use Rattle.srt_group_model.specs.laws.Reason.{if-true, if-elim, by-test, not-both, or-yes-left}
-use Rattle.srt_group_model.specs.State.{State}
+use Rattle.srt_group_model.specs.State.{State, Making}
 use Rattle.srt_group_model.specs.Validity.{is-invalid}
 use Rattle.srt_group_model.specs.Guards.{Step, refuse, Check, guard}
 use Rattle.srt_group_model.specs.Calls.{store-unfit, cells-given, breaks-rule, new, new-code, poll-event-call, poll-data-call, send, queue-data}
 use Rattle.srt_group_model.specs.Lent.{Lent, Call, call-add-member, call-mark-member-broken, call-remove-member-connection, call-refresh-member-states, call-disconnect, call-poll-event, call-poll-data-bounded, call-send, call-can-send, call-can-send-with-pacing, call-look, call-read-leg, call-queue-data, call-queue-event, step-of, with-bytes, perform}
 use Rattle.srt_group_model.specs.laws.Refusals.{changes-nothing, refusal-leaves-everything}
-use Rattle.srt_group_model.specs.laws.Fixed.{identity-kept}
+use Rattle.srt_group_model.specs.laws.Fixed.{making-kept}
 use Rattle.srt_group_model.specs.laws.Valid.{valid-kept, valid-wider, new-valid}
-use Rattle.srt_group_model.specs.declared.Identity.{Identity}
 use Rattle.srt_group_traces.specs.laws.Cases.{eq-of, eqb-yes}
-use Rattle.srt_group_traces.specs.Calls.{Asked, do-call, takes-store, Making, made, state-after}
+use Rattle.srt_group_traces.specs.Calls.{Asked, do-call, takes-store, made, state-after}
 
-pub store-length-stays : (call : Asked) (s : State) → do-call call s .state .identity .length ≡ s .identity .length
+pub store-length-stays : (call : Asked) (s : State) → do-call call s .state .making .length ≡ s .making .length
 unfolding do-call
-store-length-stays call s = ap (λ (x : Identity). x .length) (identity-kept (call .call) (call .lent) s .0)
+store-length-stays call s = ap (λ (x : Making). x .length) (making-kept (call .call) (call .lent) s)
 
 -- ---- a call that is lent no store leaves the same, whatever else is lent
 
@@ -88,10 +87,10 @@ list-stays-valid n (call ∷ more) s lent h =
     list-stays-valid n more (do-call call s .state) (lent .1) (call-stays-valid n call s (lent .0) h)
 
 -- From a group that `new` makes, with calls that are lent stores of one length.
-pub reaches-valid : (g : Making) (n : ℕ) (calls : List Asked) → new-code (g .id) (g .mode) ≡ 0 → OneLength n calls (made g)
+pub reaches-valid : (g : Making) (n : ℕ) (calls : List Asked) → new-code g ≡ 0 → OneLength n calls (made g)
     → ValidAt n (state-after calls (made g))
 reaches-valid g n calls accepted lent =
-    list-stays-valid n calls (made g) lent (new-valid (g .id) (g .store-length) (cells-of n) (g .mode) accepted)
+    list-stays-valid n calls (made g) lent (new-valid g (cells-of n) accepted)
 
 -- ---- with a length given at the start every list is such a list: a store of another length is refused by 5
 
@@ -111,7 +110,7 @@ not-zero : (n : ℕ) → (n ≡ 0 → ⊥) → eqb n 0 ≡ false
 not-zero n h = by-test (eqb n 0) (λ e. absurd (h (eq-of n 0 e))) (λ e. e)
 
 abbrev Given : ℕ → State → Type 0
-Given n s = s .identity .length ≡ n
+Given n s = s .making .length ≡ n
 
 -- a call whose first test is true of an unfit store
 unfit-refused : (n : ℕ) (fails : Bool) (checks : List Check) (s : State) (body : Step) (store : ℕ)
@@ -119,13 +118,13 @@ unfit-refused : (n : ℕ) (fails : Bool) (checks : List Check) (s : State) (body
     → changes-nothing (guard (record { code = 5; fails = fails } ∷ checks) s body .code) ≡ false → store ≡ n
 unfolding store-unfit
 unfit-refused n fails checks s body store unfit given some-length e =
-    by-test (eqb store (s .identity .length)) (λ same. eq-of store (s .identity .length) same ∙ given)
+    by-test (eqb store (s .making .length)) (λ same. eq-of store (s .making .length) same ∙ given)
     (λ differ.
     not-both
     (ap changes-nothing
     (first-refuses record { code = 5; fails = fails } checks s body
     (unfit
-    (unfit-length store (s .identity .length) (ltb store cell-size) differ (ap (λ (m : ℕ). eqb m 0) given ∙ not-zero n some-length))))
+    (unfit-length store (s .making .length) (ltb store cell-size) differ (ap (λ (m : ℕ). eqb m 0) given ∙ not-zero n some-length))))
     ∙ five-changes-nothing)
     e)
 
@@ -160,22 +159,22 @@ given-length-lends n (call ∷ more) s given some-length = (
 )
 
 -- From a group that `new` makes with a store's length given at the start, whatever the calls and whatever they are lent.
-pub reaches-valid-given : (g : Making) (calls : List Asked) → new-code (g .id) (g .mode) ≡ 0 → (g .store-length ≡ 0 → ⊥)
-    → ValidAt (g .store-length) (state-after calls (made g))
+pub reaches-valid-given : (g : Making) (calls : List Asked) → new-code g ≡ 0 → (g .length ≡ 0 → ⊥)
+    → ValidAt (g .length) (state-after calls (made g))
 unfolding new
 reaches-valid-given g calls accepted some-length =
-    reaches-valid g (g .store-length) calls accepted (given-length-lends (g .store-length) calls (made g) refl some-length)
+    reaches-valid g (g .length) calls accepted (given-length-lends (g .length) calls (made g) refl some-length)
 
 -- ---- so the tests of 6 are false: of a call that is lent a store of n bytes, and of one that is lent none
 
 -- with no length given, or with this one
-pub valid-breaks-no-rule : (n : ℕ) (s : State) → (s .identity .length ≡ 0) ⊎ (s .identity .length ≡ n) → ValidAt n s → breaks-rule s ≡ false
+pub valid-breaks-no-rule : (n : ℕ) (s : State) → (s .making .length ≡ 0) ⊎ (s .making .length ≡ n) → ValidAt n s → breaks-rule s ≡ false
 unfolding cells-given
 valid-breaks-no-rule n s (inl none-given) h =
-    if-elim (λ (cells : ℕ). is-invalid cells s ≡ false) (eqb (s .identity .length) 0) _ _
+    if-elim (λ (cells : ℕ). is-invalid cells s ≡ false) (eqb (s .making .length) 0) _ _
     (λ e. valid-wider (cells-of n) max-cells s (omega arith) h)
     (λ e. not-both (ap (λ (m : ℕ). eqb m 0) none-given ∙ eqb-yes 0) e)
 valid-breaks-no-rule n s (inr this-given) h =
-    if-elim (λ (cells : ℕ). is-invalid cells s ≡ false) (eqb (s .identity .length) 0) _ _
+    if-elim (λ (cells : ℕ). is-invalid cells s ≡ false) (eqb (s .making .length) 0) _ _
     (λ e. valid-wider (cells-of n) max-cells s (omega arith) h)
     (λ e. subst (λ (m : ℕ). is-invalid (cells-of m) s ≡ false) (sym this-given) h)

@@ -20,11 +20,11 @@ shared-slice-read-t9 c = omega arith
 shared-slice-read-t11 : tie.Need-shared-slice-read-t11
 shared-slice-read-t11 c = omega arith
 
-shared-slice-read-t13 : tie.Need-shared-slice-read-t13
-shared-slice-read-t13 c = omega arith
+shared-slice-read-t14 : tie.Need-shared-slice-read-t14
+shared-slice-read-t14 c = omega arith
 
-shared-slice-read-t15 : tie.Need-shared-slice-read-t15
-shared-slice-read-t15 c = omega arith
+shared-slice-read-t16 : tie.Need-shared-slice-read-t16
+shared-slice-read-t16 c = omega arith
 
 returns : tie.Need-returns
 unfolding membership-of
@@ -39,6 +39,6 @@ read-membership-spec =
     shared-slice-read-t7
     shared-slice-read-t9
     shared-slice-read-t11
-    shared-slice-read-t13
-    shared-slice-read-t15
+    shared-slice-read-t14
+    shared-slice-read-t16
     returns)

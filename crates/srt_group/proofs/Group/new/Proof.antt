@@ -1,10 +1,14 @@
--- `Group::new` meets its contract.
-use Rattle.srt_group.specs.laws.Made.{shows-new}
+-- `Group::new` meets its contract: no row of a table is in use, and the ring is empty, so the state that is shown is computed.
+use mathlib.Core.Path.{refl}
+use Rattle.srt_group_model.specs.Calls.{new}
+use Rattle.word_rows.specs.Tab.{tab}
+use Rattle.srt_connection_members.specs.Members.{members-of}
 use Rattle.srt_group.proofs.Group.new.Statement.{statement}
 use Rattle.srt_group.proofs.Group.new.Tie as tie
 
 returns : tie.Need-returns
-returns c = shows-new _ _ _ _
+unfolding new tab members-of
+returns c = record { shows = λ t. refl }
 
 pub new-spec : {M : Type 1} → statement M
 new-spec = tie.close (tie.spec returns)

@@ -7,8 +7,8 @@ use Rattle.srt_group_delivery.proofs.delivery.release_at.Tie as tie
 membership-at-requires : tie.Need-membership-at-requires
 membership-at-requires c κs = search needs
 
-less-requires : tie.Need-less-requires
-less-requires c κs = search needs
+release-packet-requires : tie.Need-release-packet-requires
+release-packet-requires c κs = search needs
 
 put-membership-at-requires : tie.Need-put-membership-at-requires
 put-membership-at-requires c κs = search needs
@@ -20,14 +20,14 @@ same-length : tie.Need-same-length
 same-length c = search needs
 
 returns : tie.Need-returns
-returns c = member-released _ _ _ _ _ (c .before .before .before .before .before .before .before .before .before .membership-at .ensures) (c .before .before .before .before .before .before .before .before .less .ensures) (c .before .before .before .before .before .before .put-membership-at .ensures) (c .before .before .release-data-reservation-at .ensures)
+returns c = member-released _ _ _ _ _ (c .before .before .before .before .before .before .before .before .before .membership-at .ensures) (c .before .before .before .before .before .before .before .before .release-packet .ensures) (c .before .before .before .before .before .before .put-membership-at .ensures) (c .before .before .release-data-reservation-at .ensures)
 
 pub release-at-spec : {M : Type 1} → statement M
 release-at-spec =
     tie.close
     (tie.spec
     membership-at-requires
-    less-requires
+    release-packet-requires
     put-membership-at-requires
     release-data-reservation-at-requires
     same-length

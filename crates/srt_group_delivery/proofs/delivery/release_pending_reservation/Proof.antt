@@ -7,11 +7,11 @@ use borrow.Author.Needs.{needs}
 use Rattle.srt_group_delivery.proofs.delivery.release_pending_reservation.Statement.{statement}
 use Rattle.srt_group_delivery.proofs.delivery.release_pending_reservation.Tie as tie
 
-less-requires : tie.Need-less-requires
-less-requires c κs = search needs
+release-packet-requires : tie.Need-release-packet-requires
+release-packet-requires c κs = search needs
 
 returns : tie.Need-returns
-returns c = released-own _ _ _ (c .before .if1 .taken) (c .less .ensures)
+returns c = released-own _ _ _ (c .before .if1 .taken) (c .release-packet .ensures)
 
 find-requires : tie.Need-find-requires
 find-requires c κs = search needs
@@ -41,7 +41,7 @@ pub release-pending-reservation-spec : {M : Type 1} → statement M
 release-pending-reservation-spec =
     tie.close
     (tie.spec
-    less-requires
+    release-packet-requires
     returns
     find-requires
     enum-known-found

@@ -22,8 +22,10 @@ sub-left c = search needs
 lowered-requires : tie.Need-lowered-requires
 lowered-requires c κs = search needs
 
-add-owned : tie.Need-add-owned
-add-owned c = omega (arith, c .before .before .before .before .before .before .before .before .before .before .before .before .before .before .before .pre .sum, ap (λ (m : Membership). m .reserved) (c .before .before .before .before .before .before .before .before .before .before .before .membership-at .ensures))
+add-account-requires : tie.Need-add-account-requires
+add-account-requires c κs =
+    let read = c .before .before .before .before .before .before .before .before .before in
+    omega (arith, read .before .before .before .before .pre .sum, ap (λ (m : Membership). m .account .reserved) (read .membership-at .ensures))
 
 same-length : tie.Need-same-length
 same-length c = search needs
@@ -32,7 +34,13 @@ same-length-2 : tie.Need-same-length-2
 same-length-2 c = search needs
 
 returns : tie.Need-returns
-returns c = taken-all _ _ _ _ _ _ (c .before .before .before .before .before .before .before .before .before .before .before .before .before .before .before .before .before .pre .there) (c .before .before .before .before .before .before .before .before .before .before .before .before .before .membership-at .ensures) (c .before .before .before .before .before .before .before .before .before .before .before .own-packets .ensures) (c .before .before .before .before .before .before .before .remove-member .ensures) refl (c .before .before .before .before .lowered .ensures) refl
+returns c =
+    let sums = c .before .before in
+    let removed = sums .before .before .before .before in
+    let owned = removed .before .before .before .before in
+    let read = owned .before .before in
+    taken-all _ _ _ _ _ _ (read .before .before .before .before .pre .there) (read .membership-at .ensures) (owned .own-packets .ensures)
+    (removed .remove-member .ensures) refl (sums .before .lowered .ensures) (sums .add-account .ensures)
 
 pub take-out-spec : {M : Type 1} → statement M
 take-out-spec =
@@ -43,7 +51,7 @@ take-out-spec =
     remove-member-requires
     sub-left
     lowered-requires
-    add-owned
+    add-account-requires
     same-length
     same-length-2
     returns)

@@ -11,8 +11,8 @@ packet-requires c κs = search needs
 remove-requires : tie.Need-remove-requires
 remove-requires c κs = search needs
 
-less-requires : tie.Need-less-requires
-less-requires c κs = search needs
+release-packet-requires : tie.Need-release-packet-requires
+release-packet-requires c κs = search needs
 
 sub-left : tie.Need-sub-left
 sub-left c = search needs
@@ -21,8 +21,8 @@ same-length : tie.Need-same-length
 same-length c = search needs
 
 returns : tie.Need-returns
-returns c = retired-one _ _ _ (c .before .before .before .before .before .before .before .before .before .pre .0) (c .before .before .before .before .before .before .before .before .before .pre .1) _ (c .before .before .before .before .before .before .packet .ensures) refl (c .before .less .ensures) (c .before .before .before .before .remove .ensures)
+returns c = retired-one _ _ _ (c .before .before .before .before .before .before .before .before .before .pre .0) (c .before .before .before .before .before .before .before .before .before .pre .1) _ (c .before .before .before .before .before .before .packet .ensures) refl (c .before .release-packet .ensures) (c .before .before .before .before .remove .ensures)
 
 pub retire-at-spec : {M : Type 1} → statement M
 retire-at-spec =
-    tie.close (tie.spec packet-requires remove-requires less-requires sub-left same-length returns)
+    tie.close (tie.spec packet-requires remove-requires release-packet-requires sub-left same-length returns)
