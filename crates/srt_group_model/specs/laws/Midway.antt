@@ -71,7 +71,7 @@ abbrev pub is-untried : (mode code : ℕ) → Bool
 is-untried mode code = eqb code 23 || (eqb code 24 || (eqb code 25 && not (is-backup mode)))
 
 pub record Send-refused (s : State) (step : Step) : Type 0 where
-  -- of a member only the label and the leg's sending side have moved
+  -- a member keeps its id, its account, its queue, its leg's link and receiving side
   pub members : All-carried (s .members) (step .state .members)
   -- the call's own payload was sent on no leg
   pub replays : All (Replays (s .send .history)) (step .sends)
