@@ -21,7 +21,7 @@ use Rattle.srt_group_model.specs.Sending.{list-size, Flow, ends-with, ab
 use Rattle.srt_group_model.specs.Backup.{stability-timeout, demote-stale-backup-carrier, trim-by-carrier, send-backup, backup-send-ready, group-time-until-send}
 use Rattle.srt_group_model.specs.Cells.{free-cell}
 use Rattle.srt_group_model.specs.Validity.{above, _at-most_, any-above, data-words, is-invalid, leg-out-of-range, leg-sequence-too-large, max-members, max-queued, making-words}
-use Rattle.srt_group_model.specs.Guards.{Answer, no-answer, truth, number, optional, polled, data-polled, leg-back, membership, memberships, Step, refuse, accept, _when_, guard, shown, Looking}
+use Rattle.srt_group_model.specs.Guards.{Answer, no-answer, truth, number, optional, polled, data-polled, leg-back, membership, memberships, Step, refuse, accept, _when_, Check, guard, shown, About, about-group, about-time, about-member, Looking}
 use Rattle.srt_group_model.specs.declared.Data.{Data}
 use Rattle.srt_group_model.specs.declared.Event.{Event}
 use Rattle.srt_group_model.specs.declared.Leg.{Leg}
@@ -147,12 +147,12 @@ remove-member-connection id s =
     guard ((6 when breaks-rule s) ∷ (2 when above largest-32 id) ∷ (3 when is-unknown id s) ∷ []) s (remove-body id s)
 
 -- `member`: its state, its weight and its collision
-unfoldable pub member : (id : ℕ) → State → Looking
-member id s =
+unfoldable pub member : (id : ℕ) → Looking
+member id =
     record {
-      checks = (6 when breaks-rule s) ∷ (2 when above largest-32 id) ∷ (3 when is-unknown id s) ∷ [];
+      about = about-member id;
       shows =
-          membership (if-some first-such (has-id id) (s .members) give (λ m. some (m .membership)) otherwise none);
+          λ s. membership (if-some first-such (has-id id) (s .members) give (λ m. some (m .membership)) otherwise none);
     }
 
 -- accepted, with the log of a call under way
@@ -276,19 +276,17 @@ unfoldable pub can-send-with-pacing-call : (time : ℕ) → State → Step
 can-send-with-pacing-call time s =
     guard ((6 when breaks-rule s) ∷ (2 when above largest-64 time) ∷ []) s (can-send-with-pacing-body time s)
 
-unfoldable pub time-until-send : (time : ℕ) → State → Looking
-time-until-send time s =
-    record {
-      checks = (6 when breaks-rule s) ∷ (2 when above largest-64 time) ∷ [];
-      shows = number (group-time-until-send time (s .members));
-    }
+unfoldable pub time-until-send : (time : ℕ) → Looking
+time-until-send time =
+    record { about = about-time time; shows = λ s. number (group-time-until-send time (s .members)) }
 
 -- none for a leg without a sender
-unfoldable pub backup-stability-timeout-micros : (id : ℕ) → State → Looking
-backup-stability-timeout-micros id s =
+unfoldable pub backup-stability-timeout-micros : (id : ℕ) → Looking
+backup-stability-timeout-micros id =
     record {
-      checks = (6 when breaks-rule s) ∷ (2 when above largest-32 id) ∷ (3 when is-unknown id s) ∷ [];
+      about = about-member id;
       shows =
+          λ s.
           optional
           (if-some first-such (has-id id) (s .members)
           give (λ m. if has-sender (m .leg) then some (stability-timeout (m .leg)) else none)
@@ -297,32 +295,36 @@ backup-stability-timeout-micros id s =
 
 -- ---- looking
 
--- `members`: the memberships, in the order of addition
-unfoldable pub members-call : State → Looking
-members-call s =
-    record { checks = (6 when breaks-rule s) ∷ []; shows = memberships (each (λ m. m .membership) (s .members)) }
+-- the codes of a look, by what it is about
+unfoldable pub look-checks : About → State → List Check
+look-checks about-group s = (6 when breaks-rule s) ∷ []
+look-checks (about-time time) s = (6 when breaks-rule s) ∷ (2 when above largest-64 time) ∷ []
+look-checks (about-member id) s =
+    (6 when breaks-rule s) ∷ (2 when above largest-32 id) ∷ (3 when is-unknown id s) ∷ []
 
-unfoldable pub group-id : State → Looking
-group-id s = record { checks = (6 when breaks-rule s) ∷ []; shows = number (s .making .id) }
+-- `members`: the memberships, in the order of addition
+unfoldable pub members-call : Looking
+members-call = record { about = about-group; shows = λ s. memberships (each (λ m. m .membership) (s .members)) }
+
+unfoldable pub group-id : Looking
+group-id = record { about = about-group; shows = λ s. number (s .making .id) }
 
 -- 0 Broadcast, 1 Backup
-unfoldable pub mode : State → Looking
-mode s = record { checks = (6 when breaks-rule s) ∷ []; shows = number (s .making .mode) }
+unfoldable pub mode : Looking
+mode = record { about = about-group; shows = λ s. number (s .making .mode) }
 
-unfoldable pub peer-group-id : State → Looking
-peer-group-id s =
-    record { checks = (6 when breaks-rule s) ∷ []; shows = optional (if eqb (s .peer) 0 then none else some (s .peer)) }
+unfoldable pub peer-group-id : Looking
+peer-group-id =
+    record { about = about-group; shows = λ s. optional (if eqb (s .peer) 0 then none else some (s .peer)) }
 
-unfoldable pub skipped-receive-packets : State → Looking
-skipped-receive-packets s =
-    record { checks = (6 when breaks-rule s) ∷ []; shows = number (s .receive .numbers .skipped) }
+unfoldable pub skipped-receive-packets : Looking
+skipped-receive-packets = record { about = about-group; shows = λ s. number (s .receive .numbers .skipped) }
 
-unfoldable pub has-pending-data-call : State → Looking
-has-pending-data-call s = record { checks = (6 when breaks-rule s) ∷ []; shows = truth (has-pending-data s) }
+unfoldable pub has-pending-data-call : Looking
+has-pending-data-call = record { about = about-group; shows = λ s. truth (has-pending-data s) }
 
-unfoldable pub has-receive-continuation : State → Looking
-has-receive-continuation s =
-    record { checks = (6 when breaks-rule s) ∷ []; shows = truth (is-set (s .visit .continuation)) }
+unfoldable pub has-receive-continuation : Looking
+has-receive-continuation = record { about = about-group; shows = λ s. truth (is-set (s .visit .continuation)) }
 
 -- ---- the stand-in leg: a reading, data and an event
 

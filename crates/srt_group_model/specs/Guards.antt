@@ -70,7 +70,13 @@ unfoldable pub guard : List Check → State → Step → Step
 guard [] s body = body
 guard (c ∷ cs) s body = if c .fails then refuse (c .code) s else guard cs s body
 
--- A call that only looks: its codes, and what it shows when none refuses.
+-- what a look is about: the group, the group at a time, or a member
+pub data About : Type 0 where
+  about-group : About
+  about-time : (time : ℕ) → About
+  about-member : (id : ℕ) → About
+
+-- A call that only looks: what it is about, from which its codes follow, and what it shows of a state.
 pub record Looking : Type 0 where
-  pub checks : List Check
-  pub shows : Shown
+  pub about : About
+  pub shows : State → Shown

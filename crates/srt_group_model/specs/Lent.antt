@@ -12,7 +12,7 @@ use Rattle.srt_group_model.specs.Run.{Mark}
 use Rattle.srt_group_model.specs.Delivery.{nothing, event, packet, max-visits}
 use Rattle.srt_group_model.specs.Sending.{Sent}
 use Rattle.srt_group_model.specs.Guards.{Answer, no-answer, shown, polled, data-polled, leg-back, Put, Step, accept, guard, Looking}
-use Rattle.srt_group_model.specs.Calls.{add-member, mark-member-broken, remove-member-connection, member, refresh-member-states, disconnect, poll-event-call, poll-data-call, send, can-send-call, can-send-with-pacing-call, time-until-send, backup-stability-timeout-micros, group-id, members-call, mode, peer-group-id, skipped-receive-packets, has-pending-data-call, has-receive-continuation, read-leg, queue-data, queue-event}
+use Rattle.srt_group_model.specs.Calls.{add-member, mark-member-broken, remove-member-connection, member, refresh-member-states, disconnect, poll-event-call, poll-data-call, send, can-send-call, can-send-with-pacing-call, time-until-send, backup-stability-timeout-micros, group-id, members-call, mode, peer-group-id, skipped-receive-packets, has-pending-data-call, has-receive-continuation, look-checks, read-leg, queue-data, queue-event}
 use Rattle.srt_group_model.specs.declared.Data.{Data}
 use Rattle.srt_group_model.specs.declared.Event.{Event}
 use Rattle.srt_group_model.specs.declared.Packet.{Packet}
@@ -93,21 +93,21 @@ pub data Look : Type 0 where
   look-has-pending-data : Look
   look-has-receive-continuation : Look
 
-unfoldable pub looking : Look → State → Looking
-looking (look-member id) s = member id s
-looking (look-time-until-send time) s = time-until-send time s
-looking (look-backup-stability-timeout-micros id) s = backup-stability-timeout-micros id s
-looking look-group-id s = group-id s
-looking look-members s = members-call s
-looking look-mode s = mode s
-looking look-peer-group-id s = peer-group-id s
-looking look-skipped-receive-packets s = skipped-receive-packets s
-looking look-has-pending-data s = has-pending-data-call s
-looking look-has-receive-continuation s = has-receive-continuation s
+unfoldable pub looking : Look → Looking
+looking (look-member id) = member id
+looking (look-time-until-send time) = time-until-send time
+looking (look-backup-stability-timeout-micros id) = backup-stability-timeout-micros id
+looking look-group-id = group-id
+looking look-members = members-call
+looking look-mode = mode
+looking look-peer-group-id = peer-group-id
+looking look-skipped-receive-packets = skipped-receive-packets
+looking look-has-pending-data = has-pending-data-call
+looking look-has-receive-continuation = has-receive-continuation
 
 -- What every look does: it refuses, or shows; either way nothing changes.
 unfoldable pub look-at : Look → State → Step
-look-at look s = let l = looking look s in guard (l .checks) s (accept s (shown (l .shows)))
+look-at look s = guard (look-checks (looking look .about) s) s (accept s (shown (looking look .shows s)))
 
 pub data Call : Type 0 where
   call-add-member : (id weight : ℕ) → Leg → (queue : List Event) → Call

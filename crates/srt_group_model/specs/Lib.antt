@@ -19,6 +19,7 @@ pub mod Guards
 pub mod Calls
 pub mod Lent
 pub mod Answers
+pub mod Codes
 -- The replay listing.
 pub mod Listing
 -- Words of the inner functions' contracts.

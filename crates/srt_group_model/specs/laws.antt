@@ -15,6 +15,8 @@ pub mod Refusals
 pub mod Answers
 pub mod Moves
 pub mod Frame
+pub mod Codes
+pub mod Midway
 pub mod Walk
 pub mod Base
 pub mod CellLaws

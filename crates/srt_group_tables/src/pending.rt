@@ -190,8 +190,9 @@ pub fn remove(pending: &mut [u64], count: usize, at: usize)
     word_rows::close_gap(&mut pending[0..INDEX_WORDS], at, count, 1);
 }
 
-// The nearest packet in wrapping order. Pending sequences span less than half the sequence space, so either none lies half a
-// space above the lowest, and that one is nearest, or the span wraps, and the first of those above is.
+// The nearest packet in wrapping order. Either none lies half a space above the lowest, and that one is nearest, or the first of
+// those above is. It is the least far ahead of the base where all are less than half a space ahead: so by the schedule's premise
+// (demand 3), not in every state.
 pub fn nearest(pending: &[u64], count: usize) -> Found
     requires { ⌜ (pending-size ≤ length (now pending)) × (count ≤ max-pending) ⌝ }
     requires { ⌜ ascends (packets count (now pending)) ≡ true ⌝ }

@@ -273,7 +273,7 @@ module _ (rule : Account-rule) (law : Account-law rule) where
   refreshes =
       record {
         moves = λ s i m f at move h. let c = moved-account move in changes s i m f at (c .id) (moved-row _ m (f m) c) h;
-        binds = λ s i m at a h. h;
+        binds = λ s i m at a unbound h. h;
         sets-base = λ s b e source h. h;
       }
 

@@ -13,9 +13,9 @@ use Rattle.srt_group_model.specs.laws.Reason.{if-elim, if-some-elim, not
 use Rattle.srt_group_model.specs.State.{Member, State}
 use Rattle.srt_group_model.specs.Run.{start, refresh-states}
 use Rattle.srt_group_model.specs.Members.{has-id, found}
-use Rattle.srt_group_model.specs.Guards.{Answer, no-answer, Check, Step, guard}
-use Rattle.srt_group_model.specs.Calls.{add-body, add-member, mark-member-broken, remove-body, remove-member-connection, member, refresh-member-states, disconnect, event-poll-body, poll-event-call, data-poll-body, poll-data-call, left-by-send, send-flow, send-body, send, taken-cell, can-send-body, can-send-call, can-send-with-pacing-body, can-send-with-pacing-call, time-until-send, backup-stability-timeout-micros, group-id, members-call, mode, peer-group-id, skipped-receive-packets, has-pending-data-call, has-receive-continuation, read-leg, queue-data-body, queue-data, queue-event}
-use Rattle.srt_group_model.specs.Lent.{Lent, Look, look-member, look-time-until-send, look-backup-stability-timeout-micros, look-group-id, look-members, look-mode, look-peer-group-id, look-skipped-receive-packets, look-has-pending-data, look-has-receive-continuation, look-at, Call, call-add-member, call-mark-member-broken, call-remove-member-connection, call-refresh-member-states, call-disconnect, call-poll-event, call-poll-data-bounded, call-send, call-can-send, call-can-send-with-pacing, call-look, call-read-leg, call-queue-data, call-queue-event, with-bytes, step-of, perform, looking}
+use Rattle.srt_group_model.specs.Guards.{Answer, no-answer, Check, Step, guard, About, about-group, about-time, about-member}
+use Rattle.srt_group_model.specs.Calls.{add-body, add-member, mark-member-broken, remove-body, remove-member-connection, refresh-member-states, disconnect, event-poll-body, poll-event-call, data-poll-body, poll-data-call, left-by-send, send-flow, send-body, send, taken-cell, can-send-body, can-send-call, can-send-with-pacing-body, can-send-with-pacing-call, read-leg, queue-data-body, queue-data, queue-event, look-checks}
+use Rattle.srt_group_model.specs.Lent.{Lent, Look, look-at, Call, call-add-member, call-mark-member-broken, call-remove-member-connection, call-refresh-member-states, call-disconnect, call-poll-event, call-poll-data-bounded, call-send, call-can-send, call-can-send-with-pacing, call-look, call-read-leg, call-queue-data, call-queue-event, with-bytes, step-of, perform, looking}
 use Rattle.srt_group_model.specs.Answers.{CallAnswers}
 
 -- what holds of an accepted step
@@ -36,22 +36,15 @@ guarded P (c ∷ cs) s body r k =
     if-elim (IfAccepted P) (c .fails) _ _ (λ f. record { holds = λ e. not-both (eq-eqb (c .code) 0 e) (r .0) }) (λ f. guarded P cs s body (r .1) (λ g. k (f, g)))
 
 -- no test of a look has the number 0
-looks-refuse : (look : Look) (s : State) → All Refuses (looking look s .checks)
-unfolding looking member time-until-send backup-stability-timeout-micros group-id members-call mode peer-group-id skipped-receive-packets has-pending-data-call has-receive-continuation
-looks-refuse (look-member id) s = (refl, (refl, (refl, tt)))
-looks-refuse (look-time-until-send time) s = (refl, (refl, tt))
-looks-refuse (look-backup-stability-timeout-micros id) s = (refl, (refl, (refl, tt)))
-looks-refuse look-group-id s = (refl, tt)
-looks-refuse look-members s = (refl, tt)
-looks-refuse look-mode s = (refl, tt)
-looks-refuse look-peer-group-id s = (refl, tt)
-looks-refuse look-skipped-receive-packets s = (refl, tt)
-looks-refuse look-has-pending-data s = (refl, tt)
-looks-refuse look-has-receive-continuation s = (refl, tt)
+looks-refuse : (about : About) (s : State) → All Refuses (look-checks about s)
+unfolding look-checks
+looks-refuse about-group s = (refl, tt)
+looks-refuse (about-time time) s = (refl, (refl, tt))
+looks-refuse (about-member id) s = (refl, (refl, (refl, tt)))
 
 look-answers : (look : Look) (s : State) → IfAccepted (CallAnswers (call-look look) s) (look-at look s)
 unfolding look-at
-look-answers look s = guarded (CallAnswers (call-look look) s) _ s _ (looks-refuse look s) (λ c. record { holds = λ e. refl })
+look-answers look s = guarded (CallAnswers (call-look look) s) _ s _ (looks-refuse _ s) (λ c. record { holds = λ e. refl })
 
 send-body-answers : (cell time : ℕ) (payload : List ℕ) (s : State) → IfAccepted (CallAnswers (call-send time payload) s) (send-body cell time payload s)
 unfolding send-body left-by-send

@@ -7,7 +7,7 @@ use Prim.Native.Nat.{ℕ, suc}
 use borrow.Author.Tests.{eqb-true}
 use lib.Dec.{eqb}
 use Rattle.srt_group_model.specs.Tools.{if_then_else_, if-some_give_otherwise_, or-else, flagged, first-given, at-place}
-use Rattle.srt_group_model.specs.laws.Reason.{if-elim, and-left}
+use Rattle.srt_group_model.specs.laws.Reason.{if-elim, and-left, and-right}
 use Rattle.srt_group_model.specs.State.{Member}
 use Rattle.srt_group_model.specs.Legs.{peer-initial-sequence}
 use Rattle.srt_group_model.specs.Members.{arrives, sequence-brought, group-brought, base-after, peer-after}
@@ -120,12 +120,12 @@ base-after-elim Q base (m ∷ ms) h g =
     either (some x) b f k = f
 
 pub peer-after-elim : (Q : ℕ → Type 0) (peer : ℕ) (ms : List Member) → Q peer
-    → ((n i : ℕ) (m : Member) → at-place i ms ≡ some m → arrives m ≡ true → Q n → Q (m .leg .link .peer)) → Q (peer-after peer ms)
+    → ((n i : ℕ) (m : Member) → at-place i ms ≡ some m → arrives m ≡ true → eqb n 0 ≡ true → Q n → Q (m .leg .link .peer)) → Q (peer-after peer ms)
 unfolding at-place
 peer-after-elim Q peer [] h g = subst Q (sym (peer-after-none peer)) h
 peer-after-elim Q peer (m ∷ ms) h g =
     subst Q (sym (peer-after-next peer m ms))
     (peer-after-elim Q (peer-after peer (m ∷ [])) ms
     (subst Q (sym (peer-after-one peer m))
-    (if-elim Q _ _ _ (λ e. g peer 0 m refl (and-left (arrives m) _ e) h) (λ e. h)))
-    (λ n i x at a k. g n (suc i) x at a k))
+    (if-elim Q _ _ _ (λ e. g peer 0 m refl (and-left (arrives m) _ e) (and-right (arrives m) _ e) h) (λ e. h)))
+    (λ n i x at a unbound k. g n (suc i) x at a unbound k))

@@ -86,8 +86,8 @@ pub record Refresh-law (P : Option ℕ → State → List Mark → Type 0) : Typ
   -- a member's label or leg moves
   pub moves : {hand : Option ℕ} {log : List Mark} (s : State) (i : ℕ) (m : Member) (f : Member → Member) → at-place i (s .members) ≡ some m
       → Member-move s m (f m) → P hand s log → P hand (with-members (change i f (s .members)) s) log
-  -- the group is bound to the peer that a member answers from
-  pub binds : {hand : Option ℕ} {log : List Mark} (s : State) (i : ℕ) (m : Member) → at-place i (s .members) ≡ some m → arrives m ≡ true
+  -- the group, bound to none, is bound to the peer that a member answers from
+  pub binds : {hand : Option ℕ} {log : List Mark} (s : State) (i : ℕ) (m : Member) → at-place i (s .members) ≡ some m → arrives m ≡ true → eqb (s .peer) 0 ≡ true
       → P hand s log → P hand (with-peer (m .leg .link .peer) s) log
   -- the base is set, once
   pub sets-base : {hand : Option ℕ} {log : List Mark} (s : State) (b : ℕ) → next-receive-sequence (s .receive) ≡ none → Base-source s b

@@ -8,16 +8,18 @@ use Prim.Native.Nat.{ℕ, _-_, _^_}
 use lib.Dec.{eqb}
 use lib.ListN.{length}
 use Rattle.srt_protocol.specs.Sequence.{sequence-before}
-use Rattle.srt_group_model.specs.Tools.{if-some_give_otherwise_, bit, at-place, All}
+use Rattle.srt_group_model.specs.Tools.{if-some_give_otherwise_, bit, at-place, each, All}
 use borrow.Author.Tests.{eqb-true}
 use Rattle.srt_group_model.specs.laws.Reason.{and-left, and-right, not-both}
-use Rattle.srt_group_model.specs.State.{Member, State, with-members, with-send, active-state, standby-state}
+use Rattle.srt_group_model.specs.State.{Member, State, with-receive, with-members, with-send, on-leg, on-account, active-state, standby-state}
 use Rattle.srt_group_model.specs.Accounts.{no-packets}
-use Rattle.srt_group_model.specs.laws.State.{backup-mode, ordinary}
-use Rattle.srt_group_model.specs.Legs.{moment}
+use Rattle.srt_group_model.specs.laws.State.{broadcast-mode, backup-mode, ordinary}
+use Rattle.srt_group_model.specs.Legs.{moment, with-reservation}
 use Rattle.srt_group_model.specs.Members.{id-of, promotion}
 use Rattle.srt_group_model.specs.Nearest.{nearest}
-use Rattle.srt_group_model.specs.Delivery.{pass-run}
+use Rattle.srt_group_model.specs.Run.{start}
+use Rattle.srt_group_model.specs.Delivery.{deliver-packet}
+use Rattle.srt_group_model.specs.Polls.{deliver-next}
 use Rattle.srt_group_model.specs.Backup.{stability-timeout, demote-stale-backup-carrier, take-over-backup-flight}
 use Rattle.srt_group_model.specs.Calls.{new}
 use Rattle.srt_group_model.specs.laws.Computed.{definitions}
@@ -69,6 +71,21 @@ unfoldable pub promoted-id : List Member → ℕ
 promoted-id ms =
     if-some promotion ms give (λ i. if-some at-place i ms give (λ m. id-of m) otherwise 0) otherwise 0
 
+-- a group of these members with a base that holds these packets
+unfoldable pub holding : (base : ℕ) → List Packet → List Member → State
+holding base ps ms =
+    with-members ms
+    (with-receive record { numbers = record { based = 1; base = base; skipped = 0 }; pending = ps } (new (ordinary broadcast-mode 0)))
+
+-- member 1, with so much reserved by it and on its leg
+unfoldable pub reserving : (count : ℕ) → Member
+reserving count = on-account (λ x. record { reserved = count }) (on-leg (with-reservation count) (joined 1 0 active-state (leg 0 8 0 0)))
+
+-- what the members and their legs have reserved
+unfoldable pub reserved-by : List Member → List ℕ
+reserved-by [] = []
+reserved-by (m ∷ ms) = m .membership .account .reserved ∷ m .leg .receiver .reserved ∷ reserved-by ms
+
 -- the state of the carrier after a look at its silence, with a connected standby beside it
 unfoldable pub carrier-after : (time srtt rttvar : ℕ) → ℕ
 carrier-after time srtt rttvar =
@@ -108,17 +125,22 @@ table =
     ∷ record { value = bit (sequence-before 0 (2 ^ 30)) ∷ bit (sequence-before (2 ^ 30) 0) ∷ []; should = 0 ∷ 0 ∷ [] }
     -- P4: 2^31 - 1 is before 0
     ∷ record { value = bit (sequence-before (2 ^ 31 - 1) 0) ∷ []; should = 1 ∷ [] }
-    -- P5: the nearest of 2^31 - 2 and 1
-    ∷ record { value = sequence-or-0 (nearest (held 1 1 ∷ held (2 ^ 31 - 2) 1 ∷ [])) ∷ []; should = (2 ^ 31 - 2) ∷ [] }
-    -- P6: a run at 2^31 - 1 of count 2: the base is 1, and the held 0 vanishes
-    ∷ (let passed =
-    pass-run (2 ^ 31 - 1) (held (2 ^ 31 - 1) 2)
+    -- P5: from the base 2^31 - 3 the nearest of 2^31 - 2 and 1 is 2^31 - 2: with no members the gap of one is given up and it is delivered
+    ∷ (let packets = held 1 1 ∷ held (2 ^ 31 - 2) 1 ∷ [] in
+    let polled = deliver-next 0 (start (holding (2 ^ 31 - 3) packets [])) .run .state .receive in
     record {
-      numbers = record { based = 1; base = 2 ^ 31 - 1; skipped = 0 };
-      pending = held 0 1 ∷ held (2 ^ 31 - 1) 2 ∷ [];
-    }
-    in
-    record { value = passed .numbers .base ∷ length (passed .pending) ∷ []; should = 1 ∷ 0 ∷ [] })
+      value =
+          sequence-or-0 (nearest packets) ∷ polled .numbers .skipped ∷ polled .numbers .base
+          ∷ each (λ p. p .content .sequence) (polled .pending);
+      should = (2 ^ 31 - 2) ∷ 1 ∷ (2 ^ 31 - 1) ∷ 1 ∷ [];
+    })
+    -- P6: a run at 2^31 - 1 of count 2: the base is 1, the held 0 vanishes, and what both had reserved, 2 and 1, is released
+    ∷ (let run = held (2 ^ 31 - 1) 2 in
+    let passed = deliver-packet (2 ^ 31 - 1) run (holding (2 ^ 31 - 1) (held 0 1 ∷ run ∷ []) (reserving 3 ∷ [])) in
+    record {
+      value = passed .receive .numbers .base ∷ length (passed .receive .pending) ∷ reserved-by (passed .members);
+      should = 1 ∷ 0 ∷ 0 ∷ 0 ∷ [];
+    })
     -- P7: of Standby (id 4, weight 10), (2, 10), (9, 5) leg 2 is promoted
     ∷ record {
       value =
@@ -159,7 +181,7 @@ all-hold [] = true
 all-hold (c ∷ cs) = same (c .value) (c .should) && all-hold cs
 
 table-holds : all-hold table ≡ true
-unfolding definitions table all-hold same held sequence-or-0 leg joined promoted-id carrier-after entry taking-over
+unfolding definitions table all-hold same held sequence-or-0 leg joined promoted-id holding reserving reserved-by carrier-after entry taking-over
 table-holds = refl
 
 same-is-equal : (ms ns : List ℕ) → same ms ns ≡ true → ms ≡ ns

@@ -62,7 +62,7 @@ unfolding used-cells
 keeps-refresh s =
     record {
       moves = λ t i m f at move h. record { cells = λ n. omega (arith, h .cells n, relabelled-keeps t _ (moved-relabelled i m f (t .members) at move) .cells n) };
-      binds = λ t i m at a h. record { cells = h .cells };
+      binds = λ t i m at a unbound h. record { cells = h .cells };
       sets-base = λ t b e source h. record { cells = h .cells };
     }
 

@@ -85,7 +85,7 @@ waiting-refreshes : Refresh-law (λ hand s log. Few s)
 waiting-refreshes =
     record {
       moves = λ s i m f at move h. h;
-      binds = λ s i m at a h. h;
+      binds = λ s i m at a unbound h. h;
       sets-base = λ s b e source h. h;
     }
 

@@ -247,7 +247,7 @@ module _ (P : Option ℕ → State → List Mark → Type 0) (law : Refresh-law 
   binds-all : (hand : Option ℕ) (log : List Mark) (s : State) → P hand s log → P hand (with-peer (peer-after (s .peer) (s .members)) s) log
   binds-all hand log s h =
       peer-after-elim (λ (n : ℕ). P hand (with-peer n s) log) (s .peer) (s .members) h
-      (λ n i m at a k. law .binds (with-peer n s) i m at a k)
+      (λ n i m at a unbound k. law .binds (with-peer n s) i m at a unbound k)
 
   admits : (hand : Option ℕ) (log : List Mark) (s : State) → P hand s log
       → P hand (with-peer (peer-after (s .peer) (s .members)) (with-members (each (admit-peer-group (peer-after (s .peer) (s .members))) (s .members)) s)) log
@@ -609,9 +609,9 @@ module _ (c : Calling) (P : Option ℕ → State → List Mark → Type 0) (law 
     binds-one : P none t log → P none (with-peer (peer-after (t .peer) (m ∷ [])) t) log
     binds-one h =
         peer-after-elim (λ (n : ℕ). P none (with-peer n t) log) (t .peer) (m ∷ []) h
-        (λ n k x there a q.
+        (λ n k x there a unbound q.
         let same = one-place m x k there in
-        subst (λ (y : Member). P none (with-peer (y .leg .link .peer) t) log) same (law .refreshing .binds (with-peer n t) i m at (ap arrives same ∙ a) q))
+        subst (λ (y : Member). P none (with-peer (y .leg .link .peer) t) log) same (law .refreshing .binds (with-peer n t) i m at (ap arrives same ∙ a) unbound q))
 
     one-source : (b : ℕ) → base-after none (m ∷ []) ≡ some b → Base-source t b
     one-source b =
@@ -742,7 +742,7 @@ module _ (P Q : Option ℕ → State → List Mark → Type 0) where
   both-refresh a b =
       record {
         moves = λ s i m f at move h. (a .moves s i m f at move (h .0), b .moves s i m f at move (h .1));
-        binds = λ s i m at e h. (a .binds s i m at e (h .0), b .binds s i m at e (h .1));
+        binds = λ s i m at e unbound h. (a .binds s i m at e unbound (h .0), b .binds s i m at e unbound (h .1));
         sets-base = λ s n e source h. (a .sets-base s n e source (h .0), b .sets-base s n e source (h .1));
       }
 

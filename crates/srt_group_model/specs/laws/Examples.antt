@@ -200,6 +200,16 @@ collision-sets-base : Agrees
 unfolding definitions
 collision-sets-base = refl
 
+-- Leg 8 collides and stays connected: the gap before 101 is not given up, since leg 7, disconnected by then, has latency 0. Once 8 is
+-- disconnected too, it is.
+collision-leg-disconnected : Agrees
+    ((new 1073741825 0 gives done) ∷ (add 7 0 0 50 100 8 0 gives done) ∷ (add 8 0 0 50 4294967295 8 0 gives done)
+    ∷ (read 7 10 5 gives done) ∷ (read 8 10 6 gives done) ∷ (read 7 1 1 gives done) ∷ (read 8 1 1 gives done)
+    ∷ (packet-in 7 101 1 0 65 gives done) ∷ (poll 0 gives no-packet 0) ∷ (read 7 1 2 gives done) ∷ (poll 0 gives no-packet 0)
+    ∷ (read 8 1 2 gives done) ∷ (poll 0 gives packet 7 101 1 1) ∷ [])
+unfolding definitions
+collision-leg-disconnected = refl
+
 -- Promotion by weight: leg 2, the only one that can take the payload.
 promotion-by-weight : Agrees
     ((new 1073741825 1 gives done) ∷ (add 1 0 1 50 100 8 500 gives done) ∷ (add 4 5 1 50 100 8 500 gives done)

@@ -18,7 +18,7 @@ pub given-refreshes : (making : Making) → Refresh-law (Given making)
 given-refreshes making =
     record {
       moves = λ s i m f at move h. h;
-      binds = λ s i m at a h. h;
+      binds = λ s i m at a unbound h. h;
       sets-base = λ s b e source h. h;
     }
 

@@ -171,7 +171,7 @@ module _ (P : Option ℕ → State → List Mark → Type 0)
   fewer-refreshes =
       record {
         moves = λ s i m f at move. fewer _ _ _ s _ (λ n. omega (arith, ap (occurs n) (relabelled-cells (s .members) _ (moved-relabelled i m f (s .members) at move))));
-        binds = λ s i m at a. fewer _ _ _ s _ (λ n. omega arith);
+        binds = λ s i m at a unbound. fewer _ _ _ s _ (λ n. omega arith);
         sets-base = λ s b e source. fewer _ _ _ s _ (λ n. omega arith);
       }
 

@@ -182,7 +182,7 @@ base-after-fit o ms b h = base-after-elim Option-fit o ms b (λ i m at a. first-
 
 pub peer-after-fit : (peer : ℕ) (ms : List Member) → peer ≤ largest-32 → All-fit ms → peer-after peer ms ≤ largest-32
 peer-after-fit peer ms b h =
-    peer-after-elim (λ (n : ℕ). n ≤ largest-32) peer ms b (λ n i m at a k. fit-at i m ms at h .leg .peer)
+    peer-after-elim (λ (n : ℕ). n ≤ largest-32) peer ms b (λ n i m at a unbound k. fit-at i m ms at h .leg .peer)
 
 pub admitted-fit : (m : Member) → Member-fit m → Member-fit (on-membership with-admitted m)
 admitted-fit m h =

@@ -356,7 +356,7 @@ fit-refreshes : Refresh-law (λ hand s log. Fit s)
 fit-refreshes =
     record {
       moves = λ s i m f at move h. changes-fit s i m f at (move-fit s m (f m) move h) h;
-      binds = λ s i m at a h. peer-fit _ s (all-at Member-fit i m (s .members) at (h .members) .leg .peer) h;
+      binds = λ s i m at a unbound h. peer-fit _ s (all-at Member-fit i m (s .members) at (h .members) .leg .peer) h;
       sets-base = λ s b e source h. receive-fit _ s (h .pending) (based-fit (base-fit s b source h)) h;
     }
 

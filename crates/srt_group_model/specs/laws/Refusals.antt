@@ -1,19 +1,22 @@
 -- Laws of refusals: after 1 to 6, 20, 21 and 30 to 32 everything is as it was, and no refusal at all writes the output or the
 -- store. Document 01, "Codes from the input" and "No code writes to the output".
 use mathlib.Core.Path.{_≡_, refl, sym, ap, subst, _∙_}
-use mathlib.Core.Bool.{Bool, true, false}
+use mathlib.Core.Bool.{Bool, true, false, not}
 use mathlib.Core.List.{List, [], _∷_}
 use mathlib.Core.Option.{Option, none}
 use Prim.Native.Nat.{ℕ}
+use borrow.Author.Tests.{eqb-true, not-true}
 use lib.Dec.{eqb}
 use lib.ListN.{length}
 use Rattle.srt_protocol.specs.Cells.{overwritten}
-use Rattle.srt_group_model.specs.Tools.{if_then_else_, any, All}
-use Rattle.srt_group_model.specs.laws.Reason.{if-elim, if-some-elim, not-both}
-use Rattle.srt_group_model.specs.State.{State, Member}
+use Rattle.srt_group_model.specs.Tools.{if_then_else_, any, all, All}
+use Rattle.srt_group_model.specs.laws.Reason.{if-elim, if-true, if-false, if-some-elim, not-both, and-left, and-right, or-cases}
+use Rattle.srt_group_model.specs.State.{State, Member, is-backup}
 use Rattle.srt_group_model.specs.Run.{Run}
 use Rattle.srt_group_model.specs.Sending.{Flow, _and-then_, send-broadcast}
 use Rattle.srt_group_model.specs.Backup.{replay-on, replay-flight, align-carrier, take-over-backup-flight, send-own, send-after-promotion, send-at-place, send-backup}
+use Rattle.srt_group_model.specs.Cells.{is-among}
+use Rattle.srt_group_model.specs.Codes.{broadcast-codes, backup-codes}
 use Rattle.srt_group_model.specs.Guards.{Answer, no-answer, Put, Step, refuse, accept, Check, guard}
 use Rattle.srt_group_model.specs.Calls.{add-body, add-member, mark-member-broken, remove-body, remove-member-connection, refresh-member-states, disconnect, event-poll-body, poll-event-call, data-poll-body, poll-data-call, left-by-send, send-flow, send-body, send, can-send-body, can-send-call, can-send-with-pacing-body, can-send-with-pacing-call, read-leg, queue-data-body, queue-data, queue-event}
 use Rattle.srt_group_model.specs.declared.Leg.{Leg}
@@ -82,17 +85,29 @@ guard-ends cs s body = guard-elim (Ends s) cs s body (λ code. untouched code re
 
 -- ---- the codes that a send ends with midway
 
-abbrev Midway : Flow → Type 0
-Midway f = changes-nothing (f .code) ≡ false
+-- what is true of each of some numbers is true of one that is among them
+pub among-passes : (test : ℕ → Bool) (ns : List ℕ) → all test ns ≡ true → (n : ℕ) → is-among n ns ≡ true → test n ≡ true
+unfolding any all
+among-passes test [] h n e = not-both e refl
+among-passes test (k ∷ ks) h n e =
+    or-cases (eqb k n) (is-among n ks) e (λ g. sym (ap test (eqb-true k n g)) ∙ and-left (test k) _ h)
+    (λ g. among-passes test ks (and-right (test k) _ h) n g)
+
+-- a send under way, or one that has ended with one of these codes
+abbrev pub Gives : List ℕ → Flow → Type 0
+Gives codes f = is-among (f .code) (0 ∷ codes) ≡ true
+
+abbrev pub Midway : Flow → Type 0
+Midway = Gives backup-codes
 
 replay-on-ends : (time i : ℕ) (m : Member) (l : Leg) (s : State) → Midway (replay-on time i m l s)
-unfolding replay-on changes-nothing any
+unfolding replay-on any
 replay-on-ends time i m l s =
     if-elim Midway _ _ _ (λ e. refl)
-    (λ e. if-elim (λ (n : ℕ). changes-nothing n ≡ false) _ 0 28 (λ h. refl) (λ h. refl))
+    (λ e. if-elim (λ (n : ℕ). is-among n (0 ∷ backup-codes) ≡ true) _ 0 28 (λ h. refl) (λ h. refl))
 
 replay-flight-ends : (time i : ℕ) (m : Member) (e : Entry) (s : State) → Midway (replay-flight time i m e s)
-unfolding replay-flight changes-nothing any
+unfolding replay-flight any
 replay-flight-ends time i m e s =
     if-elim Midway _ _ _ (λ h. refl)
     (λ h.
@@ -100,12 +115,12 @@ replay-flight-ends time i m e s =
     (λ k. if-some-elim Midway _ _ _ (λ l g. replay-on-ends time i m l s) (λ g. refl)))
 
 align-carrier-ends : (i : ℕ) (s : State) → Midway (align-carrier i s)
-unfolding align-carrier changes-nothing any
+unfolding align-carrier any
 align-carrier-ends i s =
     if-elim Midway _ _ _ (λ h. if-some-elim Midway _ _ _ (λ ms g. refl) (λ g. refl)) (λ h. refl)
 
 take-over-ends : (time i : ℕ) (s : State) → Midway (take-over-backup-flight time i s)
-unfolding take-over-backup-flight changes-nothing any
+unfolding take-over-backup-flight any
 take-over-ends time i s =
     if-some-elim Midway _ _ _
     (λ m g.
@@ -120,12 +135,12 @@ and-then-ends x f h k = if-elim Midway _ _ _ (λ e. k (x .state)) (λ e. h)
 
 send-own-ends : (time size cell sequence i : ℕ) (failed : Member → State → Flow) (s : State)
     → ((m : Member) (t : State) → Midway (failed m t)) → Midway (send-own time size cell sequence i failed s)
-unfolding send-own changes-nothing any
+unfolding send-own any
 send-own-ends time size cell sequence i failed s h =
     if-some-elim Midway _ _ _ (λ m g. if-some-elim Midway _ _ _ (λ l k. refl) (λ k. h m s)) (λ g. refl)
 
 send-after-promotion-ends : (time size cell sequence i : ℕ) (m : Member) (s : State) → Midway (send-after-promotion time size cell sequence i m s)
-unfolding send-after-promotion changes-nothing any
+unfolding send-after-promotion any
 send-after-promotion-ends time size cell sequence i m s =
     if-some-elim Midway _ _ _
     (λ j g.
@@ -134,7 +149,7 @@ send-after-promotion-ends time size cell sequence i m s =
     (λ g. refl)
 
 send-at-place-ends : (time size cell i : ℕ) (s : State) → Midway (send-at-place time size cell i s)
-unfolding send-at-place changes-nothing any
+unfolding send-at-place any
 send-at-place-ends time size cell i s =
     if-some-elim Midway _ _ _
     (λ m g.
@@ -142,42 +157,57 @@ send-at-place-ends time size cell i s =
     (λ h. send-own-ends time size cell _ i _ s (λ k u. send-after-promotion-ends time size cell _ i k u)))
     (λ g. refl)
 
-send-backup-ends : (time size cell : ℕ) (s : State) → Midway (send-backup time size cell s)
-unfolding send-backup changes-nothing any
+pub send-backup-ends : (time size cell : ℕ) (s : State) → Midway (send-backup time size cell s)
+unfolding send-backup any
 send-backup-ends time size cell s =
     if-some-elim Midway _ _ _
     (λ i g. and-then-ends (take-over-backup-flight time i _) _ (take-over-ends time i _) (send-at-place-ends time size cell i))
     (λ g. refl)
 
-send-broadcast-ends : (time size : ℕ) (s : State) → Midway (send-broadcast time size s)
-unfolding send-broadcast changes-nothing any
+pub send-broadcast-ends : (time size : ℕ) (s : State) → Gives broadcast-codes (send-broadcast time size s)
+unfolding send-broadcast any
 send-broadcast-ends time size s =
-    if-elim Midway _ _ _ (λ h. refl)
-    (λ h. if-elim Midway _ _ _ (λ k. refl) (λ k. if-elim Midway _ _ _ (λ g. refl) (λ g. refl)))
+    if-elim (Gives broadcast-codes) _ _ _ (λ h. refl)
+    (λ h. if-elim (Gives broadcast-codes) _ _ _ (λ k. refl) (λ k. if-elim (Gives broadcast-codes) _ _ _ (λ g. refl) (λ g. refl)))
 
 -- ---- the bodies
 
-left-by-send-ends : (cell : ℕ) (payload : List ℕ) (r : Run) (f : Flow) (s : State) → Midway f → Ends s (left-by-send cell payload r f)
-unfolding left-by-send
-left-by-send-ends cell payload r f s h = if-elim (Ends s) _ _ _ (λ e. accepted refl) (λ e. midway h refl refl)
+abbrev send-codes : ℕ → List ℕ
+send-codes mode = 23 ∷ (if is-backup mode then backup-codes else broadcast-codes)
 
-flow-ends : (cell time : ℕ) (payload : List ℕ) (s : State) (r : Run) → Midway (send-flow cell time payload s r)
-unfolding send-flow changes-nothing any
-flow-ends cell time payload s r =
-    if-elim Midway _ _ _ (λ e. refl)
+flow-gives : (cell time : ℕ) (payload : List ℕ) (s : State) (r : Run) → Gives (send-codes (s .making .mode)) (send-flow cell time payload s r)
+unfolding send-flow any all
+flow-gives cell time payload s r =
+    if-elim (Gives (send-codes (s .making .mode))) _ _ _ (λ e. refl)
     (λ e.
-    if-elim Midway _ _ _ (λ b. send-backup-ends time (length payload) cell _)
-    (λ b. send-broadcast-ends time (length payload) _))
+    if-elim (Gives (send-codes (s .making .mode))) _ _ _
+    (λ b.
+    subst (λ (codes : List ℕ). Gives (23 ∷ codes) (send-backup time (length payload) cell (r .state))) (sym (if-true (is-backup (s .making .mode)) backup-codes broadcast-codes b))
+    (among-passes (λ n. is-among n (0 ∷ 23 ∷ backup-codes)) (0 ∷ backup-codes) refl (send-backup time (length payload) cell (r .state) .code) (send-backup-ends time (length payload) cell (r .state))))
+    (λ b.
+    subst (λ (codes : List ℕ). Gives (23 ∷ codes) (send-broadcast time (length payload) (r .state))) (sym (if-false (is-backup (s .making .mode)) backup-codes broadcast-codes b))
+    (among-passes (λ n. is-among n (0 ∷ 23 ∷ broadcast-codes)) (0 ∷ broadcast-codes) refl (send-broadcast time (length payload) (r .state) .code) (send-broadcast-ends time (length payload) (r .state)))))
+
+-- a send's body ends with 0 or with a code of its mode
+pub send-body-gives : (cell time : ℕ) (payload : List ℕ) (s : State) → is-among (send-body cell time payload s .code) (0 ∷ send-codes (s .making .mode)) ≡ true
+unfolding send-body left-by-send any
+send-body-gives cell time payload s =
+    if-elim (λ (x : Step). is-among (x .code) (0 ∷ send-codes (s .making .mode)) ≡ true) _ _ _ (λ e. refl) (λ e. flow-gives cell time payload s _)
+
+-- none of them is a code after which nothing has changed
+pub send-body-midway : (cell time : ℕ) (payload : List ℕ) (s : State) → changes-nothing (send-body cell time payload s .code) ≡ false
+unfolding changes-nothing any all
+send-body-midway cell time payload s =
+    not-true _
+    (among-passes (λ n. not (changes-nothing n)) (0 ∷ send-codes (s .making .mode))
+    (if-elim (λ (ns : List ℕ). all (λ n. not (changes-nothing n)) ns ≡ true) (is-backup (s .making .mode)) backup-codes broadcast-codes (λ b. refl) (λ b. refl))
+    (send-body cell time payload s .code) (send-body-gives cell time payload s))
 
 send-body-ends : (cell time : ℕ) (payload : List ℕ) (s : State) → Ends s (send-body cell time payload s)
-unfolding send-body
-send-body-ends cell time payload s = left-by-send-ends cell payload _ _ s (flow-ends cell time payload s _)
-
--- a send's body gives no code after which nothing has changed
-pub send-body-midway : (cell time : ℕ) (payload : List ℕ) (s : State) → changes-nothing (send-body cell time payload s .code) ≡ false
-unfolding send-body left-by-send changes-nothing any
-send-body-midway cell time payload s =
-    if-elim (λ (x : Step). changes-nothing (x .code) ≡ false) _ _ _ (λ e. refl) (λ e. flow-ends cell time payload s _)
+unfolding send-body left-by-send
+send-body-ends cell time payload s =
+    if-elim (λ (x : Step). changes-nothing (x .code) ≡ false → Ends s x) _ _ _ (λ e h. accepted refl) (λ e h. midway h refl refl)
+    (send-body-midway cell time payload s)
 
 add-body-ends : (id weight : ℕ) (l : Leg) (s : State) → Ends s (add-body id weight l s)
 unfolding add-body changes-nothing any

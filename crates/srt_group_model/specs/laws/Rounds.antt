@@ -57,7 +57,7 @@ round-refreshes : Refresh-law (λ hand s log. In-round s)
 round-refreshes =
     record {
       moves = λ s i m f at move h. moved refl (change-length i f (s .members)) h;
-      binds = λ s i m at a h. h;
+      binds = λ s i m at a unbound h. h;
       sets-base = λ s b e source h. h;
     }
 

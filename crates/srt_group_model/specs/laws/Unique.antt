@@ -131,7 +131,7 @@ names-refreshes : Refresh-law (λ hand s log. Named s)
 names-refreshes =
     record {
       moves = λ s i m f at move h. named-same s _ (relabelled-ids (s .members) _ (moved-relabelled i m f (s .members) at move)) h;
-      binds = λ s i m at a h. named-same s _ refl h;
+      binds = λ s i m at a unbound h. named-same s _ refl h;
       sets-base = λ s b e source h. named-same s _ refl h;
     }
 

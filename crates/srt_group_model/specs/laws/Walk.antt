@@ -30,7 +30,7 @@ module _ (I : Receive → List Mark → Type 0) (law : Law I) where
   receive-refreshes =
       record {
         moves = λ s i m f at move h. h;
-        binds = λ s i m at a h. h;
+        binds = λ s i m at a unbound h. h;
         sets-base = λ s b e source h. law .sets-base (s .receive) _ b e h;
       }
 
@@ -89,7 +89,7 @@ module _ (J : List Member → List Mark → Type 0) (law : Queue-law J) where
   queue-refreshes =
       record {
         moves = λ s i m f at move h. law .relabels (s .members) _ _ (moved-relabelled i m f (s .members) at move) h;
-        binds = λ s i m at a h. h;
+        binds = λ s i m at a unbound h. h;
         sets-base = λ s b e source h. law .marks (s .members) _ _ refl h;
       }
 

@@ -122,7 +122,7 @@ module _ (k : Calling) (Q : List Mark → ℕ → Data → Type 0) (X : List Mar
     live-refreshes =
         record {
           moves = λ {hand} {log} s i m f at move h. (h .0, (relabelled (Q log) (s .members) _ (moved-relabelled i m f (s .members) at move) (h .1 .0), h .1 .1), h .2);
-          binds = λ s i m at a h. h;
+          binds = λ s i m at a unbound h. h;
           sets-base = λ s b e source h. (h .0, again _ (base-set b) s tt (h .1), law .marks _ (base-set b) tt (h .2));
         }
 

@@ -23,7 +23,7 @@ pub only-refreshes : (Puts Delivers : Type 0) → Refresh-law (λ hand s m. All 
 only-refreshes Puts Delivers =
     record {
       moves = λ s i m f at move h. h;
-      binds = λ s i m at a h. h;
+      binds = λ s i m at a unbound h. h;
       sets-base = λ s b e source h. (tt, h);
     }
 

@@ -111,7 +111,7 @@ module _ (P : Data → Type 0) (F : ℕ → Type 0) (I : Receive → List Mark �
     receiving-refreshes =
         record {
           moves = λ s i m f at move h. (subst (All (SideOk P F)) (sym (moved-sides i m f (s .members) at (account-side m (f m) (moved-account move)))) (h .0), h .1);
-          binds = λ s i m at a h. h;
+          binds = λ s i m at a unbound h. h;
           sets-base = λ s b e source h. (h .0, sets-base-ok s _ b e source (h .0) (h .1));
         }
 

@@ -116,3 +116,18 @@ pub no-visit :
     ≡ (0 ∷ 0 ∷ 0 ∷ 0 ∷ 1 ∷ []) ∷ (0 ∷ 0 ∷ 0 ∷ 0 ∷ 1 ∷ []) ∷ (0 ∷ 0 ∷ 0 ∷ 0 ∷ 1 ∷ []) ∷ (0 ∷ 0 ∷ 1 ∷ 0 ∷ 2 ∷ []) ∷ []
 unfolding definitions row rows group store output sends do-call
 no-visit = refl
+
+-- A packet that a leg brought can be passed over. Both receive windows are read as 0; 101 is collected from leg 8 and held, and retired when
+-- leg 8 is removed. The gap before 102 is then given up: one packet was never there, the other was retired, and the total says 2.
+pub retired-is-passed-over :
+    rows
+    (plain (call-add-member 7 0 (leg 1 100 500) []) ∷ plain (call-add-member 8 0 (leg 1 no-sequence 500) [])
+    ∷ plain (call-read-leg 7 3 0) ∷ plain (call-read-leg 8 3 0)
+    ∷ over (call-queue-data 8 (content 101 1 1000) (65 ∷ [])) ∷ over (call-poll-data 1000) ∷ plain (call-remove-member-connection 8)
+    ∷ over (call-queue-data 7 (content 102 1 1000) (66 ∷ [])) ∷ over (call-poll-data 1500) ∷ [])
+    (made group)
+    ≡ (0 ∷ 0 ∷ 0 ∷ 0 ∷ 101 ∷ []) ∷ (0 ∷ 0 ∷ 0 ∷ 0 ∷ 101 ∷ []) ∷ (0 ∷ 0 ∷ 0 ∷ 0 ∷ 101 ∷ []) ∷ (0 ∷ 0 ∷ 0 ∷ 0 ∷ 101 ∷ [])
+    ∷ (0 ∷ 0 ∷ 0 ∷ 0 ∷ 101 ∷ []) ∷ (0 ∷ 0 ∷ 0 ∷ 0 ∷ 101 ∷ []) ∷ (0 ∷ 0 ∷ 0 ∷ 0 ∷ 101 ∷ [])
+    ∷ (0 ∷ 0 ∷ 0 ∷ 0 ∷ 101 ∷ []) ∷ (0 ∷ 102 ∷ 1 ∷ 2 ∷ 104 ∷ []) ∷ []
+unfolding definitions row rows group store output sends do-call
+retired-is-passed-over = refl

@@ -21,9 +21,9 @@ use Rattle.srt_group_model.specs.Calls.{left-by-send, send-flow, send-body, sen
 use Rattle.srt_group_model.specs.laws.Reason.{if-elim, if-some-elim, not-both, all-append, none-of, each-to-map, of-none}
 use Rattle.srt_group_model.specs.laws.Refusals.{guard-elim}
 use Rattle.srt_group_model.specs.laws.MemberMoves.{Same-account, account-relabelled}
-use Rattle.srt_group_model.specs.laws.SendLeaves.{Leaves-receiving, send-leaves-receiving}
+use Rattle.srt_group_model.specs.laws.SendLeaves.{send-leaves-receiving}
 use Rattle.srt_group_model.specs.laws.Queues.{Relabelled}
-use Rattle.srt_group_model.specs.Lent.{Lent, step-of, with-bytes, perform}
+use Rattle.srt_group_model.specs.Lent.{Lent}
 use lib.ListN.{length}
 use Rattle.srt_group_model.specs.laws.CellsKept.{relabelled-cells}
 use Rattle.srt_group_model.specs.declared.Leg.{Leg}
@@ -218,7 +218,7 @@ module _ (c : ℕ) where
       → StaysInside (send (length (lent .store)) (length (lent .list)) time payload s)
   failed-send-stays-inside lent time payload s h e =
       let step = send (length (lent .store)) (length (lent .list)) time payload s in
-      let left : Leaves-receiving s (step .state) = unfold perform with-bytes step-of in (send-leaves-receiving time payload lent s) in
+      let left = send-leaves-receiving (length (lent .store)) (length (lent .list)) time payload s in
       inside-of s (step .state)
       (relabelled-cells (s .members) (step .state .members) (each-to-map Same-account Relabelled account-relabelled (s .members) (step .state .members) (left .members)))
       (left .pending) (λ k. history-inside (length (lent .store)) (length (lent .list)) time payload s k step refl e) h
