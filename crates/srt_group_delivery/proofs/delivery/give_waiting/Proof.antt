@@ -21,7 +21,7 @@ same-length : tie.Need-same-length
 same-length c = search needs
 
 returns-2 : tie.Need-returns-2
-returns-2 c = λ ms ps. first-waits _ ms ps _ _ (omega arith) (c .before .before .before .before .before .waiting-event .ensures) (c .before .before .before .pop-front .ensures)
+returns-2 c = λ ms ps. search first-waits
 
 pub give-waiting-spec : {M : Type 1} → statement M
 give-waiting-spec =
