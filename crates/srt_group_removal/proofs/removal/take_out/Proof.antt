@@ -32,7 +32,7 @@ same-length-2 : tie.Need-same-length-2
 same-length-2 c = search needs
 
 returns : tie.Need-returns
-returns c = taken-all _ _ _ _ _ _ (c .before .before .before .before .before .before .before .before .before .before .before .before .before .before .before .before .before .pre .there) (c .before .before .before .before .before .before .before .before .before .before .before .before .before .membership-at .ensures) (c .before .before .before .before .before .before .before .before .before .before .before .own-packets .ensures) (c .before .before .before .before .before .before .before .remove-member .ensures) refl (c .before .before .before .before .lowered .ensures) refl
+returns c = search taken-all
 
 pub take-out-spec : {M : Type 1} → statement M
 take-out-spec =

@@ -21,7 +21,7 @@ same-length : tie.Need-same-length
 same-length c = search needs
 
 returns : tie.Need-returns
-returns c = retired-one _ _ _ (c .before .before .before .before .before .before .before .before .before .pre .0) (c .before .before .before .before .before .before .before .before .before .pre .1) _ (c .before .before .before .before .before .before .packet .ensures) refl (c .before .less .ensures) (c .before .before .before .before .remove .ensures)
+returns c = search retired-one
 
 pub retire-at-spec : {M : Type 1} → statement M
 retire-at-spec =
