@@ -2,7 +2,6 @@
 use borrow.Author.Tests.{not-true, not-false}
 use Rattle.srt_group_collecting.specs.laws.Collect.{not-broken, broken-alone, broken-promoted}
 use borrow.Author.Needs.{needs}
-use native.Mathlib.Omega.{arith}
 use Rattle.srt_group_collecting.proofs.collecting.break_member.Statement.{statement}
 use Rattle.srt_group_collecting.proofs.collecting.break_member.Tie as tie
 

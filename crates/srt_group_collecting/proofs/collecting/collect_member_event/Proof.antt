@@ -2,7 +2,6 @@
 use Rattle.srt_group_collecting.specs.laws.Visit.{collected-data, collected-other}
 use borrow.Author.Needs.{needs}
 use Rattle.srt_group_collecting.specs.laws.Used.{data-freed, event-kept}
-use Rattle.srt_group_collecting.specs.Collect.{receive-of}
 use Rattle.srt_group_collecting.proofs.collecting.collect_member_event.Statement.{statement}
 use Rattle.srt_group_collecting.proofs.collecting.collect_member_event.Tie as tie
 

@@ -1,9 +1,7 @@
 -- `collect_one_event` meets its contract.
-use mathlib.Core.Path.{sym, _∙_}
 use Rattle.srt_group_collecting.specs.laws.Turn.{in-turn-inside}
 use Rattle.srt_group_collecting.specs.laws.Visit.{collects-none, collects-one}
 use borrow.Author.Needs.{needs}
-use native.Mathlib.Omega.{arith}
 use Rattle.srt_group_collecting.specs.laws.Follows.{follows-same}
 use Rattle.srt_group_collecting.proofs.collecting.collect_one_event.Statement.{statement}
 use Rattle.srt_group_collecting.proofs.collecting.collect_one_event.Tie as tie

@@ -1,6 +1,4 @@
 -- `is_held` meets its contract: it is held if the search finds it.
-use mathlib.Core.Path.{sym, _∙_}
-use Rattle.srt_group_tables.specs.Packets.{packets}
 use Rattle.srt_group_collecting.specs.laws.Collect.{held-found, held-nowhere}
 use borrow.Author.Needs.{needs}
 use Rattle.srt_group_collecting.proofs.collecting.is_held.Statement.{statement}

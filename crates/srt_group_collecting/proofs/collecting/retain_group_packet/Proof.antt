@@ -1,9 +1,6 @@
 -- `retain_group_packet` meets its contract.
-use mathlib.Core.Path.{sym, _∙_}
-use Rattle.srt_group_collecting.specs.Collect.{receive-of}
 use Rattle.srt_group_collecting.specs.laws.Collect.{discarded, held, not-held}
 use borrow.Author.Needs.{needs}
-use native.Mathlib.Omega.{arith}
 use Rattle.srt_group_collecting.specs.laws.Used.{discarded-freed, held-kept}
 use Rattle.srt_group_collecting.proofs.collecting.retain_group_packet.Statement.{statement}
 use Rattle.srt_group_collecting.proofs.collecting.retain_group_packet.Tie as tie

@@ -1,9 +1,6 @@
 -- `take_front` meets its contract, for each answer of the leg.
-use mathlib.Core.Path.{ap, sym, _∙_}
-use Rattle.srt_group_model.specs.declared.Membership.{Membership}
 use Rattle.srt_group_collecting.specs.laws.Visit.{visits-nothing, visits-spent, visits-event, collectable}
 use borrow.Author.Needs.{needs}
-use native.Mathlib.Omega.{arith}
 use Rattle.srt_group_collecting.specs.laws.Used.{follows-nothing, follows-spent, follows-event}
 use Rattle.srt_group_collecting.proofs.collecting.take_front.Statement.{statement}
 use Rattle.srt_group_collecting.proofs.collecting.take_front.Tie as tie

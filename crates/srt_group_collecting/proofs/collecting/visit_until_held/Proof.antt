@@ -1,7 +1,6 @@
 -- `visit_until_held` meets its contract.
 use Rattle.srt_group_collecting.specs.laws.Gather.{held-waits, held-none, held-one}
 use borrow.Author.Needs.{needs}
-use native.Mathlib.Omega.{arith}
 use Rattle.srt_group_collecting.specs.laws.Follows.{follows-same}
 use Rattle.srt_group_collecting.specs.laws.Used.{follows-continued}
 use Rattle.srt_group_model.specs.laws.Flag.{zero-unset, other-set}

@@ -1,6 +1,4 @@
 -- `deliver` meets its contract: the base is not held, or its packet is delivered.
-use mathlib.Core.Path.{sym, _∙_}
-use native.Mathlib.Omega.{arith}
 use Rattle.srt_group_delivery.specs.laws.Poll.{found-in-table, base-not-held, base-delivered}
 use borrow.Author.Needs.{needs}
 use Rattle.srt_group_collecting.specs.laws.Follows.{follows-same}

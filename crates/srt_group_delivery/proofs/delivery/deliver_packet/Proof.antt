@@ -1,7 +1,4 @@
 -- `deliver_packet` meets its contract: what is released, advanced and removed are its parts.
-use mathlib.Core.Path.{ap}
-use native.Mathlib.Omega.{arith}
-use Rattle.srt_group_model.specs.declared.Core.{Core}
 use Rattle.srt_group_delivery.specs.laws.Delivery.{rows-kept, held-kept, delivered-all}
 use borrow.Author.Needs.{needs}
 use Rattle.srt_group_delivery.specs.laws.UsedByDelivery.{delivered-and-freed}

@@ -1,5 +1,4 @@
 -- `gap_given_up` meets its contract: nothing is held, all legs are gone, or the nearest packet's leg is asked.
-use native.Mathlib.Omega.{arith}
 use Rattle.srt_group_delivery.specs.laws.Delivery.{nearest-in-table, nothing-held, all-gone, left-to-the-leg}
 use borrow.Author.Needs.{needs}
 use Rattle.srt_group_delivery.proofs.delivery.gap_given_up.Statement.{statement}

@@ -1,5 +1,4 @@
 -- `give_waiting` meets its contract: none waits, or the first is given.
-use native.Mathlib.Omega.{arith}
 use Rattle.srt_group_delivery.specs.laws.Poll.{none-waits, first-waits}
 use borrow.Author.Needs.{needs}
 use Rattle.srt_group_delivery.proofs.delivery.give_waiting.Statement.{statement}

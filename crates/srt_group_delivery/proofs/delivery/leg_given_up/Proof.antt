@@ -1,5 +1,4 @@
 -- `leg_given_up` meets its contract: by the deadline, or never.
-use mathlib.Core.Path.{sym, _∙_}
 use Rattle.srt_group_delivery.specs.laws.Delivery.{given-up-from, never-given-up}
 use borrow.Author.Needs.{needs}
 use Rattle.srt_group_delivery.proofs.delivery.leg_given_up.Statement.{statement}

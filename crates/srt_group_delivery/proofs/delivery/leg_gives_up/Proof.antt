@@ -1,6 +1,4 @@
 -- `leg_gives_up` meets its contract: the member's own leg, the first, or none is asked.
-use mathlib.Core.Path.{sym, _∙_}
-use native.Mathlib.Omega.{arith}
 use Rattle.srt_group_delivery.specs.laws.Delivery.{found-has-row}
 use Rattle.srt_group_delivery.specs.laws.Delivery.{own-leg-asked, first-leg-asked, no-leg-asked}
 use borrow.Author.Needs.{needs}

@@ -1,8 +1,6 @@
 -- `release_covered` meets its contract. The loop's invariant: releasing what is left gives what releasing all gives.
-use mathlib.Core.Path.{ap}
 use Prim.Native.Nat.{_-_}
 use native.Mathlib.Omega.{arith}
-use Rattle.srt_group_model.specs.declared.Core.{Core}
 use Rattle.srt_group_model.specs.Nearest.{is-covered}
 use Rattle.srt_group_delivery.specs.laws.Delivery.{Releasing, releasing-start, releasing-on, releasing-done, rows-kept}
 use Rattle.srt_group_delivery.specs.laws.UsedByDelivery.{Freeing, freeing-start, freeing-on, freeing-done}

@@ -1,5 +1,4 @@
 -- `release_if_covered` meets its contract: the packet is covered and released, or stays.
-use native.Mathlib.Omega.{arith}
 use Rattle.srt_group_delivery.specs.laws.Delivery.{covered-released, not-covered-kept}
 use borrow.Author.Needs.{needs}
 use Rattle.srt_group_delivery.specs.laws.UsedByDelivery.{covered-freed, uncovered-kept}

@@ -1,6 +1,4 @@
 -- `release_pending_reservation` meets its contract: the group's own sum, the member's, or none.
-use mathlib.Core.Path.{sym, _∙_}
-use native.Mathlib.Omega.{arith}
 use Rattle.srt_group_delivery.specs.laws.Delivery.{found-has-row}
 use Rattle.srt_group_delivery.specs.laws.Delivery.{released-own, released-nowhere, released-member}
 use borrow.Author.Needs.{needs}

@@ -1,9 +1,7 @@
 -- `deliver_nearest` meets its contract: nothing is held, or the nearest packet sets the base, and is delivered.
-use native.Mathlib.Omega.{arith}
 use Rattle.srt_group_delivery.specs.laws.Delivery.{nearest-in-table}
 use Rattle.srt_group_skip.specs.laws.Skip.{deliverable-based, none-to-deliver, delivered-first}
 use borrow.Author.Needs.{needs}
-use mathlib.Core.List.{[]}
 use Rattle.srt_group_skip.specs.laws.SkipUsed.{follows-based}
 use Rattle.srt_group_collecting.specs.laws.Follows.{follows-same}
 use Rattle.srt_group_skip.proofs.skip.deliver_nearest.Statement.{statement}

@@ -4,7 +4,6 @@ use Rattle.srt_group_skip.specs.laws.Skip.{event-first, skipped-if-empty
 use borrow.Author.Needs.{needs}
 use Rattle.srt_group_skip.specs.laws.SkipUsed.{follows-given}
 use Rattle.srt_group_model.specs.laws.Flag.{zero-unset, other-set}
-use Rattle.srt_group_model.specs.Tools.{is-set}
 use Rattle.srt_group_skip.proofs.skip.skip_after.Statement.{statement}
 use Rattle.srt_group_skip.proofs.skip.skip_after.Tie as tie
 

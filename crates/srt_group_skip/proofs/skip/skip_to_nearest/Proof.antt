@@ -1,9 +1,7 @@
 -- `skip_to_nearest` meets its contract: nothing is held, or the base goes to the nearest packet, which is delivered.
-use native.Mathlib.Omega.{arith}
 use Rattle.srt_group_delivery.specs.laws.Delivery.{nearest-in-table}
 use Rattle.srt_group_skip.specs.laws.Skip.{deliverable-skipped, none-to-skip-to, skipped-to}
 use borrow.Author.Needs.{needs}
-use mathlib.Core.List.{[]}
 use Rattle.srt_group_skip.specs.laws.SkipUsed.{follows-skipped}
 use Rattle.srt_group_collecting.specs.laws.Follows.{follows-same}
 use Rattle.srt_group_skip.proofs.skip.skip_to_nearest.Statement.{statement}
