@@ -1,5 +1,4 @@
 -- `poll_data_bounded` meets its contract: none is allowed, or as many as are allowed.
-use native.Mathlib.Omega.{arith}
 use Rattle.srt_group_polls.specs.laws.DataPoll.{none-allowed, some-allowed}
 use borrow.Author.Needs.{needs}
 use Rattle.srt_group_collecting.specs.laws.Follows.{follows-same}

@@ -1,5 +1,5 @@
 -- `take_out` meets its contract: the held packets owned and the row removed are its parts.
-use mathlib.Core.Path.{refl, ap}
+use mathlib.Core.Path.{ap}
 use native.Mathlib.Omega.{arith}
 use Rattle.srt_group_model.specs.declared.Membership.{Membership}
 use Rattle.srt_group_removal.specs.laws.Removal.{taken-all}

@@ -1,5 +1,4 @@
 -- `bound_group_owned_pending` meets its contract. The loop's invariant: bounding from here on gives what bounding all gives (`Bounding`).
-use native.Mathlib.Omega.{arith}
 use Rattle.srt_group_tables.specs.laws.PacketLaws.{at-in-use}
 use Rattle.srt_group_removal.specs.laws.Retire.{Bounding, bounding-start, bounding-on, bounded-within, bounded-none}
 use borrow.Author.Needs.{needs}

@@ -1,6 +1,5 @@
 -- `retire_at` meets its contract: what is removed at the place is what the definition takes out by its sequence.
 use Rattle.srt_group_removal.specs.laws.Retire.{retired-one}
-use mathlib.Core.Path.{refl}
 use borrow.Author.Needs.{needs}
 use Rattle.srt_group_removal.proofs.retirement.retire_at.Statement.{statement}
 use Rattle.srt_group_removal.proofs.retirement.retire_at.Tie as tie
