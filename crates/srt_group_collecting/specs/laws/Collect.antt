@@ -25,6 +25,7 @@ use Rattle.srt_group_members.specs.Scan.{Became}
 use Rattle.srt_group_members.specs.laws.Scan.{became-changed, became-same, became-then}
 use Rattle.srt_group_tables.specs.Packets.{packets, Holds, found, place-found}
 use Rattle.srt_group_tables.specs.Waitings.{waitings, HoldsWaiting}
+use Rattle.srt_group_tables.specs.declared.pending.Found.{Found}
 use Rattle.srt_group_tables.specs.declared.pending.Found.the-variants.{At, Nothing}
 use Rattle.srt_group_shown.specs.Shown.{shown}
 use Rattle.srt_group_collecting.specs.Collect.{Retained, receive-of, broken-by, Reported}
@@ -44,9 +45,10 @@ unfolding retain-group-packet if_then_else_
 holds i p s not-discarded = rw not-discarded
 
 module _ (core : Core) (ms ps : List ℕ) (i : ℕ) (p : Packet) where
-  pub discarded : (ms′ : List ℕ) → is-discarded p (receive-of core ps) ≡ true
+  pub discarded : {answer : Bool} (ms′ : List ℕ) → answer ≡ is-discarded p (receive-of core ps) → answer ≡ true
       → Changed i (on-leg (release-data-reservation (p .content .count))) ms ms′ → Retained i p core ms ps core ms′ ps
-  discarded ms′ is changed =
+  discarded ms′ tested goes changed =
+      let is = sym tested ∙ goes in
       record {
         waiting-same = refl;
         leaves =
@@ -63,11 +65,12 @@ module _ (core : Core) (ms ps : List ℕ) (i : ℕ) (p : Packet) where
             };
       }
 
-  pub held : (ms′ ps′ : List ℕ) → is-discarded p (receive-of core ps) ≡ false
+  pub held : {answer : Bool} (ms′ ps′ : List ℕ) → answer ≡ is-discarded p (receive-of core ps) → answer ≡ false
       → Holds (length ps) ps′ (core .counts .pending + 1) (insert p (packets (core .counts .pending) ps))
       → Changed i (on-account (reserve (p .content .count))) ms ms′
       → Retained i p core ms ps (with-held (core .counts .pending + 1) core) ms′ ps′
-  held ms′ ps′ is inserted changed =
+  held ms′ ps′ tested keeps inserted changed =
+      let is = sym tested ∙ keeps in
       record {
         waiting-same = refl;
         leaves =
@@ -118,12 +121,13 @@ found-nowhere (some j) e = cc e
 
 -- whether a sequence is held, by the search for it
 module _ (sequence : ℕ) (ps : List Packet) where
-  pub held-found : (i : ℕ) → At i ≡ place-found sequence ps → true ≡ is-held sequence ps
-  held-found i e =
-      sym (sym (place-any (has-sequence sequence) ps) ∙ found-at (place-of (has-sequence sequence) ps) i e)
+  pub held-found : {r : Found} (i : ℕ) → r ≡ At i → r ≡ place-found sequence ps → true ≡ is-held sequence ps
+  held-found i there found =
+      sym (sym (place-any (has-sequence sequence) ps) ∙ found-at (place-of (has-sequence sequence) ps) i (sym there ∙ found))
 
-  pub held-nowhere : Nothing ≡ place-found sequence ps → false ≡ is-held sequence ps
-  held-nowhere e = sym (sym (place-any (has-sequence sequence) ps) ∙ found-nowhere (place-of (has-sequence sequence) ps) e)
+  pub held-nowhere : {r : Found} → r ≡ Nothing → r ≡ place-found sequence ps → false ≡ is-held sequence ps
+  held-nowhere nowhere found =
+      sym (sym (place-any (has-sequence sequence) ps) ∙ found-nowhere (place-of (has-sequence sequence) ps) (sym nowhere ∙ found))
 
 -- a sequence is late only if there is a base
 module _ (based base sequence : ℕ) where
@@ -152,9 +156,9 @@ module _ (p : Packet) (core : Core) (ps : List ℕ) where
   unfolding is-discarded is-late
   discarded-if-held is not-late known = known ∙ sym (or-second late held-already (sym is ∙ not-late))
 
-  pub not-held : is-discarded p (receive-of core ps) ≡ false → held-already ≡ false
+  pub not-held : {answer : Bool} → answer ≡ is-discarded p (receive-of core ps) → answer ≡ false → held-already ≡ false
   unfolding is-discarded is-late
-  not-held kept = or-right late held-already kept
+  not-held tested keeps = or-right late held-already (sym tested ∙ keeps)
 
 -- ---- an event is reported
 

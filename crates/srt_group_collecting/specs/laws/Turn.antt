@@ -1,5 +1,5 @@
 -- The member in turn is one of the members.
-use mathlib.Core.Path.{_≡_, refl, _∙_}
+use mathlib.Core.Path.{_≡_, refl, sym, _∙_}
 use mathlib.Core.Bool.{Bool, not}
 use mathlib.Core.List.{List}
 use mathlib.Core.Option.{Option, none, some}
@@ -13,6 +13,7 @@ use Rattle.srt_group_model.specs.Collecting.{in-turn}
 use Rattle.srt_connection_queue.specs.laws.Tab.{place-below}
 use Rattle.srt_connection_members.specs.Members.{members-of, found-of}
 use Rattle.srt_connection_members.specs.laws.Members.{members-length, found-some}
+use Rattle.srt_connection_members.specs.declared.Found.{Found}
 use Rattle.srt_connection_members.specs.declared.Found.the-variants.{At}
 
 abbrev has-event : Member → Bool
@@ -32,5 +33,5 @@ module _ (round : ℕ) (ms : List Member) where
   in-turn-below i e =
       turn-below (place-of has-event (drop round ms)) (place-of has-event ms) i refl refl (found-some (in-turn round ms) i e)
 
-pub in-turn-inside : (n round i : ℕ) (t : List ℕ) → At i ≡ found-of (in-turn round (members-of n t)) → i < n
-in-turn-inside n round i t e = omega (arith, in-turn-below round (members-of n t) i e, members-length n t)
+pub in-turn-inside : {r : Found} (n round i : ℕ) (t : List ℕ) → r ≡ At i → r ≡ found-of (in-turn round (members-of n t)) → i < n
+in-turn-inside n round i t there found = omega (arith, in-turn-below round (members-of n t) i (sym there ∙ found), members-length n t)

@@ -11,6 +11,7 @@ use lib.ListN.{length, drop}
 use Rattle.word_rows.specs.laws.Tab.{tab-length}
 use Rattle.srt_group_model.specs.declared.Core.{Core}
 use Rattle.srt_group_model.specs.declared.Event.{Event}
+use Rattle.srt_group_model.specs.declared.Membership.{Membership}
 use Rattle.srt_group_model.specs.Tools.{if_then_else_, if-some_give_otherwise_, bit, at-place, change}
 use Rattle.srt_group_model.specs.State.{Member, State, with-members, with-round, with-continuation, with-queue}
 use Rattle.srt_group_model.specs.Core.{with-next, continued}
@@ -26,7 +27,10 @@ use Rattle.srt_connection_members.specs.Members.{member-at, members-of, has-row
 use Rattle.srt_connection_members.specs.laws.Members.{members-length, members-place, changed-by, unchanged, found-some, found-none}
 use Rattle.srt_connection_queue.specs.Queue.{leg-poll, queue-after, budget-after}
 use Rattle.srt_connection_queue.specs.laws.Queue.{nothing-goes}
+use Rattle.srt_connection_members.specs.declared.Found.{Found}
 use Rattle.srt_connection_members.specs.declared.Found.the-variants.{At, Nothing as Nowhere}
+use Rattle.srt_group_collecting.specs.laws.Turn.{in-turn-inside}
+use Rattle.srt_connection_queue.specs.declared.queue.LegPoll.{LegPoll}
 use Rattle.srt_connection_queue.specs.declared.queue.LegPoll.the-variants.{Nothing, Continuation, Event as PolledEvent}
 use Rattle.srt_group_tables.specs.Packets.{packet-at}
 use Rattle.srt_group_shown.specs.Shown.{shown, blank}
@@ -191,11 +195,11 @@ module _ (core : Core) (budget : ℕ) (ms ps ws : List ℕ) (i : ℕ) (ms₁ : L
       (ap (λ (q : List Event). with-queue q (member-at ms i)) same)
       .members (core .counts .members))
 
-  pub visits-nothing : Nothing ≡ leg-poll budget (member-at ms i .queue)
+  pub visits-nothing : {r : LegPoll} → r ≡ Nothing → r ≡ leg-poll budget (member-at ms i .queue)
       → Visits (core .counts .waiting + 1) (take-front i (member-at ms i)) core budget (receive-tables ms ps ws)
       record { took = 0; core = core; budget = budget } (receive-tables ms₁ ps ws)
-  visits-nothing is =
-      let empty = gave-nothing budget (member-at ms i .queue) is in
+  visits-nothing gave is =
+      let empty = gave-nothing budget (member-at ms i .queue) (sym gave ∙ is) in
       let taken : (r : Run) → take-front i (member-at ms i) r ≡ record { took = false; run = r } = λ r. none-taken i (member-at ms i) r empty in
       let stay = members-stay (ap (queue-after budget) empty ∙ nothing-goes budget ∙ sym empty) in
       record {
@@ -242,16 +246,16 @@ module _ (core : Core) (budget : ℕ) (ms ps ws : List ℕ) (i : ℕ) (ms₁ : L
             (spent-taken i (member-at ms i) (under-way core others (receive-tables ms ps ws) log budget) (s .event) (s .front) (s .spent));
       }
 
-  pub visits-spent : (turned next : Core) → turned ≡ with-next ((i + 1) % core .counts .members) core → next ≡ continued 1 turned
-      → Continuation ≡ leg-poll budget (member-at ms i .queue)
+  pub visits-spent : {r : LegPoll} (turned next : Core) → turned ≡ with-next ((i + 1) % core .counts .members) core → next ≡ continued 1 turned
+      → r ≡ Continuation → r ≡ leg-poll budget (member-at ms i .queue)
       → Visits (core .counts .waiting + 1) (take-front i (member-at ms i)) core budget (receive-tables ms ps ws)
       record { took = 0; core = next; budget = 0 } (receive-tables ms₁ ps ws)
-  visits-spent turned next t c is =
+  visits-spent turned next t c gave is =
       subst
       (λ (x : Core).
       Visits (core .counts .waiting + 1) (take-front i (member-at ms i)) core budget (receive-tables ms ps ws)
       record { took = 0; core = x; budget = 0 } (receive-tables ms₁ ps ws))
-      (sym (c ∙ ap (continued 1) t)) (visits-spent-at is)
+      (sym (c ∙ ap (continued 1) t)) (visits-spent-at (sym gave ∙ is))
 
   visits-event-at : (e : Event) (left id : ℕ) (after : Core) (ms′ ps′ ws′ : List ℕ) → PolledEvent e left ≡ leg-poll budget (member-at ms i .queue)
       → id ≡ member-at ms i .membership .id
@@ -283,14 +287,14 @@ module _ (core : Core) (budget : ℕ) (ms ps ws : List ℕ) (i : ℕ) (ms₁ : L
             ∙ member-budget i (member-at ms i .membership .id) e _ ∙ sym (g .lowered);
       }
 
-  pub visits-event : (turned : Core) (e : Event) (left id : ℕ) (after : Core) (ms′ ps′ ws′ : List ℕ)
-      → turned ≡ with-next ((i + 1) % core .counts .members) core → PolledEvent e left ≡ leg-poll budget (member-at ms i .queue)
-      → id ≡ member-at ms i .membership .id → Collected i id e turned (receive-tables ms₁ ps ws) after (receive-tables ms′ ps′ ws′)
+  pub visits-event : {r : LegPoll} {m : Membership} (turned : Core) (e : Event) (left : ℕ) (after : Core) (ms′ ps′ ws′ : List ℕ)
+      → turned ≡ with-next ((i + 1) % core .counts .members) core → r ≡ PolledEvent e left → r ≡ leg-poll budget (member-at ms i .queue)
+      → m ≡ member-at ms i .membership → Collected i (m .id) e turned (receive-tables ms₁ ps ws) after (receive-tables ms′ ps′ ws′)
       → Visits (core .counts .waiting + 1) (take-front i (member-at ms i)) core budget (receive-tables ms ps ws)
       record { took = 1; core = after; budget = left } (receive-tables ms′ ps′ ws′)
-  visits-event turned e left id after ms′ ps′ ws′ t is named h =
-      visits-event-at e left id after ms′ ps′ ws′ is named
-      (subst (λ (x : Core). Collected i id e x (receive-tables ms₁ ps ws) after (receive-tables ms′ ps′ ws′)) t h)
+  visits-event {m = m} turned e left after ms′ ps′ ws′ t gave is named h =
+      visits-event-at e left (m .id) after ms′ ps′ ws′ (sym gave ∙ is) (ap (λ (x : Membership). x .id) named)
+      (subst (λ (x : Core). Collected i (m .id) e x (receive-tables ms₁ ps ws) after (receive-tables ms′ ps′ ws′)) t h)
 
 -- ---- the event in front can be collected
 
@@ -329,11 +333,11 @@ module _ (core : Core) (ms ps ws : List ℕ) (usable : Usable core (receive-tabl
             };
       }
 
-  pub collectable : (budget left k id : ℕ) (ms₁ : List ℕ) (e : Event) (next : Core) → next ≡ with-next k core
+  pub collectable : {r : LegPoll} (budget left k id : ℕ) (ms₁ : List ℕ) (e : Event) (next : Core) → next ≡ with-next k core
       → Changed i (λ m. with-queue (queue-after budget (m .queue)) m) ms ms₁
-      → PolledEvent e left ≡ leg-poll budget (member-at ms i .queue) → core .counts .waiting < max-waiting → Collectable i id e next (receive-tables ms₁ ps ws)
-  collectable budget left k id ms₁ e next turned changed gave few =
-      subst (λ (x : Core). Collectable i id e x (receive-tables ms₁ ps ws)) (sym turned) (collectable-past budget left k id ms₁ e changed gave few)
+      → r ≡ PolledEvent e left → r ≡ leg-poll budget (member-at ms i .queue) → core .counts .waiting < max-waiting → Collectable i id e next (receive-tables ms₁ ps ws)
+  collectable budget left k id ms₁ e next turned changed gave is few =
+      subst (λ (x : Core). Collectable i id e x (receive-tables ms₁ ps ws)) (sym turned) (collectable-past budget left k id ms₁ e changed (sym gave ∙ is) few)
 
 -- ---- one event, in turn
 
@@ -361,10 +365,10 @@ usable-after core budget ms ps ws r ms′ ps′ ws′ u few v =
     }
 
 module _ (core : Core) (budget : ℕ) (ms ps ws : List ℕ) (usable : Usable core (receive-tables ms ps ws)) (few : core .counts .waiting < max-waiting) where
-  pub collects-none : Nowhere ≡ found-of (in-turn (core .visit .round) (members-of (core .counts .members) ms))
+  pub collects-none : {r : Found} → r ≡ Nowhere → r ≡ found-of (in-turn (core .visit .round) (members-of (core .counts .members) ms))
       → Collects (core .counts .waiting + 1) collect-one-event core budget (receive-tables ms ps ws) record { took = 0; core = core; budget = budget } (receive-tables ms ps ws)
-  collects-none is =
-      let none-there = found-none (in-turn (core .visit .round) (members-of (core .counts .members) ms)) is in
+  collects-none nowhere found =
+      let none-there = found-none (in-turn (core .visit .round) (members-of (core .counts .members) ms)) (sym nowhere ∙ found) in
       record {
         visits =
             record {
@@ -380,13 +384,13 @@ module _ (core : Core) (budget : ℕ) (ms ps ws : List ℕ) (usable : Usable cor
         usable = usable;
       }
 
-  pub collects-one : (i : ℕ) (r : Visited) (ms′ ps′ ws′ : List ℕ) → i < core .counts .members
-      → At i ≡ found-of (in-turn (core .visit .round) (members-of (core .counts .members) ms))
+  pub collects-one : {at : Found} (i : ℕ) (r : Visited) (ms′ ps′ ws′ : List ℕ) → at ≡ At i
+      → at ≡ found-of (in-turn (core .visit .round) (members-of (core .counts .members) ms))
       → Visits (core .counts .waiting + 1) (take-front i (member-at ms i)) core budget (receive-tables ms ps ws) r (receive-tables ms′ ps′ ws′)
       → Collects (core .counts .waiting + 1) collect-one-event core budget (receive-tables ms ps ws) r (receive-tables ms′ ps′ ws′)
-  collects-one i r ms′ ps′ ws′ inside is v =
-      let there = found-some (in-turn (core .visit .round) (members-of (core .counts .members) ms)) i is in
-      let at = members-place (core .counts .members) ms i inside in
+  collects-one i r ms′ ps′ ws′ here found v =
+      let there = found-some (in-turn (core .visit .round) (members-of (core .counts .members) ms)) i (sym here ∙ found) in
+      let at = members-place (core .counts .members) ms i (in-turn-inside (core .counts .members) (core .visit .round) i ms here found) in
       let visits : Visits (core .counts .waiting + 1) collect-one-event core budget (receive-tables ms ps ws) r (receive-tables ms′ ps′ ws′) =
       record {
         members-long = v .members-long;

@@ -4,7 +4,7 @@ use mathlib.Core.Bool.{Bool, true, false}
 use mathlib.Core.List.{List, [], _∷_}
 use mathlib.Core.Option.{Option, none, some}
 use native.Mathlib.Numerals.{add-one}
-use Prim.Native.Nat.{ℕ, suc, _+_, _-_, _≤_, _<_}
+use Prim.Native.Nat.{ℕ, suc, _+_, _-_, _≤_, _<_, _*_}
 use borrow.Author.Tests.{lt-ltb, le-ltb, eq-eqb, ne-eqb}
 use lib.Dec.{leb}
 use lib.ListN.{length, drop}
@@ -24,15 +24,15 @@ use Rattle.srt_group_model.specs.Legs.{is-disconnected, gives-up-at, release-da
 use Rattle.srt_group_model.specs.Members.{has-id, find}
 use Rattle.srt_group_model.specs.Nearest.{sequence-of, nearest, covered, not-covered}
 use Rattle.srt_group_model.specs.Delivery.{leg-gives-up, gap-given-up, release-pending-reservation, release-all, advance-legs, pass-run, deliver-packet}
-use Rattle.srt_connection_members.specs.Members.{member-at, members-of, found-of, Changed, ChangedAll}
+use Rattle.srt_connection_members.specs.Members.{member-at, members-of, found-of, Changed, ChangedAll, has-row}
 use Rattle.srt_connection_members.specs.laws.Members.{members-place, found-some, found-none, found-below, changed-twice, membership-changed}
-use Rattle.srt_connection_queue.specs.Rows.{with-membership}
+use Rattle.srt_connection_queue.specs.Rows.{with-membership, row-size}
 use Rattle.srt_connection.specs.Answers.{deadline-of}
 use Rattle.srt_connection.specs.declared.legs.Deadline.the-variants.{At as AtMoment, Never}
 use Rattle.srt_group_members.specs.laws.Scan.{tab-next, tab-ended}
 use Rattle.srt_connection_members.specs.declared.Found.the-variants.{At, Nothing}
 use Rattle.srt_group_tables.specs.Packets.{packet-at, packets, Holds, FoundPacket}
-use Rattle.srt_group_tables.specs.laws.PacketLaws.{drop-zero}
+use Rattle.srt_group_tables.specs.laws.PacketLaws.{drop-zero, at-in-use}
 use Rattle.srt_group_tables.specs.declared.pending.Found.{Found}
 use Rattle.srt_group_tables.specs.declared.pending.Found.the-variants.{At as PendingAt, Nothing as NothingPending}
 use Rattle.srt_group_shown.specs.Shown.{Rest, shown, blank}
@@ -40,6 +40,10 @@ use Rattle.srt_group_shown.specs.Tables.{receive-tables}
 use Rattle.srt_group_collecting.specs.Leaves.{Usable}
 use Rattle.srt_group_shown.specs.laws.Shown.{held-few}
 use Rattle.srt_group_delivery.specs.Delivery.{Deliverable, leg-given-up, release-member, Released, Delivered}
+use native.Mathlib.Omega.{arith}
+use Rattle.srt_group_model.specs.Validity.{max-pending}
+use Rattle.srt_connection.specs.declared.legs.Deadline.{Deadline}
+use Rattle.srt_connection_members.specs.declared.Found.{Found as FoundMember}
 
 -- ---- what delivery may rely on
 
@@ -66,13 +70,13 @@ deadline-none none e = refl
 deadline-none (some n) e = cc e
 
 module _ (time source : ℕ) (l : Leg) where
-  pub given-up-from : (moment : Timestamp) → AtMoment moment ≡ deadline-of (gives-up-at source l) → leb (moment .0) time ≡ leg-given-up time source l
+  pub given-up-from : {r : Deadline} (moment : Timestamp) → r ≡ AtMoment moment → r ≡ deadline-of (gives-up-at source l) → leb (moment .0) time ≡ leg-given-up time source l
   unfolding if-some_give_otherwise_
-  given-up-from moment e = rw (deadline-some (gives-up-at source l) moment e)
+  given-up-from moment at-moment is = rw (deadline-some (gives-up-at source l) moment (sym at-moment ∙ is))
 
-  pub never-given-up : Never ≡ deadline-of (gives-up-at source l) → false ≡ leg-given-up time source l
+  pub never-given-up : {r : Deadline} → r ≡ Never → r ≡ deadline-of (gives-up-at source l) → false ≡ leg-given-up time source l
   unfolding if-some_give_otherwise_
-  never-given-up e = rw (deadline-none (gives-up-at source l) e)
+  never-given-up never is = rw (deadline-none (gives-up-at source l) (sym never ∙ is))
 
 -- the first that passes a test, by its place
 pub first-place : {A : Type 0} (test : A → Bool) (l : List A)
@@ -88,6 +92,10 @@ first-place {A} test (x ∷ xs) = go (test x) (place-of test xs) (first-place te
     go false none e = e
     go false (some i) e = e
 
+pub found-has-row : {r : FoundMember} (n id i : ℕ) (t : List ℕ) → r ≡ At i → r ≡ found-of (find id (members-of n t))
+    → n * row-size ≤ length t → has-row i t
+found-has-row n id i t there found long = omega (arith, found-below n id i t (sym there ∙ found))
+
 module _ (time n : ℕ) (t : List ℕ) (p : Packet) where
   first-none : Nothing ≡ found-of (find (p .member) (members-of n t)) → first-such (has-id (p .member)) (members-of n t) ≡ none
   unfolding if-some_give_otherwise_
@@ -100,19 +108,22 @@ module _ (time n : ℕ) (t : List ℕ) (p : Packet) where
       rw (first-place (has-id (p .member)) (members-of n t), found-some (find (p .member) (members-of n t)) i e)
       (members-place n t i (found-below n (p .member) i t e))
 
-  pub own-leg-asked : {b : Bool} {l : Leg} (i : ℕ) → At i ≡ found-of (find (p .member) (members-of n t)) → l ≡ member-at t i .leg
+  pub own-leg-asked : {b : Bool} {l : Leg} {r : FoundMember} (i : ℕ) → r ≡ At i → r ≡ found-of (find (p .member) (members-of n t)) → l ≡ member-at t i .leg
       → b ≡ leg-given-up time (p .content .source .0) l → b ≡ leg-gives-up time p (members-of n t)
   unfolding leg-gives-up or-else if-some_give_otherwise_
-  own-leg-asked i e is asked = rw (first-some i e, ← is) asked
+  own-leg-asked i there found is asked = rw (first-some i (sym there ∙ found), ← is) asked
 
-  pub first-leg-asked : {b : Bool} {l : Leg} → Nothing ≡ found-of (find (p .member) (members-of n t)) → 0 < n → l ≡ member-at t 0 .leg
+  pub first-leg-asked : {b : Bool} {l : Leg} {r : FoundMember} → r ≡ Nothing → r ≡ found-of (find (p .member) (members-of n t)) → (n ≡ 0 → ⊥) → l ≡ member-at t 0 .leg
       → b ≡ leg-given-up time (p .content .source .0) l → b ≡ leg-gives-up time p (members-of n t)
   unfolding leg-gives-up or-else if-some_give_otherwise_
-  first-leg-asked e some-member is asked = rw (first-none e, members-place n t 0 some-member, ← is) asked
+  first-leg-asked nowhere found some-member is asked = rw (first-none (sym nowhere ∙ found), members-place n t 0 (omega (arith, some-member)), ← is) asked
 
   pub no-leg-asked : n ≡ 0 → false ≡ leg-gives-up time p (members-of n t)
   unfolding leg-gives-up or-else if-some_give_otherwise_ members-of tab first-such at-place
   no-leg-asked e = rw e
+
+pub nearest-in-table : {r : Found} {o : Option Packet} (n i : ℕ) (ps : List ℕ) → FoundPacket ps n r o → r ≡ PendingAt i → n ≤ max-pending → i < max-pending
+nearest-in-table {r} n i ps near there few = omega (arith, at-in-use n r i (near .within) there)
 
 -- a packet is asked for only if one is held; then all legs are asked, and then the nearest packet's
 module _ (time : ℕ) (core : Core) (ms ps : List ℕ) (r : Found)
@@ -144,27 +155,27 @@ module _ (core : Core) (ms : List ℕ) (p : Packet) where
   unfolding release-all release-pending-reservation if_then_else_
   released-own mine is = record { rest = refl; long = refl; state = λ others ps ws. rw (eq-eqb (p .owned) 1 mine, is) }
 
-  pub released-nowhere : (p .owned ≡ 1 → ⊥) → Nothing ≡ found-of (find (p .member) (members-of (core .counts .members) ms))
+  pub released-nowhere : {r : FoundMember} → (p .owned ≡ 1 → ⊥) → r ≡ Nothing → r ≡ found-of (find (p .member) (members-of (core .counts .members) ms))
       → Released (p ∷ []) core ms core ms
   unfolding release-all release-pending-reservation if_then_else_ if-some_give_otherwise_
-  released-nowhere own gone =
+  released-nowhere own nowhere found =
       record {
         rest = refl;
         long = refl;
-        state = λ others ps ws. rw (ne-eqb (p .owned) 1 own, found-none (find (p .member) (members-of (core .counts .members) ms)) gone);
+        state = λ others ps ws. rw (ne-eqb (p .owned) 1 own, found-none (find (p .member) (members-of (core .counts .members) ms)) (sym nowhere ∙ found));
       }
 
-  pub released-member : (i : ℕ) (ms′ : List ℕ) → (p .owned ≡ 1 → ⊥)
-      → At i ≡ found-of (find (p .member) (members-of (core .counts .members) ms)) → Changed i (release-member (p .content .count)) ms ms′
+  pub released-member : {r : FoundMember} (i : ℕ) (ms′ : List ℕ) → (p .owned ≡ 1 → ⊥) → r ≡ At i
+      → r ≡ found-of (find (p .member) (members-of (core .counts .members) ms)) → Changed i (release-member (p .content .count)) ms ms′
       → Released (p ∷ []) core ms core ms′
   unfolding release-all release-pending-reservation if_then_else_ if-some_give_otherwise_
-  released-member i ms′ own there changed =
+  released-member i ms′ own there found changed =
       record {
         rest = refl;
         long = changed .long;
         state =
             λ others ps ws.
-            rw (ne-eqb (p .owned) 1 own, found-some (find (p .member) (members-of (core .counts .members) ms)) i there)
+            rw (ne-eqb (p .owned) 1 own, found-some (find (p .member) (members-of (core .counts .members) ms)) i (sym there ∙ found))
             (ap (λ (x : List Member). with-members x (shown core others ms ps ws)) (sym (changed .members (core .counts .members))));
       }
 
@@ -241,6 +252,15 @@ module _ (test : Packet → Bool) (count : ℕ) (pending : List ℕ) (core : Cor
             (tab-ended at count (packet-at pending) past);
       }
 
+-- the members' table is as long as before, and has a row for each member
+pub rows-kept : (core after : Core) (ms ps ms′ : List ℕ) → Deliverable core ms ps → after ≡ with-owned-sum (after .owned) core
+    → length ms′ ≡ length ms → after .counts .members * row-size ≤ length ms′
+rows-kept core after ms ps ms′ h rest long = omega (arith, h .members-long, h .members-few, ap (λ (x : Core). x .counts .members) rest)
+
+pub held-kept : (core after : Core) (ms ps : List ℕ) → Deliverable core ms ps → after ≡ with-owned-sum (after .owned) core
+    → after .counts .pending ≤ max-pending
+held-kept core after ms ps h rest = omega (arith, h .held-few, ap (λ (x : Core). x .counts .pending) rest)
+
 -- the packet at a place is covered, or not
 module _ (core : Core) (ms : List ℕ) (p : Packet) (base run : ℕ) where
   pub covered-released : {distance sequence : ℕ} {q : Packet} (after : Core) (ms′ : List ℕ) → sequence ≡ sequence-of p
@@ -302,11 +322,15 @@ module _ (base : ℕ) (p : Packet) (core : Core) (ms ps : List ℕ) where
             };
       }
 
-  pub delivered-all : (next : ℕ) (between : Core) (ms₁ ms₂ : List ℕ) (left : ℕ) (ps′ : List ℕ) → next ≡ sequence-further base run
-      → Parts next between ms₁ ms₂ left ps′ → Delivered base p core ms ps (passed left next between) ms₂ ps′
-  delivered-all next between ms₁ ms₂ left ps′ is parts =
-      subst (λ (n : ℕ). Parts n between ms₁ ms₂ left ps′ → Delivered base p core ms ps (passed left n between) ms₂ ps′) (sym is)
+  pub delivered-all : (next : ℕ) (between : Core) (ms₁ ms₂ : List ℕ) (left : ℕ) (after : Core) (ps′ : List ℕ)
+      → Released (covered base run (packets (core .counts .pending) ps)) core ms between ms₁ → next ≡ sequence-further base run
+      → ChangedAll (between .counts .members) (on-leg (advance-receive-sequence next)) ms₁ ms₂
+      → Holds (length ps) ps′ left (not-covered base run (packets (between .counts .pending) ps)) → after ≡ passed left next between
+      → Delivered base p core ms ps after ms₂ ps′
+  delivered-all next between ms₁ ms₂ left after ps′ released is advanced removed ends =
+      rw ends
+      (subst (λ (n : ℕ). Parts n between ms₁ ms₂ left ps′ → Delivered base p core ms ps (passed left n between) ms₂ ps′) (sym is)
       (subst
       (λ (c : Core). Parts (sequence-further base run) c ms₁ ms₂ left ps′ → Delivered base p core ms ps (passed left (sequence-further base run) c) ms₂ ps′)
-      (sym (parts .released .rest)) (delivered-by (between .own) ms₁ ms₂ left ps′))
-      parts
+      (sym (released .rest)) (delivered-by (between .own) ms₁ ms₂ left ps′))
+      record { released = released; advanced = advanced; removed = removed })

@@ -2,7 +2,7 @@
 use mathlib.Core.Path.{_≡_, refl, ap, sym, _∙_}
 use mathlib.Core.List.{List}
 use mathlib.Core.Option.{Option, none, some}
-use Prim.Native.Nat.{ℕ, _+_, _-_, _<_, min}
+use Prim.Native.Nat.{ℕ, _+_, _-_, _≤_, _<_, min}
 use native.Mathlib.Omega.{arith}
 use lib.ListN.{length, drop}
 use Rattle.srt_protocol.specs.Sequence.{sequence-distance}
@@ -18,10 +18,12 @@ use Rattle.srt_group_model.specs.State.{with-waiting, based-at}
 use Rattle.srt_group_model.specs.Core.{with-receiving, with-waiting-count}
 use Rattle.srt_group_model.specs.Nearest.{has-sequence, held-at}
 use Rattle.srt_group_model.specs.Run.{Mark, Run, set-base}
+use Rattle.srt_group_model.specs.Validity.{max-pending}
 use Rattle.srt_group_model.specs.Delivery.{nothing, deliver, skip-to, give-waiting}
 use Rattle.srt_connection_queue.specs.laws.Tab.{tab-place, place-below}
 use Rattle.srt_group_tables.specs.Packets.{packet-at, packets, found, place-found}
 use Rattle.srt_group_tables.specs.Waitings.{waiting-at, waitings, HoldsWaiting}
+use Rattle.srt_group_tables.specs.declared.pending.Found.{Found}
 use Rattle.srt_group_tables.specs.declared.pending.Found.the-variants.{At as PendingAt, Nothing as NothingPending}
 use Rattle.srt_group_shown.specs.Shown.{Rest, shown}
 use Rattle.srt_group_shown.specs.Tables.{receive-tables, shown-by}
@@ -73,13 +75,16 @@ found-none none e = refl
 found-none (some j) e = cc e
 
 module _ (n sequence : ℕ) (words : List ℕ) where
-  pub held-below : (i : ℕ) → PendingAt i ≡ place-found sequence (packets n words) → i < n
+  held-below : (i : ℕ) → PendingAt i ≡ place-found sequence (packets n words) → i < n
   held-below i e =
       omega (
         arith,
         place-below (has-sequence sequence) (packets n words) i (found-some (place-of (has-sequence sequence) (packets n words)) i e),
         tab-length n (packet-at words),
       )
+
+  pub found-in-table : {r : Found} (i : ℕ) → r ≡ PendingAt i → r ≡ place-found sequence (packets n words) → n ≤ max-pending → i < max-pending
+  found-in-table i there is few = omega (arith, held-below i (sym there ∙ is))
 
   held-there : (i : ℕ) → PendingAt i ≡ place-found sequence (packets n words) → held-at sequence (packets n words) ≡ some (packet-at words i)
   unfolding if-some_give_otherwise_
@@ -99,20 +104,20 @@ module _ (n sequence : ℕ) (words : List ℕ) where
       )
 
 module _ (base : ℕ) (core : Core) (ms ps ws : List ℕ) where
-  pub base-not-held : NothingPending ≡ place-found base (packets (core .counts .pending) ps)
+  pub base-not-held : {r : Found} → r ≡ NothingPending → r ≡ place-found base (packets (core .counts .pending) ps)
       → Polls (deliver base) core (receive-tables ms ps ws) (nothing-given core) (receive-tables ms ps ws)
   unfolding deliver if-some_give_otherwise_
-  base-not-held e =
-      gives-nothing (deliver base) core ms ps ws (λ others log budget. rw (held-nowhere (core .counts .pending) base ps e))
+  base-not-held none-found is =
+      gives-nothing (deliver base) core ms ps ws (λ others log budget. rw (held-nowhere (core .counts .pending) base ps (sym none-found ∙ is)))
 
-  pub base-delivered : {p : Packet} (i : ℕ) (after : Core) (ms′ ps′ : List ℕ)
-      → PendingAt i ≡ place-found base (packets (core .counts .pending) ps) → p ≡ packet-at ps i
+  pub base-delivered : {p : Packet} {r : Found} (i : ℕ) (after : Core) (ms′ ps′ : List ℕ) → r ≡ PendingAt i
+      → r ≡ place-found base (packets (core .counts .pending) ps) → p ≡ packet-at ps i
       → Delivered base p core ms ps after ms′ ps′
       → Polls (deliver base) core (receive-tables ms ps ws) record { gave = APacket p; core = after } (receive-tables ms′ ps′ ws)
   unfolding deliver if-some_give_otherwise_
-  base-delivered {p} i after ms′ ps′ there is delivered =
+  base-delivered {p} i after ms′ ps′ found-there there is delivered =
       let at : held-at base (packets (core .counts .pending) ps) ≡ some p =
-      held-there (core .counts .pending) base ps i there ∙ ap (λ (q : Packet). some q) (sym is) in
+      held-there (core .counts .pending) base ps i (sym found-there ∙ there) ∙ ap (λ (q : Packet). some q) (sym is) in
       let left = delivered .leaves ws in
       record {
         members-long = left .members-long;
@@ -134,13 +139,13 @@ module _ (core : Core) (ms ps ws : List ℕ) where
   unfolding give-waiting if-some_give_otherwise_
   none-waits e = gives-nothing give-waiting core ms ps ws (λ others log budget. rw (none-there e))
 
-  pub first-waits : {w : Waiting} (ws′ : List ℕ) → 0 < core .counts .waiting → w ≡ waiting-at ws 0
+  pub first-waits : {w : Waiting} (ws′ : List ℕ) → (core .counts .waiting ≡ 0 → ⊥) → w ≡ waiting-at ws 0
       → HoldsWaiting (length ws) ws′ (core .counts .waiting - 1) (drop 1 (waitings (core .counts .waiting) ws))
       → Polls give-waiting core (receive-tables ms ps ws) record { gave = AnEvent w; core = with-waiting-count (core .counts .waiting - 1) core } (receive-tables ms ps ws′)
   unfolding give-waiting if-some_give_otherwise_
   first-waits {w} ws′ some-waits is popped =
       let at : at-place 0 (waitings (core .counts .waiting) ws) ≡ some w =
-      tab-place (core .counts .waiting) (waiting-at ws) 0 some-waits ∙ ap (λ (x : Waiting). some x) (sym is) in
+      tab-place (core .counts .waiting) (waiting-at ws) 0 (omega (arith, some-waits)) ∙ ap (λ (x : Waiting). some x) (sym is) in
       record {
         members-long = refl;
         pending-long = refl;

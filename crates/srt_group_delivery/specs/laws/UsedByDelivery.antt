@@ -87,10 +87,12 @@ module _ (test : Packet → Bool) (count : ℕ) (pending used : List ℕ) where
       (subst (λ (l : List Packet). Freed (pending-cells (such-that test l)) last last) (sym (tab-ended at count (packet-at pending) past))
       (none-freed last (all-done .long)))
 
-pub follows-delivered : (base : ℕ) (p : Packet) (core : Core) (ms ps used : List ℕ) (after : Core) (ms′ ps′ used′ : List ℕ)
+pub delivered-and-freed : (base : ℕ) (p : Packet) (core : Core) (ms ps used : List ℕ) (after : Core) (ms′ ps′ used′ : List ℕ)
     → Delivered base p core ms ps after ms′ ps′
     → Freed (pending-cells (covered base (p .content .count) (packets (core .counts .pending) ps))) used used′
-    → Follows core ms ps used after ms′ ps′ used′
-follows-delivered base p core ms ps used after ms′ ps′ used′ delivered freed =
-    follows-freed core after ms ps [] ms′ ps′ [] used used′ nothing-sent (λ others. deliver-packet base p (shown core others ms ps []))
-    (λ others same. delivered .leaves [] .state others) freed (λ others. delivery-frees base p (shown core others ms ps []))
+    → Delivered base p core ms ps after ms′ ps′ × Follows core ms ps used after ms′ ps′ used′
+delivered-and-freed base p core ms ps used after ms′ ps′ used′ delivered freed = (
+  delivered,
+  follows-freed core after ms ps [] ms′ ps′ [] used used′ nothing-sent (λ others. deliver-packet base p (shown core others ms ps []))
+      (λ others same. delivered .leaves [] .state others) freed (λ others. delivery-frees base p (shown core others ms ps [])),
+)

@@ -11,7 +11,7 @@ use Rattle.srt_protocol.specs.Sequence.{sequence-before}
 use Rattle.srt_group_model.specs.Tools.{if-some_give_otherwise_, bit, at-place, each, All}
 use borrow.Author.Tests.{eqb-true}
 use Rattle.srt_group_model.specs.laws.Reason.{and-left, and-right, not-both}
-use Rattle.srt_group_model.specs.State.{Member, State, with-receive, with-members, with-send, on-leg, on-account, active-state, standby-state}
+use Rattle.srt_group_model.specs.State.{Member, State, with-receive, with-members, with-send, on-leg, active-state, standby-state, on-account}
 use Rattle.srt_group_model.specs.Accounts.{no-packets}
 use Rattle.srt_group_model.specs.laws.State.{broadcast-mode, backup-mode, ordinary}
 use Rattle.srt_group_model.specs.Legs.{moment, with-reservation}

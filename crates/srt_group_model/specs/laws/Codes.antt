@@ -9,7 +9,7 @@ use Rattle.srt_protocol.specs.Cells.{cells-of}
 use Rattle.srt_protocol.specs.Handshake.{has-group-mask}
 use Rattle.srt_group_model.specs.Tools.{any, all}
 use Rattle.srt_group_model.specs.laws.Reason.{if-elim, if-true, if-false, by-test, if-some-elim, not-both, and-left, and-right, or-cases}
-use Rattle.srt_group_model.specs.State.{Making, State, is-backup}
+use Rattle.srt_group_model.specs.State.{State, is-backup, Making}
 use Rattle.srt_group_model.specs.Cells.{is-among}
 use Rattle.srt_group_model.specs.Guards.{Step, Check, guard, About, Answer, accept, about-group, about-time, about-member}
 use Rattle.srt_group_model.specs.Calls.{taken-cell, new-code, add-body, add-member, mark-member-broken, remove-body, remove-member-connection, refresh-member-states, disconnect, poll-event-call, poll-data-call, send-body, send, can-send-body, can-send-call, can-send-with-pacing-body, can-send-with-pacing-call, event-poll-body, data-poll-body, read-leg, queue-data-body, queue-data, queue-event, look-checks}

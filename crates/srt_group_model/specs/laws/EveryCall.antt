@@ -12,7 +12,7 @@ use Rattle.srt_protocol.specs.Cells.{cell-size, cells-of}
 use Rattle.srt_protocol.specs.Sequence.{sequence-further}
 use Rattle.srt_group_model.specs.Tools.{is-empty, first-such, place-of, at-place, change, each, All}
 use Rattle.srt_group_model.specs.laws.Reason.{if-elim, if-some-elim, by-test, not-both, and-left, and-right, or-left, or-right, none-some, some-inj, each-to-at, at-change, first-such-of}
-use Rattle.srt_group_model.specs.State.{Member, Receive, Send, State, is-backup, next-receive-sequence, next-send-sequence, with-receive, with-send, with-members, with-peer, with-base, with-round, with-leg, on-leg, turned, pending-state, active-state, standby-state, unstable-state, broken-state, with-pending, entry-of, with-waiting}
+use Rattle.srt_group_model.specs.State.{Member, Receive, Send, State, is-backup, next-receive-sequence, next-send-sequence, with-receive, with-send, with-members, with-peer, with-base, with-round, with-leg, on-leg, turned, pending-state, active-state, standby-state, unstable-state, broken-state, with-pending, with-waiting, entry-of}
 use Rattle.srt_group_model.specs.Legs.{largest-16, largest-32, largest-64, handed, goes-back, is-connected, can-send, disconnect-leg, peer-initial-sequence, send-shared-with-sequence}
 use Rattle.srt_group_model.specs.Members.{id-of, has-id, find, in-state, is-active, is-standby, promote-backup-member, promote-if-none, arrives, base-after, peer-after, admit-peer-group, align-member-sequence, steps-from, turn-aligned, settle, requalify, settle-members, break-disconnected, requalify-members}
 use Rattle.srt_group_model.specs.Nearest.{sequence-of, nearest, insert}

@@ -221,9 +221,9 @@ module _ (time max-events : ℕ) (r : Run) where
   unfolding poll-data-bounded if_then_else_
   no-event-polls is = rw (eq-eqb max-events 0 is)
 
-  some-event-polls : 0 < max-events → poll-data-bounded time max-events r ≡ poll-until-data time (min max-events max-visits) r
+  some-event-polls : (max-events ≡ 0 → ⊥) → poll-data-bounded time max-events r ≡ poll-until-data time (min max-events max-visits) r
   unfolding poll-data-bounded if_then_else_
-  some-event-polls some-allowed = rw (ne-eqb max-events 0 (λ e. omega (arith, e, some-allowed)))
+  some-event-polls some-allowed = rw (ne-eqb max-events 0 some-allowed)
 
 module _ (among : Rest → Type 0) (time max-events : ℕ) (core : Core) (ms ps ws : List ℕ) where
   pub none-allowed : {pends : Bool} {word : ℕ} → Usable core (receive-tables ms ps ws) → max-events ≡ 0 → Shows has-pending-data core pends
@@ -249,7 +249,7 @@ module _ (among : Rest → Type 0) (time max-events : ℕ) (core : Core) (ms ps 
             };
       }
 
-  pub some-allowed : (visits : ℕ) (answer : DataPoll) (ms′ ps′ ws′ : List ℕ) → 0 < max-events → visits ≡ min max-events max-visits
+  pub some-allowed : (visits : ℕ) (answer : DataPoll) (ms′ ps′ ws′ : List ℕ) → (max-events ≡ 0 → ⊥) → visits ≡ min max-events max-visits
       → PollsData among (poll-until-data time visits) core (receive-tables ms ps ws) answer (receive-tables ms′ ps′ ws′)
       → PollsData among (poll-data-bounded time max-events) core (receive-tables ms ps ws) answer (receive-tables ms′ ps′ ws′)
   some-allowed visits answer ms′ ps′ ws′ some-polls is p =

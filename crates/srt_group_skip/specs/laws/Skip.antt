@@ -229,11 +229,12 @@ module _ (time base : ℕ) (core : Core) (ms ps : List ℕ) {held : Bool} (is : 
     unfolding base-stays
     stays-continuing asked = rw (← is, not-held, other-set (core .visit .continuation) asked)
 
-    pub stays-until-given-up : {b : Bool} → core .visit .continuation ≡ 0 → b ≡ gap-given-up time (shown core others ms ps ws)
-        → not b ≡ base-stays time base (shown core others ms ps ws)
+    pub stays-until-given-up : {b r : Bool} → core .visit .continuation ≡ 0 → b ≡ gap-given-up time (shown core others ms ps ws) → r ≡ not b
+        → r ≡ base-stays time base (shown core others ms ps ws)
     unfolding base-stays
-    stays-until-given-up not-asked given-up =
-        ap not given-up
+    stays-until-given-up not-asked given-up answers =
+        answers
+        ∙ ap not given-up
         ∙ sym
         (neither (is-held base (packets (core .counts .pending) ps)) (is-set (core .visit .continuation))
         (not (gap-given-up time (shown core others ms ps ws))) (sym is ∙ not-held) (zero-unset (core .visit .continuation) not-asked))

@@ -28,18 +28,28 @@ same-keeps : (s t : State) → used-cells t ≡ used-cells s → Keeps s t
 unfolding occurs
 same-keeps s t same = record { cells = λ n. omega (arith, ap (occurs n) same) }
 
-pub follows-skipped : (base next : ℕ) (core after : Core) (ms ps used : List ℕ) → length used ≡ set-size → Skips base next core after
-    → Follows core ms ps used after ms ps used
-unfolding used-cells skip-to
-follows-skipped base next core after ms ps used long skips =
-    follows-kept core after ms ps [] ms ps [] used nothing-sent
-    (λ others. with-receive (skip-to base next (shown core others ms ps [] .receive)) (shown core others ms ps []))
-    (λ others same. skips .leaves (receive-tables ms ps []) .state others) long
-    (λ others. same-keeps (shown core others ms ps []) _ refl)
+-- what follows once the base was skipped ahead or set follows from before
+module _ (core after last : Core) (ms ps used ms′ ps′ used′ : List ℕ) where
+  pub follows-skipped : (base next : ℕ) → Skips base next core after → Follows after ms ps used last ms′ ps′ used′ → Follows core ms ps used last ms′ ps′ used′
+  unfolding used-cells skip-to
+  follows-skipped base next skips then =
+      record {
+        long = then .long;
+        shows =
+            λ history h.
+            then .shows history
+            (follows-kept core after ms ps [] ms ps [] used nothing-sent
+            (λ others. with-receive (skip-to base next (shown core others ms ps [] .receive)) (shown core others ms ps []))
+            (λ others same. skips .leaves (receive-tables ms ps []) .state others) (h .long)
+            (λ others. same-keeps (shown core others ms ps []) _ refl) .shows history h);
+      }
 
-pub follows-based : (option : Option ℕ) (core after : Core) (ms ps used : List ℕ) → length used ≡ set-size → Bases option core after
-    → Follows core ms ps used after ms ps used
-follows-based option core after ms ps used long bases = follows-counted core after ms ps used long (bases .counts-same)
+  pub follows-based : (option : Option ℕ) → Bases option core after → Follows after ms ps used last ms′ ps′ used′ → Follows core ms ps used last ms′ ps′ used′
+  follows-based option bases then =
+      record {
+        long = then .long;
+        shows = λ history h. then .shows history (follows-counted core after ms ps used (h .long) (bases .counts-same) .shows history h);
+      }
 
 waiting-keeps : (r : Run) → used-cells (give-waiting r .run .state) ≡ used-cells (r .state)
 unfolding give-waiting used-cells

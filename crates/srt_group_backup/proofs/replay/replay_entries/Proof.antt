@@ -20,15 +20,13 @@ loop-holds : tie.Need-loop-holds Inv-loop μ-loop
 loop-holds c = (omega arith, replaying-start _ _ _ _ _ _)
 
 entry-at-requires : tie.Need-entry-at-requires Inv-loop μ-loop
-entry-at-requires c κs = let pre = c .before .before .before .before .before .before .pre in (omega (arith, c .if1 .taken), pre .0 .1)
+entry-at-requires c κs = (search needs, search needs)
 
 add-replay-entry : tie.Need-add-replay-entry Inv-loop μ-loop
-add-replay-entry c = let pre = c .before .before .before .before .before .before .before .before .pre in omega (arith, c .before .before .if1 .taken)
+add-replay-entry c = search needs
 
 replay-entry-requires : tie.Need-replay-entry-requires Inv-loop μ-loop
-replay-entry-requires c κs =
-    let pre = c .before .before .before .before .before .before .before .before .pre in
-    omega (arith, c .before .before .if1 .taken, c .before .before .before .before .loop .inv .1 .long)
+replay-entry-requires c κs = search needs
 
 enum-known-result : tie.Need-enum-known-result Inv-loop μ-loop
 enum-known-result c = search needs
@@ -37,22 +35,13 @@ enum-told : tie.Need-enum-told Inv-loop μ-loop
 enum-told c = search needs
 
 add-t18 : tie.Need-add-t18 Inv-loop μ-loop
-add-t18 c =
-    let pre = c .before .before .before .before .before .before .before .before .before .before .before .before .before .pre in
-    omega (arith, c .before .before .before .before .before .before .before .if1 .taken)
+add-t18 c = search needs
 
 same-length : tie.Need-same-length Inv-loop μ-loop
 same-length c = search needs
 
 returns : tie.Need-returns Inv-loop μ-loop
-returns c =
-    let args = c .before .before .before .before .before .before .before .before .before .before .before .before .before .args in
-    let pre = c .before .before .before .before .before .before .before .before .before .before .before .before .before .pre in
-    replay-stopped _ _ (args .ring) (arrays (args .history .now) (args .sources .now)) _ _ _ _ _ _
-    (c .before .before .before .before .before .before .before .before .before .loop .inv .1)
-    (c .before .before .before .before .before .before .entry-at .ensures)
-    (c .before .before .before .before .replay-entry .ensures) (c .before .before .before .before .before .before .before .if1 .taken)
-    (pre .0 .0) (c .enum-told .given .1)
+returns c = search replay-stopped
 
 add-index : tie.Need-add-index Inv-loop μ-loop
 add-index c =
@@ -60,7 +49,7 @@ add-index c =
     omega (arith, c .before .before .before .before .before .before .before .before .if1 .taken)
 
 loop-less : tie.Need-loop-less Inv-loop μ-loop
-loop-less c = omega (arith, c .before .before .before .before .before .before .before .before .if1 .taken)
+loop-less c = search needs
 
 loop-again : tie.Need-loop-again Inv-loop μ-loop
 loop-again c =
@@ -77,7 +66,7 @@ loop-again c =
     )
 
 add-t19 : tie.Need-add-t19 Inv-loop μ-loop
-add-t19 c = let pre = c .before .before .before .before .before .before .pre in omega (arith, c .before .before .loop .inv .0)
+add-t19 c = search needs
 
 same-length-2 : tie.Need-same-length-2 Inv-loop μ-loop
 same-length-2 c = search needs

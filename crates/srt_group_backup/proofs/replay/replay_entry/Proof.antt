@@ -14,7 +14,7 @@ enum-told : tie.Need-enum-told
 enum-told c = search needs
 
 returns : tie.Need-returns
-returns c = entry-failed _ _ _ _ _ _ (c .before .before .send-shared-with-sequence .ensures) (c .enum-told .given .1)
+returns c = search entry-failed
 
 write-sent-requires : tie.Need-write-sent-requires
 write-sent-requires c κs = search needs
@@ -23,10 +23,7 @@ same-length : tie.Need-same-length
 same-length c = search needs
 
 returns-2 : tie.Need-returns-2
-returns-2 c =
-    entry-sent _ _ _ _ _ _
-    (c .before .before .before .before .before .before .before .before .send-shared-with-sequence .ensures) _
-    (c .before .before .before .before .before .before .result .given .1) (c .before .before .write-sent .ensures)
+returns-2 c = search entry-sent
 
 pub replay-entry-spec : {M : Type 1} → statement M
 replay-entry-spec =

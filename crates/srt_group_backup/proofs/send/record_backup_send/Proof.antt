@@ -10,7 +10,7 @@ use Rattle.srt_group_backup.proofs.send.record_backup_send.Statement.{s
 use Rattle.srt_group_backup.proofs.send.record_backup_send.Tie as tie
 
 store-requires : tie.Need-store-requires
-store-requires c κs = c .before .before .before .before .pre
+store-requires c κs = search needs
 
 with-number-after-requires : tie.Need-with-number-after-requires
 with-number-after-requires c κs = search needs

@@ -20,9 +20,7 @@ same-length : tie.Need-same-length
 same-length c = search needs
 
 returns : tie.Need-returns
-returns c =
-    own-not-sent _ _ _ _ _ _ _ (c .before .before .before .leg-at .ensures)
-    (c .before .before .send-shared-with-sequence .ensures) (c .enum-told .given .1)
+returns c = search own-not-sent
 
 membership-at-requires : tie.Need-membership-at-requires
 membership-at-requires c κs = search needs
@@ -41,14 +39,7 @@ same-length-3 : tie.Need-same-length-3
 same-length-3 c = search needs
 
 returns-2 : tie.Need-returns-2
-returns-2 c =
-    own-sent _ _ _ _ _ _ _
-    (c .before .before .before .before .before .before .before .before .before .before .before .before .before .before .leg-at .ensures)
-    (c .before .before .before .before .before .before .before .before .before .before .before .before .before .send-shared-with-sequence .ensures)
-    _
-    (c .before .before .before .before .before .before .before .before .before .before .before .result .given .1)
-    (c .before .before .before .before .before .before .before .before .membership-at .ensures)
-    (c .before .before .before .before .before .before .put-leg-at .ensures) (c .before .before .write-sent .ensures)
+returns-2 c = search own-sent
 
 pub send-on-spec : {M : Type 1} → statement M
 send-on-spec =

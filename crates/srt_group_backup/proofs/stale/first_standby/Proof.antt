@@ -20,9 +20,7 @@ is-standby-at-requires : tie.Need-is-standby-at-requires Inv-loop μ-loop
 is-standby-at-requires c κs = omega arith
 
 returns : tie.Need-returns Inv-loop μ-loop
-returns c =
-    found-first is-standby _ _ _ (c .before .before .loop-test .taken) (c .before .before .before .loop .inv .1)
-    (c .before .is-standby-at .ensures) (c .if1 .taken)
+returns c = search found-first
 
 add-i : tie.Need-add-i Inv-loop μ-loop
 add-i c = search needs
@@ -31,13 +29,10 @@ loop-less : tie.Need-loop-less Inv-loop μ-loop
 loop-less c = search needs
 
 loop-again : tie.Need-loop-again Inv-loop μ-loop
-loop-again c = (
-  omega arith,
-  passed-on _ _ _ _ (c .before .before .before .loop .inv .1) (c .before .is-standby-at .ensures) (c .if1 .left),
-)
+loop-again c = (search needs, search passed-on)
 
 returns-2 : tie.Need-returns-2 Inv-loop μ-loop
-returns-2 c = found-nowhere is-standby _ _ _ (c .loop-test .left) (c .before .loop .inv .1)
+returns-2 c = search found-nowhere
 
 pub first-standby-spec : {M : Type 1} → statement M
 first-standby-spec =

@@ -9,7 +9,7 @@ has-sender-requires : tie.Need-has-sender-requires
 has-sender-requires c κs = search needs
 
 returns : tie.Need-returns
-returns c = no-sender-not-stale _ _ (c .before .has-sender .ensures) (not-true _ (c .if1 .taken))
+returns c = search (no-sender-not-stale, not-true)
 
 returns-2 : tie.Need-returns-2
 returns-2 c = no-flight-not-stale _ _ (c .if2 .taken)
@@ -24,10 +24,7 @@ saturating-sub-requires : tie.Need-saturating-sub-requires
 saturating-sub-requires c κs = search needs
 
 returns-3 : tie.Need-returns-3
-returns-3 c =
-    stale-by-silence _ _ (c .before .before .before .before .before .before .has-sender .ensures)
-    (not-false _ (c .before .before .before .before .before .if1 .left)) (c .before .before .before .if2 .left)
-    (c .before .before .stability-timeout .ensures) (c .before .larger .ensures) (c .saturating-sub .ensures)
+returns-3 c = search (stale-by-silence, not-false)
 
 pub is-stale-spec : {M : Type 1} → statement M
 is-stale-spec =

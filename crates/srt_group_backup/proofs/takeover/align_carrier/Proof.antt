@@ -15,13 +15,13 @@ same-length : tie.Need-same-length
 same-length c = search needs
 
 returns-2 : tie.Need-returns-2
-returns-2 c = carrier-not-aligned _ _ _ _ (c .before .before .before .before .before .if1 .left) (c .before .before .before .align-member-sequence .ensures) (not-true _ (c .if2 .taken))
+returns-2 c = search (carrier-not-aligned, not-true)
 
 same-length-2 : tie.Need-same-length-2
 same-length-2 c = search needs
 
 returns-3 : tie.Need-returns-3
-returns-3 c = carrier-aligned _ _ _ _ (c .before .before .before .before .before .if1 .left) (c .before .before .before .align-member-sequence .ensures) (not-false _ (c .if2 .left))
+returns-3 c = search (carrier-aligned, not-false)
 
 pub align-carrier-spec : {M : Type 1} → statement M
 align-carrier-spec =

@@ -6,10 +6,7 @@ use Rattle.srt_group_backup.proofs.takeover.replay_flight.Statement.{st
 use Rattle.srt_group_backup.proofs.takeover.replay_flight.Tie as tie
 
 returns : tie.Need-returns
-returns c = let args = c .before .before .before .before .before .before .args in
-    gap-not-replayed _ _ (args .sending) (args .ring)
-    (arrays (args .history .now) (args .sources .now))
-    _ _ _ (c .if1 .taken)
+returns c = search gap-not-replayed
 
 entry-at-requires : tie.Need-entry-at-requires
 entry-at-requires c κs = search needs
@@ -30,13 +27,7 @@ same-length : tie.Need-same-length
 same-length c = search needs
 
 returns-2 : tie.Need-returns-2
-returns-2 c =
-    let args = c .before .before .before .before .before .before .before .before .before .before .before .before .args in
-    unaligned-not-replayed _ _ (args .sending) (args .ring)
-    (arrays (args .history .now) (args .sources .now))
-    _ _ _ (c .before .before .before .before .before .before .if1 .left)
-    (c .before .before .before .before .before .entry-at .ensures) (c .before .before .before .leg-at .ensures)
-    (c .before .before .align-leg .ensures) (c .enum-told .given .1)
+returns-2 c = search unaligned-not-replayed
 
 replay-on-requires : tie.Need-replay-on-requires
 replay-on-requires c κs =
@@ -49,17 +40,7 @@ same-length-3 : tie.Need-same-length-3
 same-length-3 c = search needs
 
 returns-3 : tie.Need-returns-3
-returns-3 c =
-    let args = c .before .before .before .before .before .before .before .before .before .before .before .before .before .before .before .before .before .before .before .before .args in
-    aligned-replayed _ _ (args .sending) (args .ring)
-    (arrays (args .history .now) (args .sources .now))
-    _ _ _
-    (c .before .before .before .before .before .before .before .before .before .before .before .before .before .before .if1 .left)
-    (c .before .before .before .before .before .before .before .before .before .before .before .before .before .entry-at .ensures)
-    (c .before .before .before .before .before .before .before .before .before .before .before .leg-at .ensures)
-    (c .before .before .before .before .before .before .before .before .before .before .align-leg .ensures) _
-    (c .before .before .before .before .before .before .before .before .result .given .1)
-    (c .before .before .before .before .replay-on .ensures)
+returns-3 c = search aligned-replayed
 
 pub replay-flight-spec : {M : Type 1} → statement M
 replay-flight-spec =

@@ -15,18 +15,13 @@ same-length : tie.Need-same-length
 same-length c = search needs
 
 returns : tie.Need-returns
-returns c =
-    let args = c .before .before .before .before .before .before .before .before .before .before .args in
-    no-room-to-replay _ _ (args .ring)
-    (arrays (args .history .now) (args .sources .now))
-    _ _ _ _ (c .before .before .before .before .before .remaining-window-packets .ensures)
-    (c .before .before .before .before .if1 .taken) (c .before .before .put-leg-at .ensures)
+returns c = search no-room-to-replay
 
 membership-at-requires : tie.Need-membership-at-requires
 membership-at-requires c κs = search needs
 
 replay-entries-requires : tie.Need-replay-entries-requires
-replay-entries-requires c κs = let pre = c .before .before .before .before .before .before .before .before .before .pre in (pre .0, pre .1 .1)
+replay-entries-requires c κs = (search needs, search needs)
 
 put-leg-at-requires-2 : tie.Need-put-leg-at-requires-2
 put-leg-at-requires-2 c κs = c .before .before .before .before .before .before .before .before .before .before .before .before .before .before .pre .1 .0
@@ -41,16 +36,7 @@ same-length-3 : tie.Need-same-length-3
 same-length-3 c = search needs
 
 returns-2 : tie.Need-returns-2
-returns-2 c =
-    let args = c .before .before .before .before .before .before .before .before .before .before .before .before .before .before .before .before .before .before .args in
-    replayed-with-room _ _ (args .ring)
-    (arrays (args .history .now) (args .sources .now))
-    _ _ _ _
-    (c .before .before .before .before .before .before .before .before .before .before .before .before .before .remaining-window-packets .ensures)
-    (c .before .before .before .before .before .before .before .before .before .before .before .before .if1 .left)
-    (c .before .before .before .before .before .before .before .before .before .before .membership-at .ensures)
-    (c .before .before .before .before .before .before .before .before .replay-entries .ensures)
-    (c .before .before .before .put-leg-at2 .ensures) (c .replay-outcome .ensures)
+returns-2 c = search replayed-with-room
 
 pub replay-on-spec : {M : Type 1} → statement M
 replay-on-spec =

@@ -20,21 +20,10 @@ same-length : tie.Need-same-length
 same-length c = search needs
 
 returns : tie.Need-returns
-returns c =
-    let args = c .before .before .before .before .before .before .before .before .before .before .before .before .args in
-    no-take-over _ _ _ _
-    (c .before .before .before .before .before .before .before .before .before .before .before .before .pre .1 .0 .0)
-    (args .sending) (args .ring)
-    (arrays (args .history .now) (args .sources .now))
-    _ _ (c .before .before .before .before .before .before .membership-at .ensures)
-    (c .before .before .before .before .before .takes-over .ensures)
-    (c .before .before .before .before .before .before .before .before .before .before .before .before .pre .0 .0)
-    (not-true _ (c .before .before .before .before .if1 .taken)) (c .before .before .align-carrier .ensures)
+returns c = search (no-take-over, not-true)
 
 trim-by-carrier-requires : tie.Need-trim-by-carrier-requires
-trim-by-carrier-requires c κs =
-    let pre = c .before .before .before .before .before .before .before .before .before .pre in
-    ((pre .0 .0, pre .0 .1 .history), pre .1 .0 .1)
+trim-by-carrier-requires c κs = ((search needs, search needs), search needs)
 
 align-carrier-requires-2 : tie.Need-align-carrier-requires-2
 align-carrier-requires-2 c κs = c .before .before .before .before .before .before .before .before .before .before .before .before .before .before .before .pre .1 .0 .1

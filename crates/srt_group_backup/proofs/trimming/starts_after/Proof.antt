@@ -14,10 +14,10 @@ word-before-requires : tie.Need-word-before-requires
 word-before-requires c κs = search needs
 
 returns-2 : tie.Need-returns-2
-returns-2 c = first-after _ _ _ (c .before .before .before .if1 .left) (c .before .before .sequence-at .ensures) (c .before .word-before .ensures) (c .if2 .taken)
+returns-2 c = search first-after
 
 returns-3 : tie.Need-returns-3
-returns-3 c = first-not-after _ _ _ (c .before .before .before .if1 .left) (c .before .before .sequence-at .ensures) (c .before .word-before .ensures) (c .if2 .left)
+returns-3 c = search first-not-after
 
 pub starts-after-spec : {M : Type 1} → statement M
 starts-after-spec =

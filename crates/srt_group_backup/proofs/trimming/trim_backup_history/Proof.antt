@@ -9,9 +9,7 @@ has-sender-requires : tie.Need-has-sender-requires
 has-sender-requires c κs = search needs
 
 returns : tie.Need-returns
-returns c =
-    no-sender-none-trimmed _ _ _ _ (c .before .before .before .pre .0) (c .before .has-sender .ensures)
-    (not-true _ (c .if1 .taken))
+returns c = search (no-sender-none-trimmed, not-true)
 
 oldest-unacked-sequence-requires : tie.Need-oldest-unacked-sequence-requires
 oldest-unacked-sequence-requires c κs = search needs
@@ -23,10 +21,7 @@ starts-after-requires : tie.Need-starts-after-requires
 starts-after-requires c κs = search needs
 
 returns-2 : tie.Need-returns-2
-returns-2 c =
-    acknowledged-trimmed _ _ _ _ (c .before .before .before .before .has-sender .ensures)
-    (not-false _ (c .before .before .before .if1 .left)) (c .before .before .oldest-unacked-sequence .ensures)
-    (c .before .drop-before .ensures) (c .starts-after .ensures)
+returns-2 c = search (acknowledged-trimmed, not-false)
 
 pub trim-backup-history-spec : {M : Type 1} → statement M
 trim-backup-history-spec =

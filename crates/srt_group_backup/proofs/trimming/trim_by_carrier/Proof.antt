@@ -8,7 +8,7 @@ use Rattle.srt_group_backup.proofs.trimming.trim_by_carrier.Statement.{
 use Rattle.srt_group_backup.proofs.trimming.trim_by_carrier.Tie as tie
 
 returns : tie.Need-returns
-returns c = no-carrier-none-trimmed _ _ _ _ _ (c .before .before .before .before .pre .0 .0) (c .if1 .taken)
+returns c = search no-carrier-none-trimmed
 
 find-requires : tie.Need-find-requires
 find-requires c κs = search needs

@@ -2,7 +2,6 @@
 use Rattle.srt_group_collecting.specs.laws.Visit.{collected-data, collected-other}
 use borrow.Author.Needs.{needs}
 use Rattle.srt_group_collecting.specs.laws.Used.{data-freed, event-kept}
-use Rattle.srt_group_collecting.specs.Collect.{receive-of}
 use Rattle.srt_group_collecting.proofs.collecting.collect_member_event.Statement.{statement}
 use Rattle.srt_group_collecting.proofs.collecting.collect_member_event.Tie as tie
 
@@ -21,12 +20,7 @@ same-length-3 : tie.Need-same-length-3
 same-length-3 c = search needs
 
 returns : tie.Need-returns
-returns c =
-    let args = c .before .before .before .before .before .before .before .before .before .before .before .before .before .before .before .before .before .args in (
-      collected-data (args .index) (args .id) (args .event) (args .core) (args .members .now) (args .pending .now) (args .waiting .now) (c .before .before .before .before .before .before .before .before .before .before .before .if1 .taken)
-          (c .before .before .before .before .before .before .retain-group-packet .ensures .0),
-      data-freed (args .id) (args .event) (receive-of (args .core) (args .pending .now)) (args .used .now) _ (c .before .before .before .before .before .before .before .before .before .before .before .if1 .taken) (c .before .before .before .before .before .before .retain-group-packet .ensures .1),
-    )
+returns c = (search collected-data, search data-freed)
 
 report-event-requires : tie.Need-report-event-requires
 report-event-requires c κs = search needs
@@ -38,12 +32,7 @@ same-length-5 : tie.Need-same-length-5
 same-length-5 c = search needs
 
 returns-2 : tie.Need-returns-2
-returns-2 c =
-    let args = c .before .before .before .before .before .before .before .before .before .before .before .before .before .args in (
-      collected-other (args .index) (args .id) (args .event) (args .core) (args .members .now) (args .pending .now) (args .waiting .now) (c .before .before .before .before .before .before .before .if1 .left)
-          (c .before .before .before .before .report-event .ensures),
-      event-kept (args .id) (args .event) (receive-of (args .core) (args .pending .now)) (args .used .now) (c .before .before .before .before .before .before .before .before .before .before .before .before .before .pre .1) (c .before .before .before .before .before .before .before .if1 .left),
-    )
+returns-2 c = (search collected-other, search event-kept)
 
 pub collect-member-event-spec : {M : Type 1} → statement M
 collect-member-event-spec =

@@ -19,26 +19,22 @@ abbrev μ-loop : tie.MeasureT-loop
 μ-loop members₀ pending₀ waiting₀ used₀ budget sequence visited₀ left₀ members pending waiting used visited left = left
 
 loop-holds : tie.Need-loop-holds Inv-loop μ-loop
-loop-holds c =
-    let args = c .before .before .before .before .args in (
-      emptying-start (args .sequence) (args .core) (args .budget) (args .members .now) (args .pending .now) (args .waiting .now) (c .before .before .before .before .pre .0) (c .before .before .before .before .pre .1 .0),
-      follows-same (args .core) (args .members .now) (args .pending .now) (args .used .now) (c .before .before .before .before .pre .1 .1),
-    )
+loop-holds c = (search emptying-start, search follows-same)
 
 is-settled-requires : tie.Need-is-settled-requires Inv-loop μ-loop
-is-settled-requires c κs = ((c .before .before .before .loop .inv .0 .usable .pending-long, held-most _ _ _ _ (c .before .before .before .loop .inv .0 .usable)), c .before .before .before .loop .inv .0 .usable .sound .ascending)
+is-settled-requires c κs = ((search needs, search held-most), search needs)
 
 same-length : tie.Need-same-length Inv-loop μ-loop
-same-length c = omega (arith, c .before .before .before .before .before .before .before .before .before .before .pre .1 .1, c .before .before .before .before .before .loop .inv .1 .long, c .before .before .before .before .before .loop .inv .0 .members-long, c .before .before .before .before .before .loop .inv .0 .pending-long, c .before .before .before .before .before .loop .inv .0 .waiting-long)
+same-length c = search needs
 
 same-length-2 : tie.Need-same-length-2 Inv-loop μ-loop
-same-length-2 c = omega (arith, c .before .before .before .before .before .before .before .before .before .before .pre .1 .1, c .before .before .before .before .before .loop .inv .1 .long, c .before .before .before .before .before .loop .inv .0 .members-long, c .before .before .before .before .before .loop .inv .0 .pending-long, c .before .before .before .before .before .loop .inv .0 .waiting-long)
+same-length-2 c = search needs
 
 same-length-3 : tie.Need-same-length-3 Inv-loop μ-loop
-same-length-3 c = omega (arith, c .before .before .before .before .before .before .before .before .before .before .pre .1 .1, c .before .before .before .before .before .loop .inv .1 .long, c .before .before .before .before .before .loop .inv .0 .members-long, c .before .before .before .before .before .loop .inv .0 .pending-long, c .before .before .before .before .before .loop .inv .0 .waiting-long)
+same-length-3 c = search needs
 
 same-length-4 : tie.Need-same-length-4 Inv-loop μ-loop
-same-length-4 c = omega (arith, c .before .before .before .before .before .before .before .before .before .before .pre .1 .1, c .before .before .before .before .before .loop .inv .1 .long, c .before .before .before .before .before .loop .inv .0 .members-long, c .before .before .before .before .before .loop .inv .0 .pending-long, c .before .before .before .before .before .loop .inv .0 .waiting-long)
+same-length-4 c = search needs
 
 returns : tie.Need-returns Inv-loop μ-loop
 returns c =
@@ -50,7 +46,7 @@ returns c =
     )
 
 collect-one-event-requires : tie.Need-collect-one-event-requires Inv-loop μ-loop
-collect-one-event-requires c κs = (c .before .before .before .before .before .before .before .before .before .loop .inv .0 .usable, (omega (arith, c .before .before .before .before .before .before .before .before .before .loop .inv .0 .waiting-few, c .before .before .before .before .before .before .before .before .loop-test .taken), c .before .before .before .before .before .before .before .before .before .loop .inv .1 .long))
+collect-one-event-requires c κs = (search needs, (search needs, search needs))
 
 flag-requires : tie.Need-flag-requires Inv-loop μ-loop
 flag-requires c κs = search needs
@@ -79,10 +75,10 @@ returns-2 c =
     )
 
 sub-left : tie.Need-sub-left Inv-loop μ-loop
-sub-left c = omega (arith, c .before .before .before .before .before .before .before .before .before .before .before .before .before .before .before .before .before .before .before .loop-test .taken)
+sub-left c = search needs
 
 loop-less : tie.Need-loop-less Inv-loop μ-loop
-loop-less c = omega (arith, c .before .before .before .before .before .before .before .before .before .before .before .before .before .before .before .before .before .before .before .loop-test .taken)
+loop-less c = search needs
 
 loop-again : tie.Need-loop-again Inv-loop μ-loop
 loop-again c =
@@ -96,22 +92,22 @@ loop-again c =
     )
 
 is-held-requires : tie.Need-is-held-requires Inv-loop μ-loop
-is-held-requires c κs = ((c .before .before .before .loop .inv .0 .usable .pending-long, held-most _ _ _ _ (c .before .before .before .loop .inv .0 .usable)), c .before .before .before .loop .inv .0 .usable .sound .ascending)
+is-held-requires c κs = ((search needs, search held-most), search needs)
 
 or-continue-requires : tie.Need-or-continue-requires Inv-loop μ-loop
-or-continue-requires c κs = c .before .before .before .before .loop .inv .0 .usable .sound .fit .continuation
+or-continue-requires c κs = search needs
 
 same-length-9 : tie.Need-same-length-9 Inv-loop μ-loop
-same-length-9 c = omega (arith, c .before .before .before .before .before .before .before .before .before .before .pre .1 .1, c .before .before .before .before .before .loop .inv .1 .long, c .before .before .before .before .before .loop .inv .0 .members-long, c .before .before .before .before .before .loop .inv .0 .pending-long, c .before .before .before .before .before .loop .inv .0 .waiting-long)
+same-length-9 c = search needs
 
 same-length-10 : tie.Need-same-length-10 Inv-loop μ-loop
-same-length-10 c = omega (arith, c .before .before .before .before .before .before .before .before .before .before .pre .1 .1, c .before .before .before .before .before .loop .inv .1 .long, c .before .before .before .before .before .loop .inv .0 .members-long, c .before .before .before .before .before .loop .inv .0 .pending-long, c .before .before .before .before .before .loop .inv .0 .waiting-long)
+same-length-10 c = search needs
 
 same-length-11 : tie.Need-same-length-11 Inv-loop μ-loop
-same-length-11 c = omega (arith, c .before .before .before .before .before .before .before .before .before .before .pre .1 .1, c .before .before .before .before .before .loop .inv .1 .long, c .before .before .before .before .before .loop .inv .0 .members-long, c .before .before .before .before .before .loop .inv .0 .pending-long, c .before .before .before .before .before .loop .inv .0 .waiting-long)
+same-length-11 c = search needs
 
 same-length-12 : tie.Need-same-length-12 Inv-loop μ-loop
-same-length-12 c = omega (arith, c .before .before .before .before .before .before .before .before .before .before .pre .1 .1, c .before .before .before .before .before .loop .inv .1 .long, c .before .before .before .before .before .loop .inv .0 .members-long, c .before .before .before .before .before .loop .inv .0 .pending-long, c .before .before .before .before .before .loop .inv .0 .waiting-long)
+same-length-12 c = search needs
 
 returns-3 : tie.Need-returns-3 Inv-loop μ-loop
 returns-3 c =

@@ -18,26 +18,22 @@ abbrev μ-loop : tie.MeasureT-loop
 μ-loop members₀ pending₀ waiting₀ used₀ budget visited₀ left₀ members pending waiting used visited left = left
 
 loop-holds : tie.Need-loop-holds Inv-loop μ-loop
-loop-holds c =
-    let args = c .before .before .before .before .args in (
-      holding-start (args .core) (args .budget) (args .members .now) (args .pending .now) (args .waiting .now) (c .before .before .before .before .pre .0),
-      follows-same (args .core) (args .members .now) (args .pending .now) (args .used .now) (c .before .before .before .before .pre .1),
-    )
+loop-holds c = (search holding-start, search follows-same)
 
 sub-visits : tie.Need-sub-visits Inv-loop μ-loop
 sub-visits c = search needs
 
 visit-until-held-requires : tie.Need-visit-until-held-requires Inv-loop μ-loop
-visit-until-held-requires c κs = (c .before .before .before .before .before .loop .inv .0 .usable, c .before .before .before .before .before .loop .inv .1 .long)
+visit-until-held-requires c κs = (search needs, search needs)
 
 same-length : tie.Need-same-length Inv-loop μ-loop
-same-length c = omega (arith, c .before .before .before .before .before .before .before .before .before .before .before .before .before .before .before .before .before .before .before .before .before .before .pre .1, c .before .before .before .before .before .before .before .before .before .before .before .before .before .before .before .before .before .loop .inv .1 .long, c .before .before .before .before .before .before .before .before .before .before .before .before .before .before .before .before .before .loop .inv .0 .members-long, c .before .before .before .before .before .before .before .before .before .before .before .before .before .before .before .before .before .loop .inv .0 .pending-long, c .before .before .before .before .before .before .before .before .before .before .before .before .before .before .before .before .before .loop .inv .0 .waiting-long, c .before .before .before .before .before .before .before .before .before .before .before .visit-until-held .ensures .0 .members-long, c .before .before .before .before .before .before .before .before .before .before .before .visit-until-held .ensures .0 .pending-long, c .before .before .before .before .before .before .before .before .before .before .before .visit-until-held .ensures .0 .waiting-long, c .before .before .before .before .before .before .before .before .before .before .before .visit-until-held .ensures .1 .long)
+same-length c = search needs
 
 same-length-2 : tie.Need-same-length-2 Inv-loop μ-loop
-same-length-2 c = omega (arith, c .before .before .before .before .before .before .before .before .before .before .before .before .before .before .before .before .before .before .before .before .before .before .pre .1, c .before .before .before .before .before .before .before .before .before .before .before .before .before .before .before .before .before .loop .inv .1 .long, c .before .before .before .before .before .before .before .before .before .before .before .before .before .before .before .before .before .loop .inv .0 .members-long, c .before .before .before .before .before .before .before .before .before .before .before .before .before .before .before .before .before .loop .inv .0 .pending-long, c .before .before .before .before .before .before .before .before .before .before .before .before .before .before .before .before .before .loop .inv .0 .waiting-long, c .before .before .before .before .before .before .before .before .before .before .before .visit-until-held .ensures .0 .members-long, c .before .before .before .before .before .before .before .before .before .before .before .visit-until-held .ensures .0 .pending-long, c .before .before .before .before .before .before .before .before .before .before .before .visit-until-held .ensures .0 .waiting-long, c .before .before .before .before .before .before .before .before .before .before .before .visit-until-held .ensures .1 .long)
+same-length-2 c = search needs
 
 same-length-3 : tie.Need-same-length-3 Inv-loop μ-loop
-same-length-3 c = omega (arith, c .before .before .before .before .before .before .before .before .before .before .before .before .before .before .before .before .before .before .before .before .before .before .pre .1, c .before .before .before .before .before .before .before .before .before .before .before .before .before .before .before .before .before .loop .inv .1 .long, c .before .before .before .before .before .before .before .before .before .before .before .before .before .before .before .before .before .loop .inv .0 .members-long, c .before .before .before .before .before .before .before .before .before .before .before .before .before .before .before .before .before .loop .inv .0 .pending-long, c .before .before .before .before .before .before .before .before .before .before .before .before .before .before .before .before .before .loop .inv .0 .waiting-long, c .before .before .before .before .before .before .before .before .before .before .before .visit-until-held .ensures .0 .members-long, c .before .before .before .before .before .before .before .before .before .before .before .visit-until-held .ensures .0 .pending-long, c .before .before .before .before .before .before .before .before .before .before .before .visit-until-held .ensures .0 .waiting-long, c .before .before .before .before .before .before .before .before .before .before .before .visit-until-held .ensures .1 .long)
+same-length-3 c = search needs
 
 same-length-4 : tie.Need-same-length-4 Inv-loop μ-loop
 same-length-4 c = omega (arith, c .before .before .before .before .before .before .before .before .before .before .before .before .before .before .before .before .before .before .before .before .before .before .pre .1, c .before .before .before .before .before .before .before .before .before .before .before .before .before .before .before .before .before .loop .inv .1 .long, c .before .before .before .before .before .before .before .before .before .before .before .before .before .before .before .before .before .loop .inv .0 .members-long, c .before .before .before .before .before .before .before .before .before .before .before .before .before .before .before .before .before .loop .inv .0 .pending-long, c .before .before .before .before .before .before .before .before .before .before .before .before .before .before .before .before .before .loop .inv .0 .waiting-long, c .before .before .before .before .before .before .before .before .before .before .before .visit-until-held .ensures .0 .members-long, c .before .before .before .before .before .before .before .before .before .before .before .visit-until-held .ensures .0 .pending-long, c .before .before .before .before .before .before .before .before .before .before .before .visit-until-held .ensures .0 .waiting-long, c .before .before .before .before .before .before .before .before .before .before .before .visit-until-held .ensures .1 .long)
@@ -64,16 +60,16 @@ loop-again c =
     )
 
 same-length-5 : tie.Need-same-length-5 Inv-loop μ-loop
-same-length-5 c = omega (arith, c .before .before .before .before .before .before .before .pre .1, c .before .before .loop .inv .1 .long, c .before .before .loop .inv .0 .members-long, c .before .before .loop .inv .0 .pending-long, c .before .before .loop .inv .0 .waiting-long)
+same-length-5 c = search needs
 
 same-length-6 : tie.Need-same-length-6 Inv-loop μ-loop
-same-length-6 c = omega (arith, c .before .before .before .before .before .before .before .pre .1, c .before .before .loop .inv .1 .long, c .before .before .loop .inv .0 .members-long, c .before .before .loop .inv .0 .pending-long, c .before .before .loop .inv .0 .waiting-long)
+same-length-6 c = search needs
 
 same-length-7 : tie.Need-same-length-7 Inv-loop μ-loop
-same-length-7 c = omega (arith, c .before .before .before .before .before .before .before .pre .1, c .before .before .loop .inv .1 .long, c .before .before .loop .inv .0 .members-long, c .before .before .loop .inv .0 .pending-long, c .before .before .loop .inv .0 .waiting-long)
+same-length-7 c = search needs
 
 same-length-8 : tie.Need-same-length-8 Inv-loop μ-loop
-same-length-8 c = omega (arith, c .before .before .before .before .before .before .before .pre .1, c .before .before .loop .inv .1 .long, c .before .before .loop .inv .0 .members-long, c .before .before .loop .inv .0 .pending-long, c .before .before .loop .inv .0 .waiting-long)
+same-length-8 c = search needs
 
 returns-2 : tie.Need-returns-2 Inv-loop μ-loop
 returns-2 c =

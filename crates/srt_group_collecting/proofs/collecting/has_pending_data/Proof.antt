@@ -4,13 +4,13 @@ use Rattle.srt_group_collecting.proofs.collecting.has_pending_data.Stat
 use Rattle.srt_group_collecting.proofs.collecting.has_pending_data.Tie as tie
 
 returns : tie.Need-returns
-returns c = pends-held (c .before .before .args .core) (c .if1 .taken)
+returns c = search pends-held
 
 returns-2 : tie.Need-returns-2
-returns-2 c = pends-waiting (c .before .before .before .before .args .core) (c .if2 .taken)
+returns-2 c = search pends-waiting
 
 returns-3 : tie.Need-returns-3
-returns-3 c = pends-continuing (c .before .before .before .before .before .args .core) (c .before .before .before .if1 .left) (c .before .if2 .left)
+returns-3 c = search pends-continuing
 
 pub has-pending-data-spec : {M : Type 1} → statement M
 has-pending-data-spec =

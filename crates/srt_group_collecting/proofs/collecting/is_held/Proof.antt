@@ -1,6 +1,4 @@
 -- `is_held` meets its contract: it is held if the search finds it.
-use mathlib.Core.Path.{sym, _∙_}
-use Rattle.srt_group_tables.specs.Packets.{packets}
 use Rattle.srt_group_collecting.specs.laws.Collect.{held-found, held-nowhere}
 use borrow.Author.Needs.{needs}
 use Rattle.srt_group_collecting.proofs.collecting.is_held.Statement.{statement}
@@ -16,18 +14,10 @@ enum-told-2 : tie.Need-enum-told-2
 enum-told-2 c = search needs
 
 returns : tie.Need-returns
-returns c =
-    let args = c .before .before .before .before .args in
-    let find = c .before .before .find in
-    let enum-told = c .enum-told in
-    held-found (args .sequence) (packets (args .held) (args .pending .now)) _ (sym (enum-told .given .1) ∙ find .ensures)
+returns c = search held-found
 
 returns-2 : tie.Need-returns-2
-returns-2 c =
-    let args = c .before .before .before .before .args in
-    let find = c .before .before .find in
-    let enum-told2 = c .enum-told2 in
-    held-nowhere (args .sequence) (packets (args .held) (args .pending .now)) (sym (enum-told2 .given .1) ∙ find .ensures)
+returns-2 c = search held-nowhere
 
 pub is-held-spec : {M : Type 1} → statement M
 is-held-spec = tie.close (tie.spec find-requires enum-told enum-told-2 returns returns-2)

@@ -5,13 +5,13 @@ use Rattle.srt_group_collecting.proofs.collecting.is_settled.Statement.
 use Rattle.srt_group_collecting.proofs.collecting.is_settled.Tie as tie
 
 returns : tie.Need-returns
-returns c = settled-asked (c .before .before .before .args .core .visit .continuation) _ (c .if1 .taken)
+returns c = search settled-asked
 
 is-held-requires : tie.Need-is-held-requires
 is-held-requires c κs = search needs
 
 returns-2 : tie.Need-returns-2
-returns-2 c = settled-or-held (c .before .before .before .before .args .core .visit .continuation) _ (c .before .if1 .left) (c .is-held .ensures)
+returns-2 c = search settled-or-held
 
 pub is-settled-spec : {M : Type 1} → statement M
 is-settled-spec =

@@ -8,10 +8,10 @@ ask-to-continue-requires : tie.Need-ask-to-continue-requires
 ask-to-continue-requires c κs = search needs
 
 returns : tie.Need-returns
-returns c = asked-as-well (c .before .before .args .core) (c .before .before .args .asked) (c .before .if1 .taken) (c .ask-to-continue .ensures)
+returns c = search asked-as-well
 
 returns-2 : tie.Need-returns-2
-returns-2 c = not-asked (c .before .args .core) (c .before .args .asked) (c .if1 .left) (c .before .pre)
+returns-2 c = search not-asked
 
 pub or-continue-spec : {M : Type 1} → statement M
 or-continue-spec =

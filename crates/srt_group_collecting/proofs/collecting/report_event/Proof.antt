@@ -20,10 +20,7 @@ same-length-2 : tie.Need-same-length-2
 same-length-2 c = search needs
 
 returns : tie.Need-returns
-returns c =
-    let break-member = c .before .before .before .before .before .before .before .break-member in
-    let push-back = c .before .before .before .push-back in
-    reported _ _ _ _ _ _ _ (break-member .ensures) (push-back .ensures)
+returns c = search reported
 
 pub report-event-spec : {M : Type 1} → statement M
 report-event-spec =

@@ -1,7 +1,6 @@
 -- `visit_until_held` meets its contract.
 use Rattle.srt_group_collecting.specs.laws.Gather.{held-waits, held-none, held-one}
 use borrow.Author.Needs.{needs}
-use native.Mathlib.Omega.{arith}
 use Rattle.srt_group_collecting.specs.laws.Follows.{follows-same}
 use Rattle.srt_group_collecting.specs.laws.Used.{follows-continued}
 use Rattle.srt_group_model.specs.laws.Flag.{zero-unset, other-set}
@@ -9,26 +8,22 @@ use Rattle.srt_group_collecting.proofs.collecting.visit_until_held.Stat
 use Rattle.srt_group_collecting.proofs.collecting.visit_until_held.Tie as tie
 
 returns : tie.Need-returns
-returns c =
-    let args = c .before .before .before .before .before .before .before .args in (
-      held-waits (args .visits) (args .before) (args .members .now) (args .pending .now) (args .waiting .now) (c .before .before .before .before .before .before .before .pre .0) (c .if1 .taken),
-      follows-same (args .before .core) (args .members .now) (args .pending .now) (args .used .now) (c .before .before .before .before .before .before .before .pre .1),
-    )
+returns c = (search held-waits, search follows-same)
 
 collect-one-event-requires : tie.Need-collect-one-event-requires
-collect-one-event-requires c κs = (c .before .before .before .before .before .before .before .before .before .before .before .pre .0, (omega (arith, c .before .before .before .before .if1 .left), c .before .before .before .before .before .before .before .before .before .before .before .pre .1))
+collect-one-event-requires c κs = (search needs, (search needs, search needs))
 
 same-length : tie.Need-same-length
-same-length c = omega (arith, c .before .before .before .before .before .before .before .before .before .before .before .before .before .before .before .before .before .before .before .before .before .before .before .pre .1, c .before .before .before .before .before .before .before .before .before .before .before .collect-one-event .ensures .0 .visits .members-long, c .before .before .before .before .before .before .before .before .before .before .before .collect-one-event .ensures .0 .visits .pending-long, c .before .before .before .before .before .before .before .before .before .before .before .collect-one-event .ensures .0 .visits .waiting-long, c .before .before .before .before .before .before .before .before .before .before .before .collect-one-event .ensures .1 .long)
+same-length c = search needs
 
 same-length-2 : tie.Need-same-length-2
-same-length-2 c = omega (arith, c .before .before .before .before .before .before .before .before .before .before .before .before .before .before .before .before .before .before .before .before .before .before .before .pre .1, c .before .before .before .before .before .before .before .before .before .before .before .collect-one-event .ensures .0 .visits .members-long, c .before .before .before .before .before .before .before .before .before .before .before .collect-one-event .ensures .0 .visits .pending-long, c .before .before .before .before .before .before .before .before .before .before .before .collect-one-event .ensures .0 .visits .waiting-long, c .before .before .before .before .before .before .before .before .before .before .before .collect-one-event .ensures .1 .long)
+same-length-2 c = search needs
 
 same-length-3 : tie.Need-same-length-3
-same-length-3 c = omega (arith, c .before .before .before .before .before .before .before .before .before .before .before .before .before .before .before .before .before .before .before .before .before .before .before .pre .1, c .before .before .before .before .before .before .before .before .before .before .before .collect-one-event .ensures .0 .visits .members-long, c .before .before .before .before .before .before .before .before .before .before .before .collect-one-event .ensures .0 .visits .pending-long, c .before .before .before .before .before .before .before .before .before .before .before .collect-one-event .ensures .0 .visits .waiting-long, c .before .before .before .before .before .before .before .before .before .before .before .collect-one-event .ensures .1 .long)
+same-length-3 c = search needs
 
 same-length-4 : tie.Need-same-length-4
-same-length-4 c = omega (arith, c .before .before .before .before .before .before .before .before .before .before .before .before .before .before .before .before .before .before .before .before .before .before .before .pre .1, c .before .before .before .before .before .before .before .before .before .before .before .collect-one-event .ensures .0 .visits .members-long, c .before .before .before .before .before .before .before .before .before .before .before .collect-one-event .ensures .0 .visits .pending-long, c .before .before .before .before .before .before .before .before .before .before .before .collect-one-event .ensures .0 .visits .waiting-long, c .before .before .before .before .before .before .before .before .before .before .before .collect-one-event .ensures .1 .long)
+same-length-4 c = search needs
 
 returns-2 : tie.Need-returns-2
 returns-2 c =
@@ -43,7 +38,7 @@ ends-with-none-held-requires : tie.Need-ends-with-none-held-requires
 ends-with-none-held-requires c κs = search needs
 
 or-continue-requires : tie.Need-or-continue-requires
-or-continue-requires c κs = c .before .before .before .before .before .before .before .before .before .before .before .before .collect-one-event .ensures .0 .usable .sound .fit .continuation
+or-continue-requires c κs = search needs
 
 has-pending-data-requires : tie.Need-has-pending-data-requires
 has-pending-data-requires c κs = search needs
@@ -52,16 +47,16 @@ flag-requires : tie.Need-flag-requires
 flag-requires c κs = search needs
 
 same-length-5 : tie.Need-same-length-5
-same-length-5 c = omega (arith, c .before .before .before .before .before .before .before .before .before .before .before .before .before .before .before .before .before .before .before .before .before .before .before .before .before .before .before .pre .1, c .before .before .before .before .before .before .before .before .before .before .before .before .before .before .before .collect-one-event .ensures .0 .visits .members-long, c .before .before .before .before .before .before .before .before .before .before .before .before .before .before .before .collect-one-event .ensures .0 .visits .pending-long, c .before .before .before .before .before .before .before .before .before .before .before .before .before .before .before .collect-one-event .ensures .0 .visits .waiting-long, c .before .before .before .before .before .before .before .before .before .before .before .before .before .before .before .collect-one-event .ensures .1 .long)
+same-length-5 c = search needs
 
 same-length-6 : tie.Need-same-length-6
-same-length-6 c = omega (arith, c .before .before .before .before .before .before .before .before .before .before .before .before .before .before .before .before .before .before .before .before .before .before .before .before .before .before .before .pre .1, c .before .before .before .before .before .before .before .before .before .before .before .before .before .before .before .collect-one-event .ensures .0 .visits .members-long, c .before .before .before .before .before .before .before .before .before .before .before .before .before .before .before .collect-one-event .ensures .0 .visits .pending-long, c .before .before .before .before .before .before .before .before .before .before .before .before .before .before .before .collect-one-event .ensures .0 .visits .waiting-long, c .before .before .before .before .before .before .before .before .before .before .before .before .before .before .before .collect-one-event .ensures .1 .long)
+same-length-6 c = search needs
 
 same-length-7 : tie.Need-same-length-7
-same-length-7 c = omega (arith, c .before .before .before .before .before .before .before .before .before .before .before .before .before .before .before .before .before .before .before .before .before .before .before .before .before .before .before .pre .1, c .before .before .before .before .before .before .before .before .before .before .before .before .before .before .before .collect-one-event .ensures .0 .visits .members-long, c .before .before .before .before .before .before .before .before .before .before .before .before .before .before .before .collect-one-event .ensures .0 .visits .pending-long, c .before .before .before .before .before .before .before .before .before .before .before .before .before .before .before .collect-one-event .ensures .0 .visits .waiting-long, c .before .before .before .before .before .before .before .before .before .before .before .before .before .before .before .collect-one-event .ensures .1 .long)
+same-length-7 c = search needs
 
 same-length-8 : tie.Need-same-length-8
-same-length-8 c = omega (arith, c .before .before .before .before .before .before .before .before .before .before .before .before .before .before .before .before .before .before .before .before .before .before .before .before .before .before .before .pre .1, c .before .before .before .before .before .before .before .before .before .before .before .before .before .before .before .collect-one-event .ensures .0 .visits .members-long, c .before .before .before .before .before .before .before .before .before .before .before .before .before .before .before .collect-one-event .ensures .0 .visits .pending-long, c .before .before .before .before .before .before .before .before .before .before .before .before .before .before .before .collect-one-event .ensures .0 .visits .waiting-long, c .before .before .before .before .before .before .before .before .before .before .before .before .before .before .before .collect-one-event .ensures .1 .long)
+same-length-8 c = search needs
 
 returns-3 : tie.Need-returns-3
 returns-3 c =

@@ -4,10 +4,10 @@ use Rattle.srt_group_data_poll.proofs.only_writer.queue_and_poll.Statem
 use Rattle.srt_group_data_poll.proofs.only_writer.queue_and_poll.Tie as tie
 
 queue-data-requires : tie.Need-queue-data-requires
-queue-data-requires c κs = c .before .before .before .before .before .before .before .before .before .before .before .before .before .before .pre .0
+queue-data-requires c κs = search needs
 
 poll-data-bounded-requires : tie.Need-poll-data-bounded-requires
-poll-data-bounded-requires c κs = (c .before .before .before .before .before .before .before .before .before .before .before .before .queue-data .ensures .ready, c .before .before .before .before .before .before .before .before .before .before .before .before .before .before .before .before .before .before .before .before .before .before .before .before .before .before .before .pre .1)
+poll-data-bounded-requires c κs = (search needs, search needs)
 
 same-length : tie.Need-same-length
 same-length c = search needs
@@ -28,7 +28,7 @@ same-length-6 : tie.Need-same-length-6
 same-length-6 c = search needs
 
 returns : tie.Need-returns
-returns c = c .before .before .before .before .before .before .before .before .before .before .poll-data-bounded .ensures .ready
+returns c = search needs
 
 pub queue-and-poll-spec : {M : Type 1} → statement M
 queue-and-poll-spec =

@@ -6,7 +6,7 @@ use Rattle.srt_group_data_poll.proofs.polls.poll_data_bounded.Statement
 use Rattle.srt_group_data_poll.proofs.polls.poll_data_bounded.Tie as tie
 
 poll-data-bounded-requires : tie.Need-poll-data-bounded-requires
-poll-data-bounded-requires c κs = (usable (c .before .before .before .before .before .before .before .before .before .before .before .before .pre .0), (sending-fits (c .before .before .before .before .before .before .before .before .before .before .before .before .pre .0), c .before .before .before .before .before .before .before .before .before .before .before .before .pre .0 .shows .cells .long))
+poll-data-bounded-requires c κs = (search usable, (search sending-fits, search needs))
 
 write-payload-requires : tie.Need-write-payload-requires
 write-payload-requires c κs = search (needs, writable)

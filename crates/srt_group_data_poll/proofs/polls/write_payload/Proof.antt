@@ -17,7 +17,7 @@ same-length : tie.Need-same-length
 same-length c = search needs
 
 returns : tie.Need-returns
-returns c = wrote-some _ _ _ _ _ (c .before .before .before .before .before .before .gave .given .1) (c .before .before .before .before .before .before .before .before .before .before .pre) (c .before .before .copy-payload .ensures)
+returns c = search wrote-some
 
 returns-2 : tie.Need-returns-2
 returns-2 c = wrote-none _ _ _ (c .enum-told .given .1)

@@ -1,7 +1,5 @@
 -- `deliver` meets its contract: the base is not held, or its packet is delivered.
-use mathlib.Core.Path.{sym, _∙_}
-use native.Mathlib.Omega.{arith}
-use Rattle.srt_group_delivery.specs.laws.Poll.{held-below, base-not-held, base-delivered}
+use Rattle.srt_group_delivery.specs.laws.Poll.{found-in-table, base-not-held, base-delivered}
 use borrow.Author.Needs.{needs}
 use Rattle.srt_group_collecting.specs.laws.Follows.{follows-same}
 use Rattle.srt_group_delivery.proofs.delivery.deliver.Statement.{statement}
@@ -20,10 +18,10 @@ same-length : tie.Need-same-length
 same-length c = search needs
 
 returns : tie.Need-returns
-returns c = (λ ws. base-not-held _ _ _ _ ws (sym (c .enum-told .given .1) ∙ c .before .before .find .ensures), follows-same _ _ _ _ (c .before .before .before .before .before .before .before .pre .1))
+returns c = search (base-not-held, follows-same)
 
 packet-requires : tie.Need-packet-requires
-packet-requires c κs = (c .before .before .before .before .before .before .before .before .before .pre .0 .pending-long, omega (arith, c .before .before .before .before .before .before .before .before .before .pre .0 .held-few, held-below _ _ _ _ (sym (c .before .before .found .given .1) ∙ c .before .before .before .before .find .ensures)))
+packet-requires c κs = search found-in-table
 
 deliver-packet-requires : tie.Need-deliver-packet-requires
 deliver-packet-requires c κs = search needs
@@ -38,7 +36,7 @@ same-length-4 : tie.Need-same-length-4
 same-length-4 c = search needs
 
 returns-2 : tie.Need-returns-2
-returns-2 c = (λ ws. base-delivered _ _ _ _ ws _ _ _ _ (sym (c .before .before .before .before .before .before .before .before .before .before .before .before .before .found .given .1) ∙ c .before .before .before .before .before .before .before .before .before .before .before .before .before .before .before .find .ensures) (c .before .before .before .before .before .before .before .before .before .before .packet .ensures) (c .before .before .before .before .before .before .deliver-packet .ensures .0), c .before .before .before .before .before .before .deliver-packet .ensures .1)
+returns-2 c = search base-delivered
 
 pub deliver-spec : {M : Type 1} → statement M
 deliver-spec =

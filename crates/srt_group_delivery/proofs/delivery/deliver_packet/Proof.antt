@@ -1,10 +1,7 @@
 -- `deliver_packet` meets its contract: what is released, advanced and removed are its parts.
-use mathlib.Core.Path.{ap}
-use native.Mathlib.Omega.{arith}
-use Rattle.srt_group_model.specs.declared.Core.{Core}
-use Rattle.srt_group_delivery.specs.laws.Delivery.{delivered-all}
+use Rattle.srt_group_delivery.specs.laws.Delivery.{rows-kept, held-kept, delivered-all}
 use borrow.Author.Needs.{needs}
-use Rattle.srt_group_delivery.specs.laws.UsedByDelivery.{follows-delivered}
+use Rattle.srt_group_delivery.specs.laws.UsedByDelivery.{delivered-and-freed}
 use Rattle.srt_group_delivery.proofs.delivery.deliver_packet.Statement.{statement}
 use Rattle.srt_group_delivery.proofs.delivery.deliver_packet.Tie as tie
 
@@ -15,10 +12,10 @@ word-further-requires : tie.Need-word-further-requires
 word-further-requires c κs = search needs
 
 advance-receive-sequence-of-all-requires : tie.Need-advance-receive-sequence-of-all-requires
-advance-receive-sequence-of-all-requires c κs = omega (arith, c .before .before .before .before .before .before .release-covered .ensures .0 .long, ap (λ (x : Core). x .counts .members) (c .before .before .before .before .before .before .release-covered .ensures .0 .rest))
+advance-receive-sequence-of-all-requires c κs = search rows-kept
 
 remove-covered-requires : tie.Need-remove-covered-requires
-remove-covered-requires c κs = (omega arith, omega (arith, ap (λ (x : Core). x .counts .pending) (c .before .before .before .before .before .before .before .before .before .before .release-covered .ensures .0 .rest)))
+remove-covered-requires c κs = search (needs, held-kept)
 
 same-length : tie.Need-same-length
 same-length c = search needs
@@ -30,15 +27,7 @@ same-length-3 : tie.Need-same-length-3
 same-length-3 c = search needs
 
 returns : tie.Need-returns
-returns c =
-    let done =
-    delivered-all _ _ _ _ _ _ _ _ _ _ _ (c .before .before .before .before .before .before .before .before .before .before .before .word-further .ensures)
-    record {
-      released = c .before .before .before .before .before .before .before .before .before .before .before .before .before .before .before .before .release-covered .ensures .0;
-      advanced = c .before .before .before .before .before .before .before .before .before .advance-receive-sequence-of-all .ensures;
-      removed = c .before .before .before .before .before .remove-covered .ensures .1;
-    } in
-    (done, follows-delivered _ _ _ _ _ _ _ _ _ _ done (c .before .before .before .before .before .before .before .before .before .before .before .before .before .before .before .before .release-covered .ensures .1))
+returns c = delivered-and-freed _ _ _ _ _ _ _ _ _ _ (search delivered-all) (search)
 
 pub deliver-packet-spec : {M : Type 1} → statement M
 deliver-packet-spec =

@@ -1,7 +1,5 @@
 -- `gap_given_up` meets its contract: nothing is held, all legs are gone, or the nearest packet's leg is asked.
-use native.Mathlib.Omega.{arith}
-use Rattle.srt_group_tables.specs.laws.PacketLaws.{at-in-use}
-use Rattle.srt_group_delivery.specs.laws.Delivery.{nothing-held, all-gone, left-to-the-leg}
+use Rattle.srt_group_delivery.specs.laws.Delivery.{nearest-in-table, nothing-held, all-gone, left-to-the-leg}
 use borrow.Author.Needs.{needs}
 use Rattle.srt_group_delivery.proofs.delivery.gap_given_up.Statement.{statement}
 use Rattle.srt_group_delivery.proofs.delivery.gap_given_up.Tie as tie
@@ -16,22 +14,22 @@ enum-told : tie.Need-enum-told
 enum-told c = search needs
 
 returns : tie.Need-returns
-returns c = λ history ws. nothing-held _ _ _ _ _ (c .before .before .nearest .ensures) history ws (c .enum-told .given .1)
+returns c = search nothing-held
 
 all-disconnected-requires : tie.Need-all-disconnected-requires
 all-disconnected-requires c κs = search needs
 
 returns-2 : tie.Need-returns-2
-returns-2 c = λ history ws. all-gone _ _ _ _ _ (c .before .before .before .before .before .nearest .ensures) history ws _ (c .before .before .before .nearest2 .given .1) (c .before .all-disconnected .ensures) (c .if1 .taken)
+returns-2 c = search all-gone
 
 packet-requires : tie.Need-packet-requires
-packet-requires c κs = (omega arith, omega (arith, at-in-use _ _ _ (c .before .before .before .before .before .nearest .ensures .within) (c .before .before .before .nearest2 .given .1)))
+packet-requires c κs = search (needs, nearest-in-table)
 
 leg-gives-up-requires : tie.Need-leg-gives-up-requires
 leg-gives-up-requires c κs = search needs
 
 returns-3 : tie.Need-returns-3
-returns-3 c = λ history ws. left-to-the-leg _ _ _ _ _ (c .before .before .before .before .before .before .before .nearest .ensures) history ws _ (c .before .before .before .before .before .nearest2 .given .1) (c .before .before .before .all-disconnected .ensures) (c .before .before .if1 .left) (c .before .packet .ensures) (c .leg-gives-up .ensures)
+returns-3 c = search left-to-the-leg
 
 pub gap-given-up-spec : {M : Type 1} → statement M
 gap-given-up-spec =

@@ -1,5 +1,4 @@
 -- `give_waiting` meets its contract: none waits, or the first is given.
-use native.Mathlib.Omega.{arith}
 use Rattle.srt_group_delivery.specs.laws.Poll.{none-waits, first-waits}
 use borrow.Author.Needs.{needs}
 use Rattle.srt_group_delivery.proofs.delivery.give_waiting.Statement.{statement}
@@ -21,7 +20,7 @@ same-length : tie.Need-same-length
 same-length c = search needs
 
 returns-2 : tie.Need-returns-2
-returns-2 c = λ ms ps. first-waits _ ms ps _ _ (omega arith) (c .before .before .before .before .before .waiting-event .ensures) (c .before .before .before .pop-front .ensures)
+returns-2 c = λ ms ps. search first-waits
 
 pub give-waiting-spec : {M : Type 1} → statement M
 give-waiting-spec =

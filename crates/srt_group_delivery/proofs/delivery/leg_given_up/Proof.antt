@@ -1,5 +1,4 @@
 -- `leg_given_up` meets its contract: by the deadline, or never.
-use mathlib.Core.Path.{sym, _∙_}
 use Rattle.srt_group_delivery.specs.laws.Delivery.{given-up-from, never-given-up}
 use borrow.Author.Needs.{needs}
 use Rattle.srt_group_delivery.proofs.delivery.leg_given_up.Statement.{statement}
@@ -15,10 +14,10 @@ enum-told : tie.Need-enum-told
 enum-told c = search needs
 
 returns : tie.Need-returns
-returns c = given-up-from _ _ _ _ (sym (c .before .before .before .deadline .given .1) ∙ c .before .before .before .before .before .gives-up-at .ensures)
+returns c = search given-up-from
 
 returns-2 : tie.Need-returns-2
-returns-2 c = never-given-up _ _ _ (sym (c .enum-told .given .1) ∙ c .before .before .gives-up-at .ensures)
+returns-2 c = search never-given-up
 
 pub leg-given-up-spec : {M : Type 1} → statement M
 leg-given-up-spec =

@@ -1,7 +1,5 @@
 -- `leg_gives_up` meets its contract: the member's own leg, the first, or none is asked.
-use mathlib.Core.Path.{sym, _∙_}
-use native.Mathlib.Omega.{arith}
-use Rattle.srt_connection_members.specs.laws.Members.{found-below}
+use Rattle.srt_group_delivery.specs.laws.Delivery.{found-has-row}
 use Rattle.srt_group_delivery.specs.laws.Delivery.{own-leg-asked, first-leg-asked, no-leg-asked}
 use borrow.Author.Needs.{needs}
 use Rattle.srt_group_delivery.proofs.delivery.leg_gives_up.Statement.{statement}
@@ -14,13 +12,13 @@ enum-known-found : tie.Need-enum-known-found
 enum-known-found c = search needs
 
 leg-at-requires : tie.Need-leg-at-requires
-leg-at-requires c κs = omega (arith, found-below _ _ _ _ (sym (c .before .found .given .1) ∙ c .before .before .before .find .ensures))
+leg-at-requires c κs = search found-has-row
 
 leg-given-up-requires : tie.Need-leg-given-up-requires
 leg-given-up-requires c κs = search needs
 
 returns : tie.Need-returns
-returns c = own-leg-asked _ _ _ _ _ (sym (c .before .before .before .found .given .1) ∙ c .before .before .before .before .before .find .ensures) (c .before .leg-at .ensures) (c .leg-given-up .ensures)
+returns c = search own-leg-asked
 
 enum-told : tie.Need-enum-told
 enum-told c = search needs
@@ -35,7 +33,7 @@ leg-given-up-requires-2 : tie.Need-leg-given-up-requires-2
 leg-given-up-requires-2 c κs = search needs
 
 returns-3 : tie.Need-returns-3
-returns-3 c = first-leg-asked _ _ _ _ (sym (c .before .before .before .enum-told .given .1) ∙ c .before .before .before .before .before .find .ensures) (omega arith) (c .before .leg-at2 .ensures) (c .leg-given-up2 .ensures)
+returns-3 c = search first-leg-asked
 
 pub leg-gives-up-spec : {M : Type 1} → statement M
 leg-gives-up-spec =

@@ -20,7 +20,7 @@ same-length : tie.Need-same-length
 same-length c = search needs
 
 returns : tie.Need-returns
-returns c = member-released _ _ _ _ _ (c .before .before .before .before .before .before .before .before .before .membership-at .ensures) (c .before .before .before .before .before .before .before .before .release-packet .ensures) (c .before .before .before .before .before .before .put-membership-at .ensures) (c .before .before .release-data-reservation-at .ensures)
+returns c = search member-released
 
 pub release-at-spec : {M : Type 1} → statement M
 release-at-spec =

@@ -1,5 +1,4 @@
 -- `release_if_covered` meets its contract: the packet is covered and released, or stays.
-use native.Mathlib.Omega.{arith}
 use Rattle.srt_group_delivery.specs.laws.Delivery.{covered-released, not-covered-kept}
 use borrow.Author.Needs.{needs}
 use Rattle.srt_group_delivery.specs.laws.UsedByDelivery.{covered-freed, uncovered-kept}
@@ -13,10 +12,7 @@ word-distance-requires : tie.Need-word-distance-requires
 word-distance-requires c κs = search needs
 
 returns : tie.Need-returns
-returns c = (
-  not-covered-kept _ _ _ _ _ (c .before .before .sequence-at .ensures) (c .before .word-distance .ensures) (c .if1 .taken),
-  uncovered-kept _ _ _ _ (c .before .before .before .before .before .before .pre .1 .1) (c .before .before .sequence-at .ensures) (c .before .word-distance .ensures) (c .if1 .taken),
-)
+returns c = search (not-covered-kept, uncovered-kept)
 
 packet-requires : tie.Need-packet-requires
 packet-requires c κs = search needs
@@ -34,10 +30,7 @@ same-length-2 : tie.Need-same-length-2
 same-length-2 c = search needs
 
 returns-2 : tie.Need-returns-2
-returns-2 c = (
-  covered-released _ _ _ _ _ _ _ (c .before .before .before .before .before .before .before .before .before .before .before .before .sequence-at .ensures) (c .before .before .before .before .before .before .before .before .before .before .before .word-distance .ensures) (omega arith) (c .before .before .before .before .before .before .before .before .before .packet .ensures) (c .before .before .release-pending-reservation .ensures),
-  covered-freed _ _ _ _ _ (c .before .before .before .before .before .before .before .before .before .before .before .before .sequence-at .ensures) (c .before .before .before .before .before .before .before .before .before .before .before .word-distance .ensures) (omega arith) (c .before .before .before .before .before .before .before .before .before .packet .ensures) (c .before .before .before .before .before .before .free .ensures),
-)
+returns-2 c = search (covered-released, covered-freed)
 
 pub release-if-covered-spec : {M : Type 1} → statement M
 release-if-covered-spec =

@@ -7,10 +7,10 @@ returns : tie.Need-returns
 returns c = base-was-set _ _ (c .if1 .taken)
 
 returns-2 : tie.Need-returns-2
-returns-2 c = base-not-given _ _ (c .before .if1 .left) (c .if2 .taken)
+returns-2 c = search base-not-given
 
 returns-3 : tie.Need-returns-3
-returns-3 c = base-given _ _ (c .before .before .before .if1 .left) (c .before .before .if2 .left)
+returns-3 c = search base-given
 
 pub set-base-spec : {M : Type 1} → statement M
 set-base-spec =

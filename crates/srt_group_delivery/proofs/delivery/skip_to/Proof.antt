@@ -8,7 +8,7 @@ skipped-after-requires : tie.Need-skipped-after-requires
 skipped-after-requires c κs = search needs
 
 returns : tie.Need-returns
-returns c = skips _ _ _ (c .before .before .before .skipped-after .ensures)
+returns c = search skips
 
 pub skip-to-spec : {M : Type 1} → statement M
 skip-to-spec = tie.close (tie.spec skipped-after-requires returns)

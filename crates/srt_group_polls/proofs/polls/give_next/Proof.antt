@@ -15,16 +15,15 @@ same-length : tie.Need-same-length
 same-length c = search needs
 
 returns : tie.Need-returns
-returns c = (
-  event-next _ _ _ _ _ _ _ _ _ (c .before .before .before .before .before .before .before .before .before .before .before .pre .0) (c .before .before .before .before .if1 .taken) (c .before .before .give-waiting .ensures _ _),
-  follows-given _ _ _ _ _ _ _ (c .before .before .before .before .before .before .before .before .before .before .before .pre .1 .1) (c .before .before .give-waiting .ensures _ _),
-)
+returns c =
+    let given = c .before .before .give-waiting .ensures in
+    (event-next _ _ _ _ _ _ _ _ _ (search) (search) (given _ _), follows-given _ _ _ _ _ _ _ (search) (given _ _))
 
 refresh-states-requires : tie.Need-refresh-states-requires
-refresh-states-requires c κs = rows-there _ _ _ _ (c .before .before .before .before .before .before .before .before .pre .0)
+refresh-states-requires c κs = search rows-there
 
 deliver-next-requires : tie.Need-deliver-next-requires
-deliver-next-requires c κs = (usable-refreshed _ (c .before .before .before .before .before .before .before .before .before .before .before .before .before .before .before .pre .1 .0) _ _ _ _ (c .before .before .before .before .before .before .before .before .before .before .before .before .before .before .before .pre .0) _ _ (c .before .before .before .before .before .before .refresh-states .ensures), (still-none-waits (c .before .before .before .before .before .before .before .before .if1 .left) (c .before .before .before .before .before .before .refresh-states .ensures), c .before .before .before .before .before .before .before .before .before .before .before .before .before .before .before .pre .1 .1))
+deliver-next-requires c κs = (search usable-refreshed, (search still-none-waits, search needs))
 
 same-length-2 : tie.Need-same-length-2
 same-length-2 c = search needs
@@ -39,10 +38,10 @@ same-length-5 : tie.Need-same-length-5
 same-length-5 c = search needs
 
 returns-2 : tie.Need-returns-2
-returns-2 c = (
-  packet-next _ _ _ _ _ _ _ _ _ _ _ _ _ (c .before .before .before .before .before .before .before .before .before .before .before .before .before .before .before .before .before .if1 .left) (c .before .before .before .before .before .before .before .before .before .before .before .before .before .before .before .refresh-states .ensures) (c .before .before .before .before .before .before .before .before .deliver-next .ensures .0),
-  follows-then (follows-refreshed _ _ _ _ _ _ _ (c .before .before .before .before .before .before .before .before .before .before .before .before .before .before .before .before .before .before .before .before .before .before .before .before .pre .1 .1) (c .before .before .before .before .before .before .before .before .before .before .before .before .before .before .before .refresh-states .ensures)) (c .before .before .before .before .before .before .before .before .deliver-next .ensures .1),
-)
+returns-2 c =
+    let long = c .before .before .before .before .before .before .before .before .before .before .before .before .before .before .before .before .before .before .before .before .before .before .before .before .pre .1 .1 in
+    let delivered = c .before .before .before .before .before .before .before .before .deliver-next .ensures in
+    (search packet-next, follows-then (search follows-refreshed) (delivered .1))
 
 pub give-next-spec : {M : Type 1} → statement M
 give-next-spec =

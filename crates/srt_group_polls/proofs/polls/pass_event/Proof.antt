@@ -20,7 +20,7 @@ returns-2 : tie.Need-returns-2
 returns-2 c = event-passed _ _ (c .enum-told2 .given .1)
 
 returns-3 : tie.Need-returns-3
-returns-3 c = packet-passed _ _ (c .before .gave .given .1)
+returns-3 c = search packet-passed
 
 pub pass-event-spec : {M : Type 1} → statement M
 pass-event-spec =

@@ -1,5 +1,4 @@
 -- `poll_data_bounded` meets its contract: none is allowed, or as many as are allowed.
-use native.Mathlib.Omega.{arith}
 use Rattle.srt_group_polls.specs.laws.DataPoll.{none-allowed, some-allowed}
 use borrow.Author.Needs.{needs}
 use Rattle.srt_group_collecting.specs.laws.Follows.{follows-same}
@@ -13,13 +12,13 @@ flag-requires : tie.Need-flag-requires
 flag-requires c κs = search needs
 
 returns : tie.Need-returns
-returns c = (none-allowed _ _ _ _ _ _ _ (c .before .before .before .before .before .before .before .pre .0) (c .before .before .if1 .taken) (c .before .has-pending-data .ensures) (c .flag .ensures), follows-same _ _ _ _ (c .before .before .before .before .before .before .before .pre .1 .1))
+returns c = (search none-allowed, search follows-same)
 
 visits-allowed-requires : tie.Need-visits-allowed-requires
 visits-allowed-requires c κs = search needs
 
 poll-until-data-requires : tie.Need-poll-until-data-requires
-poll-until-data-requires c κs = c .before .before .before .before .before .before .before .before .before .before .pre
+poll-until-data-requires c κs = search needs
 
 same-length : tie.Need-same-length
 same-length c = search needs
@@ -34,7 +33,7 @@ same-length-4 : tie.Need-same-length-4
 same-length-4 c = search needs
 
 returns-2 : tie.Need-returns-2
-returns-2 c = (some-allowed _ _ _ _ _ _ _ _ _ _ _ _ (omega arith) (c .before .before .before .before .before .before .before .before .before .before .before .before .before .visits-allowed .ensures) (c .before .before .before .before .before .before .before .before .poll-until-data .ensures .0), c .before .before .before .before .before .before .before .before .poll-until-data .ensures .1)
+returns-2 c = (search some-allowed, search needs)
 
 pub poll-data-bounded-spec : {M : Type 1} → statement M
 poll-data-bounded-spec =

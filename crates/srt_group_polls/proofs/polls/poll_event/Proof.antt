@@ -4,14 +4,15 @@ use Rattle.srt_group_polls.specs.laws.EventPoll.{usable-begun, polls-eve
 use Rattle.srt_group_polls.specs.laws.PollsUsed.{follows-begun}
 use Rattle.srt_group_collecting.specs.laws.Follows.{follows-then}
 use Rattle.srt_group_polls.specs.laws.Refresh.{rows-there}
+use borrow.Author.Needs.{needs}
 use Rattle.srt_group_polls.proofs.polls.poll_event.Statement.{statement}
 use Rattle.srt_group_polls.proofs.polls.poll_event.Tie as tie
 
 refresh-pending-states-requires : tie.Need-refresh-pending-states-requires
-refresh-pending-states-requires c κs = rows-there _ _ _ _ (c .before .before .before .before .before .before .pre .0)
+refresh-pending-states-requires c κs = search rows-there
 
 collect-until-held-requires : tie.Need-collect-until-held-requires
-collect-until-held-requires c κs = (usable-begun _ (c .before .before .before .before .before .before .before .before .before .before .before .before .before .pre .1 .0) _ _ _ _ (c .before .before .before .before .before .before .before .before .before .before .before .before .before .pre .0) _ _ (c .before .before .before .before .before .before .refresh-pending-states .ensures), c .before .before .before .before .before .before .before .before .before .before .before .before .before .pre .1 .1)
+collect-until-held-requires c κs = (search usable-begun, search needs)
 
 give-next-requires : tie.Need-give-next-requires
 give-next-requires c κs = (c .before .before .before .before .before .before .before .before .before .before .before .before .collect-until-held .ensures .0 .usable, (c .before .before .before .before .before .before .before .before .before .before .before .before .before .before .before .before .before .before .before .before .before .before .before .before .before .before .pre .1 .0, c .before .before .before .before .before .before .before .before .before .before .before .before .collect-until-held .ensures .1 .long))
@@ -20,13 +21,13 @@ same-length : tie.Need-same-length
 same-length c = omega (arith, c .before .before .before .before .before .before .before .before .before .before .before .before .before .before .before .before .before .before .before .before .before .before .before .before .before .before .before .before .before .before .before .before .before .before .before .pre .1 .1, c .before .before .before .before .before .before .before .before .before .before .before .before .before .before .before .before .before .before .before .before .before .before .before .before .before .before .before .before .refresh-pending-states .ensures .members-long, c .before .before .before .before .before .before .before .before .before .before .before .before .before .before .before .before .before .before .before .before .before .collect-until-held .ensures .0 .members-long, c .before .before .before .before .before .before .before .before .before .before .before .before .before .before .before .before .before .before .before .before .before .collect-until-held .ensures .0 .pending-long, c .before .before .before .before .before .before .before .before .before .before .before .before .before .before .before .before .before .before .before .before .before .collect-until-held .ensures .0 .waiting-long, c .before .before .before .before .before .before .before .before .before .before .before .before .before .before .before .before .before .before .before .before .before .collect-until-held .ensures .1 .long, c .before .before .before .before .before .before .before .before .give-next .ensures .0 .members-long, c .before .before .before .before .before .before .before .before .give-next .ensures .0 .pending-long, c .before .before .before .before .before .before .before .before .give-next .ensures .0 .waiting-long, c .before .before .before .before .before .before .before .before .give-next .ensures .1 .long)
 
 same-length-2 : tie.Need-same-length-2
-same-length-2 c = omega (arith, c .before .before .before .before .before .before .before .before .before .before .before .before .before .before .before .before .before .before .before .before .before .before .before .before .before .before .before .before .before .before .before .before .before .before .before .pre .1 .1, c .before .before .before .before .before .before .before .before .before .before .before .before .before .before .before .before .before .before .before .before .before .before .before .before .before .before .before .before .refresh-pending-states .ensures .members-long, c .before .before .before .before .before .before .before .before .before .before .before .before .before .before .before .before .before .before .before .before .before .collect-until-held .ensures .0 .members-long, c .before .before .before .before .before .before .before .before .before .before .before .before .before .before .before .before .before .before .before .before .before .collect-until-held .ensures .0 .pending-long, c .before .before .before .before .before .before .before .before .before .before .before .before .before .before .before .before .before .before .before .before .before .collect-until-held .ensures .0 .waiting-long, c .before .before .before .before .before .before .before .before .before .before .before .before .before .before .before .before .before .before .before .before .before .collect-until-held .ensures .1 .long, c .before .before .before .before .before .before .before .before .give-next .ensures .0 .members-long, c .before .before .before .before .before .before .before .before .give-next .ensures .0 .pending-long, c .before .before .before .before .before .before .before .before .give-next .ensures .0 .waiting-long, c .before .before .before .before .before .before .before .before .give-next .ensures .1 .long)
+same-length-2 c = search needs
 
 same-length-3 : tie.Need-same-length-3
-same-length-3 c = omega (arith, c .before .before .before .before .before .before .before .before .before .before .before .before .before .before .before .before .before .before .before .before .before .before .before .before .before .before .before .before .before .before .before .before .before .before .before .pre .1 .1, c .before .before .before .before .before .before .before .before .before .before .before .before .before .before .before .before .before .before .before .before .before .before .before .before .before .before .before .before .refresh-pending-states .ensures .members-long, c .before .before .before .before .before .before .before .before .before .before .before .before .before .before .before .before .before .before .before .before .before .collect-until-held .ensures .0 .members-long, c .before .before .before .before .before .before .before .before .before .before .before .before .before .before .before .before .before .before .before .before .before .collect-until-held .ensures .0 .pending-long, c .before .before .before .before .before .before .before .before .before .before .before .before .before .before .before .before .before .before .before .before .before .collect-until-held .ensures .0 .waiting-long, c .before .before .before .before .before .before .before .before .before .before .before .before .before .before .before .before .before .before .before .before .before .collect-until-held .ensures .1 .long, c .before .before .before .before .before .before .before .before .give-next .ensures .0 .members-long, c .before .before .before .before .before .before .before .before .give-next .ensures .0 .pending-long, c .before .before .before .before .before .before .before .before .give-next .ensures .0 .waiting-long, c .before .before .before .before .before .before .before .before .give-next .ensures .1 .long)
+same-length-3 c = search needs
 
 same-length-4 : tie.Need-same-length-4
-same-length-4 c = omega (arith, c .before .before .before .before .before .before .before .before .before .before .before .before .before .before .before .before .before .before .before .before .before .before .before .before .before .before .before .before .before .before .before .before .before .before .before .pre .1 .1, c .before .before .before .before .before .before .before .before .before .before .before .before .before .before .before .before .before .before .before .before .before .before .before .before .before .before .before .before .refresh-pending-states .ensures .members-long, c .before .before .before .before .before .before .before .before .before .before .before .before .before .before .before .before .before .before .before .before .before .collect-until-held .ensures .0 .members-long, c .before .before .before .before .before .before .before .before .before .before .before .before .before .before .before .before .before .before .before .before .before .collect-until-held .ensures .0 .pending-long, c .before .before .before .before .before .before .before .before .before .before .before .before .before .before .before .before .before .before .before .before .before .collect-until-held .ensures .0 .waiting-long, c .before .before .before .before .before .before .before .before .before .before .before .before .before .before .before .before .before .before .before .before .before .collect-until-held .ensures .1 .long, c .before .before .before .before .before .before .before .before .give-next .ensures .0 .members-long, c .before .before .before .before .before .before .before .before .give-next .ensures .0 .pending-long, c .before .before .before .before .before .before .before .before .give-next .ensures .0 .waiting-long, c .before .before .before .before .before .before .before .before .give-next .ensures .1 .long)
+same-length-4 c = search needs
 
 returns : tie.Need-returns
 returns c =

@@ -20,14 +20,10 @@ abbrev μ-loop : tie.MeasureT-loop
 μ-loop sending members₀ pending₀ waiting₀ used₀ time visits answer₀ left₀ members pending waiting used answer left = left
 
 loop-holds : tie.Need-loop-holds Inv-loop μ-loop
-loop-holds c =
-    let args = c .before .before .before .before .args in (
-      passing-start (sends (args .sending)) (args .time .0) (args .visits) (args .core) (args .members .now) (args .pending .now) (args .waiting .now) (c .before .before .before .before .pre .0),
-      follows-same (args .core) (args .members .now) (args .pending .now) (args .used .now) (c .before .before .before .before .pre .1 .1),
-    )
+loop-holds c = (search passing-start, search follows-same)
 
 poll-event-requires : tie.Need-poll-event-requires Inv-loop μ-loop
-poll-event-requires c κs = (c .before .before .before .before .before .before .loop .inv .0 .usable, (c .before .before .before .before .before .before .before .before .before .before .before .pre .1 .0, c .before .before .before .before .before .before .loop .inv .1 .long))
+poll-event-requires c κs = (search needs, (search needs, search needs))
 
 pass-event-requires : tie.Need-pass-event-requires Inv-loop μ-loop
 pass-event-requires c κs = search needs
@@ -75,16 +71,16 @@ loop-again c =
     )
 
 same-length-5 : tie.Need-same-length-5 Inv-loop μ-loop
-same-length-5 c = omega (arith, c .before .before .before .before .before .before .pre .1 .1, c .before .loop .inv .1 .long, c .before .loop .inv .0 .members-long, c .before .loop .inv .0 .pending-long, c .before .loop .inv .0 .waiting-long)
+same-length-5 c = search needs
 
 same-length-6 : tie.Need-same-length-6 Inv-loop μ-loop
-same-length-6 c = omega (arith, c .before .before .before .before .before .before .pre .1 .1, c .before .loop .inv .1 .long, c .before .loop .inv .0 .members-long, c .before .loop .inv .0 .pending-long, c .before .loop .inv .0 .waiting-long)
+same-length-6 c = search needs
 
 same-length-7 : tie.Need-same-length-7 Inv-loop μ-loop
-same-length-7 c = omega (arith, c .before .before .before .before .before .before .pre .1 .1, c .before .loop .inv .1 .long, c .before .loop .inv .0 .members-long, c .before .loop .inv .0 .pending-long, c .before .loop .inv .0 .waiting-long)
+same-length-7 c = search needs
 
 same-length-8 : tie.Need-same-length-8 Inv-loop μ-loop
-same-length-8 c = omega (arith, c .before .before .before .before .before .before .pre .1 .1, c .before .loop .inv .1 .long, c .before .loop .inv .0 .members-long, c .before .loop .inv .0 .pending-long, c .before .loop .inv .0 .waiting-long)
+same-length-8 c = search needs
 
 returns-2 : tie.Need-returns-2 Inv-loop μ-loop
 returns-2 c =

@@ -14,7 +14,7 @@ same-length : tie.Need-same-length
 same-length c = search needs
 
 returns : tie.Need-returns
-returns c = admits _ _ _ _ (c .before .before .before .admit-connected-peer-groups .ensures) _ (c .set-base .ensures)
+returns c = search admits
 
 pub admit-connected-peer-groups-spec : {M : Type 1} → statement M
 admit-connected-peer-groups-spec =

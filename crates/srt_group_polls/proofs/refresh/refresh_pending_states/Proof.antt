@@ -8,13 +8,13 @@ admit-connected-peer-groups-requires : tie.Need-admit-connected-peer-groups-requ
 admit-connected-peer-groups-requires c κs = search needs
 
 settle-members-requires : tie.Need-settle-members-requires
-settle-members-requires c κs = still-long (c .before .before .before .before .before .before .pre) (c .before .before .before .admit-connected-peer-groups .ensures)
+settle-members-requires c κs = search still-long
 
 same-length : tie.Need-same-length
 same-length c = search needs
 
 returns : tie.Need-returns
-returns c = settles _ _ _ _ _ _ (c .before .before .before .before .before .before .admit-connected-peer-groups .ensures) (c .before .before .settle-members .ensures)
+returns c = search settles
 
 pub refresh-pending-states-spec : {M : Type 1} → statement M
 refresh-pending-states-spec =

@@ -8,13 +8,13 @@ refresh-pending-states-requires : tie.Need-refresh-pending-states-requires
 refresh-pending-states-requires c κs = search needs
 
 requalify-members-requires : tie.Need-requalify-members-requires
-requalify-members-requires c κs = still-long (c .before .before .before .before .before .before .pre) (c .before .before .before .refresh-pending-states .ensures)
+requalify-members-requires c κs = search still-long
 
 same-length : tie.Need-same-length
 same-length c = search needs
 
 returns : tie.Need-returns
-returns c = requalifies _ _ _ _ _ _ (c .before .before .before .before .before .before .refresh-pending-states .ensures) (c .before .before .requalify-members .ensures)
+returns c = search requalifies
 
 pub refresh-states-spec : {M : Type 1} → statement M
 refresh-states-spec =

@@ -14,10 +14,10 @@ largest-window-requires : tie.Need-largest-window-requires
 largest-window-requires c κs = search needs
 
 retirement-base-requires : tie.Need-retirement-base-requires
-retirement-base-requires c κs = taken-held _ _ _ _ (c .before .before .before .before .before .before .before .before .before .before .before .before .before .before .pre) _ _ _ (c .before .before .before .before .before .before .before .take-out .ensures)
+retirement-base-requires c κs = search taken-held
 
 bound-group-owned-pending-requires : tie.Need-bound-group-owned-pending-requires
-bound-group-owned-pending-requires c κs = taken-held _ _ _ _ (c .before .before .before .before .before .before .before .before .before .before .before .before .before .before .before .before .pre) _ _ _ (c .before .before .before .before .before .before .before .before .before .take-out .ensures)
+bound-group-owned-pending-requires c κs = search taken-held
 
 same-length : tie.Need-same-length
 same-length c = search needs

@@ -1,5 +1,5 @@
 -- `take_out` meets its contract: the held packets owned and the row removed are its parts.
-use mathlib.Core.Path.{refl, ap}
+use mathlib.Core.Path.{ap}
 use native.Mathlib.Omega.{arith}
 use Rattle.srt_group_model.specs.declared.Membership.{Membership}
 use Rattle.srt_group_removal.specs.laws.Removal.{taken-all}
@@ -34,13 +34,7 @@ same-length-2 : tie.Need-same-length-2
 same-length-2 c = search needs
 
 returns : tie.Need-returns
-returns c =
-    let sums = c .before .before in
-    let removed = sums .before .before .before .before in
-    let owned = removed .before .before .before .before in
-    let read = owned .before .before in
-    taken-all _ _ _ _ _ _ (read .before .before .before .before .pre .there) (read .membership-at .ensures) (owned .own-packets .ensures)
-    (removed .remove-member .ensures) refl (sums .before .lowered .ensures) (sums .add-account .ensures)
+returns c = search taken-all
 
 pub take-out-spec : {M : Type 1} → statement M
 take-out-spec =

@@ -1,5 +1,4 @@
 -- `bound_group_owned_pending` meets its contract. The loop's invariant: bounding from here on gives what bounding all gives (`Bounding`).
-use native.Mathlib.Omega.{arith}
 use Rattle.srt_group_tables.specs.laws.PacketLaws.{at-in-use}
 use Rattle.srt_group_removal.specs.laws.Retire.{Bounding, bounding-start, bounding-on, bounded-within, bounded-none}
 use borrow.Author.Needs.{needs}
@@ -13,10 +12,10 @@ abbrev μ-loop : tie.MeasureT-loop
 μ-loop core₀ pending₀ limit base core pending = core .counts .pending
 
 loop-holds : tie.Need-loop-holds Inv-loop μ-loop
-loop-holds c = bounding-start _ _ _ _ (c .before .pre)
+loop-holds c = search bounding-start
 
 farthest-owned-requires : tie.Need-farthest-owned-requires Inv-loop μ-loop
-farthest-owned-requires c κs = (c .before .before .before .loop .inv .held .pending-long, c .before .before .before .loop .inv .held .held-few)
+farthest-owned-requires c κs = (search needs, search needs)
 
 enum-known-farthest : tie.Need-enum-known-farthest Inv-loop μ-loop
 enum-known-farthest c = search needs
@@ -25,25 +24,25 @@ enum-told : tie.Need-enum-told Inv-loop μ-loop
 enum-told c = search needs
 
 same-length : tie.Need-same-length Inv-loop μ-loop
-same-length c = c .before .before .before .before .before .before .loop .inv .pending-long
+same-length c = search needs
 
 returns : tie.Need-returns Inv-loop μ-loop
-returns c = bounded-none _ _ _ _ _ _ (c .before .before .before .before .before .before .loop .inv) (c .before .before .farthest-owned .ensures) (c .enum-told .given .1)
+returns c = search bounded-none
 
 retire-at-requires : tie.Need-retire-at-requires Inv-loop μ-loop
-retire-at-requires c κs = (c .before .before .before .before .before .before .before .before .loop .inv .held, omega (arith, at-in-use _ _ _ (c .before .before .before .before .farthest-owned .ensures .within) (c .before .before .farthest .given .1)))
+retire-at-requires c κs = (search needs, search at-in-use)
 
 loop-less : tie.Need-loop-less Inv-loop μ-loop
-loop-less c = omega (arith, c .before .before .retire-at .ensures .one-less)
+loop-less c = search needs
 
 loop-again : tie.Need-loop-again Inv-loop μ-loop
-loop-again c = bounding-on _ _ _ _ _ _ (c .before .before .before .before .before .before .before .before .before .before .before .loop .inv) _ _ _ (c .before .before .before .before .before .before .before .before .before .if1 .taken) (c .before .before .before .before .before .before .before .farthest-owned .ensures) (c .before .before .before .before .before .farthest .given .1) (c .before .before .retire-at .ensures)
+loop-again c = search bounding-on
 
 same-length-2 : tie.Need-same-length-2 Inv-loop μ-loop
-same-length-2 c = c .before .before .loop .inv .pending-long
+same-length-2 c = search needs
 
 returns-2 : tie.Need-returns-2 Inv-loop μ-loop
-returns-2 c = bounded-within _ _ _ _ _ _ (c .before .before .loop .inv) (c .if1 .left)
+returns-2 c = search bounded-within
 
 pub bound-group-owned-pending-spec : {M : Type 1} → statement M
 bound-group-owned-pending-spec =

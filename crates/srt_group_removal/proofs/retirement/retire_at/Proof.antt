@@ -1,6 +1,5 @@
 -- `retire_at` meets its contract: what is removed at the place is what the definition takes out by its sequence.
 use Rattle.srt_group_removal.specs.laws.Retire.{retired-one}
-use mathlib.Core.Path.{refl}
 use borrow.Author.Needs.{needs}
 use Rattle.srt_group_removal.proofs.retirement.retire_at.Statement.{statement}
 use Rattle.srt_group_removal.proofs.retirement.retire_at.Tie as tie
@@ -21,7 +20,7 @@ same-length : tie.Need-same-length
 same-length c = search needs
 
 returns : tie.Need-returns
-returns c = retired-one _ _ _ (c .before .before .before .before .before .before .before .before .before .pre .0) (c .before .before .before .before .before .before .before .before .before .pre .1) _ (c .before .before .before .before .before .before .packet .ensures) refl (c .before .release-packet .ensures) (c .before .before .before .before .remove .ensures)
+returns c = search retired-one
 
 pub retire-at-spec : {M : Type 1} → statement M
 retire-at-spec =

@@ -19,13 +19,13 @@ enum-told : tie.Need-enum-told
 enum-told c = search needs
 
 returns-2 : tie.Need-returns-2
-returns-2 c = λ others members waiting. based-nowhere _ _ others members waiting (c .before .before .before .if1 .left) (c .before .before .nearest .ensures) (c .enum-told .given .1)
+returns-2 c = λ others members waiting. search based-nowhere
 
 sequence-at-requires : tie.Need-sequence-at-requires
 sequence-at-requires c κs = (c .before .before .before .before .before .before .before .pre .pending-long, omega (arith, at-in-use _ _ _ (c .before .before .before .nearest .ensures .within) (c .before .nearest2 .given .1), c .before .before .before .before .before .before .before .pre .held-few))
 
 returns-3 : tie.Need-returns-3
-returns-3 c = λ others members waiting. based-nearest _ _ others members waiting (c .before .before .before .before .before .if1 .left) (c .before .before .before .before .nearest .ensures) _ (c .before .before .nearest2 .given .1) (c .sequence-at .ensures)
+returns-3 c = λ others members waiting. search based-nearest
 
 pub retirement-base-spec : {M : Type 1} → statement M
 retirement-base-spec =

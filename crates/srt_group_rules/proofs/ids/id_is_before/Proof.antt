@@ -36,13 +36,13 @@ shared-slice-read-if1 : tie.Need-shared-slice-read-if1 Inv-loop μ-loop
 shared-slice-read-if1 c = search needs
 
 returns : tie.Need-returns Inv-loop μ-loop
-returns c = before-there _ _ _ (c .before .before .before .loop .inv) (c .before .before .loop-test .taken) (c .if1 .taken)
+returns c = search before-there
 
 loop-less : tie.Need-loop-less Inv-loop μ-loop
 loop-less c = search needs
 
 loop-again : tie.Need-loop-again Inv-loop μ-loop
-loop-again c = later-one _ _ _ (c .before .before .before .loop .inv) (c .before .before .loop-test .taken) (c .if1 .left)
+loop-again c = search later-one
 
 returns-2 : tie.Need-returns-2 Inv-loop μ-loop
 returns-2 c = later-none _ _ _ (c .before .loop .inv) (omega arith)

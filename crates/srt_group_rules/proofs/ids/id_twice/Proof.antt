@@ -20,7 +20,7 @@ id-is-before-requires : tie.Need-id-is-before-requires Inv-loop μ-loop
 id-is-before-requires c κs = search needs
 
 returns : tie.Need-returns Inv-loop μ-loop
-returns c = twice-here _ _ _ (c .before .id-is-before .ensures) _ (c .before .before .loop-test .taken) (c .if1 .taken)
+returns c = search twice-here
 
 add-index : tie.Need-add-index Inv-loop μ-loop
 add-index c = search needs
@@ -29,10 +29,10 @@ loop-less : tie.Need-loop-less Inv-loop μ-loop
 loop-less c = search needs
 
 loop-again : tie.Need-loop-again Inv-loop μ-loop
-loop-again c = apart-one _ _ _ (c .before .id-is-before .ensures) (c .if1 .left) (c .before .before .before .loop .inv)
+loop-again c = search apart-one
 
 returns-2 : tie.Need-returns-2 Inv-loop μ-loop
-returns-2 c = apart-all _ _ _ (c .before .loop .inv) (omega arith)
+returns-2 c = search apart-all
 
 pub id-twice-spec : {M : Type 1} → statement M
 id-twice-spec =

@@ -9,12 +9,7 @@ use Rattle.srt_group_rules.proofs.ranges.data_out_of_range.Tie as tie
 
 returns : tie.Need-returns
 unfolding data-out-of-range data-words any-above any
-returns c =
-    simp (
-      or-assoc,
-      or-no,
-      no-word-above (c .before .before .before .before .before .args .content .source .0) (omega arith),
-    )
+returns c = search (or-assoc, or-no, no-word-above)
 
 pub data-out-of-range-spec : {M : Type 1} → statement M
 data-out-of-range-spec = tie.close (tie.spec returns)

@@ -9,7 +9,7 @@ use Rattle.srt_group_rules.proofs.ranges.entry_out_of_range.Tie as tie
 
 returns : tie.Need-returns
 unfolding entry-out-of-range entry-words any-above any
-returns c = simp (no-word-above (c .before .args .entry .source .0) (omega arith), or-no)
+returns c = search (no-word-above, or-no)
 
 pub entry-out-of-range-spec : {M : Type 1} → statement M
 entry-out-of-range-spec = tie.close (tie.spec returns)

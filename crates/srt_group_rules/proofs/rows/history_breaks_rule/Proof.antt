@@ -16,24 +16,19 @@ abbrev μ-loop : tie.MeasureT-loop
 μ-loop ring history sources index₀ index = ring .length - index
 
 returns : tie.Need-returns Inv-loop μ-loop
-returns c =
-    let args = c .before .before .before .before .args in
-    history-too-long (args .ring) (arrays (args .history .now) (args .sources .now)) (c .if1 .taken)
+returns c = search history-too-long
 
 loop-holds : tie.Need-loop-holds Inv-loop μ-loop
 loop-holds c = passed-start _ _
 
 entry-at-requires : tie.Need-entry-at-requires Inv-loop μ-loop
-entry-at-requires c κs = (omega arith, c .before .before .before .before .before .before .before .pre)
+entry-at-requires c κs = (search needs, search needs)
 
 entry-breaks-rule-requires : tie.Need-entry-breaks-rule-requires Inv-loop μ-loop
 entry-breaks-rule-requires c κs = search needs
 
 returns-2 : tie.Need-returns-2 Inv-loop μ-loop
-returns-2 c =
-    let args = c .before .before .before .before .before .before .before .before .before .before .args in
-    history-walked (args .ring) (arrays (args .history .now) (args .sources .now)) (omega arith)
-    (stops-there _ _ _ _ _ (c .before .before .entry-at .ensures) (c .before .entry-breaks-rule .ensures) _ (omega arith) (c .if3 .taken))
+returns-2 c = search (history-walked, stops-there)
 
 add-index : tie.Need-add-index Inv-loop μ-loop
 add-index c = search needs
@@ -42,14 +37,10 @@ loop-less : tie.Need-loop-less Inv-loop μ-loop
 loop-less c = search needs
 
 loop-again : tie.Need-loop-again Inv-loop μ-loop
-loop-again c =
-    passed-one _ _ _ _ _ (c .before .before .entry-at .ensures) (c .before .entry-breaks-rule .ensures) (c .before .before .before .before .before .loop .inv) (c .if3 .left)
+loop-again c = search passed-one
 
 returns-3 : tie.Need-returns-3 Inv-loop μ-loop
-returns-3 c =
-    let args = c .before .before .before .before .before .before .before .args in
-    history-walked (args .ring) (arrays (args .history .now) (args .sources .now)) (omega arith)
-    (passed-all _ _ _ _ (c .before .before .loop .inv) (omega arith))
+returns-3 c = search (history-walked, passed-all)
 
 pub history-breaks-rule-spec : {M : Type 1} → statement M
 history-breaks-rule-spec =

@@ -21,13 +21,7 @@ queue-breaks-rule-requires : tie.Need-queue-breaks-rule-requires
 queue-breaks-rule-requires c κs = search needs
 
 returns : tie.Need-returns
-returns c =
-    member-tested (member-of (c .before .before .before .before .before .before .args .row .now)) _ _ _ _ _
-    (c .before .before .before .before .membership .ensures)
-    (c .before .before .before .membership-out-of-range .ensures)
-    (c .before .before .leg .ensures)
-    (c .before .leg-breaks-rule .ensures)
-    (c .queue-breaks-rule .ensures)
+returns c = search member-tested
 
 pub member-breaks-rule-spec : {M : Type 1} → statement M
 member-breaks-rule-spec =

@@ -41,10 +41,7 @@ member-breaks-rule-requires c κs = search needs
 
 returns : tie.Need-returns Inv-loop μ-loop
 unfolding members-of
-returns c =
-    stops-there _ _ _ _ _
-    (lent-member (c .before .before .before .before .before .before .args .members .now) (c .before .before .before .before .loop .index))
-    (c .before .member-breaks-rule .ensures) _ (c .before .before .before .loop-test .taken) (c .if1 .taken)
+returns c = search (stops-there, lent-member)
 
 add-index : tie.Need-add-index Inv-loop μ-loop
 add-index c = search needs
@@ -53,14 +50,11 @@ loop-less : tie.Need-loop-less Inv-loop μ-loop
 loop-less c = search needs
 
 loop-again : tie.Need-loop-again Inv-loop μ-loop
-loop-again c =
-    passed-one _ _ _ _ _
-    (lent-member (c .before .before .before .before .before .before .args .members .now) (c .before .before .before .before .loop .index))
-    (c .before .member-breaks-rule .ensures) (c .before .before .before .before .loop .inv) (c .if1 .left)
+loop-again c = search (passed-one, lent-member)
 
 returns-2 : tie.Need-returns-2 Inv-loop μ-loop
 unfolding members-of
-returns-2 c = passed-all _ _ _ _ (c .before .loop .inv) (omega arith)
+returns-2 c = search passed-all
 
 pub members-break-rule-spec : {M : Type 1} → statement M
 members-break-rule-spec =

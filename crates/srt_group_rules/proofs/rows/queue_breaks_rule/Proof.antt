@@ -17,7 +17,7 @@ ring-of-requires : tie.Need-ring-of-requires Inv-loop μ-loop
 ring-of-requires c κs = search needs
 
 returns : tie.Need-returns Inv-loop μ-loop
-returns c = queue-too-long _ _ (c .before .ring-of .ensures) (c .if1 .taken)
+returns c = search queue-too-long
 
 loop-holds : tie.Need-loop-holds Inv-loop μ-loop
 loop-holds c = passed-start _ _
@@ -29,10 +29,7 @@ event-breaks-rule-requires : tie.Need-event-breaks-rule-requires Inv-loop μ-loo
 event-breaks-rule-requires c κs = search needs
 
 returns-2 : tie.Need-returns-2 Inv-loop μ-loop
-returns-2 c =
-    queue-walked _ _ (c .before .before .before .before .before .before .ring-of .ensures) (omega arith)
-    (stops-there _ _ _ _ _ (c .before .before .queue-event .ensures) (c .before .event-breaks-rule .ensures) _
-    (c .before .before .before .loop-test .taken) (c .if2 .taken))
+returns-2 c = search (queue-walked, stops-there)
 
 add-at : tie.Need-add-at Inv-loop μ-loop
 add-at c = search needs
@@ -41,14 +38,10 @@ loop-less : tie.Need-loop-less Inv-loop μ-loop
 loop-less c = search needs
 
 loop-again : tie.Need-loop-again Inv-loop μ-loop
-loop-again c =
-    passed-one _ _ _ _ _ (c .before .before .queue-event .ensures) (c .before .event-breaks-rule .ensures)
-    (c .before .before .before .before .loop .inv) (c .if2 .left)
+loop-again c = search passed-one
 
 returns-3 : tie.Need-returns-3 Inv-loop μ-loop
-returns-3 c =
-    queue-walked _ _ (c .before .before .before .ring-of .ensures) (omega arith)
-    (passed-all _ _ _ _ (c .before .loop .inv) (omega arith))
+returns-3 c = search (queue-walked, passed-all)
 
 pub queue-breaks-rule-spec : {M : Type 1} → statement M
 queue-breaks-rule-spec =

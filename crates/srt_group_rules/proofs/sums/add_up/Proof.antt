@@ -15,7 +15,7 @@ abbrev μ-loop : tie.MeasureT-loop
 μ-loop members count pending held sums₀ at₀ sums at = held - at
 
 loop-holds : tie.Need-loop-holds Inv-loop μ-loop
-loop-holds c = (omega arith, adding-start _ _ (c .before .before .before .pre .0 .1) (c .before .before .before .pre .1 .1 .0) _ _ (c .before .before .before .pre .1 .1 .1 .0) _ (c .before .before .before .pre .1 .1 .1 .1 .0) (c .before .before .before .pre .1 .1 .1 .1 .1))
+loop-holds c = (search needs, search adding-start)
 
 packet-requires : tie.Need-packet-requires Inv-loop μ-loop
 packet-requires c κs = search needs
@@ -80,7 +80,7 @@ same-length-2 : tie.Need-same-length-2 Inv-loop μ-loop
 same-length-2 c = c .before .loop .inv .1 .long ∙ sym (c .before .before .before .before .before .pre .1 .1 .1 .1 .0)
 
 returns-2 : tie.Need-returns-2 Inv-loop μ-loop
-returns-2 c = added-all _ _ (c .before .before .before .before .before .pre .0 .1) (c .before .before .before .before .before .pre .1 .1 .0) _ _ (c .before .before .before .before .before .pre .1 .1 .1 .0) _ _ (c .before .loop .inv .1) (omega arith) (c .before .loop .inv .0)
+returns-2 c = search added-all
 
 pub add-up-spec : {M : Type 1} → statement M
 add-up-spec =

@@ -6,7 +6,7 @@ use Rattle.srt_group_rules.proofs.sums.member_differs.Statement.{statem
 use Rattle.srt_group_rules.proofs.sums.member_differs.Tie as tie
 
 queued-count-requires : tie.Need-queued-count-requires
-queued-count-requires c κs = (search needs, queue-good (member-of (c .before .args .row .now)) (c .before .pre .1))
+queued-count-requires c κs = (search needs, search queue-good)
 
 membership-requires : tie.Need-membership-requires
 membership-requires c κs = search needs
@@ -18,9 +18,7 @@ add-both : tie.Need-add-both
 add-both c = search needs
 
 returns : tie.Need-returns
-returns c =
-    differs-tested _ (member-of (c .before .before .before .before .before .before .args .row .now)) _ _ _ (c .before .before .before .membership .ensures) (c .before .before .receiver .ensures)
-    (c .before .before .before .before .queued-count .ensures .0)
+returns c = search differs-tested
 
 pub member-differs-spec : {M : Type 1} → statement M
 member-differs-spec =

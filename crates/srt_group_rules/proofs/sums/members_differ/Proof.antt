@@ -69,7 +69,7 @@ loop-again c =
 
 returns-2 : tie.Need-returns-2 Inv-loop μ-loop
 unfolding sums-differ
-returns-2 c = passed-all _ _ _ _ (c .before .loop .inv) (omega arith)
+returns-2 c = search passed-all
 
 pub members-differ-spec : {M : Type 1} → statement M
 members-differ-spec =

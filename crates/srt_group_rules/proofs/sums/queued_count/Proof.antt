@@ -16,7 +16,7 @@ ring-of-requires : tie.Need-ring-of-requires Inv-loop μ-loop
 ring-of-requires c κs = search needs
 
 loop-holds : tie.Need-loop-holds Inv-loop μ-loop
-loop-holds c = queued-start _ _ (c .ring-of .ensures) (c .before .before .pre .1)
+loop-holds c = search queued-start
 
 queue-event-requires : tie.Need-queue-event-requires Inv-loop μ-loop
 queue-event-requires c κs = (search needs, omega (arith, queue-short _ _ (c .before .before .ring-of .ensures) (c .before .before .before .before .pre .1)))
@@ -25,12 +25,7 @@ data-count-requires : tie.Need-data-count-requires Inv-loop μ-loop
 data-count-requires c κs = search needs
 
 add-sum : tie.Need-add-sum Inv-loop μ-loop
-add-sum c =
-    record {
-      fits =
-          queued-fits _ _ (c .before .before .before .before .ring-of .ensures) (c .before .before .before .before .before .before .pre .1) _ _ (c .before .before .before .loop .inv) _ _ (c .before .queue-event .ensures)
-          (c .data-count .ensures) (c .before .before .loop-test .taken);
-    }
+add-sum c = search queued-fits
 
 add-at : tie.Need-add-at Inv-loop μ-loop
 add-at c = search needs
@@ -39,9 +34,7 @@ loop-less : tie.Need-loop-less Inv-loop μ-loop
 loop-less c = search needs
 
 loop-again : tie.Need-loop-again Inv-loop μ-loop
-loop-again c =
-    queued-one _ _ (c .before .before .before .before .ring-of .ensures) (c .before .before .before .before .before .before .pre .1) _ _ (c .before .before .before .loop .inv) _ _ (c .before .queue-event .ensures)
-    (c .data-count .ensures) (c .before .before .loop-test .taken)
+loop-again c = search queued-one
 
 returns : tie.Need-returns Inv-loop μ-loop
 returns c =

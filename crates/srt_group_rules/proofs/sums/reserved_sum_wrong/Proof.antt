@@ -12,16 +12,16 @@ slice-aggregate-add-up c = search needs
 
 add-up-requires : tie.Need-add-up-requires
 unfolding any
-add-up-requires c κs = (c .before .before .before .pre .0, (c .before .before .before .pre .1 .0, (c .before .before .before .pre .1 .1 .0, (c .before .before .before .pre .1 .1 .1 .1, (refl, refl)))))
+add-up-requires c κs = (search needs, (search needs, (search needs, (search needs, (search needs, search needs)))))
 
 returns : tie.Need-returns
-returns c = wrong-nowhere _ _ _ _ _ _ _ (c .before .before .add-up .ensures) (c .if1 .taken)
+returns c = search wrong-nowhere
 
 array-read-if2 : tie.Need-array-read-if2
 array-read-if2 c = search needs
 
 returns-2 : tie.Need-returns-2
-returns-2 c = wrong-own _ _ _ _ _ _ _ (c .before .before .before .add-up .ensures) (c .before .if1 .left) (c .if2 .taken)
+returns-2 c = search wrong-own
 
 slice-aggregate-members-differ : tie.Need-slice-aggregate-members-differ
 slice-aggregate-members-differ c = search needs
@@ -37,7 +37,7 @@ members-differ-requires c κs = (
 )
 
 returns-3 : tie.Need-returns-3
-returns-3 c = wrong-members _ _ _ _ _ _ _ (c .before .before .before .before .before .add-up .ensures) (c .before .before .before .if1 .left) (c .before .before .if2 .left) (c .members-differ .ensures)
+returns-3 c = search wrong-members
 
 pub reserved-sum-wrong-spec : {M : Type 1} → statement M
 reserved-sum-wrong-spec =

@@ -14,8 +14,7 @@ same-length : tie.Need-same-length
 same-length c = search needs
 
 returns : tie.Need-returns
-returns c =
-    not-attempted _ _ _ _ _ _ _ (c .before .is-active-at .ensures) (not-true (c .before .is-active-at .result) (c .if1 .taken))
+returns c = search (not-attempted, not-true)
 
 leg-at-requires : tie.Need-leg-at-requires
 leg-at-requires c κs = search needs

@@ -17,20 +17,7 @@ loop-holds : tie.Need-loop-holds Inv-loop μ-loop
 loop-holds c = attempting-start _ _ _ _ _ _
 
 attempt-send-at-requires : tie.Need-attempt-send-at-requires Inv-loop μ-loop
-attempt-send-at-requires c κs = (
-  omega (arith, c .before .before .before .loop .inv .changing .long),
-  (
-    omega (
-      arith,
-      c .before .before .before .loop .inv .list-long,
-    ),
-    omega (
-      arith,
-      c .before .before .before .loop .inv .few,
-      c .before .before .before .loop .inv .within,
-    ),
-  ),
-)
+attempt-send-at-requires c κs = (search needs, (search needs, search needs))
 
 add-i : tie.Need-add-i Inv-loop μ-loop
 add-i c = search needs
@@ -39,21 +26,16 @@ loop-less : tie.Need-loop-less Inv-loop μ-loop
 loop-less c = search needs
 
 loop-again : tie.Need-loop-again Inv-loop μ-loop
-loop-again c =
-    attempting-on _ _ _ _ _ _ _ _ _ _ (c .before .before .before .before .before .before .before .loop-test .taken)
-    (c .before .before .before .before .before .before .before .before .before .before .before .pre .0 .1)
-    (c .before .before .before .before .before .before .before .before .before .before .before .pre .1)
-    (c .before .before .before .before .before .before .before .before .loop .inv)
-    (c .before .before .before .before .attempt-send-at .ensures)
+loop-again c = search attempting-on
 
 same-length : tie.Need-same-length Inv-loop μ-loop
-same-length c = omega (arith, c .before .loop .inv .changing .long)
+same-length c = search needs
 
 same-length-2 : tie.Need-same-length-2 Inv-loop μ-loop
-same-length-2 c = omega (arith, c .before .loop .inv .list-long)
+same-length-2 c = search needs
 
 returns : tie.Need-returns Inv-loop μ-loop
-returns c = attempting-done _ _ _ _ _ _ _ _ (omega arith) (c .before .loop .inv)
+returns c = search attempting-done
 
 pub attempt-sends-spec : {M : Type 1} → statement M
 attempt-sends-spec =

@@ -9,16 +9,13 @@ is-active-at-requires : tie.Need-is-active-at-requires
 is-active-at-requires c κs = search needs
 
 returns : tie.Need-returns
-returns c =
-    inactive-matches _ _ (c .before .is-active-at .ensures) (not-true (c .before .is-active-at .result) (c .if1 .taken))
+returns c = search (inactive-matches, not-true)
 
 sender-at-requires : tie.Need-sender-at-requires
 sender-at-requires c κs = search needs
 
 returns-2 : tie.Need-returns-2
-returns-2 c =
-    active-matches _ _ (c .before .before .before .is-active-at .ensures) (not-false
-    (c .before .before .before .is-active-at .result) (c .before .before .if1 .left)) (c .before .sender-at .ensures)
+returns-2 c = search (active-matches, not-false)
 
 pub is-mismatched-at-spec : {M : Type 1} → statement M
 is-mismatched-at-spec =

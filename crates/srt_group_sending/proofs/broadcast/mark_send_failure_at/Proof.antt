@@ -17,10 +17,7 @@ same-length : tie.Need-same-length
 same-length c = search needs
 
 returns : tie.Need-returns
-returns c =
-    marked-unstable _ _ _ (c .before .before .before .before .before .before .leg-at .ensures)
-    (c .before .before .before .before .before .has-full-window .ensures) (c .before .before .before .before .if1 .taken)
-    (c .before .before .turn-at .ensures)
+returns c = search marked-unstable
 
 turn-at-requires-2 : tie.Need-turn-at-requires-2
 turn-at-requires-2 c κs = search needs
@@ -29,10 +26,7 @@ same-length-2 : tie.Need-same-length-2
 same-length-2 c = search needs
 
 returns-2 : tie.Need-returns-2
-returns-2 c =
-    marked-broken _ _ _ (c .before .before .before .before .before .before .leg-at .ensures)
-    (c .before .before .before .before .before .has-full-window .ensures) (c .before .before .before .before .if1 .left)
-    (c .before .before .turn-at2 .ensures)
+returns-2 c = search marked-broken
 
 pub mark-send-failure-at-spec : {M : Type 1} → statement M
 mark-send-failure-at-spec =

@@ -11,7 +11,7 @@ sender-at-requires : tie.Need-sender-at-requires
 sender-at-requires c κs = search needs
 
 returns-2 : tie.Need-returns-2
-returns-2 c = leg-number _ _ (c .before .if1 .left) (c .sender-at .ensures)
+returns-2 c = search leg-number
 
 pub sequence-for-send-spec : {M : Type 1} → statement M
 sequence-for-send-spec = tie.close (tie.spec returns sender-at-requires returns-2)

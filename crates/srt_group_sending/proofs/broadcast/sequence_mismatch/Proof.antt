@@ -33,16 +33,10 @@ loop-less : tie.Need-loop-less Inv-loop μ-loop
 loop-less c = search needs
 
 loop-again : tie.Need-loop-again Inv-loop μ-loop
-loop-again c = (
-  omega arith,
-  passed-on _ _ _ _ (c .before .before .before .loop .inv .1) (c .before .is-mismatched-at .ensures)
-      (c .if1 .left),
-)
+loop-again c = (search needs, search passed-on)
 
 returns-2 : tie.Need-returns-2 Inv-loop μ-loop
-returns-2 c =
-    mismatch-nowhere (c .before .before .before .args .sequence) _ _ (found-nowhere (is-mismatched
-    (c .before .before .before .args .sequence)) _ _ _ (c .loop-test .left) (c .before .loop .inv .1))
+returns-2 c = search (mismatch-nowhere, found-nowhere)
 
 pub sequence-mismatch-spec : {M : Type 1} → statement M
 sequence-mismatch-spec =

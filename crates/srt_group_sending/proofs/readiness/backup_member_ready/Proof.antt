@@ -12,14 +12,10 @@ ready-to-send-requires : tie.Need-ready-to-send-requires
 ready-to-send-requires c κs = search needs
 
 returns : tie.Need-returns
-returns c =
-    cannot-send-yet _ _ _ _ _ (c .before .before .leg-at .ensures) (c .before .ready-to-send .ensures) (not-true _
-    (c .if1 .taken))
+returns c = search (cannot-send-yet, not-true)
 
 returns-2 : tie.Need-returns-2
-returns-2 c =
-    has-no-sender _ _ _ _ _ (c .before .before .before .before .leg-at .ensures)
-    (c .before .before .before .ready-to-send .ensures) (not-false _ (c .before .before .if1 .left)) (c .if2 .taken)
+returns-2 c = search (has-no-sender, not-false)
 
 membership-at-requires : tie.Need-membership-at-requires
 membership-at-requires c κs = search needs
@@ -28,11 +24,7 @@ could-take-over-requires : tie.Need-could-take-over-requires
 could-take-over-requires c κs = search needs
 
 returns-3 : tie.Need-returns-3
-returns-3 c =
-    ready-if-takes-over _ _ _ _ _ (c .before .before .before .before .before .before .leg-at .ensures)
-    (c .before .before .before .before .before .ready-to-send .ensures) (not-false _
-    (c .before .before .before .before .if1 .left)) (c .before .before .if2 .left) (c .before .membership-at .ensures)
-    (c .could-take-over .ensures)
+returns-3 c = search (ready-if-takes-over, not-false)
 
 pub backup-member-ready-spec : {M : Type 1} → statement M
 backup-member-ready-spec =

@@ -32,16 +32,10 @@ loop-less : tie.Need-loop-less Inv-loop μ-loop
 loop-less c = search needs
 
 loop-again : tie.Need-loop-again Inv-loop μ-loop
-loop-again c = (
-  omega arith,
-  passed-on (sends-now (pacing-in (c .before .before .before .before .before .args .pacing))) _ _ _
-      (c .before .before .before .loop .inv .1) (c .before .sends-now-at .ensures) (c .if1 .left),
-)
+loop-again c = (search needs, search passed-on)
 
 returns-2 : tie.Need-returns-2 Inv-loop μ-loop
-returns-2 c =
-    any-nowhere (sends-now (pacing-in (c .before .before .before .args .pacing))) _ (found-nowhere (sends-now (pacing-in
-    (c .before .before .before .args .pacing))) _ _ _ (c .loop-test .left) (c .before .loop .inv .1))
+returns-2 c = search (any-nowhere, found-nowhere)
 
 pub broadcast-send-ready-spec : {M : Type 1} → statement M
 broadcast-send-ready-spec =

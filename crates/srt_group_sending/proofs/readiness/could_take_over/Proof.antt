@@ -15,18 +15,13 @@ gap-allows-requires : tie.Need-gap-allows-requires
 gap-allows-requires c κs = search needs
 
 returns : tie.Need-returns
-returns c =
-    gap-refuses _ _ _ _ _ (c .before .before .before .takes-over .ensures) (c .before .before .replay-length .ensures)
-    (c .before .gap-allows .ensures) (not-true _ (c .if1 .taken))
+returns c = search (gap-refuses, not-true)
 
 remaining-window-packets-requires : tie.Need-remaining-window-packets-requires
 remaining-window-packets-requires c κs = search needs
 
 returns-2 : tie.Need-returns-2
-returns-2 c =
-    window-refuses _ _ _ _ _ (c .before .before .before .before .before .takes-over .ensures)
-    (c .before .before .before .before .replay-length .ensures) (c .before .before .before .gap-allows .ensures) (not-false _
-    (c .before .before .if1 .left)) (c .before .remaining-window-packets .ensures) (c .if2 .taken)
+returns-2 c = search (window-refuses, not-false)
 
 replay-sequence-requires : tie.Need-replay-sequence-requires
 replay-sequence-requires c κs = search needs
@@ -35,12 +30,7 @@ stands-at-requires : tie.Need-stands-at-requires
 stands-at-requires c κs = search needs
 
 returns-3 : tie.Need-returns-3
-returns-3 c =
-    stands-decides _ _ _ _ _ (c .before .before .before .before .before .before .before .takes-over .ensures)
-    (c .before .before .before .before .before .before .replay-length .ensures)
-    (c .before .before .before .before .before .gap-allows .ensures) (not-false _
-    (c .before .before .before .before .if1 .left)) (c .before .before .before .remaining-window-packets .ensures)
-    (c .before .before .if2 .left) (c .before .replay-sequence .ensures) (c .stands-at .ensures)
+returns-3 c = search (stands-decides, not-false)
 
 pub could-take-over-spec : {M : Type 1} → statement M
 could-take-over-spec =

@@ -11,7 +11,7 @@ sequence-at-requires : tie.Need-sequence-at-requires
 sequence-at-requires c κs = search needs
 
 returns-2 : tie.Need-returns-2
-returns-2 c = front-there _ _ (c .before .if1 .left) (c .sequence-at .ensures)
+returns-2 c = search front-there
 
 pub front-sequence-spec : {M : Type 1} → statement M
 front-sequence-spec = tie.close (tie.spec returns sequence-at-requires returns-2)

@@ -8,10 +8,10 @@ returns : tie.Need-returns
 returns c = allows-without _ _ (not-true _ (c .if1 .taken))
 
 returns-2 : tie.Need-returns-2
-returns-2 c = allows-none _ _ (not-false _ (c .before .if1 .left)) (c .if2 .taken)
+returns-2 c = search (allows-none, not-false)
 
 returns-3 : tie.Need-returns-3
-returns-3 c = allows-whole _ _ (not-false _ (c .before .if1 .left)) (c .if2 .left)
+returns-3 c = search (allows-whole, not-false)
 
 pub gap-allows-spec : {M : Type 1} → statement M
 gap-allows-spec = tie.close (tie.spec returns returns-2 returns-3)

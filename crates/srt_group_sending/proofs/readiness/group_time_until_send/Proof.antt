@@ -19,14 +19,13 @@ sub-index : tie.Need-sub-index Inv-loop μ-loop
 sub-index c = search needs
 
 least-wait-with-requires : tie.Need-least-wait-with-requires Inv-loop μ-loop
-least-wait-with-requires c κs = omega (arith, c .before .loop .inv .within)
+least-wait-with-requires c κs = search needs
 
 loop-less : tie.Need-loop-less Inv-loop μ-loop
 loop-less c = search needs
 
 loop-again : tie.Need-loop-again Inv-loop μ-loop
-loop-again c =
-    least-on _ _ _ _ _ (c .before .loop-test .taken) (c .before .before .loop .inv) (c .least-wait-with .ensures)
+loop-again c = search least-on
 
 enum-known-least : tie.Need-enum-known-least Inv-loop μ-loop
 enum-known-least c = search needs
@@ -35,13 +34,10 @@ enum-told : tie.Need-enum-told Inv-loop μ-loop
 enum-told c = search needs
 
 returns : tie.Need-returns Inv-loop μ-loop
-returns c =
-    wait-none _ _ _ _ _ (c .before .before .loop-test .left) (c .before .before .before .loop .inv) (c .enum-told .given .1)
+returns c = search wait-none
 
 returns-2 : tie.Need-returns-2 Inv-loop μ-loop
-returns-2 c =
-    wait-least _ _ _ _ _ _ (c .before .before .before .loop-test .left) (c .before .before .before .before .loop .inv)
-    (c .before .least .given .1)
+returns-2 c = search wait-least
 
 pub group-time-until-send-spec : {M : Type 1} → statement M
 group-time-until-send-spec =

@@ -12,9 +12,7 @@ may-carry-requires : tie.Need-may-carry-requires
 may-carry-requires c κs = search needs
 
 returns : tie.Need-returns
-returns c =
-    least-without _ _ _ (c .before .before .membership-at .ensures) (c .before .may-carry .ensures) (not-true
-    (c .before .may-carry .result) (c .if1 .taken))
+returns c = search (least-without, not-true)
 
 leg-at-requires : tie.Need-leg-at-requires
 leg-at-requires c κs = search needs
@@ -29,29 +27,13 @@ enum-told : tie.Need-enum-told
 enum-told c = search needs
 
 returns-2 : tie.Need-returns-2
-returns-2 c =
-    least-alone _ _ _ (c .before .before .before .before .before .before .membership-at .ensures)
-    (c .before .before .before .before .before .may-carry .ensures) (not-false
-    (c .before .before .before .before .before .may-carry .result) (c .before .before .before .before .if1 .left))
-    (c .before .before .before .leg-at .ensures) (c .before .before .time-until-send .ensures) (c .enum-told .given .1)
+returns-2 c = search (least-alone, not-false)
 
 returns-3 : tie.Need-returns-3
-returns-3 c =
-    least-now _ _ _ (c .before .before .before .before .before .before .before .before .membership-at .ensures)
-    (c .before .before .before .before .before .before .before .may-carry .ensures) (not-false
-    (c .before .before .before .before .before .before .before .may-carry .result)
-    (c .before .before .before .before .before .before .if1 .left))
-    (c .before .before .before .before .before .leg-at .ensures) (c .before .before .before .before .time-until-send .ensures)
-    _ (c .before .before .least .given .1) (c .if2 .taken)
+returns-3 c = search (least-now, not-false)
 
 returns-4 : tie.Need-returns-4
-returns-4 c =
-    least-before _ _ _ (c .before .before .before .before .before .before .before .before .membership-at .ensures)
-    (c .before .before .before .before .before .before .before .may-carry .ensures) (not-false
-    (c .before .before .before .before .before .before .before .may-carry .result)
-    (c .before .before .before .before .before .before .if1 .left))
-    (c .before .before .before .before .before .leg-at .ensures) (c .before .before .before .before .time-until-send .ensures)
-    _ (c .before .before .least .given .1) (c .if2 .left)
+returns-4 c = search (least-before, not-false)
 
 pub least-wait-with-spec : {M : Type 1} → statement M
 least-wait-with-spec =

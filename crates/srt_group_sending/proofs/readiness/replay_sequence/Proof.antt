@@ -9,7 +9,7 @@ send-number-requires : tie.Need-send-number-requires
 send-number-requires c κs = search needs
 
 returns : tie.Need-returns
-returns c = no-replay _ _ _ (not-true _ (c .before .if1 .taken)) (c .send-number .ensures)
+returns c = search (no-replay, not-true)
 
 front-sequence-requires : tie.Need-front-sequence-requires
 front-sequence-requires c κs = search needs
@@ -24,14 +24,10 @@ send-number-requires-2 : tie.Need-send-number-requires-2
 send-number-requires-2 c κs = search needs
 
 returns-2 : tie.Need-returns-2
-returns-2 c =
-    nothing-to-replay _ _ _ (not-false _ (c .before .before .before .before .if1 .left))
-    (c .before .before .before .front-sequence .ensures) (c .before .enum-told .given .1) (c .send-number2 .ensures)
+returns-2 c = search (nothing-to-replay, not-false)
 
 returns-3 : tie.Need-returns-3
-returns-3 c =
-    replay-from _ _ _ _ (not-false _ (c .before .before .before .before .if1 .left))
-    (c .before .before .before .front-sequence .ensures) (c .before .front .given .1)
+returns-3 c = search (replay-from, not-false)
 
 pub replay-sequence-spec : {M : Type 1} → statement M
 replay-sequence-spec =

@@ -4,10 +4,10 @@ use Rattle.srt_group_sending.proofs.readiness.send_number.Statement.{st
 use Rattle.srt_group_sending.proofs.readiness.send_number.Tie as tie
 
 returns : tie.Need-returns
-returns c = number-there (c .before .before .args .sending) (c .if1 .taken)
+returns c = search number-there
 
 returns-2 : tie.Need-returns-2
-returns-2 c = number-missing (c .before .before .args .sending) (c .if1 .left)
+returns-2 c = search number-missing
 
 pub send-number-spec : {M : Type 1} → statement M
 send-number-spec = tie.close (tie.spec returns returns-2)

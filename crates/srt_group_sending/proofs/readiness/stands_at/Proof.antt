@@ -14,11 +14,10 @@ returns : tie.Need-returns
 returns c = stands-anywhere _ _ (c .enum-told .given .1)
 
 returns-2 : tie.Need-returns-2
-returns-2 c = stands-there _ _ _ (c .before .before .before .sequence .given .1) (c .if1 .taken)
+returns-2 c = search stands-there
 
 returns-3 : tie.Need-returns-3
-returns-3 c =
-    stands-elsewhere _ _ _ (c .before .before .before .before .sequence .given .1) (c .before .if1 .left)
+returns-3 c = search stands-elsewhere
 
 pub stands-at-spec : {M : Type 1} → statement M
 stands-at-spec = tie.close (tie.spec enum-known-sequence enum-told returns returns-2 returns-3)

@@ -7,7 +7,7 @@ returns : tie.Need-returns
 returns c = no-carrier _ _ (c .if1 .taken)
 
 returns-2 : tie.Need-returns-2
-returns-2 c = other-carrier _ _ (c .before .if1 .left)
+returns-2 c = search other-carrier
 
 pub takes-over-spec : {M : Type 1} → statement M
 takes-over-spec = tie.close (tie.spec returns returns-2)

@@ -8,16 +8,19 @@ is-held-requires : tie.Need-is-held-requires
 is-held-requires c κs = search needs
 
 returns : tie.Need-returns
-returns c = λ others ws. stays-held _ _ _ _ _ (c .before .is-held .ensures) others ws (c .if1 .taken)
+returns c = search stays-held
 
 returns-2 : tie.Need-returns-2
-returns-2 c = λ others ws. stays-continuing _ _ _ _ _ (c .before .before .before .is-held .ensures) others ws (c .before .before .if1 .left) (c .if2 .taken)
+returns-2 c = search stays-continuing
 
 gap-given-up-requires : tie.Need-gap-given-up-requires
 gap-given-up-requires c κs = search needs
 
 returns-3 : tie.Need-returns-3
-returns-3 c = λ others ws. stays-until-given-up _ _ _ _ _ (c .before .before .before .before .is-held .ensures) others ws (c .before .before .before .if1 .left) (c .before .if2 .left) (c .gap-given-up .ensures others ws)
+returns-3 c =
+    λ others ws.
+    let given-up = c .gap-given-up .ensures others ws in
+    search stays-until-given-up
 
 pub base-stays-spec : {M : Type 1} → statement M
 base-stays-spec =

@@ -6,7 +6,7 @@ use Rattle.srt_group_skip.proofs.skip.deliver_next.Statement.{statement
 use Rattle.srt_group_skip.proofs.skip.deliver_next.Tie as tie
 
 skip-given-up-gap-requires : tie.Need-skip-given-up-gap-requires
-skip-given-up-gap-requires c κs = (c .before .before .before .before .before .before .before .before .before .before .pre .0, (c .before .before .before .before .before .before .before .before .before .before .pre .1 .0, c .before .before .before .before .before .before .before .before .before .before .pre .1 .1))
+skip-given-up-gap-requires c κs = search needs
 
 same-length : tie.Need-same-length
 same-length c = search needs
@@ -21,13 +21,10 @@ same-length-4 : tie.Need-same-length-4
 same-length-4 c = search needs
 
 returns : tie.Need-returns
-returns c = (
-  next-at-base _ _ _ _ _ _ _ _ _ _ (c .before .before .before .before .before .before .before .before .before .before .before .before .before .if1 .taken) (c .before .before .before .before .before .before .before .before .skip-given-up-gap .ensures .0),
-  c .before .before .before .before .before .before .before .before .skip-given-up-gap .ensures .1,
-)
+returns c = search next-at-base
 
 deliver-nearest-requires : tie.Need-deliver-nearest-requires
-deliver-nearest-requires c κs = (deliverable _ _ _ _ (c .before .before .before .before .before .before .before .before .before .pre .0), c .before .before .before .before .before .before .before .before .before .pre .1 .1)
+deliver-nearest-requires c κs = search deliverable
 
 same-length-5 : tie.Need-same-length-5
 same-length-5 c = search needs
@@ -39,10 +36,9 @@ same-length-7 : tie.Need-same-length-7
 same-length-7 c = search needs
 
 returns-2 : tie.Need-returns-2
-returns-2 c = (
-  next-nearest _ _ _ _ _ _ _ _ _ (c .before .before .before .before .before .before .before .before .before .before .before .before .before .before .before .before .pre .0) (c .before .before .before .before .before .before .before .before .before .before .if1 .left) (c .before .before .before .before .before .before .deliver-nearest .ensures .0 _),
-  c .before .before .before .before .before .before .deliver-nearest .ensures .1,
-)
+returns-2 c =
+    let delivered = c .before .before .before .before .before .before .deliver-nearest .ensures in
+    (next-nearest _ _ _ _ _ _ _ _ _ (search) (search) (delivered .0 _), delivered .1)
 
 pub deliver-next-spec : {M : Type 1} → statement M
 deliver-next-spec =

@@ -4,7 +4,6 @@ use Rattle.srt_group_skip.specs.laws.Skip.{event-first, skipped-if-empty
 use borrow.Author.Needs.{needs}
 use Rattle.srt_group_skip.specs.laws.SkipUsed.{follows-given}
 use Rattle.srt_group_model.specs.laws.Flag.{zero-unset, other-set}
-use Rattle.srt_group_model.specs.Tools.{is-set}
 use Rattle.srt_group_skip.proofs.skip.skip_after.Statement.{statement}
 use Rattle.srt_group_skip.proofs.skip.skip_after.Tie as tie
 
@@ -15,14 +14,12 @@ same-length : tie.Need-same-length
 same-length c = search needs
 
 returns : tie.Need-returns
-returns c = (
-  λ tested time.
-      event-first (is-set (c .before .before .before .before .before .before .before .before .before .before .before .args .collected .emptied)) _ _ _ _ _ _ _ _ _ tested time (c .before .before .before .before .if1 .taken) (c .before .before .give-waiting .ensures _ _),
-  follows-given _ _ _ _ _ _ _ (c .before .before .before .before .before .before .before .before .before .before .before .pre .1) (c .before .before .give-waiting .ensures _ _),
-)
+returns c =
+    let given = c .before .before .give-waiting .ensures in
+    (λ tested time. event-first _ _ _ _ _ _ _ _ _ _ tested time (search) (given _ _), follows-given _ _ _ _ _ _ _ (search) (given _ _))
 
 skip-to-nearest-requires : tie.Need-skip-to-nearest-requires
-skip-to-nearest-requires c κs = (deliverable _ _ _ _ (c .before .before .before .before .before .before .before .before .before .before .before .before .pre .0), c .before .before .before .before .before .before .before .before .before .before .before .before .pre .1)
+skip-to-nearest-requires c κs = search deliverable
 
 same-length-2 : tie.Need-same-length-2
 same-length-2 c = search needs
@@ -34,14 +31,12 @@ same-length-4 : tie.Need-same-length-4
 same-length-4 c = search needs
 
 returns-2 : tie.Need-returns-2
-returns-2 c = (
-  λ tested time.
-      skipped-if-empty (is-set (c .before .before .before .before .before .before .before .before .before .before .before .before .before .before .before .before .before .before .before .args .collected .emptied)) _ _ _ _ _ _ _ _ _ tested time (c .before .before .before .before .before .before .before .before .before .before .before .before .if1 .left) (other-set _ (c .before .before .before .before .before .before .before .before .before .before .if2 .taken)) (c .before .before .before .before .before .before .skip-to-nearest .ensures .0 _ tested time),
-  c .before .before .before .before .before .before .skip-to-nearest .ensures .1,
-)
+returns-2 c =
+    let skipped = c .before .before .before .before .before .before .skip-to-nearest .ensures in
+    (λ tested time. skipped-if-empty _ _ _ _ _ _ _ _ _ _ tested time (search) (search other-set) (skipped .0 _ tested time), skipped .1)
 
 deliver-requires : tie.Need-deliver-requires
-deliver-requires c κs = (deliverable _ _ _ _ (c .before .before .before .before .before .before .before .before .before .before .before .before .pre .0), c .before .before .before .before .before .before .before .before .before .before .before .before .pre .1)
+deliver-requires c κs = search deliverable
 
 same-length-5 : tie.Need-same-length-5
 same-length-5 c = search needs
@@ -53,11 +48,9 @@ same-length-7 : tie.Need-same-length-7
 same-length-7 c = search needs
 
 returns-3 : tie.Need-returns-3
-returns-3 c = (
-  λ tested time.
-      stays-if-not-empty (is-set (c .before .before .before .before .before .before .before .before .before .before .before .before .before .before .before .before .before .before .before .args .collected .emptied)) _ _ _ _ _ _ _ _ _ tested time (c .before .before .before .before .before .before .before .before .before .before .before .before .if1 .left) (zero-unset _ (c .before .before .before .before .before .before .before .before .before .before .if2 .left)) (c .before .before .before .before .before .before .deliver .ensures .0 _),
-  c .before .before .before .before .before .before .deliver .ensures .1,
-)
+returns-3 c =
+    let delivered = c .before .before .before .before .before .before .deliver .ensures in
+    (λ tested time. stays-if-not-empty _ _ _ _ _ _ _ _ _ _ tested time (search) (search zero-unset) (delivered .0 _), delivered .1)
 
 pub skip-after-spec : {M : Type 1} → statement M
 skip-after-spec =

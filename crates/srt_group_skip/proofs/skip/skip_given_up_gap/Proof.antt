@@ -7,10 +7,10 @@ use Rattle.srt_group_skip.proofs.skip.skip_given_up_gap.Statement.{stat
 use Rattle.srt_group_skip.proofs.skip.skip_given_up_gap.Tie as tie
 
 base-stays-requires : tie.Need-base-stays-requires
-base-stays-requires c κs = deliverable _ _ _ _ (c .before .before .before .before .before .before .pre .0)
+base-stays-requires c κs = search deliverable
 
 deliver-requires : tie.Need-deliver-requires
-deliver-requires c κs = (deliverable _ _ _ _ (c .before .before .before .before .before .before .before .before .before .before .before .pre .0), c .before .before .before .before .before .before .before .before .before .before .before .pre .1 .1)
+deliver-requires c κs = search deliverable
 
 same-length : tie.Need-same-length
 same-length c = search needs
@@ -22,16 +22,16 @@ same-length-3 : tie.Need-same-length-3
 same-length-3 c = search needs
 
 returns : tie.Need-returns
-returns c = (
-  gap-stays _ _ _ _ _ _ _ (c .before .before .before .before .before .before .before .before .before .before .before .before .before .before .before .before .before .before .pre .0) (c .before .before .before .before .before .before .before .before .before .before .before .base-stays .ensures) _ _ _ (c .before .before .before .before .before .before .before .before .before .before .if1 .taken) (c .before .before .before .before .before .before .deliver .ensures .0 _),
-  c .before .before .before .before .before .before .deliver .ensures .1,
-)
+returns c =
+    let stays = c .before .before .before .before .before .before .before .before .before .before .before .base-stays .ensures in
+    let delivered = c .before .before .before .before .before .before .deliver .ensures in
+    (gap-stays _ _ _ _ _ _ _ (search) stays _ _ _ (search) (delivered .0 _), delivered .1)
 
 collect-until-empty-requires : tie.Need-collect-until-empty-requires
-collect-until-empty-requires c κs = (c .before .before .before .before .before .before .before .before .before .before .before .before .pre .0, (c .before .before .before .before .before .before .before .before .before .before .before .before .pre .1 .0, c .before .before .before .before .before .before .before .before .before .before .before .before .pre .1 .1))
+collect-until-empty-requires c κs = search needs
 
 skip-after-requires : tie.Need-skip-after-requires
-skip-after-requires c κs = (c .before .before .before .before .before .before .before .before .before .before .before .before .collect-until-empty .ensures .0 .usable, c .before .before .before .before .before .before .before .before .before .before .before .before .collect-until-empty .ensures .1 .long)
+skip-after-requires c κs = search needs
 
 same-length-4 : tie.Need-same-length-4
 same-length-4 c = search needs
@@ -47,11 +47,11 @@ same-length-7 c = search needs
 
 returns-2 : tie.Need-returns-2
 returns-2 c =
-    let collect-until-empty = c .before .before .before .before .before .before .before .before .before .before .before .before .before .before .before .before .before .before .before .before .before .collect-until-empty in
-    let skip-after = c .before .before .before .before .before .before .before .before .skip-after in (
-      gap-passed _ _ _ _ _ _ _ (c .before .before .before .before .before .before .before .before .before .before .before .before .before .before .before .before .before .before .before .before .before .before .before .before .before .before .before .before .before .before .before .before .before .before .pre .0) (c .before .before .before .before .before .before .before .before .before .before .before .before .before .before .before .before .before .before .before .before .before .before .before .before .before .before .before .base-stays .ensures) (c .before .before .before .before .before .before .before .before .before .before .before .before .before .before .before .before .before .before .before .before .before .before .before .before .before .before .if1 .left) (collect-until-empty .result) _ _ _ (collect-until-empty .ensures .0) _ _ _ _
-          (skip-after .ensures .0),
-      follows-then (collect-until-empty .ensures .1) (skip-after .ensures .1),
+    let tested = c .before .before .before .before .before .before .before .before .before .before .before .before .before .before .before .before .before .before .before .before .before .before .before .before .before .before in
+    let collected = c .before .before .before .before .before .before .before .before .before .before .before .before .before .before .before .before .before .before .before .before .before .collect-until-empty in
+    let skipped = c .before .before .before .before .before .before .before .before .skip-after .ensures in (
+      gap-passed _ _ _ _ _ _ _ (search) (tested .before .base-stays .ensures) (tested .if1 .left) (collected .result) _ _ _ (collected .ensures .0) _ _ _ _ (skipped .0),
+      follows-then (collected .ensures .1) (skipped .1),
     )
 
 pub skip-given-up-gap-spec : {M : Type 1} → statement M

@@ -22,9 +22,7 @@ shared-slice-read-if1 : tie.Need-shared-slice-read-if1 Inv-loop μ-loop
 shared-slice-read-if1 c = search needs
 
 returns : tie.Need-returns Inv-loop μ-loop
-returns c =
-    lowest-found _ _ (c .before .before .before .before .pre .0) _ (c .before .before .loop-test .taken) (c .if1 .taken)
-    (c .before .before .before .loop .inv .1)
+returns c = search lowest-found
 
 add-cell : tie.Need-add-cell Inv-loop μ-loop
 add-cell c = search needs

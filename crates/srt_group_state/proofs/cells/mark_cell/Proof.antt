@@ -6,13 +6,13 @@ use Rattle.srt_group_state.proofs.cells.mark_cell.Statement.{statement}
 use Rattle.srt_group_state.proofs.cells.mark_cell.Tie as tie
 
 returns : tie.Need-returns
-returns c = beyond-refused _ _ (c .before .pre) _ (c .if1 .taken)
+returns c = search beyond-refused
 
 slice-read-if2 : tie.Need-slice-read-if2
 slice-read-if2 c = search needs
 
 returns-2 : tie.Need-returns-2
-returns-2 c = again-refused _ _ (c .before .before .before .pre) _ (c .if2 .taken)
+returns-2 c = search again-refused
 
 slice-write-flags : tie.Need-slice-write-flags
 slice-write-flags c = search needs
@@ -21,7 +21,7 @@ same-length : tie.Need-same-length
 same-length c = search needs
 
 returns-3 : tie.Need-returns-3
-returns-3 c = cell-marked _ _ (c .before .before .before .pre) _ (c .before .before .if1 .left) (c .if2 .left)
+returns-3 c = search cell-marked
 
 pub mark-cell-spec : {M : Type 1} → statement M
 mark-cell-spec =

@@ -6,27 +6,22 @@ use Rattle.srt_group_state.proofs.cells.mark_cells.Statement.{statement
 use Rattle.srt_group_state.proofs.cells.mark_cells.Tie as tie
 
 mark-tables-requires : tie.Need-mark-tables-requires
-mark-tables-requires c κs =
-    (c .before .before .before .before .before .pre .0, (c .before .before .before .before .before .pre .1 .0, fresh-flags _ _ (c .before .before .before .before .before .pre .1 .1 .1 .0) (c .before .before .before .before .before .pre .1 .1 .1 .1)))
+mark-tables-requires c κs = (search needs, (search needs, search fresh-flags))
 
 same-length : tie.Need-same-length
 same-length c = search needs
 
 returns : tie.Need-returns
-returns c =
-    tables-refused (c .before .before .before .before .before .before .before .before .before .args .counts) (c .before .before .before .before .before .before .before .before .before .args .members .now) (c .before .before .before .before .before .before .before .before .before .args .pending .now) (sent-cells (c .before .before .before .before .before .before .before .before .before .args .ring) (c .before .before .before .before .before .before .before .before .before .args .history .now)) _ _
-    (c .before .before .before .before .before .before .before .before .before .pre .1 .1 .1 .1) _ _ (c .before .before .before .mark-tables .ensures) (c .if1 .taken)
+returns c = search tables-refused
 
 mark-history-requires : tie.Need-mark-history-requires
-mark-history-requires c κs = (c .before .before .before .before .before .before .before .before .before .before .pre .1 .1 .0, flags-after (c .before .before .before .before .mark-tables .ensures) (c .before .if1 .left))
+mark-history-requires c κs = (search needs, search flags-after)
 
 same-length-2 : tie.Need-same-length-2
 same-length-2 c = search needs
 
 returns-2 : tie.Need-returns-2
-returns-2 c =
-    history-marked (c .before .before .before .before .before .before .before .before .before .before .before .before .before .args .counts) (c .before .before .before .before .before .before .before .before .before .before .before .before .before .args .members .now) (c .before .before .before .before .before .before .before .before .before .before .before .before .before .args .pending .now) (sent-cells (c .before .before .before .before .before .before .before .before .before .before .before .before .before .args .ring) (c .before .before .before .before .before .before .before .before .before .before .before .before .before .args .history .now)) _ _
-    (c .before .before .before .before .before .before .before .before .before .before .before .before .before .pre .1 .1 .1 .1) _ _ (c .before .before .before .before .before .before .before .mark-tables .ensures) (c .before .before .before .before .if1 .left) _ _ (c .before .before .mark-history .ensures)
+returns-2 c = search history-marked
 
 pub mark-cells-spec : {M : Type 1} → statement M
 mark-cells-spec =

@@ -18,7 +18,7 @@ abbrev μ-loop : tie.MeasureT-loop
 μ-loop flags₀ cells ring history index₀ flags index = ring .length - index
 
 loop-holds : tie.Need-loop-holds Inv-loop μ-loop
-loop-holds c = marking-start _ _ _ _ (c .before .before .pre .1)
+loop-holds c = search marking-start
 
 place-requires : tie.Need-place-requires Inv-loop μ-loop
 place-requires c κs = search needs
@@ -33,17 +33,13 @@ cell-of-requires : tie.Need-cell-of-requires Inv-loop μ-loop
 cell-of-requires c κs = search needs
 
 mark-cell-requires : tie.Need-mark-cell-requires Inv-loop μ-loop
-mark-cell-requires c κs = c .before .before .before .before .before .before .loop .inv .flags
+mark-cell-requires c κs = search needs
 
 same-length : tie.Need-same-length Inv-loop μ-loop
 same-length c = search needs
 
 returns : tie.Need-returns Inv-loop μ-loop
-returns c =
-    let args = c .before .before .before .before .before .before .before .before .before .before .before .before .before .args in
-    marking-stopped _ _ _ _ _ _ (c .before .before .before .before .before .before .before .before .before .before .loop .inv) _ _ _ _ (sent-are (args .ring) _)
-    (word-names (args .history .now) _ _ _ (c .before .before .before .before .before .before .before .place .ensures .0) (c .before .before .before .before .before .cell-of .ensures .0))
-    (omega arith) (c .if2 .taken) (c .before .before .before .mark-cell .ensures)
+returns c = search (marking-stopped, sent-are, word-names)
 
 add-index : tie.Need-add-index Inv-loop μ-loop
 add-index c = search needs
@@ -52,18 +48,13 @@ loop-less : tie.Need-loop-less Inv-loop μ-loop
 loop-less c = search needs
 
 loop-again : tie.Need-loop-again Inv-loop μ-loop
-loop-again c =
-    let args = c .before .before .before .before .before .before .before .before .before .before .before .before .before .args in
-    marking-on _ _ _ _ _ _ (c .before .before .before .before .before .before .before .before .before .before .loop .inv) _ _ _
-    (word-names (args .history .now) _ _ _ (c .before .before .before .before .before .before .before .place .ensures .0) (c .before .before .before .before .before .cell-of .ensures .0))
-    (omega arith) (c .if2 .left) (c .before .before .before .mark-cell .ensures)
+loop-again c = search (marking-on, word-names)
 
 same-length-2 : tie.Need-same-length-2 Inv-loop μ-loop
 same-length-2 c = search needs
 
 returns-2 : tie.Need-returns-2 Inv-loop μ-loop
-returns-2 c =
-    marking-done _ _ _ _ _ _ (c .before .before .loop .inv) _ (sent-are (c .before .before .before .before .before .args .ring) _) (omega arith)
+returns-2 c = search (marking-done, sent-are)
 
 pub mark-history-spec : {M : Type 1} → statement M
 mark-history-spec =

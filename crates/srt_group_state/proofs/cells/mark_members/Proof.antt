@@ -17,18 +17,16 @@ abbrev μ-loop : tie.MeasureT-loop
 μ-loop flags₀ cells members count index₀ flags index = count - index
 
 loop-holds : tie.Need-loop-holds Inv-loop μ-loop
-loop-holds c = marking-start _ _ _ _ (c .before .before .pre .1)
+loop-holds c = search marking-start
 
 mark-queue-at-requires : tie.Need-mark-queue-at-requires Inv-loop μ-loop
-mark-queue-at-requires c κs = (omega arith, c .before .before .loop .inv .flags)
+mark-queue-at-requires c κs = (search needs, search needs)
 
 same-length : tie.Need-same-length Inv-loop μ-loop
 same-length c = search needs
 
 returns : tie.Need-returns Inv-loop μ-loop
-returns c =
-    marking-stopped _ _ _ _ _ _ (c .before .before .before .before .before .before .loop .inv) _ _ _ _ (queues-are _ _) refl (omega arith) (c .if1 .taken)
-    (c .before .before .before .mark-queue-at .ensures)
+returns c = search (marking-stopped, queues-are)
 
 add-index : tie.Need-add-index Inv-loop μ-loop
 add-index c = search needs
@@ -37,15 +35,13 @@ loop-less : tie.Need-loop-less Inv-loop μ-loop
 loop-less c = search needs
 
 loop-again : tie.Need-loop-again Inv-loop μ-loop
-loop-again c =
-    marking-on _ _ _ _ _ _ (c .before .before .before .before .before .before .loop .inv) _ _ _ refl (omega arith) (c .if1 .left)
-    (c .before .before .before .mark-queue-at .ensures)
+loop-again c = search marking-on
 
 same-length-2 : tie.Need-same-length-2 Inv-loop μ-loop
 same-length-2 c = search needs
 
 returns-2 : tie.Need-returns-2 Inv-loop μ-loop
-returns-2 c = marking-done _ _ _ _ _ _ (c .before .loop .inv) _ (queues-are _ _) (omega arith)
+returns-2 c = search (marking-done, queues-are)
 
 pub mark-members-spec : {M : Type 1} → statement M
 mark-members-spec =

@@ -16,22 +16,19 @@ abbrev μ-loop : tie.MeasureT-loop
 μ-loop flags₀ cells pending count at₀ flags at = count - at
 
 loop-holds : tie.Need-loop-holds Inv-loop μ-loop
-loop-holds c = marking-start _ _ _ _ (c .before .before .pre .1)
+loop-holds c = search marking-start
 
 cell-at-requires : tie.Need-cell-at-requires Inv-loop μ-loop
 cell-at-requires c κs = search needs
 
 mark-cell-requires : tie.Need-mark-cell-requires Inv-loop μ-loop
-mark-cell-requires c κs = c .before .before .before .loop .inv .flags
+mark-cell-requires c κs = search needs
 
 same-length : tie.Need-same-length Inv-loop μ-loop
 same-length c = search needs
 
 returns : tie.Need-returns Inv-loop μ-loop
-returns c =
-    marking-stopped _ _ _ _ _ _ (c .before .before .before .before .before .before .before .loop .inv) _ _ _ _ (pending-are _ _)
-    (cell-names _ _ (c .before .before .before .before .before .cell-at .ensures .0)) (omega arith) (c .if1 .taken)
-    (c .before .before .before .mark-cell .ensures)
+returns c = search (marking-stopped, pending-are, cell-names)
 
 add-at : tie.Need-add-at Inv-loop μ-loop
 add-at c = search needs
@@ -40,16 +37,13 @@ loop-less : tie.Need-loop-less Inv-loop μ-loop
 loop-less c = search needs
 
 loop-again : tie.Need-loop-again Inv-loop μ-loop
-loop-again c =
-    marking-on _ _ _ _ _ _ (c .before .before .before .before .before .before .before .loop .inv) _ _ _
-    (cell-names _ _ (c .before .before .before .before .before .cell-at .ensures .0)) (omega arith) (c .if1 .left)
-    (c .before .before .before .mark-cell .ensures)
+loop-again c = search (marking-on, cell-names)
 
 same-length-2 : tie.Need-same-length-2 Inv-loop μ-loop
 same-length-2 c = search needs
 
 returns-2 : tie.Need-returns-2 Inv-loop μ-loop
-returns-2 c = marking-done _ _ _ _ _ _ (c .before .loop .inv) _ (pending-are _ _) (omega arith)
+returns-2 c = search (marking-done, pending-are)
 
 pub mark-pending-spec : {M : Type 1} → statement M
 mark-pending-spec =

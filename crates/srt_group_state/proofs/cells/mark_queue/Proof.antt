@@ -19,13 +19,13 @@ queue-length-requires : tie.Need-queue-length-requires Inv-loop μ-loop
 queue-length-requires c κs = search needs
 
 loop-holds : tie.Need-loop-holds Inv-loop μ-loop
-loop-holds c = marking-start _ _ _ _ (c .before .before .before .pre .1)
+loop-holds c = search marking-start
 
 queued-event-requires : tie.Need-queued-event-requires Inv-loop μ-loop
 queued-event-requires c κs = search needs
 
 mark-event-requires : tie.Need-mark-event-requires Inv-loop μ-loop
-mark-event-requires c κs = c .before .before .before .loop .inv .flags
+mark-event-requires c κs = search needs
 
 same-length : tie.Need-same-length Inv-loop μ-loop
 same-length c = search needs

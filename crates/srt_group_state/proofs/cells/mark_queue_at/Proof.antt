@@ -32,10 +32,7 @@ same-length : tie.Need-same-length
 same-length c = search needs
 
 returns : tie.Need-returns
-returns c =
-    marks-as
-    (ap queue-cells (lent-member (c .before .before .before .before .before .before .before .args .members .now) (c .before .before .before .before .before .before .before .args .index)))
-    (c .before .before .mark-queue .ensures)
+returns c = search (marks-as, lent-member)
 
 pub mark-queue-at-spec : {M : Type 1} → statement M
 mark-queue-at-spec =

@@ -13,20 +13,16 @@ same-length : tie.Need-same-length
 same-length c = search needs
 
 returns : tie.Need-returns
-returns c =
-    marks-stopped _ _ (pending-cells (packets (c .before .before .before .before .before .before .before .before .args .counts .pending) (c .before .before .before .before .before .before .before .before .args .pending .now))) _ _ _
-    (c .before .before .before .mark-members .ensures) (c .if1 .taken)
+returns c = search marks-stopped
 
 mark-pending-requires : tie.Need-mark-pending-requires
-mark-pending-requires c κs = (c .before .before .before .before .before .before .before .before .before .pre .1 .0, flags-after (c .before .before .before .before .mark-members .ensures) (c .before .if1 .left))
+mark-pending-requires c κs = (search needs, search flags-after)
 
 same-length-2 : tie.Need-same-length-2
 same-length-2 c = search needs
 
 returns-2 : tie.Need-returns-2
-returns-2 c =
-    marks-then _ _ (pending-cells (packets (c .before .before .before .before .before .before .before .before .before .before .before .before .args .counts .pending) (c .before .before .before .before .before .before .before .before .before .before .before .before .args .pending .now))) _ _ _
-    (c .before .before .before .before .before .before .before .mark-members .ensures) (c .before .before .before .before .if1 .left) _ _ (c .before .before .mark-pending .ensures)
+returns-2 c = search marks-then
 
 pub mark-tables-spec : {M : Type 1} → statement M
 mark-tables-spec =

@@ -11,10 +11,7 @@ queue-event-requires : tie.Need-queue-event-requires
 queue-event-requires c κs = search needs
 
 returns : tie.Need-returns
-returns c =
-    let row = c .before .before .before .args .row .now in
-    event-read row (c .before .ring-of .result) _ _ (c .before .ring-of .ensures) (c .before .before .before .pre .1)
-    (c .queue-event .ensures)
+returns c = search event-read
 
 pub queued-event-spec : {M : Type 1} → statement M
 queued-event-spec = tie.close (tie.spec ring-of-requires queue-event-requires returns)

@@ -8,19 +8,13 @@ tables-break-rule-requires : tie.Need-tables-break-rule-requires
 tables-break-rule-requires c κs = search needs
 
 returns : tie.Need-returns
-returns c =
-    let a = c .before .before .before .before .before .before .before .args in
-    outside-by-tables (a .identity) (a .core) (a .sending) _ (a .members .now) (a .pending .now) (a .waiting .now) _
-    (c .before .tables-break-rule .ensures) (c .if1 .taken)
+returns c = search outside-by-tables
 
 history-breaks-rule-requires : tie.Need-history-breaks-rule-requires
 history-breaks-rule-requires c κs = search needs
 
 returns-2 : tie.Need-returns-2
-returns-2 c =
-    let a = c .before .before .before .before .before .before .before .before .args in
-    outside-by-history (a .identity) (a .core) (a .sending) _ (a .members .now) (a .pending .now) (a .waiting .now) _
-    (c .before .before .tables-break-rule .ensures) _ (c .before .if1 .left) (c .history-breaks-rule .ensures)
+returns-2 c = search outside-by-history
 
 pub breaks-rule-outside-cells-spec : {M : Type 1} → statement M
 breaks-rule-outside-cells-spec =

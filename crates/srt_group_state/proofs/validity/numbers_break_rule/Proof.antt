@@ -14,10 +14,7 @@ words-out-of-range-requires : tie.Need-words-out-of-range-requires
 words-out-of-range-requires c κs = search needs
 
 returns : tie.Need-returns
-returns c =
-    let args = c .before .before .before .before .before .args in
-    numbers-tested (args .identity) (args .core) (args .sending) _ _ _ (c .before .before .before .before .is-blank .ensures) (c .before .before .before .count-above-limit .ensures)
-    (c .words-out-of-range .ensures)
+returns c = search numbers-tested
 
 pub numbers-break-rule-spec : {M : Type 1} → statement M
 numbers-break-rule-spec =

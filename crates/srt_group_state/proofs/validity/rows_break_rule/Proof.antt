@@ -14,9 +14,7 @@ waiting-breaks-rule-requires : tie.Need-waiting-breaks-rule-requires
 waiting-breaks-rule-requires c κs = search needs
 
 returns : tie.Need-returns
-returns c =
-    rows-tested (c .before .before .before .before .before .before .args .core) (c .before .before .before .before .before .before .args .members .now) (c .before .before .before .before .before .before .args .pending .now) (c .before .before .before .before .before .before .args .waiting .now) _ _ _ (c .before .before .members-break-rule .ensures) (c .before .packets-break-rule .ensures)
-    (c .waiting-breaks-rule .ensures)
+returns c = search rows-tested
 
 pub rows-break-rule-spec : {M : Type 1} → statement M
 rows-break-rule-spec =

@@ -10,9 +10,7 @@ id-twice-requires : tie.Need-id-twice-requires
 id-twice-requires c κs = search needs
 
 returns : tie.Need-returns
-returns c =
-    let a = c .before .before .before .before .args in
-    disagree-by-id (a .core) (a .members .now) (a .pending .now) _ (c .before .id-twice .ensures) (c .if1 .taken)
+returns c = search disagree-by-id
 
 is-ascending-requires : tie.Need-is-ascending-requires
 is-ascending-requires c κs = search needs
@@ -25,10 +23,7 @@ reserved-sum-wrong-requires c κs =
     )
 
 returns-2 : tie.Need-returns-2
-returns-2 c =
-    let a = c .before .before .before .before .before .before .args in
-    disagree-else (a .core) (a .members .now) (a .pending .now) _ (c .before .before .before .id-twice .ensures) _ _ (c .before .before .if1 .left)
-    (c .before .is-ascending .ensures) (c .reserved-sum-wrong .ensures)
+returns-2 c = search disagree-else
 
 pub rows-disagree-spec : {M : Type 1} → statement M
 rows-disagree-spec =
