@@ -504,39 +504,39 @@ flow-refused cell time payload s =
     let left = backup-left time size cell r n in
     record {
       send = only-then (s .send) (r .send) _ (refreshed .send) (left .send);
-            replays = subst (λ (x : Send). All (Replays (x .history)) (backup .sends)) same (left .sends);
-            broadcast = λ c. not-both b c;
-            untried =
-                λ u.
-                or-cases (eqb (backup .code) 23) (eqb (backup .code) 24 || (eqb (backup .code) 25 && not (is-backup (s .making .mode)))) u
-                (λ g. not-both g (not-true _ (among-passes (λ c. not (eqb c 23)) (0 ∷ backup-codes) refl (backup .code) (send-backup-ends time size cell r))))
-                (λ g.
-                or-cases (eqb (backup .code) 24) (eqb (backup .code) 25 && not (is-backup (s .making .mode))) g
-                (λ k.
-                let ended = left .at-24 k in
-                let mode = ap (λ (x : State). is-backup (x .making .mode)) (refresh-admits s .rest) ∙ b in
-                let members = none-readied (r .making .mode) time (r .members) mode (ended .0) in (
-                  ap (λ (f : Flow). f .state) (ended .1) ∙ ap (λ (ms : List Member). with-members ms r) members,
-                  ap (λ (f : Flow). f .sends) (ended .1),
-                ))
-                (λ k. not-both b (not-true _ (and-right (eqb (backup .code) 25) _ k))));
+      replays = subst (λ (x : Send). All (Replays (x .history)) (backup .sends)) same (left .sends);
+      broadcast = λ c. not-both b c;
+      untried =
+          λ u.
+          or-cases (eqb (backup .code) 23) (eqb (backup .code) 24 || (eqb (backup .code) 25 && not (is-backup (s .making .mode)))) u
+          (λ g. not-both g (not-true _ (among-passes (λ c. not (eqb c 23)) (0 ∷ backup-codes) refl (backup .code) (send-backup-ends time size cell r))))
+          (λ g.
+          or-cases (eqb (backup .code) 24) (eqb (backup .code) 25 && not (is-backup (s .making .mode))) g
+          (λ k.
+          let ended = left .at-24 k in
+          let mode = ap (λ (x : State). is-backup (x .making .mode)) (refresh-admits s .rest) ∙ b in
+          let members = none-readied (r .making .mode) time (r .members) mode (ended .0) in (
+            ap (λ (f : Flow). f .state) (ended .1) ∙ ap (λ (ms : List Member). with-members ms r) members,
+            ap (λ (f : Flow). f .sends) (ended .1),
+          ))
+          (λ k. not-both b (not-true _ (and-right (eqb (backup .code) 25) _ k))));
     })
     (λ b n.
     let unsent = broadcast-unsent time size r n in
     record {
       send = only-then (s .send) (r .send) _ (refreshed .send) (subst (Only-trimmed (r .send)) (sym (unsent .send)) (only-same (r .send)));
-            replays = subst (All (Replays (s .send .history))) (sym (unsent .sends)) tt;
-            broadcast = λ c. (unsent .send ∙ same, unsent .sends);
-            untried =
-                λ u.
-                or-cases (eqb (cast .code) 23) (eqb (cast .code) 24 || (eqb (cast .code) 25 && not (is-backup (s .making .mode)))) u
-                (λ g. not-both g (not-true _ (among-passes (λ c. not (eqb c 23)) (0 ∷ broadcast-codes) refl (cast .code) (send-broadcast-ends time size r))))
-                (λ g. (
-                  unsent .untried
-                      (or-cases (eqb (cast .code) 24) (eqb (cast .code) 25 && not (is-backup (s .making .mode))) g (λ k. or-yes-left (eqb (cast .code) 24) _ k)
-                      (λ k. or-yes-right (eqb (cast .code) 24) _ (and-left (eqb (cast .code) 25) _ k))),
-                  unsent .sends,
-                ));
+      replays = subst (All (Replays (s .send .history))) (sym (unsent .sends)) tt;
+      broadcast = λ c. (unsent .send ∙ same, unsent .sends);
+      untried =
+          λ u.
+          or-cases (eqb (cast .code) 23) (eqb (cast .code) 24 || (eqb (cast .code) 25 && not (is-backup (s .making .mode)))) u
+          (λ g. not-both g (not-true _ (among-passes (λ c. not (eqb c 23)) (0 ∷ broadcast-codes) refl (cast .code) (send-broadcast-ends time size r))))
+          (λ g. (
+            unsent .untried
+                (or-cases (eqb (cast .code) 24) (eqb (cast .code) 25 && not (is-backup (s .making .mode))) g (λ k. or-yes-left (eqb (cast .code) 24) _ k)
+                (λ k. or-yes-right (eqb (cast .code) 24) _ (and-left (eqb (cast .code) 25) _ k))),
+            unsent .sends,
+          ));
     }))
   where
     Refused : Flow → Type 0

@@ -72,4 +72,3 @@ retain-relabelled i p s =
     if-elim (λ (t : State). All-relabelled (s .members) (t .members)) _ _ _
     (λ e. sums-relabelled i _ (s .members) (λ m. record { id = refl; queue = refl; broken = λ h. h }))
     (λ e. sums-relabelled i _ (s .members) (λ m. record { id = refl; queue = refl; broken = λ h. h }))
-

@@ -16,6 +16,7 @@ use Rattle.srt_group_model.specs.Run.{Mark, collected}
 use Rattle.srt_group_model.specs.declared.Packet.{Packet}
 use Rattle.srt_group_traces.specs.laws.AsQueued.{QueuedBy, collected-was-queued}
 use Rattle.srt_group_traces.specs.Statement.{Asked, do-call, is-poll, made, state-after, log-after, Marked, AsQueued, last-put}
+
 -- The marks are honest along a list. Wherever a list of calls has come to, what a poll takes off the queue of a leg is exactly what
 -- it marks as collected from it, in order: the packets of the premises are those that were got by polling a leg. And the
 -- payload that the premise `AllNear` reads, last put into the packet's cell, is the one it was queued with (AsQueued). From
