@@ -12,8 +12,8 @@ use Rattle.srt_group_model.specs.State.{Member, turned, unstable-state}
 use Rattle.srt_group_model.specs.Legs.{has-sender}
 use Rattle.srt_group_model.specs.Members.{is-standby, first-active}
 use Rattle.srt_group_model.specs.Backup.{stability-timeout, is-stale, demote-stale-backup-carrier}
-use Rattle.srt_group_model.specs.Sound.{All-fit}
-use Rattle.srt_group_model.specs.laws.Ranges.{at-fit}
+use Rattle.srt_group_model.specs.Sound.{Member-fit, All-fit}
+use Rattle.srt_group_model.specs.laws.Reason.{all-at}
 use Rattle.srt_group_model.specs.declared.Leg.{Leg}
 use Rattle.srt_connection_members.specs.Members.{member-at, members-of, found-of, Changed}
 use Rattle.srt_connection_members.specs.laws.Members.{members-place, found-some, found-none, changed-by, unchanged}
@@ -24,7 +24,7 @@ use Rattle.srt_group_backup.specs.Stale.{Trip-fit}
 
 pub trip-fits : {l : Leg} (n i : ℕ) (t : List ℕ) → i < n → All-fit (members-of n t) → l ≡ member-at t i .leg → Trip-fit l
 trip-fits {l} n i t below fit is =
-    let fits = at-fit i (member-at t i) (members-of n t) (members-place n t i below) fit in
+    let fits = all-at Member-fit i (member-at t i) (members-of n t) (members-place n t i below) fit in
     rw is record { srtt = fits .leg .srtt; rttvar = fits .leg .rttvar }
 
 -- ---- is it stale?
