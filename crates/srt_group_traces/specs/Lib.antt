@@ -3,6 +3,5 @@ pub mod Statement
 pub mod ShortSchedule
 pub mod Port
 pub mod PortTheorem
-pub mod Calls
 -- What is proved.
 pub mod laws

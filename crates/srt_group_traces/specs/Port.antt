@@ -16,8 +16,8 @@ use Rattle.srt_group_model.specs.State.{State, next-receive-sequence, Making}
 use Rattle.srt_group_model.specs.Guards.{Answer, no-answer}
 use Rattle.srt_group_model.specs.Lent.{Lent, Result, delivered-by}
 use Rattle.srt_group_model.specs.Answers.{values-of}
-use Rattle.srt_group_model.specs.Calls.{new-code}
-use Rattle.srt_group_traces.specs.Statement.{Told, Fair, Raised, Asked, do-call, Delivery, delivery-of, made, counts-of, skipped-in}
+use Rattle.srt_group_model.specs.Calls.{new-code, new}
+use Rattle.srt_group_traces.specs.Statement.{Told, Fair, Raised, Asked, do-call, Delivery, delivery-of, counts-of, skipped-in}
 
 -- ---- what a port shows of a call
 
@@ -94,7 +94,7 @@ numbers-of x = x .code ∷ values-of (x .answer)
 abbrev pub shows-new : Making → Lent → State → Shown
 shows-new g lent s =
     record {
-      state = if eqb (new-code g) 0 then made g else s;
+      state = if eqb (new-code g) 0 then new g else s;
       lent = lent;
       code = new-code g;
       answer = no-answer;
@@ -129,7 +129,7 @@ last-shown s (x ∷ xs) = last-shown (x .state) xs
 
 -- the place at which it then shows the base: the counts that it has shown as delivered, and the skipped count that it shows
 abbrev pub place-shown : Making → List Taken → ℕ
-place-shown g steps = counts-of (shown-deliveries (all-shown steps)) + skipped-in (last-shown (made g) (all-shown steps))
+place-shown g steps = counts-of (shown-deliveries (all-shown steps)) + skipped-in (last-shown (new g) (all-shown steps))
 
 -- ---- the base
 
@@ -171,13 +171,13 @@ pub record Port (schedule : List Delivery) (first : ℕ) : Type 0 where
   pub making : Making
   pub before : List Taken
   pub after : List Taken
-  pub performed : Performed (made making) (before ++ after)
+  pub performed : Performed (new making) (before ++ after)
   pub fair : Fair schedule first making (calls-of (before ++ after))
 
 module _ (schedule : List Delivery) (first : ℕ) where
   -- the state that it shows then
   abbrev pub port-state : Port schedule first → State
-  port-state w = last-shown (made (w .making)) (all-shown (w .before))
+  port-state w = last-shown (new (w .making)) (all-shown (w .before))
 
   -- the place at which it stands then
   abbrev pub port-place : Port schedule first → ℕ

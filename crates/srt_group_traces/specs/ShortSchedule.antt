@@ -9,7 +9,8 @@ use Rattle.srt_group_model.specs.Tools.{All}
 use Rattle.srt_group_model.specs.State.{State, next-receive-sequence, Making}
 use Rattle.srt_group_model.specs.Lent.{call-queue-data}
 use Rattle.srt_group_model.specs.declared.Data.{Data}
-use Rattle.srt_group_traces.specs.Statement.{Asked, do-call, Delivery, with-payload, made, state-after, counts-of, pass-to, OneStore}
+use Rattle.srt_group_traces.specs.Statement.{Asked, do-call, Delivery, with-payload, state-after, counts-of, pass-to, OneStore}
+use Rattle.srt_group_model.specs.Calls.{new}
 
 -- a call that queues no data
 abbrev pub QueuesNone : Asked → Type 0
@@ -35,7 +36,7 @@ AllScheduled schedule (call ∷ more) s = QueuesScheduled schedule call s × All
 pub record FairCalls (schedule : List Delivery) (first : ℕ) (g : Making) (before after : List Asked) : Type 0 where
   pub short : counts-of schedule < half
   pub none-queued : All QueuesNone before
-  pub set : next-receive-sequence (state-after before (made g) .receive) ≡ some first
-  pub scheduled : AllScheduled schedule (before ++ after) (made g)
+  pub set : next-receive-sequence (state-after before (new g) .receive) ≡ some first
+  pub scheduled : AllScheduled schedule (before ++ after) (new g)
   pub store : List ℕ
-  pub one-store : OneStore store (before ++ after) (made g)
+  pub one-store : OneStore store (before ++ after) (new g)

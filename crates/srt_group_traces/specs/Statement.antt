@@ -64,10 +64,6 @@ given-by r = if-some delivered-by (r .answer) give (λ p. delivery-of p (r .lent
 
 -- ---- lists of calls, each from the state that the last one left
 
--- a new group
-abbrev pub made : Making → State
-made = new
-
 -- the state that they leave, all their marks, newest first, and all that they delivered, in order
 unfoldable pub state-after : List Asked → State → State
 state-after [] s = s
@@ -92,13 +88,13 @@ skipped-in s = s .receive .numbers .skipped
 -- from a new group: the state that they reach, their marks, what they deliver, and the place of the base, counted unreduced
 module _ (g : Making) (calls : List Asked) where
   abbrev pub reached : State
-  reached = state-after calls (made g)
+  reached = state-after calls (new g)
 
   abbrev pub marks : List Mark
-  marks = log-after calls (made g)
+  marks = log-after calls (new g)
 
   abbrev pub delivered-list : List Delivery
-  delivered-list = deliveries calls (made g)
+  delivered-list = deliveries calls (new g)
 
   abbrev pub place-of-base : ℕ
   place-of-base = counts-of delivered-list + skipped-in reached
@@ -241,7 +237,7 @@ pub record Fair (schedule : List Delivery) (first : ℕ) (g : Making) (calls : L
   pub near : AllNear schedule (marks g calls)
   pub below : skipped-in (reached g calls) < largest-64
   pub store : List ℕ
-  pub one-store : OneStore store calls (made g)
+  pub one-store : OneStore store calls (new g)
 
 -- ---- a right skip
 
@@ -366,7 +362,7 @@ pub record HistoryTheorem : Type 0 where
   pub schedule : (schedule : List Delivery) (first : ℕ) → Consecutive first schedule → (g : Making) (calls : List Asked)
       → Fair schedule first g calls
       → (left : List Delivery) × (pass-to schedule (place-of-base g calls) ≡ some left)
-      × (clerk schedule 0 (told-by calls (made g)) ≡ some record { gave = delivered-list g calls; left = left })
+      × (clerk schedule 0 (told-by calls (new g)) ≡ some record { gave = delivered-list g calls; left = left })
   -- "Every skip passes 01's give-up test and ends with empty leg queues." By what a host sees: a call that raises the skipped
   -- count was a poll. The test was made at the poll's time, of the state that the poll then had: its base was set and not
   -- held, it asked for no continuation, and the test was true for the packet nearest in it. After collecting the base was

@@ -1,7 +1,7 @@
 -- As it was queued. Every packet that a list of calls collects or delivers was queued by an earlier call of the list that was accepted,
 -- on the leg that the packet came from: its sequence, count, message number, timestamp and source time are those that this call was
 -- given, its length is that of the payload given, its cell the one that the call took; and the payload that the premise
--- `FromSchedule` reads for it, last put into that cell, is the payload given. No premise on the store is needed for that: a payload
+-- `AllNear` reads for it, last put into that cell, is the payload given. No premise on the store is needed for that: a payload
 -- is put only into a cell that no queued and no held packet has. With one store, all that is delivered was so given, byte for byte.
 use mathlib.Core.Path.{_≡_, refl, sym, ap, _∙_, subst}
 use mathlib.Core.Bool.{true}
@@ -19,8 +19,7 @@ use Rattle.srt_group_model.specs.declared.Data.{Data}
 use Rattle.srt_group_model.specs.declared.Packet.{Packet}
 use Rattle.srt_group_model.specs.laws.Reason.{not-both, all-append}
 use Rattle.srt_group_model.specs.laws.CallLaw.{Calling, called}
-use Rattle.srt_group_traces.specs.Statement.{last-put, OneStore, When, when-of}
-use Rattle.srt_group_traces.specs.Calls.{Asked, do-call, is-poll, made, state-after, log-after, Delivery, deliveries}
+use Rattle.srt_group_traces.specs.Statement.{last-put, OneStore, When, when-of, Asked, do-call, is-poll, state-after, log-after, Delivery, deliveries}
 use Rattle.srt_group_traces.specs.laws.Calls.{takes-cell-lent}
 use Rattle.srt_group_traces.specs.laws.Marks.{last-put-elsewhere, last-put-there}
 use Rattle.srt_group_traces.specs.laws.Law.{LiveAt}
@@ -50,13 +49,13 @@ pub record AcceptedQueueing (g : Making) (calls : List Asked) : Type 0 where
   pub payload : List ℕ
   pub lent : Lent
   pub is : calls ≡ before ++ (queueing id given payload lent ∷ after)
-  pub accepted : do-call (queueing id given payload lent) (state-after before (made g)) .code ≡ 0
+  pub accepted : do-call (queueing id given payload lent) (state-after before (new g)) .code ≡ 0
 
 -- The list has an accepted call that queued this packet on this leg, and `payloads` has that call's payload for the packet's cell.
 pub record QueuedBy (g : Making) (calls : List Asked) (payloads : ℕ → List ℕ) (leg : ℕ) (d : Data) : Type 0 where
   pub by : AcceptedQueueing g calls
   pub on : leg ≡ by .id
-  pub as-given : d ≡ queued-as (by .given) (by .payload) (by .lent) (state-after (by .before) (made g))
+  pub as-given : d ≡ queued-as (by .given) (by .payload) (by .lent) (state-after (by .before) (new g))
   pub bytes : payloads (d .cell) ≡ by .payload
 
 -- of a longer list
@@ -106,10 +105,10 @@ all-in-more g calls more (delivered p ∷ m) h =
 
 module _ (g : Making) (before calls : List Asked) (asked : Asked) where
   abbrev reached : State
-  reached = state-after before (made g)
+  reached = state-after before (new g)
 
   abbrev log : List Mark
-  log = log-after before (made g)
+  log = log-after before (new g)
 
   abbrev this : Calling
   this = called (asked .call) (asked .lent) reached
@@ -161,33 +160,33 @@ itself g before asked m cell leg d payload is puts =
             lent = asked .lent;
             is = ap (λ (c : Call). before ++ (record { call = c; lent = asked .lent } ∷ [])) is;
             accepted =
-                ap (λ (c : Call). step-of (length (asked .lent .store)) (length (asked .lent .output)) (length (asked .lent .list)) c (state-after before (made g)) .code) (sym is)
+                ap (λ (c : Call). step-of (length (asked .lent .store)) (length (asked .lent .output)) (length (asked .lent .list)) c (state-after before (new g)) .code) (sym is)
                 ∙ puts .accepted;
           };
       on = refl;
       as-given = ap (λ (n : ℕ). data-event n (length payload) d .content) (puts .is);
-      bytes = last-put-there cell payload (m ++ log-after before (made g));
+      bytes = last-put-there cell payload (m ++ log-after before (new g));
     }
 
 -- ---- every list of calls
 
 -- what is alive was queued by a call of the list, and so was all that it collected and delivered
 abbrev AsQueued : Making → List Asked → Type 0
-AsQueued g calls = LiveAt (QueuedBy g calls (last-put (log-after calls (made g)))) (state-after calls (made g)) × AllIn g calls (log-after calls (made g))
+AsQueued g calls = LiveAt (QueuedBy g calls (last-put (log-after calls (new g)))) (state-after calls (new g)) × AllIn g calls (log-after calls (new g))
 
 call-as-queued : (g : Making) (before : List Asked) (asked : Asked) → AsQueued g before → AsQueued g (before ++ (asked ∷ []))
 unfolding do-call state-after log-after
 call-as-queued g before asked h =
     let now = before ++ (asked ∷ []) in
-    let s = state-after before (made g) in
-    let log = log-after before (made g) in
+    let s = state-after before (new g) in
+    let log = log-after before (new g) in
     let after =
     call-lives (asked .call) (asked .lent) s (Was g before now asked) (λ m. AllIn g now (m ++ log)) (queued-law g before now asked (itself g before asked))
     (live-map (QueuedBy g before (last-put log)) (QueuedBy g now (last-put log)) (queued-by-more g before (asked ∷ []) (last-put log)) s (h .0))
     (all-in-more g before (asked ∷ []) log (h .1))
     in
-    subst (λ (t : State). LiveAt (QueuedBy g now (last-put (log-after now (made g)))) t × AllIn g now (log-after now (made g))) (sym (state-after-both before (asked ∷ []) (made g)))
-    (subst (λ (m : List Mark). LiveAt (QueuedBy g now (last-put m)) (do-call asked s .state) × AllIn g now m) (sym (log-after-both before (asked ∷ []) (made g))) after)
+    subst (λ (t : State). LiveAt (QueuedBy g now (last-put (log-after now (new g)))) t × AllIn g now (log-after now (new g))) (sym (state-after-both before (asked ∷ []) (new g)))
+    (subst (λ (m : List Mark). LiveAt (QueuedBy g now (last-put m)) (do-call asked s .state) × AllIn g now m) (sym (log-after-both before (asked ∷ []) (new g))) after)
 
 from-there : (g : Making) (before calls : List Asked) → AsQueued g before → AsQueued g (before ++ calls)
 from-there g before [] h = subst (AsQueued g) (sym (append-nil before)) h
@@ -198,16 +197,16 @@ all-as-queued : (g : Making) (calls : List Asked) → AsQueued g calls
 unfolding state-after log-after new
 all-as-queued g calls = from-there g [] calls ((tt, tt), tt)
 
-all-marks-in : (g : Making) (calls : List Asked) → AllIn g calls (log-after calls (made g))
+all-marks-in : (g : Making) (calls : List Asked) → AllIn g calls (log-after calls (new g))
 all-marks-in g calls = all-as-queued g calls .1
 
 -- All that a poll collects and delivers was queued by a call before it.
 pub polled-was-queued : (g : Making) (before : List Asked) (poll : Asked) → is-poll (poll .call) ≡ true
-    → AllIn g before (do-call poll (state-after before (made g)) .log ++ log-after before (made g))
+    → AllIn g before (do-call poll (state-after before (new g)) .log ++ log-after before (new g))
 unfolding do-call
 polled-was-queued g before poll is =
     let h = all-as-queued g before in
-    call-lives (poll .call) (poll .lent) (state-after before (made g)) (Was g before before poll) (λ m. AllIn g before (m ++ log-after before (made g)))
+    call-lives (poll .call) (poll .lent) (state-after before (new g)) (Was g before before poll) (λ m. AllIn g before (m ++ log-after before (new g)))
     (queued-law g before before poll (λ m cell leg d payload queues puts. not-both is (takes-cell-lent (puts .takes) .1))) (h .0) (h .1) .1
 
 -- of the older marks
@@ -222,14 +221,14 @@ all-in-older g calls (delivered q ∷ newer) older h = all-in-older g calls newe
 -- Wherever the marks of a list have a collected packet: a call of the list queued it on the leg that it came from, as it was given, and
 -- what the premise reads as its payload, of the marks before it, is the payload that this call was given.
 pub collected-was-queued : (g : Making) (calls : List Asked) (newer older : List Mark) (p : Packet)
-    → log-after calls (made g) ≡ newer ++ (collected p ∷ older)
+    → log-after calls (new g) ≡ newer ++ (collected p ∷ older)
     → QueuedBy g calls (last-put older) (p .member) (p .content)
 collected-was-queued g calls newer older p e =
     all-in-older g calls newer (collected p ∷ older) (subst (AllIn g calls) e (all-marks-in g calls)) .0
 
 -- The same of every packet delivered: none is made up.
 pub delivered-was-queued : (g : Making) (calls : List Asked) (newer older : List Mark) (p : Packet)
-    → log-after calls (made g) ≡ newer ++ (delivered p ∷ older)
+    → log-after calls (new g) ≡ newer ++ (delivered p ∷ older)
     → QueuedBy g calls (last-put older) (p .member) (p .content)
 delivered-was-queued g calls newer older p e =
     all-in-older g calls newer (delivered p ∷ older) (subst (AllIn g calls) e (all-marks-in g calls)) .0
@@ -267,8 +266,8 @@ module _ (g : Making) (calls : List Asked) where
       (calls-give (m ++ log) s′ more all)
 
 -- Where there is one store, all that a list of calls delivers was given to an accepted call of the list to queue, byte for byte.
-pub nothing-made-up : (g : Making) (calls : List Asked) (store : List ℕ) → OneStore store calls (made g)
-    → All (GivenToQueue g calls) (deliveries calls (made g))
+pub nothing-made-up : (g : Making) (calls : List Asked) (store : List ℕ) → OneStore store calls (new g)
+    → All (GivenToQueue g calls) (deliveries calls (new g))
 nothing-made-up g calls store one =
-    subst (All (GivenToQueue g calls)) (sym (delivered-is-as-queued calls (made g) store [] (new-alive g store) one))
-    (calls-give g calls [] (made g) calls (subst (AllIn g calls) (sym (append-nil (log-after calls (made g)))) (all-marks-in g calls)))
+    subst (All (GivenToQueue g calls)) (sym (delivered-is-as-queued calls (new g) store [] (new-alive g store) one))
+    (calls-give g calls [] (new g) calls (subst (AllIn g calls) (sym (append-nil (log-after calls (new g)))) (all-marks-in g calls)))

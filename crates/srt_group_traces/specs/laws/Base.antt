@@ -21,7 +21,7 @@ use Rattle.srt_group_model.specs.declared.Data.{Data}
 use Rattle.srt_group_model.specs.declared.Packet.{Packet}
 use Rattle.srt_group_model.specs.laws.Reason.{none-some, some-inj}
 use Rattle.srt_group_model.specs.Lent.{Result, delivered-by}
-use Rattle.srt_group_traces.specs.Statement.{first-base, total-skipped, total-delivered, place-after, When, when-of, Asked, do-call, Delivery, delivery-of, given-by, made, state-after, log-after, deliveries, counts-of, skipped-in, place-of-base}
+use Rattle.srt_group_traces.specs.Statement.{first-base, total-skipped, total-delivered, place-after, When, when-of, Asked, do-call, Delivery, delivery-of, given-by, state-after, log-after, deliveries, counts-of, skipped-in, place-of-base}
 use Rattle.srt_group_traces.specs.laws.Cases.{each-at}
 use Rattle.srt_group_traces.specs.laws.Marks.{total-delivered-append}
 use Rattle.srt_group_traces.specs.laws.Law.{OfContent, PutLaw}
@@ -161,15 +161,15 @@ sums-law =
 -- ---- of every list of calls from a new group
 
 pub sums-hold : (g : Making) (calls : List Asked)
-    → Holds SequenceFits Fits Sums sums-law (λ n fits. fits) (λ d fits. fits) (state-after calls (made g)) (log-after calls (made g))
+    → Holds SequenceFits Fits Sums sums-law (λ n fits. fits) (λ d fits. fits) (state-after calls (new g)) (log-after calls (new g))
 unfolding new first-base total-skipped total-delivered flagged sides
 sums-hold g calls =
-    subst (Holds SequenceFits Fits Sums sums-law (λ n fits. fits) (λ d fits. fits) (state-after calls (made g)))
-    (append-nil (log-after calls (made g)))
-    (calls-hold SequenceFits Fits Sums sums-law (λ n fits. fits) (λ d fits. fits) calls (made g) []
+    subst (Holds SequenceFits Fits Sums sums-law (λ n fits. fits) (λ d fits. fits) (state-after calls (new g)))
+    (append-nil (log-after calls (new g)))
+    (calls-hold SequenceFits Fits Sums sums-law (λ n fits. fits) (λ d fits. fits) calls (new g) []
     record { sides-ok = tt; kept = record { stands = (refl, refl); skipped = omega arith; held = tt } })
 
-pub sums-after : (g : Making) (calls : List Asked) → Sums (state-after calls (made g) .receive) (log-after calls (made g))
+pub sums-after : (g : Making) (calls : List Asked) → Sums (state-after calls (new g) .receive) (log-after calls (new g))
 sums-after g calls = sums-hold g calls .kept
 
 -- ---- what a call gave is what its marks say
@@ -236,9 +236,9 @@ delivered-counts (call ∷ more) s =
     )
 
 -- the base's place by what was delivered and skipped is that by the marks
-pub place-is : (g : Making) (calls : List Asked) → skipped-in (state-after calls (made g)) < largest-64
-    → place-of-base g calls ≡ place-after (log-after calls (made g))
-place-is g calls below = omega (arith, delivered-counts calls (made g), sums-after g calls .skipped)
+pub place-is : (g : Making) (calls : List Asked) → skipped-in (state-after calls (new g)) < largest-64
+    → place-of-base g calls ≡ place-after (log-after calls (new g))
+place-is g calls below = omega (arith, delivered-counts calls (new g), sums-after g calls .skipped)
 
 -- ---- the first claim
 
@@ -253,25 +253,25 @@ sums-first x log base e h = stands-where (first-base log) (next-receive-sequence
 
 -- Where the base is set, it has a first value, from which it went as far as was delivered and skipped.
 pub based-has-first : (g : Making) (calls : List Asked) (base : ℕ)
-    → next-receive-sequence (state-after calls (made g) .receive) ≡ some base
-    → (first : ℕ) × (first-base (log-after calls (made g)) ≡ some first)
-    × (base ≡ sequence-further first (place-after (log-after calls (made g))))
+    → next-receive-sequence (state-after calls (new g) .receive) ≡ some base
+    → (first : ℕ) × (first-base (log-after calls (new g)) ≡ some first)
+    × (base ≡ sequence-further first (place-after (log-after calls (new g))))
 based-has-first g calls base e =
-    sums-first (state-after calls (made g) .receive) (log-after calls (made g)) base e (sums-after g calls)
+    sums-first (state-after calls (new g) .receive) (log-after calls (new g)) base e (sums-after g calls)
 
 pub base-claim : (g : Making) (calls : List Asked) (base : ℕ)
-    → next-receive-sequence (state-after calls (made g) .receive) ≡ some base
-    → (first : ℕ) × (first-base (log-after calls (made g)) ≡ some first)
-    × (skipped-in (state-after calls (made g)) < largest-64 → sequence-distance first base ≡ place-of-base g calls % (half + half))
+    → next-receive-sequence (state-after calls (new g) .receive) ≡ some base
+    → (first : ℕ) × (first-base (log-after calls (new g)) ≡ some first)
+    × (skipped-in (state-after calls (new g)) < largest-64 → sequence-distance first base ≡ place-of-base g calls % (half + half))
 base-claim g calls base e =
-    let w : (first : ℕ) × (first-base (log-after calls (made g)) ≡ some first)
-    × (base ≡ sequence-further first (place-after (log-after calls (made g)))) =
+    let w : (first : ℕ) × (first-base (log-after calls (new g)) ≡ some first)
+    × (base ≡ sequence-further first (place-after (log-after calls (new g)))) =
     based-has-first g calls base e
     in (
       w .0,
       w .1,
       λ below.
           ap (sequence-distance (w .0)) (w .2)
-          ∙ distance-further half (w .0) (place-after (log-after calls (made g))) half-above-zero
+          ∙ distance-further half (w .0) (place-after (log-after calls (new g))) half-above-zero
           ∙ ap (λ (n : ℕ). n % (half + half)) (sym (place-is g calls below)),
     )

@@ -25,8 +25,7 @@ use Rattle.srt_group_model.specs.laws.Reason.{if-elim, by-test, not-both, or-ri
 use Rattle.srt_group_model.specs.laws.Refusals.{Ends, untouched, accepted, midway, call-ends, guard-elim, guard-passed}
 use Rattle.srt_group_model.specs.laws.CallLaw.{Calling, calling, called, Polls, polls-events, polls-packets, Takes-cell}
 use Rattle.srt_group_model.specs.laws.EveryCall.{refreshes}
-use Rattle.srt_group_traces.specs.Statement.{last-put, LendsThis, OneStore, when-of}
-use Rattle.srt_group_traces.specs.Calls.{Asked, do-call, takes-store, is-poll, store-left, Delivery, delivery-of, given-by, deliveries, made, state-after, log-after}
+use Rattle.srt_group_traces.specs.Statement.{last-put, LendsThis, OneStore, when-of, Asked, do-call, takes-store, is-poll, store-left, Delivery, delivery-of, given-by, deliveries, state-after, log-after}
 use Rattle.srt_group_traces.specs.laws.Cases.{ge-of, and-true-left, eqb-yes, eq-of}
 use Rattle.srt_group_traces.specs.laws.Calls.{step, Kind, event-poll, data-poll, sending, queueing-data, lent-no-store, kind-of, unlent-puts-nothing, polls-of, polls-is-poll, takes-cell-lent, others-give-none}
 use Rattle.srt_group_traces.specs.laws.Marks.{last-put-elsewhere, last-put-there}
@@ -362,6 +361,6 @@ one-store-begins [] more s store h = tt
 one-store-begins (call ∷ calls) more s store h =
     (h .0, one-store-begins calls more (do-call call s .state) (store-left store call s) (h .1))
 
-pub new-alive : (g : Making) (store : List ℕ) → Live (InCell store (last-put [])) (made g)
+pub new-alive : (g : Making) (store : List ℕ) → Live (InCell store (last-put [])) (new g)
 unfolding new
 new-alive g store = (tt, tt)

@@ -26,7 +26,6 @@ use Rattle.srt_group_traces.specs.laws.Cases.{and-with-true, Each, each-
 use Rattle.srt_group_traces.specs.laws.Sides.{side, sides, all-sides, all-members, moved-sides, account-side, deliver-packet-leaves-sides}
 use Rattle.srt_group_model.specs.laws.Released.{retirements-keep}
 use Rattle.srt_group_traces.specs.laws.Law.{owned-by-group, EventOk, SideOk, PutLaw}
-use Rattle.srt_group_traces.specs.Calls.{Asked, do-call, state-after, log-after}
 use Rattle.srt_group_traces.specs.laws.FreeCells.{unused-elsewhere}
 use Rattle.srt_group_model.specs.Collecting.{front}
 use Rattle.srt_group_model.specs.Delivery.{deliver-packet}
@@ -34,6 +33,7 @@ use Rattle.srt_group_model.specs.laws.Queues.{pop, packet-of}
 use Rattle.srt_group_model.specs.laws.CallLaw.{Base-source, first-of, nearest-held, In-front, Refresh-law, Collect-law, Poll-law, Calling, Call-law}
 use Rattle.srt_group_model.specs.laws.EveryCall.{call-keeps}
 use Rattle.srt_group_model.specs.laws.MemberMoves.{moved-account}
+use Rattle.srt_group_traces.specs.Statement.{Asked, do-call, state-after, log-after}
 
 -- ---- what the guards know of a sequence
 

@@ -1,5 +1,5 @@
 -- The calls by what they are lent, and what a call leaves besides its state and its marks: the packet that it gives, the payload that
--- it puts. The definitions are in specs/Calls.antt.
+-- it puts. The definitions are in specs/Statement.antt.
 use mathlib.Core.Path.{_≡_, refl, sym, ap, _∙_}
 use mathlib.Core.Bool.{true, false}
 use mathlib.Core.List.{List}
@@ -14,7 +14,7 @@ use Rattle.srt_group_model.specs.declared.Data.{Data}
 use Rattle.srt_group_model.specs.laws.Reason.{if-elim, if-some-elim, not-both}
 use Rattle.srt_group_model.specs.laws.Refusals.{guard-elim, look-elim}
 use Rattle.srt_group_model.specs.laws.CallLaw.{Polls, polls-events, polls-packets, Takes-cell, queues-it, sends-it}
-use Rattle.srt_group_traces.specs.Calls.{Asked, takes-store, is-poll}
+use Rattle.srt_group_traces.specs.Statement.{Asked, takes-store, is-poll}
 
 -- ---- one call
 

@@ -15,7 +15,7 @@ use Rattle.srt_group_model.specs.Calls.{new}
 use Rattle.srt_group_model.specs.declared.Packet.{Packet}
 use Rattle.srt_group_model.specs.Lent.{delivered-by}
 use Rattle.srt_group_model.specs.laws.Reason.{some-inj}
-use Rattle.srt_group_traces.specs.Statement.{total-skipped, total-delivered, place-after, last-put, Consecutive, pass-to, Told, told-by, give-next, clerk, SetBefore, AllNear, When, when-of, Asked, do-call, Delivery, made, state-after, log-after, skipped-in, with-payload, Went, place-of-base}
+use Rattle.srt_group_traces.specs.Statement.{total-skipped, total-delivered, place-after, last-put, Consecutive, pass-to, Told, told-by, give-next, clerk, SetBefore, AllNear, When, when-of, Asked, do-call, Delivery, state-after, log-after, skipped-in, with-payload, Went, place-of-base}
 use Rattle.srt_group_traces.specs.laws.Marks.{total-skipped-append, each-collected-before}
 use Rattle.srt_group_traces.specs.laws.Shape.{Quiet, Given, Shape, call-shape}
 use Rattle.srt_group_traces.specs.laws.Base.{place-is, sums-after, quiet-delivers-nothing, quiet-skips-nothing, before-delivery}
@@ -180,20 +180,20 @@ module _ (schedule : List Delivery) (first : ℕ) (runs : Consecutive first sche
       there-after : pass-to schedule (place-after (log-after more (do-call call s .state) ++ (do-call call s .log ++ log))) ≡ some left
       there-after = rw append-assoc at there
 
-  pub clerk-as-queued : (g : Making) (calls : List Asked) → SetBefore first (log-after calls (made g)) → AllNear schedule (log-after calls (made g))
-      → skipped-in (state-after calls (made g)) < largest-64
+  pub clerk-as-queued : (g : Making) (calls : List Asked) → SetBefore first (log-after calls (new g)) → AllNear schedule (log-after calls (new g))
+      → skipped-in (state-after calls (new g)) < largest-64
       → (left : List Delivery) × (pass-to schedule (place-of-base g calls) ≡ some left)
-      × (clerk schedule 0 (told-by calls (made g)) ≡ some record { gave = delivered-as-queued [] calls (made g); left = left })
+      × (clerk schedule 0 (told-by calls (new g)) ≡ some record { gave = delivered-as-queued [] calls (new g); left = left })
   unfolding total-delivered total-skipped new
   clerk-as-queued g calls set-before near below =
-      let from : FromSchedule schedule first (log-after calls (made g) ++ []) =
-      rw append-nil (from-schedule-of schedule first (log-after calls (made g)) set-before near)
+      let from : FromSchedule schedule first (log-after calls (new g) ++ []) =
+      rw append-nil (from-schedule-of schedule first (log-after calls (new g)) set-before near)
       in
-      let end : (left : List Delivery) × (pass-to schedule (place-after (log-after calls (made g) ++ [])) ≡ some left) =
-      calls-following schedule first runs calls (made g) [] (new-following schedule first runs g) .kept .1 from .here
+      let end : (left : List Delivery) × (pass-to schedule (place-after (log-after calls (new g) ++ [])) ≡ some left) =
+      calls-following schedule first runs calls (new g) [] (new-following schedule first runs g) .kept .1 from .here
       in (
         end .0,
-        ap (pass-to schedule) (place-is g calls below ∙ ap place-after (sym (append-nil (log-after calls (made g))))) ∙ end .1,
-        clerk-of-calls calls (made g) [] schedule (pass-to-zero schedule) (new-following schedule first runs g) from
+        ap (pass-to schedule) (place-is g calls below ∙ ap place-after (sym (append-nil (log-after calls (new g))))) ∙ end .1,
+        clerk-of-calls calls (new g) [] schedule (pass-to-zero schedule) (new-following schedule first runs g) from
             (rw append-nil (omega (arith, below, sums-after g calls .skipped))) (end .0) (end .1),
       )

@@ -15,7 +15,7 @@ use Rattle.srt_group_model.specs.laws.Unique.{Named, names-kept}
 use Rattle.srt_group_model.specs.Run.{Mark, collected}
 use Rattle.srt_group_model.specs.declared.Packet.{Packet}
 use Rattle.srt_group_traces.specs.laws.AsQueued.{QueuedBy, collected-was-queued}
-use Rattle.srt_group_traces.specs.Statement.{Asked, do-call, is-poll, made, state-after, log-after, Marked, AsQueued, last-put}
+use Rattle.srt_group_traces.specs.Statement.{Asked, do-call, is-poll, state-after, log-after, Marked, AsQueued, last-put}
 
 -- The marks are honest along a list. Wherever a list of calls has come to, what a poll takes off the queue of a leg is exactly what
 -- it marks as collected from it, in order: the packets of the premises are those that were got by polling a leg. And the
@@ -27,7 +27,7 @@ unfolding state-after do-call
 names-after [] s h = h
 names-after (call ∷ more) s h = names-after more (do-call call s .state) (names-kept (call .call) (call .lent) s h)
 
-new-named : (g : Making) → Named (made g)
+new-named : (g : Making) → Named (new g)
 unfolding new one-twice each
 new-named g = record { unique = refl; few = omega arith }
 
@@ -51,15 +51,15 @@ poll-collects id (call-queue-event i kind reason) lent s once e = not-both e ref
 
 -- What was queued at a leg is what the poll collects from it, and then what is still queued there.
 pub collected-off-queues : (g : Making) (calls : List Asked) (call : Asked) (id : ℕ) → is-poll (call .call) ≡ true
-    → queued-at id (state-after calls (made g) .members)
-    ≡ collected-from id (do-call call (state-after calls (made g)) .log) ++ queued-at id (do-call call (state-after calls (made g)) .state .members)
+    → queued-at id (state-after calls (new g) .members)
+    ≡ collected-from id (do-call call (state-after calls (new g)) .log) ++ queued-at id (do-call call (state-after calls (new g)) .state .members)
 unfolding do-call
 collected-off-queues g calls call id e =
-    poll-collects id (call .call) (call .lent) (state-after calls (made g)) (names-after calls (made g) (new-named g) .unique) e
+    poll-collects id (call .call) (call .lent) (state-after calls (new g)) (names-after calls (new g) (new-named g) .unique) e
 
 -- and it was queued as an accepted call was given it
 pub collected-as-queued : (g : Making) (calls : List Asked) (p : Packet) (older : List Mark)
-    → Marked (log-after calls (made g)) (collected p) older
+    → Marked (log-after calls (new g)) (collected p) older
     → AsQueued g calls (last-put older (p .content .cell)) p
 collected-as-queued g calls p older at =
     let q : QueuedBy g calls (last-put older) (p .member) (p .content) = collected-was-queued g calls (at .0) older p (at .1) in

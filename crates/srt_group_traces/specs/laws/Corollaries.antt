@@ -16,7 +16,7 @@ use Rattle.srt_group_model.specs.Run.{Mark, put, base-set, collected, gap-skipp
 use Rattle.srt_group_model.specs.laws.Reason.{if-elim, none-some, some-inj}
 use Rattle.srt_group_model.specs.Lent.{delivered-by}
 use Rattle.srt_group_model.specs.declared.Packet.{Packet}
-use Rattle.srt_group_traces.specs.Statement.{first-base, total-skipped, place-after, Consecutive, pass-to, Told, told-by, give-next, clerk, Fair, when-of, Prefix, Raised, Asked, do-call, is-poll, time-of, Delivery, made, state-after, log-after, deliveries, skipped-in, Went, place-of-base}
+use Rattle.srt_group_traces.specs.Statement.{first-base, total-skipped, place-after, Consecutive, pass-to, Told, told-by, give-next, clerk, Fair, when-of, Prefix, Raised, Asked, do-call, is-poll, time-of, Delivery, state-after, log-after, deliveries, skipped-in, Went, place-of-base}
 use Rattle.srt_group_traces.specs.laws.Cases.{by-option}
 use Rattle.srt_group_traces.specs.laws.CallWalk.{Fits, Holds, call-holds}
 use Rattle.srt_group_traces.specs.laws.Shape.{Quiet, Skip, Given, Shape, call-shape}
@@ -26,6 +26,7 @@ use Rattle.srt_group_traces.specs.laws.Schedule.{pass-to-zero, pass-to-n
 use Rattle.srt_group_traces.specs.laws.Gateways.{NoSkip, clerk-front}
 use Rattle.srt_group_traces.specs.laws.ScheduleClaim.{schedule-claim}
 use Rattle.srt_group_traces.specs.laws.Bytes.{only-polls-deliver}
+use Rattle.srt_group_model.specs.Calls.{new}
 
 -- ---- each at a place of its own, in the schedule's order
 
@@ -74,16 +75,16 @@ module _ (schedule : List Delivery) (first : ℕ) (runs : Consecutive first sche
 
   -- No packet is delivered twice within a schedule, and what is delivered is in the schedule's order.
   pub delivered-in-order : (g : Making) (calls : List Asked) → Fair schedule first g calls
-      → InOrder schedule 0 (deliveries calls (made g))
+      → InOrder schedule 0 (deliveries calls (new g))
   delivered-in-order g calls fair =
-      clerk-in-order 0 schedule 0 (told-by calls (made g)) _ (pass-to-zero schedule)
+      clerk-in-order 0 schedule 0 (told-by calls (new g)) _ (pass-to-zero schedule)
       (schedule-claim schedule first runs g calls fair .2)
 
   -- If nothing is skipped, the delivered list is a prefix of the schedule.
-  pub unskipped-is-prefix : (g : Making) (calls : List Asked) → Fair schedule first g calls → NoSkip 0 (told-by calls (made g))
-      → Prefix (deliveries calls (made g)) schedule
+  pub unskipped-is-prefix : (g : Making) (calls : List Asked) → Fair schedule first g calls → NoSkip 0 (told-by calls (new g))
+      → Prefix (deliveries calls (new g)) schedule
   unskipped-is-prefix g calls fair still =
-      clerk-front schedule 0 (told-by calls (made g)) _ still (schedule-claim schedule first runs g calls fair .2)
+      clerk-front schedule 0 (told-by calls (new g)) _ still (schedule-claim schedule first runs g calls fair .2)
 
 -- ---- the base moves only by delivery and skip
 
@@ -98,14 +99,14 @@ first-base-stays (gap-skipped tested time distance ∷ m) log first e = first-ba
 first-base-stays (delivered p ∷ m) log first e = first-base-stays m log first e
 
 -- Where the base is not set, it has no first value, and nothing was delivered or skipped.
-pub unbased-is-still : (g : Making) (calls : List Asked) → next-receive-sequence (state-after calls (made g) .receive) ≡ none
-    → (first-base (log-after calls (made g)) ≡ none) × (place-of-base g calls ≡ 0)
-unbased-is-still g calls e = go (first-base (log-after calls (made g))) refl (sums-after g calls .stands)
+pub unbased-is-still : (g : Making) (calls : List Asked) → next-receive-sequence (state-after calls (new g) .receive) ≡ none
+    → (first-base (log-after calls (new g)) ≡ none) × (place-of-base g calls ≡ 0)
+unbased-is-still g calls e = go (first-base (log-after calls (new g))) refl (sums-after g calls .stands)
   where
-    go : (o : Option ℕ) → first-base (log-after calls (made g)) ≡ o
-        → Stands o (next-receive-sequence (state-after calls (made g) .receive)) (place-after (log-after calls (made g)))
-        → (first-base (log-after calls (made g)) ≡ none) × (place-of-base g calls ≡ 0)
-    go none f h = (f, omega (arith, h .1, delivered-counts calls (made g), sums-after g calls .skipped))
+    go : (o : Option ℕ) → first-base (log-after calls (new g)) ≡ o
+        → Stands o (next-receive-sequence (state-after calls (new g) .receive)) (place-after (log-after calls (new g)))
+        → (first-base (log-after calls (new g)) ≡ none) × (place-of-base g calls ≡ 0)
+    go none f h = (f, omega (arith, h .1, delivered-counts calls (new g), sums-after g calls .skipped))
     go (some first) f h = none-some (sym e ∙ h .1)
 
 -- A call that delivers nothing leaves the base, once it is set: x and y are the receiving sides before and after it, m its marks.
@@ -145,17 +146,17 @@ skips-under-skip tested time distance m z log e = ap (λ (l : List Mark). total-
 -- Wherever a list of calls has come to: if a call then raises the skipped count, it made a skip, and the skip was right; the
 -- count rises by the distance, up to its ceiling.
 pub rise-is-right-skip : (g : Making) (calls : List Asked) (call : Asked)
-    → (skipped-in (do-call call (state-after calls (made g)) .state) ≡ skipped-in (state-after calls (made g)) → ⊥)
-    → Raised (state-after calls (made g)) (call .call) (delivered-by (do-call call (state-after calls (made g)) .answer))
-    (do-call call (state-after calls (made g)) .state)
+    → (skipped-in (do-call call (state-after calls (new g)) .state) ≡ skipped-in (state-after calls (new g)) → ⊥)
+    → Raised (state-after calls (new g)) (call .call) (delivered-by (do-call call (state-after calls (new g)) .answer))
+    (do-call call (state-after calls (new g)) .state)
 rise-is-right-skip g calls call risen =
     go (delivered-by (do-call call s .answer)) (λ p e. only-polls-deliver call s p e) (call-shape call s)
   where
     s : State
-    s = state-after calls (made g)
+    s = state-after calls (new g)
 
     log : List Mark
-    log = log-after calls (made g)
+    log = log-after calls (new g)
 
     before : Holds SequenceFits Fits Sums sums-law (λ n fits. fits) (λ d fits. fits) s log
     before = sums-hold g calls

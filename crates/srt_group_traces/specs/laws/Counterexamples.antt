@@ -10,8 +10,9 @@ use Rattle.srt_group_model.specs.laws.State.{broadcast-mode, ordinary}
 use Rattle.srt_group_model.specs.Legs.{no-sequence}
 use Rattle.srt_group_model.specs.laws.Computed.{definitions}
 use Rattle.srt_group_model.specs.Lent.{Result, delivered-by, Call, call-add-member, call-remove-member-connection, call-poll-data-bounded, call-send, call-read-leg, call-queue-data, call-poll-data}
-use Rattle.srt_group_traces.specs.Calls.{Asked, made, do-call}
 use Rattle.srt_group_traces.specs.laws.Example.{leg, content, plain, output, sends}
+use Rattle.srt_group_traces.specs.Statement.{Asked, do-call}
+use Rattle.srt_group_model.specs.Calls.{new}
 
 unfoldable pub row : Result → List ℕ
 row r =
@@ -42,7 +43,7 @@ pub exactly-half-behind :
     (plain (call-add-member 7 0 (leg 1 0 1) []) ∷ over (call-queue-data 7 (content 0 1 0) (65 ∷ [])) ∷ over (call-poll-data 9)
     ∷ over (call-queue-data 7 (content 1073741823 1 0) (66 ∷ [])) ∷ over (call-poll-data 9)
     ∷ over (call-queue-data 7 (content 0 1 0) (65 ∷ [])) ∷ over (call-poll-data 9) ∷ [])
-    (made group)
+    (new group)
     ≡ (0 ∷ 0 ∷ 0 ∷ 0 ∷ 1 ∷ []) ∷ (0 ∷ 0 ∷ 0 ∷ 0 ∷ 1 ∷ []) ∷ (0 ∷ 0 ∷ 1 ∷ 0 ∷ 2 ∷ [])
     ∷ (0 ∷ 0 ∷ 0 ∷ 0 ∷ 2 ∷ []) ∷ (0 ∷ 1073741823 ∷ 1 ∷ 1073741822 ∷ 1073741825 ∷ [])
     ∷ (0 ∷ 0 ∷ 0 ∷ 1073741822 ∷ 1073741825 ∷ []) ∷ (0 ∷ 0 ∷ 1 ∷ 2147483646 ∷ 2 ∷ []) ∷ []
@@ -55,7 +56,7 @@ pub equal-bases-different-places :
     rows
     (plain (call-add-member 7 0 (leg 1 0 1) []) ∷ over (call-queue-data 7 (content 1073741823 1 0) (65 ∷ [])) ∷ over (call-poll-data 9)
     ∷ over (call-queue-data 7 (content 2147483647 1 0) (66 ∷ [])) ∷ over (call-poll-data 9) ∷ [])
-    (made group)
+    (new group)
     ≡ (0 ∷ 0 ∷ 0 ∷ 0 ∷ 1 ∷ []) ∷ (0 ∷ 0 ∷ 0 ∷ 0 ∷ 1 ∷ []) ∷ (0 ∷ 1073741823 ∷ 1 ∷ 1073741823 ∷ 1073741825 ∷ [])
     ∷ (0 ∷ 0 ∷ 0 ∷ 1073741823 ∷ 1073741825 ∷ []) ∷ (0 ∷ 2147483647 ∷ 1 ∷ 2147483646 ∷ 1 ∷ []) ∷ []
 unfolding definitions row rows group store output sends do-call
@@ -68,7 +69,7 @@ pub re-added-id :
     (plain (call-add-member 8 0 (leg 1 100 1) []) ∷ plain (call-add-member 7 0 (leg 1 no-sequence 1) [])
     ∷ over (call-queue-data 7 (content 101 1 1000) (65 ∷ [])) ∷ over (call-poll-data 0) ∷ plain (call-remove-member-connection 7)
     ∷ plain (call-add-member 7 0 (leg 1 no-sequence 0) []) ∷ over (call-poll-data 2000) ∷ plain (call-remove-member-connection 7) ∷ over (call-poll-data 2000) ∷ [])
-    (made group)
+    (new group)
     ≡ (0 ∷ 0 ∷ 0 ∷ 0 ∷ 101 ∷ []) ∷ (0 ∷ 0 ∷ 0 ∷ 0 ∷ 101 ∷ []) ∷ (0 ∷ 0 ∷ 0 ∷ 0 ∷ 101 ∷ []) ∷ (0 ∷ 0 ∷ 0 ∷ 0 ∷ 101 ∷ [])
     ∷ (0 ∷ 0 ∷ 0 ∷ 0 ∷ 101 ∷ []) ∷ (0 ∷ 0 ∷ 0 ∷ 0 ∷ 101 ∷ []) ∷ (0 ∷ 0 ∷ 0 ∷ 0 ∷ 101 ∷ []) ∷ (0 ∷ 0 ∷ 0 ∷ 0 ∷ 101 ∷ [])
     ∷ (0 ∷ 101 ∷ 1 ∷ 1 ∷ 103 ∷ []) ∷ []
@@ -81,7 +82,7 @@ pub refused-send-sets-base :
     rows
     (plain (call-add-member 7 0 (leg 0 100 500) []) ∷ plain (call-read-leg 7 1 1) ∷ plain (call-read-leg 7 11 2)
     ∷ over (call-send 0 (1 ∷ 2 ∷ 3 ∷ [])) ∷ [])
-    (made group)
+    (new group)
     ≡ (0 ∷ 0 ∷ 0 ∷ 0 ∷ 0 ∷ []) ∷ (0 ∷ 0 ∷ 0 ∷ 0 ∷ 0 ∷ []) ∷ (0 ∷ 0 ∷ 0 ∷ 0 ∷ 0 ∷ []) ∷ (23 ∷ 0 ∷ 0 ∷ 0 ∷ 101 ∷ []) ∷ []
 unfolding definitions row rows group store output sends do-call
 refused-send-sets-base = refl
@@ -91,7 +92,7 @@ pub first-value-unseen :
     rows
     (plain (call-add-member 7 0 (leg 0 100 500) []) ∷ plain (call-read-leg 7 1 1) ∷ over (call-queue-data 7 (content 100 1 1000) (65 ∷ []))
     ∷ over (call-poll-data 0) ∷ [])
-    (made group)
+    (new group)
     ≡ (0 ∷ 0 ∷ 0 ∷ 0 ∷ 0 ∷ []) ∷ (0 ∷ 0 ∷ 0 ∷ 0 ∷ 0 ∷ []) ∷ (0 ∷ 0 ∷ 0 ∷ 0 ∷ 0 ∷ []) ∷ (0 ∷ 100 ∷ 1 ∷ 0 ∷ 102 ∷ []) ∷ []
 unfolding definitions row rows group store output sends do-call
 first-value-unseen = refl
@@ -102,7 +103,7 @@ pub packet-sets-base :
     rows
     (plain (call-add-member 7 0 (leg 1 no-sequence 500) []) ∷ over (call-queue-data 7 (content 100 3 1000) (65 ∷ [])) ∷ over (call-poll-data 0) ∷
     [])
-    (made group)
+    (new group)
     ≡ (0 ∷ 0 ∷ 0 ∷ 0 ∷ 0 ∷ []) ∷ (0 ∷ 0 ∷ 0 ∷ 0 ∷ 0 ∷ []) ∷ (0 ∷ 100 ∷ 3 ∷ 0 ∷ 104 ∷ []) ∷ []
 unfolding definitions row rows group store output sends do-call
 packet-sets-base = refl
@@ -112,7 +113,7 @@ pub no-visit :
     rows
     (plain (call-add-member 7 0 (leg 1 0 1) []) ∷ over (call-queue-data 7 (content 0 1 0) (65 ∷ [])) ∷ over (call-poll-data-bounded 9 0) ∷ over
     (call-poll-data-bounded 9 1) ∷ [])
-    (made group)
+    (new group)
     ≡ (0 ∷ 0 ∷ 0 ∷ 0 ∷ 1 ∷ []) ∷ (0 ∷ 0 ∷ 0 ∷ 0 ∷ 1 ∷ []) ∷ (0 ∷ 0 ∷ 0 ∷ 0 ∷ 1 ∷ []) ∷ (0 ∷ 0 ∷ 1 ∷ 0 ∷ 2 ∷ []) ∷ []
 unfolding definitions row rows group store output sends do-call
 no-visit = refl
@@ -125,7 +126,7 @@ pub retired-is-passed-over :
     ∷ plain (call-read-leg 7 3 0) ∷ plain (call-read-leg 8 3 0)
     ∷ over (call-queue-data 8 (content 101 1 1000) (65 ∷ [])) ∷ over (call-poll-data 1000) ∷ plain (call-remove-member-connection 8)
     ∷ over (call-queue-data 7 (content 102 1 1000) (66 ∷ [])) ∷ over (call-poll-data 1500) ∷ [])
-    (made group)
+    (new group)
     ≡ (0 ∷ 0 ∷ 0 ∷ 0 ∷ 101 ∷ []) ∷ (0 ∷ 0 ∷ 0 ∷ 0 ∷ 101 ∷ []) ∷ (0 ∷ 0 ∷ 0 ∷ 0 ∷ 101 ∷ []) ∷ (0 ∷ 0 ∷ 0 ∷ 0 ∷ 101 ∷ [])
     ∷ (0 ∷ 0 ∷ 0 ∷ 0 ∷ 101 ∷ []) ∷ (0 ∷ 0 ∷ 0 ∷ 0 ∷ 101 ∷ []) ∷ (0 ∷ 0 ∷ 0 ∷ 0 ∷ 101 ∷ [])
     ∷ (0 ∷ 0 ∷ 0 ∷ 0 ∷ 101 ∷ []) ∷ (0 ∷ 102 ∷ 1 ∷ 2 ∷ 104 ∷ []) ∷ []

@@ -20,9 +20,10 @@ use Rattle.srt_group_model.specs.declared.Leg.{Leg}
 use Rattle.srt_group_model.specs.laws.Reason.{not-both, some-inj}
 use Rattle.srt_group_model.specs.Sending.{list-size}
 use Rattle.srt_group_model.specs.Run.{Mark, put, base-set, collected, gap-skipped, delivered}
-use Rattle.srt_group_traces.specs.Statement.{first-base, total-skipped, total-delivered, last-put, Consecutive, pass-to, told-by, clerk, SetBefore, AllNear, OneStore, Fair, Raised, place-of-base, packets-collected, Asked, do-call, takes-store, Delivery, given-by, made, state-after, log-after, deliveries, counts-of, store-left, with-payload, Near, place-after, skipped-in}
+use Rattle.srt_group_traces.specs.Statement.{first-base, total-skipped, total-delivered, last-put, Consecutive, pass-to, told-by, clerk, SetBefore, AllNear, OneStore, Fair, Raised, place-of-base, packets-collected, Asked, do-call, takes-store, Delivery, given-by, state-after, log-after, deliveries, counts-of, store-left, with-payload, Near, place-after, skipped-in}
 use Rattle.srt_group_traces.specs.laws.HistoryTheorem.{history-theorem}
 use Rattle.srt_group_traces.specs.laws.Marks.{EachCollected, each-collected-at}
+use Rattle.srt_group_model.specs.Calls.{new}
 
 -- ---- what is lent
 
@@ -100,7 +101,7 @@ calls =
     ∷ []
 
 -- What is delivered: the run of 103 is passed over, and is the one packet skipped.
-pub delivered-list : deliveries calls (made group) ≡ planned 100 1 (64 ∷ []) ∷ planned 101 2 (65 ∷ 66 ∷ []) ∷ planned 104 1 (68 ∷ []) ∷ []
+pub delivered-list : deliveries calls (new group) ≡ planned 100 1 (64 ∷ []) ∷ planned 101 2 (65 ∷ 66 ∷ []) ∷ planned 104 1 (68 ∷ []) ∷ []
 unfolding definitions group store-0 store-1 store-2 store-3 output sends calls do-call given-by deliveries
 delivered-list = refl
 
@@ -109,19 +110,19 @@ unfoldable pub codes-of : List Asked → State → List ℕ
 codes-of [] s = []
 codes-of (call ∷ more) s = do-call call s .code ∷ codes-of more (do-call call s .state)
 
-pub codes : codes-of calls (made group) ≡ 0 ∷ 0 ∷ 21 ∷ 3 ∷ 5 ∷ 0 ∷ 0 ∷ 0 ∷ 0 ∷ 0 ∷ 0 ∷ 0 ∷ 0 ∷ 0 ∷ 0 ∷ 0 ∷ 0 ∷ []
+pub codes : codes-of calls (new group) ≡ 0 ∷ 0 ∷ 21 ∷ 3 ∷ 5 ∷ 0 ∷ 0 ∷ 0 ∷ 0 ∷ 0 ∷ 0 ∷ 0 ∷ 0 ∷ 0 ∷ 0 ∷ 0 ∷ 0 ∷ []
 unfolding definitions group store-0 store-1 store-2 store-3 output sends calls do-call codes-of
 codes = refl
 
 -- ---- the premises are met
 
-each-based : EachCollected (λ log p. first-base log ≡ some 100) (log-after calls (made group))
+each-based : EachCollected (λ log p. first-base log ≡ some 100) (log-after calls (new group))
 unfolding definitions group store-0 store-1 store-2 store-3 output sends calls do-call log-after first-base
 each-based = (refl, (refl, (refl, tt)))
 
 -- each packet at its place of the schedule, not far from the base's
 each-near : EachCollected
-    (λ log p. Near schedule (place-after log) (with-payload (p .content) (last-put log (p .content .cell)))) (log-after calls (made group))
+    (λ log p. Near schedule (place-after log) (with-payload (p .content) (last-put log (p .content .cell)))) (log-after calls (new group))
 unfolding definitions group store-0 store-1 store-2 store-3 output sends calls schedule do-call log-after total-skipped total-delivered last-put pass-to
 each-near = (
   record {
@@ -152,11 +153,11 @@ each-near = (
   ),
 )
 
-pub set-before : SetBefore 100 (log-after calls (made group))
-set-before = each-collected-at _ (log-after calls (made group)) each-based
+pub set-before : SetBefore 100 (log-after calls (new group))
+set-before = each-collected-at _ (log-after calls (new group)) each-based
 
-pub near : AllNear schedule (log-after calls (made group))
-near = each-collected-at _ (log-after calls (made group)) each-near
+pub near : AllNear schedule (log-after calls (new group))
+near = each-collected-at _ (log-after calls (new group)) each-near
 
 pub never : {A : Type 0} → _≡_ {A = Bool} false true → A
 never e = not-both {t = true} refl (sym e)
@@ -165,7 +166,7 @@ never e = not-both {t = true} refl (sym e)
 never-accepted : {A : Type 0} (n : ℕ) → suc n ≡ 0 → A
 never-accepted n e = absurd (omega arith)
 
-pub one-store : OneStore store-0 calls (made group)
+pub one-store : OneStore store-0 calls (new group)
 unfolding definitions group store-0 store-1 store-2 store-3 output sends calls do-call takes-store store-left
 one-store = (
   (λ t e. never t),
@@ -227,10 +228,10 @@ fair = record { store = store-0; set-before = set-before; near = near; below = l
 -- ---- so the delivered list is the clerk's, and here it is
 
 pub by-clerk : (left : List Delivery) × (pass-to schedule (place-of-base group calls) ≡ some left)
-    × (clerk schedule 0 (told-by calls (made group)) ≡ some record { gave = deliveries calls (made group); left = left })
+    × (clerk schedule 0 (told-by calls (new group)) ≡ some record { gave = deliveries calls (new group); left = left })
 by-clerk = history-theorem .schedule schedule 100 runs group calls fair
 
-pub clerk-list : clerk schedule 0 (told-by calls (made group))
+pub clerk-list : clerk schedule 0 (told-by calls (new group))
     ≡ some record { gave = planned 100 1 (64 ∷ []) ∷ planned 101 2 (65 ∷ 66 ∷ []) ∷ planned 104 1 (68 ∷ []) ∷ []; left = by-clerk .0 }
 clerk-list = by-clerk .2 ∙ ap (λ (l : List Delivery). some record { gave = l; left = by-clerk .0 }) delivered-list
 
@@ -245,7 +246,7 @@ marked-as (collected p ∷ log) = (2 ∷ p .member ∷ p .content .sequence ∷ 
 marked-as (gap-skipped tested time distance ∷ log) = (3 ∷ time ∷ distance ∷ []) ∷ marked-as log
 marked-as (delivered p ∷ log) = (4 ∷ p .member ∷ p .content .sequence ∷ p .content .count ∷ []) ∷ marked-as log
 
-pub marks : marked-as (log-after calls (made group))
+pub marks : marked-as (log-after calls (new group))
     ≡ (4 ∷ 7 ∷ 104 ∷ 1 ∷ []) ∷ (3 ∷ 1500 ∷ 1 ∷ []) ∷ (2 ∷ 7 ∷ 104 ∷ 1 ∷ [])
     ∷ (0 ∷ 0 ∷ 68 ∷ []) ∷ (4 ∷ 8 ∷ 101 ∷ 2 ∷ []) ∷ (2 ∷ 8 ∷ 101 ∷ 2 ∷ []) ∷ (4 ∷ 7 ∷ 100 ∷ 1 ∷ []) ∷ (2 ∷ 7 ∷ 100 ∷ 1 ∷ [])
     ∷ (0 ∷ 1 ∷ 65 ∷ 66 ∷ []) ∷ (0 ∷ 0 ∷ 64 ∷ []) ∷ (1 ∷ 100 ∷ []) ∷ []
@@ -255,21 +256,21 @@ marks = refl
 -- ---- the marks, added up: three packets collected, 1 + 2 + 1 delivered, one skipped
 
 pub log-adds-up :
-    (first-base (log-after calls (made group)) ≡ some 100)
-    × (packets-collected (log-after calls (made group)) ≡ 3)
-    × (total-delivered (log-after calls (made group)) ≡ 4)
-    × (total-skipped (log-after calls (made group)) ≡ 1)
+    (first-base (log-after calls (new group)) ≡ some 100)
+    × (packets-collected (log-after calls (new group)) ≡ 3)
+    × (total-delivered (log-after calls (new group)) ≡ 4)
+    × (total-skipped (log-after calls (new group)) ≡ 1)
 unfolding definitions group store-0 store-1 store-2 store-3 output sends calls do-call log-after first-base packets-collected total-delivered total-skipped
 log-adds-up = (refl, refl, refl, refl)
 
 -- ---- the base stands at 105, five from its first value
 
-pub based : next-receive-sequence (state-after calls (made group) .receive) ≡ some 105
+pub based : next-receive-sequence (state-after calls (new group) .receive) ≡ some 105
 unfolding definitions group store-0 store-1 store-2 store-3 output sends calls do-call state-after
 based = refl
 
-pub by-base : (first : ℕ) × (first-base (log-after calls (made group)) ≡ some first)
-    × (skipped-in (state-after calls (made group)) < largest-64 → sequence-distance first 105 ≡ place-of-base group calls % (half + half))
+pub by-base : (first : ℕ) × (first-base (log-after calls (new group)) ≡ some first)
+    × (skipped-in (state-after calls (new group)) < largest-64 → sequence-distance first 105 ≡ place-of-base group calls % (half + half))
 by-base = history-theorem .base group calls 105 based
 
 pub first-is-100 : by-base .0 ≡ 100
@@ -284,8 +285,8 @@ stands-at-5 = refl
 unfoldable pub before-last : List Asked
 before-last = take 16 calls
 
-pub raised : Raised (state-after before-last (made group)) (call-poll-data 1500)
-    (delivered-by (do-call (over store-3 (call-poll-data 1500)) (state-after before-last (made group)) .answer))
-    (do-call (over store-3 (call-poll-data 1500)) (state-after before-last (made group)) .state)
+pub raised : Raised (state-after before-last (new group)) (call-poll-data 1500)
+    (delivered-by (do-call (over store-3 (call-poll-data 1500)) (state-after before-last (new group)) .answer))
+    (do-call (over store-3 (call-poll-data 1500)) (state-after before-last (new group)) .state)
 unfolding definitions group store-0 store-1 store-2 store-3 output sends calls before-last do-call state-after
 raised = history-theorem .rises group before-last (over store-3 (call-poll-data 1500)) (λ e. absurd (omega (arith, e)))

@@ -20,7 +20,7 @@ use Rattle.srt_group_model.specs.Calls.{new}
 use Rattle.srt_group_model.specs.declared.Data.{Data}
 use Rattle.srt_group_model.specs.declared.Packet.{Packet}
 use Rattle.srt_group_model.specs.laws.Reason.{all-map, some-inj, not-both, or-left}
-use Rattle.srt_group_traces.specs.Statement.{first-base, total-skipped, total-delivered, place-after, last-put, Consecutive, pass-to, SetBefore, AllNear, Asked, do-call, Delivery, made, state-after, log-after, with-payload, Near}
+use Rattle.srt_group_traces.specs.Statement.{first-base, total-skipped, total-delivered, place-after, last-put, Consecutive, pass-to, SetBefore, AllNear, Asked, do-call, Delivery, state-after, log-after, with-payload, Near}
 use Rattle.srt_group_traces.specs.laws.Cases.{all-both, each-at}
 use Rattle.srt_group_traces.specs.laws.Marks.{last-put-elsewhere, each-collected-of, EachCollected}
 use Rattle.srt_group_traces.specs.laws.Sides.{sides}
@@ -393,7 +393,7 @@ module _ (schedule : List Delivery) where
         → Following (state-after calls s) (log-after calls s ++ log)
     calls-following = calls-hold SequenceFits Fits Follows follows-law (λ n fits. fits) (λ d fits. fits)
 
-    pub new-following : (g : Making) → Following (made g) []
+    pub new-following : (g : Making) → Following (new g) []
     unfolding new first-base total-skipped total-delivered flagged sides
     new-following g =
         record {

@@ -11,13 +11,14 @@ use Rattle.srt_group_model.specs.Tools.{if-some_give_otherwise_}
 use Rattle.srt_group_model.specs.State.{State}
 use Rattle.srt_group_model.specs.Run.{Mark}
 use Rattle.srt_group_model.specs.laws.Reason.{if-elim, none-some, some-inj}
-use Rattle.srt_group_traces.specs.Statement.{total-skipped, place-after, last-put, Consecutive, pass-to, Told, told-by, give-next, clerk, OneStore, Prefix, until-skip, Gateway, stands-at, delivers, Asked, do-call, Delivery, given-by, made, state-after, log-after, deliveries, skipped-in, Went}
+use Rattle.srt_group_traces.specs.Statement.{total-skipped, place-after, last-put, Consecutive, pass-to, Told, told-by, give-next, clerk, OneStore, Prefix, until-skip, Gateway, stands-at, delivers, Asked, do-call, Delivery, given-by, state-after, log-after, deliveries, skipped-in, Went}
 use Rattle.srt_group_traces.specs.laws.Cases.{by-option, eq-of}
 use Rattle.srt_group_traces.specs.laws.Base.{delivered-counts, sums-after}
 use Rattle.srt_group_traces.specs.laws.Schedule.{pass-to-zero}
 use Rattle.srt_group_traces.specs.laws.Follows.{FromSchedule, Following, calls-following, new-following, from-schedule-of}
 use Rattle.srt_group_traces.specs.laws.ClerkClaim.{delivered-as-queued, from-schedule-before, skipped-rises, clerk-of-calls}
 use Rattle.srt_group_traces.specs.laws.Bytes.{Live, InCell, delivered-is-as-queued, one-store-after, one-store-begins, new-alive}
+use Rattle.srt_group_model.specs.Calls.{new}
 
 -- ---- a prefix
 
@@ -152,21 +153,21 @@ module _ (schedule : List Delivery) (first : ℕ) where
     )
       where
         reached : State
-        reached = state-after (w .before) (made (w .making))
+        reached = state-after (w .before) (new (w .making))
 
         log : List Mark
-        log = log-after (w .before) (made (w .making))
+        log = log-after (w .before) (new (w .making))
 
         on : List Asked
-        on = until-skip (w .after) (state-after (w .before) (made (w .making)))
+        on = until-skip (w .after) (state-after (w .before) (new (w .making)))
 
-        rest : (rest : List Asked) × (until-skip (w .after) (state-after (w .before) (made (w .making))) ++ rest ≡ w .after)
-        rest = until-skip-begins (w .after) (state-after (w .before) (made (w .making)))
+        rest : (rest : List Asked) × (until-skip (w .after) (state-after (w .before) (new (w .making))) ++ rest ≡ w .after)
+        rest = until-skip-begins (w .after) (state-after (w .before) (new (w .making)))
 
         -- all marks: of the calls after those up to the skip, of those up to the skip, and of those before
-        whole : log-after (w .before ++ w .after) (made (w .making)) ≡ log-after (rest .0) (state-after on reached) ++ (log-after on reached ++ log)
+        whole : log-after (w .before ++ w .after) (new (w .making)) ≡ log-after (rest .0) (state-after on reached) ++ (log-after on reached ++ log)
         whole =
-            log-after-both (w .before) (w .after) (made (w .making))
+            log-after-both (w .before) (w .after) (new (w .making))
             ∙ ap (λ (m : List Mark). m ++ log)
             (ap (λ (cs : List Asked). log-after cs reached) (sym (rest .1)) ∙ log-after-both on (rest .0) reached)
             ∙ append-assoc (log-after (rest .0) (state-after on reached)) (log-after on reached) log
@@ -174,7 +175,7 @@ module _ (schedule : List Delivery) (first : ℕ) where
         from-on : FromSchedule schedule first (log-after on reached ++ log)
         from-on =
             from-schedule-before schedule first (log-after (rest .0) (state-after on reached)) (log-after on reached ++ log)
-            (subst (FromSchedule schedule first) whole (from-schedule-of schedule first (log-after (w .before ++ w .after) (made (w .making))) (w .fair .set-before) (w .fair .near)))
+            (subst (FromSchedule schedule first) whole (from-schedule-of schedule first (log-after (w .before ++ w .after) (new (w .making))) (w .fair .set-before) (w .fair .near)))
 
         from-before : FromSchedule schedule first log
         from-before = from-schedule-before schedule first (log-after on reached) log from-on
@@ -192,7 +193,7 @@ module _ (schedule : List Delivery) (first : ℕ) where
         k : Following schedule first runs reached log
         k =
             subst (Following schedule first runs reached) (append-nil log)
-            (calls-following schedule first runs (w .before) (made (w .making)) [] (new-following schedule first runs (w .making)))
+            (calls-following schedule first runs (w .before) (new (w .making)) [] (new-following schedule first runs (w .making)))
 
         end : (left : List Delivery) × (pass-to schedule (place-after (log-after on reached ++ log)) ≡ some left)
         end = calls-following schedule first runs on reached log k .kept .1 from-on .here
@@ -201,7 +202,7 @@ module _ (schedule : List Delivery) (first : ℕ) where
         same-place =
             omega (
               arith,
-              delivered-counts (w .before) (made (w .making)),
+              delivered-counts (w .before) (new (w .making)),
               k .kept .0 .skipped,
               below-on,
               skipped-rises (log-after on reached) log,
@@ -209,7 +210,7 @@ module _ (schedule : List Delivery) (first : ℕ) where
 
         one : (left : List ℕ) × Live (InCell left (last-put (log ++ []))) reached × OneStore left (w .after) reached
         one =
-            one-store-after (w .before) (w .after) (made (w .making)) (w .fair .store) [] (new-alive (w .making) (w .fair .store))
+            one-store-after (w .before) (w .after) (new (w .making)) (w .fair .store) [] (new-alive (w .making) (w .fair .store))
             (w .fair .one-store)
 
         one-on : OneStore (one .0) on reached

@@ -12,11 +12,12 @@ use Rattle.srt_protocol.specs.Cells.{overwritten, cell-size}
 use Rattle.srt_group_model.specs.laws.State.{backup-mode, ordinary}
 use Rattle.srt_group_model.specs.laws.Computed.{definitions}
 use Rattle.srt_group_model.specs.Lent.{call-add-member, call-send, call-queue-data, call-poll-data}
-use Rattle.srt_group_traces.specs.Statement.{first-base, total-skipped, total-delivered, last-put, pass-to, SetBefore, AllNear, OneStore, Prefix, until-skip, Gateway, stands-at, delivers, Asked, do-call, takes-store, given-by, made, state-after, log-after, deliveries, counts-of, store-left, with-payload, Near, place-after}
+use Rattle.srt_group_traces.specs.Statement.{first-base, total-skipped, total-delivered, last-put, pass-to, SetBefore, AllNear, OneStore, Prefix, until-skip, Gateway, stands-at, delivers, Asked, do-call, takes-store, given-by, state-after, log-after, deliveries, counts-of, store-left, with-payload, Near, place-after}
 use Rattle.srt_group_traces.specs.laws.HistoryTheorem.{history-theorem}
 use Rattle.srt_group_traces.specs.laws.Example.{leg, content, plain, over, output, sends, planned, schedule, runs, never, store-0, store-1, store-2, store-3, group, calls, fair}
 use Rattle.srt_group_traces.specs.laws.Marks.{EachCollected, each-collected-at}
 use Rattle.srt_group_model.specs.State.{Making}
+use Rattle.srt_group_model.specs.Calls.{new}
 
 -- ---- gateway a
 
@@ -60,13 +61,13 @@ after-b =
     ∷ over cells-3 (call-queue-data 3 (content 103 1 0) (67 ∷ [])) ∷ over cells-4 (call-queue-data 3 (content 104 1 0) (68 ∷ []))
     ∷ over cells-5 (call-poll-data 0) ∷ over cells-5 (call-poll-data 0) ∷ over cells-5 (call-poll-data 0) ∷ []
 
-each-based-b : EachCollected (λ log p. first-base log ≡ some 100) (log-after (before-b ++ after-b) (made backup-group))
+each-based-b : EachCollected (λ log p. first-base log ≡ some 100) (log-after (before-b ++ after-b) (new backup-group))
 unfolding definitions backup-group cells-0 cells-1 cells-2 cells-3 cells-4 cells-5 output sends before-b after-b do-call log-after first-base
 each-based-b = (refl, (refl, (refl, (refl, tt))))
 
 -- each packet at its place of the schedule, not far from the base's
 each-near-b : EachCollected
-    (λ log p. Near schedule (place-after log) (with-payload (p .content) (last-put log (p .content .cell)))) (log-after (before-b ++ after-b) (made backup-group))
+    (λ log p. Near schedule (place-after log) (with-payload (p .content) (last-put log (p .content .cell)))) (log-after (before-b ++ after-b) (new backup-group))
 unfolding definitions backup-group cells-0 cells-1 cells-2 cells-3 cells-4 cells-5 output sends before-b after-b schedule do-call log-after total-skipped total-delivered last-put pass-to
 each-near-b = (
   record {
@@ -106,13 +107,13 @@ each-near-b = (
   ),
 )
 
-pub set-before-b : SetBefore 100 (log-after (before-b ++ after-b) (made backup-group))
-set-before-b = each-collected-at _ (log-after (before-b ++ after-b) (made backup-group)) each-based-b
+pub set-before-b : SetBefore 100 (log-after (before-b ++ after-b) (new backup-group))
+set-before-b = each-collected-at _ (log-after (before-b ++ after-b) (new backup-group)) each-based-b
 
-pub near-b : AllNear schedule (log-after (before-b ++ after-b) (made backup-group))
-near-b = each-collected-at _ (log-after (before-b ++ after-b) (made backup-group)) each-near-b
+pub near-b : AllNear schedule (log-after (before-b ++ after-b) (new backup-group))
+near-b = each-collected-at _ (log-after (before-b ++ after-b) (new backup-group)) each-near-b
 
-pub one-store-b : OneStore cells-0 (before-b ++ after-b) (made backup-group)
+pub one-store-b : OneStore cells-0 (before-b ++ after-b) (new backup-group)
 unfolding definitions backup-group cells-0 cells-1 cells-2 cells-3 cells-4 cells-5 output sends before-b after-b do-call takes-store store-left
 one-store-b = (
   (λ t e. never t),

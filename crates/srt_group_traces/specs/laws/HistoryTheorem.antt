@@ -6,7 +6,8 @@ use Rattle.srt_group_traces.specs.laws.Skips.{skips-claim}
 use Rattle.srt_group_traces.specs.laws.Gateways.{gateways-claim}
 use Rattle.srt_group_traces.specs.laws.CollectedAsQueued.{collected-off-queues, collected-as-queued}
 use Rattle.srt_group_traces.specs.laws.Budget.{budget-is-what-is-left}
-use Rattle.srt_group_traces.specs.Statement.{HistoryTheorem, made, state-after}
+use Rattle.srt_group_traces.specs.Statement.{HistoryTheorem, state-after}
+use Rattle.srt_group_model.specs.Calls.{new}
 
 pub history-theorem : HistoryTheorem
 history-theorem =
@@ -15,7 +16,7 @@ history-theorem =
       unset = unbased-is-still;
       schedule = schedule-claim;
       rises = rise-is-right-skip;
-      skips = λ g calls call. skips-claim call (state-after calls (made g));
+      skips = λ g calls call. skips-claim call (state-after calls (new g));
       gateways = gateways-claim;
       by-polling = collected-off-queues;
       as-queued = collected-as-queued;

@@ -17,7 +17,7 @@ use Rattle.srt_group_model.specs.State.{State, next-receive-sequence, Making}
 use Rattle.srt_group_model.specs.Calls.{new, new-code}
 use Rattle.srt_group_model.specs.Lent.{Result, delivered-by, Lent, Call, perform}
 use Rattle.srt_group_model.specs.laws.Reason.{if-true, if-false, by-test, none-some, some-inj}
-use Rattle.srt_group_traces.specs.Statement.{first-base, total-skipped, place-after, Consecutive, pass-to, Told, told-by, give-next, clerk, OneStore, Fair, Prefix, until-skip, Gateway, stands-at, delivers, Asked, do-call, Delivery, given-by, made, state-after, log-after, deliveries, skipped-in, counts-of, Went, place-of-base}
+use Rattle.srt_group_traces.specs.Statement.{first-base, total-skipped, place-after, Consecutive, pass-to, Told, told-by, give-next, clerk, OneStore, Fair, Prefix, until-skip, Gateway, stands-at, delivers, Asked, do-call, Delivery, given-by, state-after, log-after, deliveries, skipped-in, counts-of, Went, place-of-base}
 use Rattle.srt_group_traces.specs.laws.Cases.{by-option, eq-of, eqb-yes}
 use Rattle.srt_group_traces.specs.laws.CallWalk.{Fits}
 use Rattle.srt_group_traces.specs.laws.Gateways.{state-after-both, log-after-both, deliveries-both}
@@ -75,11 +75,11 @@ promised-step s steps h short asked x promise =
     one-more-step s steps (step-made short asked x) h (promise-is-step short asked (last-shown s (all-shown steps)) x promise)
 
 pub new-begins : (g : Making) (lent : Lent) (s : State)
-    → (shows-new g lent s .code ≡ 0 → shows-new g lent s .state ≡ made g)
+    → (shows-new g lent s .code ≡ 0 → shows-new g lent s .state ≡ new g)
     × ((shows-new g lent s .code ≡ 0 → ⊥) → shows-new g lent s .state ≡ s)
 new-begins g lent s = (
-  (λ e. if-true (eqb code 0) (made g) s (ap (λ (n : ℕ). eqb n 0) e ∙ eqb-yes 0)),
-  λ refused. if-false (eqb code 0) (made g) s (by-test (eqb code 0) (λ e. absurd (refused (eq-of code 0 e))) (λ e. e)),
+  (λ e. if-true (eqb code 0) (new g) s (ap (λ (n : ℕ). eqb n 0) e ∙ eqb-yes 0)),
+  λ refused. if-false (eqb code 0) (new g) s (by-test (eqb code 0) (λ e. absurd (refused (eq-of code 0 e))) (λ e. e)),
 )
   where
     code : ℕ
@@ -130,10 +130,10 @@ last-shown-is s (t ∷ steps) h =
     s (λ call k. last-shown-is (do-call call s .state) steps k) (λ call k. last-shown-is s steps k) t (h .0) (h .1)
 
 -- the place that it shows is the base's
-pub place-shown-is : (g : Making) (steps : List Taken) → Performed (made g) steps → place-shown g steps ≡ place-of-base g (calls-of steps)
+pub place-shown-is : (g : Making) (steps : List Taken) → Performed (new g) steps → place-shown g steps ≡ place-of-base g (calls-of steps)
 place-shown-is g steps h =
-    ap (λ (l : List Delivery). counts-of l + skipped-in (last-shown (made g) (all-shown steps))) (shown-deliveries-are (made g) steps h)
-    ∙ ap (λ (s : State). counts-of (deliveries (calls-of steps) (made g)) + skipped-in s) (last-shown-is (made g) steps h)
+    ap (λ (l : List Delivery). counts-of l + skipped-in (last-shown (new g) (all-shown steps))) (shown-deliveries-are (new g) steps h)
+    ∙ ap (λ (s : State). counts-of (deliveries (calls-of steps) (new g)) + skipped-in s) (last-shown-is (new g) steps h)
 
 -- a refusal leaves the clerk where he is
 clerk-passes-short : (call : Asked) (s : State) (told : List Told) (ahead : List Delivery)
@@ -172,19 +172,19 @@ shown-clerk-is s (t ∷ steps) h =
 
 -- The delivered list that a port shows is the clerk's, who is told what the port shows; and he stands at the base's place.
 pub port-has-clerks-list : (schedule : List Delivery) (first : ℕ) → Consecutive first schedule → (g : Making) (steps : List Taken)
-    → Performed (made g) steps → Fair schedule first g (calls-of steps)
+    → Performed (new g) steps → Fair schedule first g (calls-of steps)
     → (left : List Delivery) × (pass-to schedule (place-shown g steps) ≡ some left)
     × (clerk schedule 0 (shown-told (all-shown steps)) ≡ some record { gave = shown-deliveries (all-shown steps); left = left })
 unfolding new
 port-has-clerks-list schedule first runs g steps h fair =
     let w : (left : List Delivery) × (pass-to schedule (place-of-base g (calls-of steps)) ≡ some left)
-    × (clerk schedule 0 (told-by (calls-of steps) (made g)) ≡ some record { gave = deliveries (calls-of steps) (made g); left = left }) =
+    × (clerk schedule 0 (told-by (calls-of steps) (new g)) ≡ some record { gave = deliveries (calls-of steps) (new g); left = left }) =
     history-theorem .schedule schedule first runs g (calls-of steps) fair
     in (
       w .0,
       ap (pass-to schedule) (place-shown-is g steps h) ∙ w .1,
-      shown-clerk-is (made g) steps h schedule ∙ w .2
-          ∙ ap (λ (l : List Delivery). some record { gave = l; left = w .0 }) (sym (shown-deliveries-are (made g) steps h)),
+      shown-clerk-is (new g) steps h schedule ∙ w .2
+          ∙ ap (λ (l : List Delivery). some record { gave = l; left = w .0 }) (sym (shown-deliveries-are (new g) steps h)),
     )
 
 -- ---- the base
@@ -251,107 +251,107 @@ calls-of-both (refused-short call x ∷ steps) more = calls-of-both steps more
 module _ (g : Making) where
   -- what a list of calls has come to, and what comes after it
   pub performed-on : (before : List Asked) (call : Asked)
-      → do-call call (state-after before (made g)) .state ≡ state-after (before ++ (call ∷ [])) (made g)
+      → do-call call (state-after before (new g)) .state ≡ state-after (before ++ (call ∷ [])) (new g)
   unfolding state-after
-  performed-on before call = sym (state-after-both before (call ∷ []) (made g))
+  performed-on before call = sym (state-after-both before (call ∷ []) (new g))
 
   -- the first value of the base of a list is that of a longer one, once it is set
-  first-of-more : (before more : List Asked) (first : ℕ) → first-base (log-after before (made g)) ≡ some first
-      → first-base (log-after (before ++ more) (made g)) ≡ some first
+  first-of-more : (before more : List Asked) (first : ℕ) → first-base (log-after before (new g)) ≡ some first
+      → first-base (log-after (before ++ more) (new g)) ≡ some first
   first-of-more before more first e =
-      ap first-base (log-after-both before more (made g))
-      ∙ first-base-stays (log-after more (state-after before (made g))) (log-after before (made g)) first e
+      ap first-base (log-after-both before more (new g))
+      ∙ first-base-stays (log-after more (state-after before (new g))) (log-after before (new g)) first e
 
   -- the skipped count never falls
-  skipped-of-more : (before more : List Asked) → skipped-in (state-after (before ++ more) (made g)) < largest-64
-      → total-skipped (log-after before (made g)) < largest-64
+  skipped-of-more : (before more : List Asked) → skipped-in (state-after (before ++ more) (new g)) < largest-64
+      → total-skipped (log-after before (new g)) < largest-64
   skipped-of-more before more below =
       omega (
         arith,
         below,
         sums-after g (before ++ more) .skipped,
-        ap total-skipped (log-after-both before more (made g)),
-        skipped-rises (log-after more (state-after before (made g))) (log-after before (made g)),
+        ap total-skipped (log-after-both before more (new g)),
+        skipped-rises (log-after more (state-after before (new g))) (log-after before (new g)),
       )
 
   -- the first step that shows a base
   first-of-step : (before : List Asked) (call : Asked) (base : ℕ)
-      → next-receive-sequence (state-after before (made g) .receive) ≡ none
-      → next-receive-sequence (do-call call (state-after before (made g)) .state .receive) ≡ some base
-      → total-skipped (log-after (before ++ (call ∷ [])) (made g)) < largest-64
-      → first-base (log-after (before ++ (call ∷ [])) (made g))
+      → next-receive-sequence (state-after before (new g) .receive) ≡ none
+      → next-receive-sequence (do-call call (state-after before (new g)) .state .receive) ≡ some base
+      → total-skipped (log-after (before ++ (call ∷ [])) (new g)) < largest-64
+      → first-base (log-after (before ++ (call ∷ [])) (new g))
       ≡ some
       (sequence-distance
-      (counts-of (shown-delivery (shows (do-call call (state-after before (made g)))))
-      + skipped-in (do-call call (state-after before (made g)) .state)) base)
+      (counts-of (shown-delivery (shows (do-call call (state-after before (new g)))))
+      + skipped-in (do-call call (state-after before (new g)) .state)) base)
   unfolding deliveries state-after counts-of
   first-of-step before call base unset set below =
-      let w : (first : ℕ) × (first-base (log-after (before ++ (call ∷ [])) (made g)) ≡ some first)
-      × (base ≡ sequence-further first (place-after (log-after (before ++ (call ∷ [])) (made g)))) =
+      let w : (first : ℕ) × (first-base (log-after (before ++ (call ∷ [])) (new g)) ≡ some first)
+      × (base ≡ sequence-further first (place-after (log-after (before ++ (call ∷ [])) (new g)))) =
       based-has-first g (before ++ (call ∷ [])) base
-      (ap (λ (x : State). next-receive-sequence (x .receive)) (state-after-both before (call ∷ []) (made g)) ∙ set)
+      (ap (λ (x : State). next-receive-sequence (x .receive)) (state-after-both before (call ∷ []) (new g)) ∙ set)
       in
       w .1
       ∙ ap {B = Option ℕ} some
       (sym
       (ap (sequence-distance _) (w .2)
-      ∙ ap (λ (n : ℕ). sequence-distance n (sequence-further (w .0) (place-after (log-after (before ++ (call ∷ [])) (made g))))) place
-      ∙ back-again (w .0) (place-after (log-after (before ++ (call ∷ [])) (made g))) (first-fits (first-base (log-after (before ++ (call ∷ [])) (made g))) _ _ (w .0) (w .1)
+      ∙ ap (λ (n : ℕ). sequence-distance n (sequence-further (w .0) (place-after (log-after (before ++ (call ∷ [])) (new g))))) place
+      ∙ back-again (w .0) (place-after (log-after (before ++ (call ∷ [])) (new g))) (first-fits (first-base (log-after (before ++ (call ∷ [])) (new g))) _ _ (w .0) (w .1)
       (sums-after g (before ++ (call ∷ [])) .stands))))
     where
       first-fits : (o b : Option ℕ) (n first : ℕ) → o ≡ some first → Stands o b n → Fits first
       first-fits none b n first e h = none-some e
       first-fits (some f) b n first e h = subst Fits (some-inj e) (h .0)
 
-      place : counts-of (shown-delivery (shows (do-call call (state-after before (made g)))))
-          + skipped-in (do-call call (state-after before (made g)) .state)
-          ≡ place-after (log-after (before ++ (call ∷ [])) (made g))
+      place : counts-of (shown-delivery (shows (do-call call (state-after before (new g)))))
+          + skipped-in (do-call call (state-after before (new g)) .state)
+          ≡ place-after (log-after (before ++ (call ∷ [])) (new g))
       place =
           omega (
             arith,
             below,
-            delivered-counts (before ++ (call ∷ [])) (made g),
+            delivered-counts (before ++ (call ∷ [])) (new g),
             sums-after g (before ++ (call ∷ [])) .skipped,
-            ap (λ (x : State). skipped-in x) (state-after-both before (call ∷ []) (made g)),
-            ap counts-of (deliveries-both before (call ∷ []) (made g)),
-            counts-append (deliveries before (made g)) (deliveries (call ∷ []) (state-after before (made g))),
-            counts-append (given-by (do-call call (state-after before (made g)))) [],
-            ap counts-of (delivery-is-given (do-call call (state-after before (made g)))),
+            ap (λ (x : State). skipped-in x) (state-after-both before (call ∷ []) (new g)),
+            ap counts-of (deliveries-both before (call ∷ []) (new g)),
+            counts-append (deliveries before (new g)) (deliveries (call ∷ []) (state-after before (new g))),
+            counts-append (given-by (do-call call (state-after before (new g)))) [],
+            ap counts-of (delivery-is-given (do-call call (state-after before (new g)))),
             unbased-is-still g before unset .1,
           )
 
-  first-shown-from : (before : List Asked) → next-receive-sequence (state-after before (made g) .receive) ≡ none
-      → (steps : List Taken) → Performed (state-after before (made g)) steps
-      → skipped-in (state-after (before ++ calls-of steps) (made g)) < largest-64
-      → first-shown (all-shown steps) ≡ first-base (log-after (before ++ calls-of steps) (made g))
+  first-shown-from : (before : List Asked) → next-receive-sequence (state-after before (new g) .receive) ≡ none
+      → (steps : List Taken) → Performed (state-after before (new g)) steps
+      → skipped-in (state-after (before ++ calls-of steps) (new g)) < largest-64
+      → first-shown (all-shown steps) ≡ first-base (log-after (before ++ calls-of steps) (new g))
   unfolding first-shown all-shown calls-of if-some_give_otherwise_
   first-shown-from before unset [] h =
-      λ below. sym (ap (λ (cs : List Asked). first-base (log-after cs (made g))) (append-nil before) ∙ unbased-is-still g before unset .0)
+      λ below. sym (ap (λ (cs : List Asked). first-base (log-after cs (new g))) (append-nil before) ∙ unbased-is-still g before unset .0)
   first-shown-from before unset (t ∷ steps) h =
       by-step
       (λ (t : Taken). Performed (shown-of t .state) steps
-      → skipped-in (state-after (before ++ calls-of (t ∷ steps)) (made g)) < largest-64
-      → first-shown (shown-of t ∷ all-shown steps) ≡ first-base (log-after (before ++ calls-of (t ∷ steps)) (made g)))
-      (state-after before (made g))
+      → skipped-in (state-after (before ++ calls-of (t ∷ steps)) (new g)) < largest-64
+      → first-shown (shown-of t ∷ all-shown steps) ≡ first-base (log-after (before ++ calls-of (t ∷ steps)) (new g)))
+      (state-after before (new g))
       (λ call k below.
-      by-option (next-receive-sequence (do-call call (state-after before (made g)) .state .receive))
+      by-option (next-receive-sequence (do-call call (state-after before (new g)) .state .receive))
       (λ e.
-      ap (first-or (shows (do-call call (state-after before (made g))))) e
+      ap (first-or (shows (do-call call (state-after before (new g))))) e
       ∙ first-shown-from (before ++ (call ∷ []))
       (ap (λ (x : State). next-receive-sequence (x .receive)) (sym (performed-on before call)) ∙ e) steps
       (subst (λ (x : State). Performed x steps) (performed-on before call) k)
-      (subst (λ (cs : List Asked). skipped-in (state-after cs (made g)) < largest-64) (sym (regroup call)) below)
-      ∙ ap (λ (cs : List Asked). first-base (log-after cs (made g))) (regroup call))
+      (subst (λ (cs : List Asked). skipped-in (state-after cs (new g)) < largest-64) (sym (regroup call)) below)
+      ∙ ap (λ (cs : List Asked). first-base (log-after cs (new g))) (regroup call))
       (λ base e.
-      ap (first-or (shows (do-call call (state-after before (made g))))) e
+      ap (first-or (shows (do-call call (state-after before (new g))))) e
       ∙ sym
-      (ap (λ (cs : List Asked). first-base (log-after cs (made g))) (sym (regroup call))
+      (ap (λ (cs : List Asked). first-base (log-after cs (new g))) (sym (regroup call))
       ∙ first-of-more (before ++ (call ∷ [])) (calls-of steps) _
       (first-of-step before call base unset e
       (skipped-of-more (before ++ (call ∷ [])) (calls-of steps)
-      (subst (λ (cs : List Asked). skipped-in (state-after cs (made g)) < largest-64) (sym (regroup call)) below))))))
+      (subst (λ (cs : List Asked). skipped-in (state-after cs (new g)) < largest-64) (sym (regroup call)) below))))))
       (λ call k below.
-      ap (first-or (shows-short call (state-after before (made g)))) unset ∙ first-shown-from before unset steps k below)
+      ap (first-or (shows-short call (state-after before (new g)))) unset ∙ first-shown-from before unset steps k below)
       t (h .0) (h .1)
     where
       first-or : Shown → Option ℕ → Option ℕ
@@ -364,121 +364,121 @@ module _ (g : Making) where
       regroup call = append-assoc before (call ∷ []) (calls-of steps)
 
   -- The first value by what is shown is the one at the moment of setting.
-  pub first-shown-is : (steps : List Taken) → Performed (made g) steps
-      → skipped-in (last-shown (made g) (all-shown steps)) < largest-64
-      → first-shown (all-shown steps) ≡ first-base (log-after (calls-of steps) (made g))
+  pub first-shown-is : (steps : List Taken) → Performed (new g) steps
+      → skipped-in (last-shown (new g) (all-shown steps)) < largest-64
+      → first-shown (all-shown steps) ≡ first-base (log-after (calls-of steps) (new g))
   unfolding state-after new flagged
   first-shown-is steps h below =
       first-shown-from [] refl steps h
-      (subst (λ (s : State). skipped-in s < largest-64) (last-shown-is (made g) steps h) below)
+      (subst (λ (s : State). skipped-in s < largest-64) (last-shown-is (new g) steps h) below)
 
   -- A base that a port shows has a first value by what it shows; the base less that is what it shows as delivered and skipped,
   -- modulo 2^31.
-  pub port-base : (steps : List Taken) → Performed (made g) steps
-      → skipped-in (last-shown (made g) (all-shown steps)) < largest-64
-      → (base : ℕ) → next-receive-sequence (last-shown (made g) (all-shown steps) .receive) ≡ some base
+  pub port-base : (steps : List Taken) → Performed (new g) steps
+      → skipped-in (last-shown (new g) (all-shown steps)) < largest-64
+      → (base : ℕ) → next-receive-sequence (last-shown (new g) (all-shown steps) .receive) ≡ some base
       → (first : ℕ)
       × (first-shown (all-shown steps) ≡ some first)
       × (sequence-distance first base ≡ place-shown g steps % (half + half))
   port-base steps h below base e =
-      let w : (first : ℕ) × (first-base (log-after (calls-of steps) (made g)) ≡ some first)
-      × (skipped-in (state-after (calls-of steps) (made g)) < largest-64
+      let w : (first : ℕ) × (first-base (log-after (calls-of steps) (new g)) ≡ some first)
+      × (skipped-in (state-after (calls-of steps) (new g)) < largest-64
       → sequence-distance first base ≡ place-of-base g (calls-of steps) % (half + half)) =
       history-theorem .base g (calls-of steps) base
-      (ap (λ (s : State). next-receive-sequence (s .receive)) (sym (last-shown-is (made g) steps h)) ∙ e)
+      (ap (λ (s : State). next-receive-sequence (s .receive)) (sym (last-shown-is (new g) steps h)) ∙ e)
       in (
         w .0,
         first-shown-is steps h below ∙ w .1,
-        w .2 (subst (λ (s : State). skipped-in s < largest-64) (last-shown-is (made g) steps h) below)
+        w .2 (subst (λ (s : State). skipped-in s < largest-64) (last-shown-is (new g) steps h) below)
             ∙ ap (λ (n : ℕ). n % (half + half)) (sym (place-shown-is g steps h)),
       )
 
   -- While it shows no base, it shows nothing delivered and nothing skipped.
-  pub port-unbased : (steps : List Taken) → Performed (made g) steps
-      → next-receive-sequence (last-shown (made g) (all-shown steps) .receive) ≡ none
+  pub port-unbased : (steps : List Taken) → Performed (new g) steps
+      → next-receive-sequence (last-shown (new g) (all-shown steps) .receive) ≡ none
       → place-shown g steps ≡ 0
   port-unbased steps h e =
       place-shown-is g steps h
-      ∙ history-theorem .unset g (calls-of steps) (ap (λ (s : State). next-receive-sequence (s .receive)) (sym (last-shown-is (made g) steps h)) ∙ e) .1
+      ∙ history-theorem .unset g (calls-of steps) (ap (λ (s : State). next-receive-sequence (s .receive)) (sym (last-shown-is (new g) steps h)) ∙ e) .1
 
-  base-shown-fits : (steps : List Taken) → Performed (made g) steps → (base : ℕ)
-      → next-receive-sequence (last-shown (made g) (all-shown steps) .receive) ≡ some base → Fits base
+  base-shown-fits : (steps : List Taken) → Performed (new g) steps → (base : ℕ)
+      → next-receive-sequence (last-shown (new g) (all-shown steps) .receive) ≡ some base → Fits base
   base-shown-fits steps h base e =
-      let w : (first : ℕ) × (first-base (log-after (calls-of steps) (made g)) ≡ some first)
-      × (base ≡ sequence-further first (place-after (log-after (calls-of steps) (made g)))) =
+      let w : (first : ℕ) × (first-base (log-after (calls-of steps) (new g)) ≡ some first)
+      × (base ≡ sequence-further first (place-after (log-after (calls-of steps) (new g)))) =
       based-has-first g (calls-of steps) base
-      (ap (λ (s : State). next-receive-sequence (s .receive)) (sym (last-shown-is (made g) steps h)) ∙ e)
+      (ap (λ (s : State). next-receive-sequence (s .receive)) (sym (last-shown-is (new g) steps h)) ∙ e)
       in
-      subst Fits (sym (w .2)) (further-fits (w .0) (place-after (log-after (calls-of steps) (made g))))
+      subst Fits (sym (w .2)) (further-fits (w .0) (place-after (log-after (calls-of steps) (new g))))
 
   -- one call, wherever a list of calls has come to
   call-moves-base : (before : List Asked) (call : Asked) (base : ℕ)
-      → next-receive-sequence (state-after before (made g) .receive) ≡ some base
-      → skipped-in (do-call call (state-after before (made g)) .state) < largest-64
-      → next-receive-sequence (do-call call (state-after before (made g)) .state .receive)
+      → next-receive-sequence (state-after before (new g) .receive) ≡ some base
+      → skipped-in (do-call call (state-after before (new g)) .state) < largest-64
+      → next-receive-sequence (do-call call (state-after before (new g)) .state .receive)
       ≡ some
       (sequence-further base
-      (counts-of (shown-delivery (shows (do-call call (state-after before (made g)))))
-      + (skipped-in (do-call call (state-after before (made g)) .state) - skipped-in (state-after before (made g)))))
+      (counts-of (shown-delivery (shows (do-call call (state-after before (new g)))))
+      + (skipped-in (do-call call (state-after before (new g)) .state) - skipped-in (state-after before (new g)))))
   unfolding deliveries state-after counts-of
   call-moves-base before call base e below =
-      let w : (first : ℕ) × (first-base (log-after before (made g)) ≡ some first)
-      × (base ≡ sequence-further first (place-after (log-after before (made g)))) =
+      let w : (first : ℕ) × (first-base (log-after before (new g)) ≡ some first)
+      × (base ≡ sequence-further first (place-after (log-after before (new g)))) =
       based-has-first g before base e
       in
       ap (λ (s : State). next-receive-sequence (s .receive)) (performed-on before call)
       ∙ stands-at-first (before ++ (call ∷ [])) (w .0) (first-of-more before (call ∷ []) (w .0) (w .1))
       ∙ ap {B = Option ℕ} some
-      (ap (sequence-further (w .0)) moved ∙ sym (further-twice (w .0) (place-after (log-after before (made g))) by)
+      (ap (sequence-further (w .0)) moved ∙ sym (further-twice (w .0) (place-after (log-after before (new g))) by)
       ∙ ap (λ (n : ℕ). sequence-further n by) (sym (w .2)))
     where
       by : ℕ
       by =
-          counts-of (shown-delivery (shows (do-call call (state-after before (made g)))))
-          + (skipped-in (do-call call (state-after before (made g)) .state) - skipped-in (state-after before (made g)))
+          counts-of (shown-delivery (shows (do-call call (state-after before (new g)))))
+          + (skipped-in (do-call call (state-after before (new g)) .state) - skipped-in (state-after before (new g)))
 
-      stands-at-first : (calls : List Asked) (first : ℕ) → first-base (log-after calls (made g)) ≡ some first
-          → next-receive-sequence (state-after calls (made g) .receive)
-          ≡ some (sequence-further first (place-after (log-after calls (made g))))
+      stands-at-first : (calls : List Asked) (first : ℕ) → first-base (log-after calls (new g)) ≡ some first
+          → next-receive-sequence (state-after calls (new g) .receive)
+          ≡ some (sequence-further first (place-after (log-after calls (new g))))
       stands-at-first calls first f =
-          (subst (λ (o : Option ℕ). Stands o (next-receive-sequence (state-after calls (made g) .receive))
-          (place-after (log-after calls (made g)))) f
+          (subst (λ (o : Option ℕ). Stands o (next-receive-sequence (state-after calls (new g) .receive))
+          (place-after (log-after calls (new g)))) f
           (sums-after g calls .stands)) .1
 
-      moved : place-after (log-after (before ++ (call ∷ [])) (made g))
-          ≡ place-after (log-after before (made g))
-          + (counts-of (shown-delivery (shows (do-call call (state-after before (made g)))))
-          + (skipped-in (do-call call (state-after before (made g)) .state) - skipped-in (state-after before (made g))))
+      moved : place-after (log-after (before ++ (call ∷ [])) (new g))
+          ≡ place-after (log-after before (new g))
+          + (counts-of (shown-delivery (shows (do-call call (state-after before (new g)))))
+          + (skipped-in (do-call call (state-after before (new g)) .state) - skipped-in (state-after before (new g))))
       moved =
           omega (
             arith,
             below,
-            delivered-counts before (made g),
-            delivered-counts (before ++ (call ∷ [])) (made g),
+            delivered-counts before (new g),
+            delivered-counts (before ++ (call ∷ [])) (new g),
             sums-after g before .skipped,
             sums-after g (before ++ (call ∷ [])) .skipped,
             ap (λ (x : State). skipped-in x) (performed-on before call),
-            ap total-skipped (log-after-both before (call ∷ []) (made g)),
-            skipped-rises (log-after (call ∷ []) (state-after before (made g))) (log-after before (made g)),
-            ap counts-of (deliveries-both before (call ∷ []) (made g)),
-            counts-append (deliveries before (made g)) (deliveries (call ∷ []) (state-after before (made g))),
-            counts-append (given-by (do-call call (state-after before (made g)))) [],
-            ap counts-of (delivery-is-given (do-call call (state-after before (made g)))),
+            ap total-skipped (log-after-both before (call ∷ []) (new g)),
+            skipped-rises (log-after (call ∷ []) (state-after before (new g))) (log-after before (new g)),
+            ap counts-of (deliveries-both before (call ∷ []) (new g)),
+            counts-append (deliveries before (new g)) (deliveries (call ∷ []) (state-after before (new g))),
+            counts-append (given-by (do-call call (state-after before (new g)))) [],
+            ap counts-of (delivery-is-given (do-call call (state-after before (new g)))),
           )
 
   -- Once a port shows a base, the next step moves it as far as the step shows as delivered and as the skipped count rises, and no
   -- other way.
-  pub port-moves-base : (steps : List Taken) (t : Taken) → Performed (made g) (steps ++ (t ∷ [])) → (base : ℕ)
-      → next-receive-sequence (last-shown (made g) (all-shown steps) .receive) ≡ some base
+  pub port-moves-base : (steps : List Taken) (t : Taken) → Performed (new g) (steps ++ (t ∷ [])) → (base : ℕ)
+      → next-receive-sequence (last-shown (new g) (all-shown steps) .receive) ≡ some base
       → skipped-in (shown-of t .state) < largest-64
       → next-receive-sequence (shown-of t .state .receive)
       ≡ some
       (sequence-further base
       (counts-of (shown-delivery (shown-of t))
-      + (skipped-in (shown-of t .state) - skipped-in (last-shown (made g) (all-shown steps)))))
+      + (skipped-in (shown-of t .state) - skipped-in (last-shown (new g) (all-shown steps)))))
   unfolding counts-of
   port-moves-base steps t h base =
-      subst Moves (sym (last-shown-is (made g) steps (performed-begins (made g) steps (t ∷ []) h)))
+      subst Moves (sym (last-shown-is (new g) steps (performed-begins (new g) steps (t ∷ []) h)))
       (λ e.
       by-step
       (λ (t : Taken). skipped-in (shown-of t .state) < largest-64
@@ -486,20 +486,20 @@ module _ (g : Making) where
       ≡ some
       (sequence-further base
       (counts-of (shown-delivery (shown-of t))
-      + (skipped-in (shown-of t .state) - skipped-in (state-after (calls-of steps) (made g))))))
-      (state-after (calls-of steps) (made g)) (λ call below. call-moves-base (calls-of steps) call base e below)
+      + (skipped-in (shown-of t .state) - skipped-in (state-after (calls-of steps) (new g))))))
+      (state-after (calls-of steps) (new g)) (λ call below. call-moves-base (calls-of steps) call base e below)
       (λ call below.
       e
       ∙ ap {B = Option ℕ} some
       (sym
       (ap (sequence-further base) (none-moved call)
       ∙ further-none base
-      (base-shown-fits steps (performed-begins (made g) steps (t ∷ []) h) base
+      (base-shown-fits steps (performed-begins (new g) steps (t ∷ []) h) base
       (ap (λ (s : State). next-receive-sequence (s .receive))
-      (last-shown-is (made g) steps (performed-begins (made g) steps (t ∷ []) h)) ∙ e)))))
+      (last-shown-is (new g) steps (performed-begins (new g) steps (t ∷ []) h)) ∙ e)))))
       t
-      (subst (λ (s : State). TakenFrom s t) (last-shown-is (made g) steps (performed-begins (made g) steps (t ∷ []) h))
-      (performed-goes-on (made g) steps (t ∷ []) h .0)))
+      (subst (λ (s : State). TakenFrom s t) (last-shown-is (new g) steps (performed-begins (new g) steps (t ∷ []) h))
+      (performed-goes-on (new g) steps (t ∷ []) h .0)))
     where
       Moves : State → Type 0
       Moves s =
@@ -510,14 +510,14 @@ module _ (g : Making) where
           (counts-of (shown-delivery (shown-of t)) + (skipped-in (shown-of t .state) - skipped-in s)))
 
       none-moved : (call : Asked)
-          → counts-of (shown-delivery (shows-short call (state-after (calls-of steps) (made g))))
-          + (skipped-in (state-after (calls-of steps) (made g)) - skipped-in (state-after (calls-of steps) (made g)))
+          → counts-of (shown-delivery (shows-short call (state-after (calls-of steps) (new g))))
+          + (skipped-in (state-after (calls-of steps) (new g)) - skipped-in (state-after (calls-of steps) (new g)))
           ≡ 0
-      none-moved call = omega (arith, ap counts-of (short-delivers-nothing call (state-after (calls-of steps) (made g))))
+      none-moved call = omega (arith, ap counts-of (short-delivers-nothing call (state-after (calls-of steps) (new g))))
 
   -- Where the first step that shows a base delivers nothing and shows nothing skipped, that base is the first value. `steps`
   -- come before it, and show none.
-  pub first-is-first-base : (steps : List Taken) (t : Taken) (more : List Taken) → Performed (made g) (steps ++ (t ∷ more))
+  pub first-is-first-base : (steps : List Taken) (t : Taken) (more : List Taken) → Performed (new g) (steps ++ (t ∷ more))
       → All (λ (x : Shown). next-receive-sequence (x .state .receive) ≡ none) (all-shown steps)
       → (base : ℕ) → next-receive-sequence (shown-of t .state .receive) ≡ some base
       → shown-delivery (shown-of t) ≡ [] → skipped-in (shown-of t .state) ≡ 0
@@ -528,9 +528,9 @@ module _ (g : Making) where
       fits : Fits base
       fits =
           base-shown-fits (steps ++ (t ∷ []))
-          (performed-begins (made g) (steps ++ (t ∷ [])) more
-          (subst (Performed (made g)) (sym (append-assoc steps (t ∷ []) more)) h)) base
-          (ap (λ (s : State). next-receive-sequence (s .receive)) (last-of (made g) steps t) ∙ e)
+          (performed-begins (new g) (steps ++ (t ∷ [])) more
+          (subst (Performed (new g)) (sym (append-assoc steps (t ∷ []) more)) h)) base
+          (ap (λ (s : State). next-receive-sequence (s .receive)) (last-of (new g) steps t) ∙ e)
 
       go : (l : List Taken) → All (λ (x : Shown). next-receive-sequence (x .state .receive) ≡ none) (all-shown l)
           → first-shown (all-shown (l ++ (t ∷ more))) ≡ some base
@@ -540,22 +540,22 @@ module _ (g : Making) where
 -- ---- as it was queued
 
 -- Where there is one store, all that a port shows as delivered was given to an accepted call to queue, byte for byte.
-pub port-makes-up-nothing : (g : Making) (steps : List Taken) → Performed (made g) steps → (store : List ℕ)
-    → OneStore store (calls-of steps) (made g)
+pub port-makes-up-nothing : (g : Making) (steps : List Taken) → Performed (new g) steps → (store : List ℕ)
+    → OneStore store (calls-of steps) (new g)
     → All (GivenToQueue g (calls-of steps)) (shown-deliveries (all-shown steps))
 port-makes-up-nothing g steps h store one =
-    subst (All (GivenToQueue g (calls-of steps))) (sym (shown-deliveries-are (made g) steps h))
+    subst (All (GivenToQueue g (calls-of steps))) (sym (shown-deliveries-are (new g) steps h))
     (nothing-made-up g (calls-of steps) store one)
 
 -- ---- skips
 
-skips-shown-from : (g : Making) (before : List Asked) (steps : List Taken) → Performed (state-after before (made g)) steps
-    → SkipsShown (state-after before (made g)) steps
+skips-shown-from : (g : Making) (before : List Asked) (steps : List Taken) → Performed (state-after before (new g)) steps
+    → SkipsShown (state-after before (new g)) steps
 skips-shown-from g before [] h = tt
 skips-shown-from g before (t ∷ steps) h =
     by-step
-    (λ (t : Taken). Performed (shown-of t .state) steps → SkipsShown (state-after before (made g)) (t ∷ steps))
-    (state-after before (made g))
+    (λ (t : Taken). Performed (shown-of t .state) steps → SkipsShown (state-after before (new g)) (t ∷ steps))
+    (state-after before (new g))
     (λ call k. (
       history-theorem .rises g before call,
       subst (λ (x : State). SkipsShown x steps) (sym (performed-on g before call))
@@ -565,7 +565,7 @@ skips-shown-from g before (t ∷ steps) h =
     (λ call k. (refl, skips-shown-from g before steps k)) t (h .0) (h .1)
 
 -- Every step of a port that raises the skipped count made a right skip.
-pub port-skips : (g : Making) (steps : List Taken) → Performed (made g) steps → SkipsShown (made g) steps
+pub port-skips : (g : Making) (steps : List Taken) → Performed (new g) steps → SkipsShown (new g) steps
 unfolding state-after
 port-skips g steps h = skips-shown-from g [] steps h
 
@@ -611,8 +611,8 @@ module _ (schedule : List Delivery) (first : ℕ) where
         fair = subst (Fair schedule first (w .making)) (calls-of-both (w .before) (w .after)) (w .fair);
       }
 
-  begun : (w : Port schedule first) → Performed (made (w .making)) (w .before)
-  begun w = performed-begins (made (w .making)) (w .before) (w .after) (w .performed)
+  begun : (w : Port schedule first) → Performed (new (w .making)) (w .before)
+  begun w = performed-begins (new (w .making)) (w .before) (w .after) (w .performed)
 
   place-is : (w : Port schedule first) → port-place schedule first w ≡ stands-at schedule first (as-gateway w)
   place-is w = place-shown-is (w .making) (w .before) (begun w)
@@ -620,9 +620,9 @@ module _ (schedule : List Delivery) (first : ℕ) where
   delivers-is : (w : Port schedule first) → port-delivers schedule first w ≡ delivers schedule first (as-gateway w)
   delivers-is w =
       until-skip-shows (port-state schedule first w) (w .after)
-      (performed-goes-on (made (w .making)) (w .before) (w .after) (w .performed))
+      (performed-goes-on (new (w .making)) (w .before) (w .after) (w .performed))
       ∙ ap (λ (s : State). deliveries (until-skip (calls-of (w .after)) s) s)
-      (last-shown-is (made (w .making)) (w .before) (begun w))
+      (last-shown-is (new (w .making)) (w .before) (begun w))
 
   -- Two ports that stand at one place show the same packets, one list a prefix of the other, each up to its next skip.
   pub ports-agree : Consecutive first schedule → (a b : Port schedule first) → port-place schedule first a ≡ port-place schedule first b

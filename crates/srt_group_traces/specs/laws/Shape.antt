@@ -25,12 +25,11 @@ use Rattle.srt_group_model.specs.Calls.{event-poll-body, poll-event-call, data-
 use Rattle.srt_group_model.specs.declared.Event.{Event}
 use Rattle.srt_group_model.specs.declared.Packet.{Packet}
 use Rattle.srt_group_model.specs.laws.Reason.{if-elim, if-some-elim, not-both, or-left, or-right, none-some, some-inj, by-test, all-map}
-use Rattle.srt_group_traces.specs.Statement.{When, run-at-test, after-polls, AtTest, when-of}
+use Rattle.srt_group_traces.specs.Statement.{When, run-at-test, after-polls, AtTest, when-of, Asked, do-call, time-of, is-poll}
 use Rattle.srt_group_traces.specs.laws.Cases.{Each, each-at}
 use Rattle.srt_group_traces.specs.laws.Sides.{Side, sides, deliver-packet-leaves-sides}
 use Rattle.srt_group_traces.specs.laws.Held.{held-at-sequence, nearest-is-held}
 use Rattle.srt_group_model.specs.Lent.{Call, delivered-by, step-of, with-bytes, perform}
-use Rattle.srt_group_traces.specs.Calls.{Asked, do-call, time-of, is-poll}
 use Rattle.srt_group_model.specs.laws.Released.{deliver-released}
 use Rattle.srt_group_model.specs.laws.Moves.{until-empty-not-held}
 use Rattle.srt_group_model.specs.laws.Waits.{waits, none-waits, refresh-waits}

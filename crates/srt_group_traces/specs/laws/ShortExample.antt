@@ -12,11 +12,12 @@ use Rattle.srt_group_model.specs.laws.Computed.{definitions}
 use Rattle.srt_group_model.specs.Lent.{Call, call-add-member, call-mark-member-broken, call-remove-member-connection, call-refresh-member-states, call-disconnect, call-poll-event, call-poll-data-bounded, call-send, call-can-send, call-can-send-with-pacing, call-look, call-read-leg, call-queue-data, call-queue-event}
 use Rattle.srt_group_model.specs.laws.Reason.{none-some}
 use Rattle.srt_group_model.specs.Tools.{All}
-use Rattle.srt_group_traces.specs.Statement.{pass-to, Fair, Asked, do-call, Delivery, made, state-after, counts-of, with-payload}
+use Rattle.srt_group_traces.specs.Statement.{pass-to, Fair, Asked, do-call, Delivery, state-after, counts-of, with-payload}
 use Rattle.srt_group_traces.specs.laws.Example.{group, store-0, store-1, store-2, store-3, output, sends, planned, schedule, runs, calls, one-store}
 use Rattle.srt_group_traces.specs.laws.Cases.{Each, each-at}
 use Rattle.srt_group_traces.specs.ShortSchedule.{QueuesNone, Scheduled, AllScheduled, FairCalls}
 use Rattle.srt_group_traces.specs.laws.ShortSchedule.{short-schedule-is-fair}
+use Rattle.srt_group_model.specs.Calls.{new}
 
 -- the packet that a call is given to queue
 unfoldable to-queue : Call → Option Delivery
@@ -56,7 +57,7 @@ first-six : All (λ (asked : Asked). to-queue (asked .call) ≡ none) (take 6 ca
 unfolding calls to-queue
 first-six = (refl, (refl, (refl, (refl, (refl, (refl, tt))))))
 
-base-set-to-100 : next-receive-sequence (state-after (take 6 calls) (made group) .receive) ≡ some 100
+base-set-to-100 : next-receive-sequence (state-after (take 6 calls) (new group) .receive) ≡ some 100
 unfolding definitions group store-0 store-1 store-2 store-3 output sends calls do-call state-after
 base-set-to-100 = refl
 
@@ -71,7 +72,7 @@ fair-calls =
       short = five-packets;
       none-queued = no-data (take 6 calls) first-six;
       set = base-set-to-100;
-      scheduled = all-scheduled calls (made group) packets-scheduled;
+      scheduled = all-scheduled calls (new group) packets-scheduled;
       store = store-0;
       one-store = one-store;
     }

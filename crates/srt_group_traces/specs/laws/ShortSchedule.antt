@@ -16,7 +16,7 @@ use Rattle.srt_group_model.specs.Lent.{delivered-by}
 use Rattle.srt_group_model.specs.declared.Data.{Data}
 use Rattle.srt_group_model.specs.declared.Packet.{Packet}
 use Rattle.srt_group_model.specs.laws.Reason.{if-elim, none-some, some-inj}
-use Rattle.srt_group_traces.specs.Statement.{first-base, total-skipped, total-delivered, place-after, last-put, Consecutive, pass-to, Near, Fair, When, when-of, Asked, do-call, Delivery, made, state-after, log-after, counts-of, with-payload, Marked}
+use Rattle.srt_group_traces.specs.Statement.{first-base, total-skipped, total-delivered, place-after, last-put, Consecutive, pass-to, Near, Fair, When, when-of, Asked, do-call, Delivery, state-after, log-after, counts-of, with-payload, Marked}
 use Rattle.srt_group_traces.specs.laws.Cases.{le-of, eq-of}
 use Rattle.srt_group_traces.specs.laws.CallWalk.{Fits}
 use Rattle.srt_group_traces.specs.laws.Shape.{Quiet, Skip, Shape, call-shape}
@@ -27,6 +27,7 @@ use Rattle.srt_group_traces.specs.laws.AsQueued.{AcceptedQueueing, queue
 use Rattle.srt_group_traces.specs.laws.Corollaries.{first-base-stays}
 use Rattle.srt_group_traces.specs.laws.Marks.{total-delivered-append, total-skipped-append, EachCollected, each-collected-at, all-marked, each-collected-of}
 use Rattle.srt_group_traces.specs.ShortSchedule.{QueuesNone, QueuesScheduled, AllScheduled, FairCalls}
+use Rattle.srt_group_model.specs.Calls.{new}
 
 -- ---- places of a schedule
 
@@ -57,9 +58,9 @@ each-collected-map P Q (delivered p ∷ log) f h = each-collected-map P Q log f 
 abbrev Queued : Making → List Asked → List Mark → Packet → Type 0
 Queued g calls log p = QueuedBy g calls (last-put log) (p .member) (p .content)
 
-each-collected-queued : (g : Making) (calls : List Asked) → EachCollected (Queued g calls) (log-after calls (made g))
+each-collected-queued : (g : Making) (calls : List Asked) → EachCollected (Queued g calls) (log-after calls (new g))
 each-collected-queued g calls =
-    each-collected-of (Queued g calls) (log-after calls (made g)) (λ p older at. collected-was-queued g calls (at .0) older p (at .1))
+    each-collected-of (Queued g calls) (log-after calls (new g)) (λ p older at. collected-was-queued g calls (at .0) older p (at .1))
 
 -- ---- calls that queue no data: nothing is collected or delivered, and the base stands where it was set
 
@@ -79,10 +80,10 @@ NotDelivered (collected p) = Unit {0}
 NotDelivered (gap-skipped tested time distance) = Unit {0}
 NotDelivered (delivered p) = ⊥
 
-none-delivered : (g : Making) (calls : List Asked) → All QueuesNone calls → All NotDelivered (log-after calls (made g))
-none-delivered g calls h = all-marked NotDelivered (log-after calls (made g)) not-this
+none-delivered : (g : Making) (calls : List Asked) → All QueuesNone calls → All NotDelivered (log-after calls (new g))
+none-delivered g calls h = all-marked NotDelivered (log-after calls (new g)) not-this
   where
-    not-this : (mark : Mark) (older : List Mark) → Marked (log-after calls (made g)) mark older → NotDelivered mark
+    not-this : (mark : Mark) (older : List Mark) → Marked (log-after calls (new g)) mark older → NotDelivered mark
     not-this (put cell payload) older at = tt
     not-this (base-set base) older at = tt
     not-this (collected p) older at = tt
@@ -127,18 +128,18 @@ first-fits (some f) b n first e h = subst Fits (some-inj e) (h .0)
 
 -- the base after such calls is its first value
 first-is-base : (g : Making) (calls : List Asked) (base : ℕ) → All QueuesNone calls
-    → next-receive-sequence (state-after calls (made g) .receive) ≡ some base → first-base (log-after calls (made g)) ≡ some base
+    → next-receive-sequence (state-after calls (new g) .receive) ≡ some base → first-base (log-after calls (new g)) ≡ some base
 first-is-base g calls base h e =
-    let w : (first : ℕ) × (first-base (log-after calls (made g)) ≡ some first)
-    × (base ≡ sequence-further first (place-after (log-after calls (made g)))) =
+    let w : (first : ℕ) × (first-base (log-after calls (new g)) ≡ some first)
+    × (base ≡ sequence-further first (place-after (log-after calls (new g)))) =
     based-has-first g calls base e
     in
     w .1
     ∙ ap {B = Option ℕ} some
     (sym
-    (w .2 ∙ ap (sequence-further (w .0)) (unmoved calls (made g) (none-delivered g calls h))
+    (w .2 ∙ ap (sequence-further (w .0)) (unmoved calls (new g) (none-delivered g calls h))
     ∙ further-none (w .0)
-    (first-fits (first-base (log-after calls (made g))) _ _ (w .0) (w .1) (sums-after g calls .stands))))
+    (first-fits (first-base (log-after calls (new g))) _ _ (w .0) (w .1) (sums-after g calls .stands))))
 
 -- ---- the base stays set
 
@@ -170,15 +171,15 @@ module _ (schedule : List Delivery) (first : ℕ) (runs : Consecutive first sche
   abbrev NearEach : List Mark → Type 0
   NearEach = EachCollected (λ log p. Near schedule (place-after log) (with-payload (p .content) (last-put log (p .content .cell))))
 
-  near : (g : Making) (calls : List Asked) → AllScheduled schedule calls (made g) → (payloads : ℕ → List ℕ) (base leg : ℕ) (d : Data)
+  near : (g : Making) (calls : List Asked) → AllScheduled schedule calls (new g) → (payloads : ℕ → List ℕ) (base leg : ℕ) (d : Data)
       → base ≤ counts-of schedule → QueuedBy g calls payloads leg d → Near schedule base (with-payload d (payloads (d .cell)))
   unfolding counts-of
   near g calls h payloads base leg d within q =
       let by : AcceptedQueueing g calls = q .by in
       let x : Delivery = with-payload (by .given) (by .payload) in
       let w : (place : ℕ) × (rest : List Delivery) × (pass-to schedule place ≡ some (x ∷ rest)) =
-      scheduled-at schedule (by .before) (queueing (by .id) (by .given) (by .payload) (by .lent)) (by .after) (made g)
-      (subst (λ (cs : List Asked). AllScheduled schedule cs (made g)) (by .is) h) (by .id) (by .given) (by .payload) refl (by .accepted)
+      scheduled-at schedule (by .before) (queueing (by .id) (by .given) (by .payload) (by .lent)) (by .after) (new g)
+      (subst (λ (cs : List Asked). AllScheduled schedule cs (new g)) (by .is) h) (by .id) (by .given) (by .payload) refl (by .accepted)
       in
       let in-sum : w .0 + counts-of (x ∷ w .1) ≤ counts-of schedule = place-within schedule (w .0) (x ∷ w .1) (w .2) in
       let same : with-payload d (payloads (d .cell)) ≡ x =
@@ -193,7 +194,7 @@ module _ (schedule : List Delivery) (first : ℕ) (runs : Consecutive first sche
       }
 
   -- the marks of a call, where the base does not move before the packet is given
-  near-quiet : (g : Making) (calls : List Asked) → AllScheduled schedule calls (made g) → (m log : List Mark) → Quiet m
+  near-quiet : (g : Making) (calls : List Asked) → AllScheduled schedule calls (new g) → (m log : List Mark) → Quiet m
       → place-after log ≤ counts-of schedule
       → EachCollected (Queued g calls) (m ++ log) → NearEach log → NearEach (m ++ log)
   near-quiet g calls h [] log quiet within q k = k
@@ -207,7 +208,7 @@ module _ (schedule : List Delivery) (first : ℕ) (runs : Consecutive first sche
   near-quiet g calls h (gap-skipped tested time distance ∷ m) log quiet within q k = absurd (quiet .0)
   near-quiet g calls h (delivered p ∷ m) log quiet within q k = absurd (quiet .0)
 
-  near-call : (g : Making) (calls : List Asked) → AllScheduled schedule calls (made g) → (when : When) (o : Option Packet) (s : State) (m log : List Mark)
+  near-call : (g : Making) (calls : List Asked) → AllScheduled schedule calls (new g) → (when : When) (o : Option Packet) (s : State) (m log : List Mark)
       → Shape when o s m → place-after log ≤ counts-of schedule → EachCollected (Queued g calls) (m ++ log) → NearEach log
       → NearEach (m ++ log)
   near-call g calls h when none s m log shape within q k = near-quiet g calls h m log shape within q k
@@ -224,53 +225,53 @@ module _ (schedule : List Delivery) (first : ℕ) (runs : Consecutive first sche
           (subst (λ (z : List Mark). EachCollected (Queued g calls) (z ++ log)) (skip .is) q) k)
 
   module _ (g : Making) where
-    follows : (calls : List Asked) → Following schedule first runs (state-after calls (made g)) (log-after calls (made g))
+    follows : (calls : List Asked) → Following schedule first runs (state-after calls (new g)) (log-after calls (new g))
     follows calls =
-        subst (Following schedule first runs (state-after calls (made g))) (append-nil (log-after calls (made g)))
-        (calls-following schedule first runs calls (made g) [] (new-following schedule first runs g))
+        subst (Following schedule first runs (state-after calls (new g))) (append-nil (log-after calls (new g)))
+        (calls-following schedule first runs calls (new g) [] (new-following schedule first runs g))
 
     -- the base's place is at most the schedule's sum
-    pub base-within : (calls : List Asked) → FromSchedule schedule first (log-after calls (made g))
-        → place-after (log-after calls (made g)) ≤ counts-of schedule
+    pub base-within : (calls : List Asked) → FromSchedule schedule first (log-after calls (new g))
+        → place-after (log-after calls (new g)) ≤ counts-of schedule
     base-within calls from =
-        let here : (rest : List Delivery) × (pass-to schedule (place-after (log-after calls (made g))) ≡ some rest) =
+        let here : (rest : List Delivery) × (pass-to schedule (place-after (log-after calls (new g))) ≡ some rest) =
         follows calls .kept .1 from .here
         in
-        omega (arith, place-within schedule (place-after (log-after calls (made g))) (here .0) (here .1))
+        omega (arith, place-within schedule (place-after (log-after calls (new g))) (here .0) (here .1))
 
     -- after the calls before, where the base stands at its first value, call by call
-    from-schedule : (before after : List Asked) → first-base (log-after before (made g)) ≡ some first
-        → FromSchedule schedule first (log-after before (made g)) → AllScheduled schedule (before ++ after) (made g)
-        → FromSchedule schedule first (log-after (before ++ after) (made g))
+    from-schedule : (before after : List Asked) → first-base (log-after before (new g)) ≡ some first
+        → FromSchedule schedule first (log-after before (new g)) → AllScheduled schedule (before ++ after) (new g)
+        → FromSchedule schedule first (log-after (before ++ after) (new g))
     unfolding log-after
     from-schedule before [] set from h =
-        subst (λ (cs : List Asked). FromSchedule schedule first (log-after cs (made g))) (sym (append-nil before)) from
+        subst (λ (cs : List Asked). FromSchedule schedule first (log-after cs (new g))) (sym (append-nil before)) from
     from-schedule before (call ∷ more) set from h =
-        subst (λ (cs : List Asked). FromSchedule schedule first (log-after cs (made g))) (append-assoc before (call ∷ []) more)
+        subst (λ (cs : List Asked). FromSchedule schedule first (log-after cs (new g))) (append-assoc before (call ∷ []) more)
         (from-schedule (before ++ (call ∷ [])) more (ap first-base marks ∙ first-base-stays m log first set)
         (subst (FromSchedule schedule first) (sym marks)
         (set-before-more first m log set (from .0), near-call g on on-scheduled (when-of (call .call) reached) (delivered-by (do-call call reached .answer)) (do-call call reached .state) m log (call-shape call reached) (base-within before from) (subst (EachCollected (Queued g on)) marks (each-collected-queued g on)) (from .1)))
-        (subst (λ (cs : List Asked). AllScheduled schedule cs (made g)) (sym (append-assoc before (call ∷ []) more)) h))
+        (subst (λ (cs : List Asked). AllScheduled schedule cs (new g)) (sym (append-assoc before (call ∷ []) more)) h))
       where
         reached : State
-        reached = state-after before (made g)
+        reached = state-after before (new g)
 
         on : List Asked
         on = before ++ (call ∷ [])
 
         m : List Mark
-        m = do-call call (state-after before (made g)) .log
+        m = do-call call (state-after before (new g)) .log
 
         log : List Mark
-        log = log-after before (made g)
+        log = log-after before (new g)
 
-        marks : log-after (before ++ (call ∷ [])) (made g) ≡ do-call call (state-after before (made g)) .log ++ log-after before (made g)
-        marks = log-after-both before (call ∷ []) (made g)
+        marks : log-after (before ++ (call ∷ [])) (new g) ≡ do-call call (state-after before (new g)) .log ++ log-after before (new g)
+        marks = log-after-both before (call ∷ []) (new g)
 
-        on-scheduled : AllScheduled schedule (before ++ (call ∷ [])) (made g)
+        on-scheduled : AllScheduled schedule (before ++ (call ∷ [])) (new g)
         on-scheduled =
-            scheduled-begins schedule (before ++ (call ∷ [])) more (made g)
-            (subst (λ (cs : List Asked). AllScheduled schedule cs (made g)) (sym (append-assoc before (call ∷ []) more)) h)
+            scheduled-begins schedule (before ++ (call ∷ [])) more (new g)
+            (subst (λ (cs : List Asked). AllScheduled schedule cs (new g)) (sym (append-assoc before (call ∷ []) more)) h)
 
 -- The premises of the second claim follow from the calls.
 pub short-schedule-is-fair : (schedule : List Delivery) (first : ℕ) → Consecutive first schedule → (g : Making) (before after : List Asked)
@@ -279,19 +280,19 @@ unfolding half
 short-schedule-is-fair schedule first runs g before after h =
     record {
       store = h .store;
-      set-before = each-collected-at _ (log-after (before ++ after) (made g)) (from .0);
-      near = each-collected-at _ (log-after (before ++ after) (made g)) (from .1);
+      set-before = each-collected-at _ (log-after (before ++ after) (new g)) (from .0);
+      near = each-collected-at _ (log-after (before ++ after) (new g)) (from .1);
       below =
           omega (arith, h .short, sums-after g (before ++ after) .skipped, base-within schedule first runs (h .short) g (before ++ after) from);
       one-store = h .one-store;
     }
   where
-    none-collected : (P : List Mark → Packet → Type 0) → EachCollected P (log-after before (made g))
+    none-collected : (P : List Mark → Packet → Type 0) → EachCollected P (log-after before (new g))
     none-collected P =
-        each-collected-map (Queued g before) P (log-after before (made g)) (λ log p q. absurd (not-queued g before (h .none-queued) (q .by)))
+        each-collected-map (Queued g before) P (log-after before (new g)) (λ log p q. absurd (not-queued g before (h .none-queued) (q .by)))
         (each-collected-queued g before)
 
-    from : FromSchedule schedule first (log-after (before ++ after) (made g))
+    from : FromSchedule schedule first (log-after (before ++ after) (new g))
     from =
         from-schedule schedule first runs (h .short) g before after (first-is-base g before first (h .none-queued) (h .set))
         (none-collected _, none-collected _) (h .scheduled)

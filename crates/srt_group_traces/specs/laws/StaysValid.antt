@@ -25,7 +25,7 @@ use Rattle.srt_group_model.specs.laws.Valid.{valid-of, of-valid, valid-kept, va
 use Rattle.srt_group_model.specs.Run.{start}
 use Rattle.srt_group_traces.specs.laws.FailedSends.{failed-send-stays-inside}
 use Rattle.srt_group_traces.specs.laws.Cases.{eq-of, eqb-yes, Each, ge-of, and-true-left}
-use Rattle.srt_group_traces.specs.Statement.{Asked, do-call, takes-store, made, state-after, store-left, LendsThis, OneStore}
+use Rattle.srt_group_traces.specs.Statement.{Asked, do-call, takes-store, state-after, store-left, LendsThis, OneStore}
 use Rattle.srt_group_model.specs.laws.EveryCall.{refresh-mode}
 use Rattle.srt_group_traces.specs.laws.FreeCells.{taken-cell-within}
 use Rattle.srt_group_traces.specs.laws.Calls.{Kind, event-poll, data-poll, sending, queueing-data, lent-no-store, kind-of, same-whatever-lent}
@@ -124,10 +124,10 @@ list-stays-valid n (call ∷ more) s lent h =
     list-stays-valid n more (do-call call s .state) (lent .1) (call-stays-valid n call s (lent .0) h)
 
 -- From a group that `new` makes, with calls that are lent stores of one length.
-pub reaches-valid : (g : Making) (n : ℕ) (calls : List Asked) → new-code g ≡ 0 → OneLength n calls (made g)
-    → ValidAt n (state-after calls (made g))
+pub reaches-valid : (g : Making) (n : ℕ) (calls : List Asked) → new-code g ≡ 0 → OneLength n calls (new g)
+    → ValidAt n (state-after calls (new g))
 reaches-valid g n calls accepted lent =
-    list-stays-valid n calls (made g) lent (new-valid g (cells-of n) accepted)
+    list-stays-valid n calls (new g) lent (new-valid g (cells-of n) accepted)
 
 -- ---- with a length given at the start every list is such a list: a store of another length is refused by 5
 
@@ -187,10 +187,10 @@ given-length-lends n (call ∷ more) s given some-length = (
 
 -- From a group that `new` makes with a store's length given at the start, whatever the calls and whatever they are lent.
 pub reaches-valid-given : (g : Making) (calls : List Asked) → new-code g ≡ 0 → (g .length ≡ 0 → ⊥)
-    → ValidAt (g .length) (state-after calls (made g))
+    → ValidAt (g .length) (state-after calls (new g))
 unfolding new
 reaches-valid-given g calls accepted some-length =
-    reaches-valid g (g .length) calls accepted (given-length-lends (g .length) calls (made g) refl some-length)
+    reaches-valid g (g .length) calls accepted (given-length-lends (g .length) calls (new g) refl some-length)
 
 -- ---- one store has one length
 
@@ -262,9 +262,9 @@ one-store-one-length store (call ∷ more) s one = (
 
 -- With no length given at the start: wherever the accepted calls are lent one store.
 pub reaches-valid-over-one-store : (g : Making) (store : List ℕ) (calls : List Asked) → new-code g ≡ 0
-    → OneStore store calls (made g) → ValidAt (length store) (state-after calls (made g))
+    → OneStore store calls (new g) → ValidAt (length store) (state-after calls (new g))
 reaches-valid-over-one-store g store calls accepted one =
-    reaches-valid g (length store) calls accepted (one-store-one-length store calls (made g) one)
+    reaches-valid g (length store) calls accepted (one-store-one-length store calls (new g) one)
 
 -- ---- so the tests of 6 are false: of a call that is lent a store of n bytes, and of one that is lent none
 
