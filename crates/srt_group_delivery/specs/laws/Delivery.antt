@@ -253,11 +253,11 @@ module _ (test : Packet → Bool) (count : ℕ) (pending : List ℕ) (core : Cor
       }
 
 -- the members' table is as long as before, and has a row for each member
-pub rows-kept : (core after : Core) (ms ps ms′ : List ℕ) → Deliverable core ms ps → after ≡ with-owned-sum (after .owned) core
+pub rows-kept : (core after : Core) (ms ps ms′ : List ℕ) → Deliverable core ms ps → after ≡ with-own-account (after .own) core
     → length ms′ ≡ length ms → after .counts .members * row-size ≤ length ms′
 rows-kept core after ms ps ms′ h rest long = omega (arith, h .members-long, h .members-few, ap (λ (x : Core). x .counts .members) rest)
 
-pub held-kept : (core after : Core) (ms ps : List ℕ) → Deliverable core ms ps → after ≡ with-owned-sum (after .owned) core
+pub held-kept : (core after : Core) (ms ps : List ℕ) → Deliverable core ms ps → after ≡ with-own-account (after .own) core
     → after .counts .pending ≤ max-pending
 held-kept core after ms ps h rest = omega (arith, h .held-few, ap (λ (x : Core). x .counts .pending) rest)
 

@@ -29,7 +29,10 @@ skip-to-requires : tie.Need-skip-to-requires
 skip-to-requires c κs = search needs
 
 deliver-requires : tie.Need-deliver-requires
-deliver-requires c κs = search deliverable-skipped
+deliver-requires c κs =
+    let skipped = c .before .before .before in
+    let start = skipped .before .before .before .before .before .before .before .before .before .before .before in
+    (deliverable-skipped _ _ _ _ _ _ (skipped .skip-to .ensures) (start .pre .0), start .pre .1)
 
 same-length-2 : tie.Need-same-length-2
 same-length-2 c = search needs
