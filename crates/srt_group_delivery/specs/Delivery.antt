@@ -9,7 +9,7 @@ use Rattle.srt_group_model.specs.declared.Core.{Core}
 use Rattle.srt_group_model.specs.declared.Leg.{Leg}
 use Rattle.srt_group_model.specs.declared.Packet.{Packet}
 use Rattle.srt_group_model.specs.Tools.{if-some_give_otherwise_}
-use Rattle.srt_group_model.specs.State.{Member, on-leg, on-membership, on-account}
+use Rattle.srt_group_model.specs.State.{Member, on-leg, on-account}
 use Rattle.srt_group_model.specs.Accounts.{release}
 use Rattle.srt_group_model.specs.Core.{with-own-account}
 use Rattle.srt_group_model.specs.Legs.{gives-up-at, release-data-reservation}

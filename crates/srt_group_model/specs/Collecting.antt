@@ -8,7 +8,7 @@ use lib.Dec.{leb, eqb}
 use lib.ListN.{length, drop}
 use Rattle.srt_protocol.specs.Sequence.{sequence-before}
 use Rattle.srt_group_model.specs.Tools.{if_then_else_, if-some_give_otherwise_, is-set, is-empty, place-of, at-place, change}
-use Rattle.srt_group_model.specs.State.{Member, Receive, State, is-backup, next-receive-sequence, with-receive, with-members, with-waiting, with-pending, with-continuation, with-round, on-leg, with-queue, on-membership, turned, broken-state, on-account}
+use Rattle.srt_group_model.specs.State.{Member, Receive, State, is-backup, next-receive-sequence, with-receive, with-members, with-waiting, with-pending, with-continuation, with-round, on-leg, with-queue, turned, broken-state, on-account}
 use Rattle.srt_group_model.specs.Accounts.{reserve}
 use Rattle.srt_group_model.specs.Legs.{release-data-reservation}
 use Rattle.srt_group_model.specs.Members.{id-of, promote-backup-member}

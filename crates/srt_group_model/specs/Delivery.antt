@@ -7,7 +7,7 @@ use lib.Dec.{leb, eqb}
 use lib.ListN.{drop}
 use Rattle.srt_protocol.specs.Sequence.{sequence-distance, sequence-further}
 use Rattle.srt_group_model.specs.Tools.{if_then_else_, if-some_give_otherwise_, is-set, or-else, is-empty, all, first-such, at-place, change, each}
-use Rattle.srt_group_model.specs.State.{Member, Receive, State, with-receive, with-members, with-waiting, with-base, with-pending, on-leg, on-membership, with-own, on-account, based-at, receive-side}
+use Rattle.srt_group_model.specs.State.{Member, Receive, State, with-receive, with-members, with-waiting, with-base, with-pending, on-leg, with-own, on-account, based-at, receive-side}
 use Rattle.srt_group_model.specs.Accounts.{release}
 use Rattle.srt_group_model.specs.Legs.{is-disconnected, gives-up-at, release-data-reservation, advance-receive-sequence, largest-64}
 use Rattle.srt_group_model.specs.Members.{has-id, find}

@@ -1,7 +1,7 @@
 -- Removing a member: `remove_member_connection` and `bound_group_owned_pending`; document 01, "Removal".
 use mathlib.Core.Bool.{Bool, not}
 use mathlib.Core.List.{List, [], _∷_}
-use Prim.Native.Nat.{ℕ, zero, suc, _+_, _-_, min, max}
+use Prim.Native.Nat.{ℕ, zero, suc, _-_, min, max}
 use lib.Dec.{leb, eqb}
 use lib.ListN.{length}
 use Rattle.srt_group_model.specs.Tools.{if_then_else_, if-some_give_otherwise_, such-that, each, without-place}

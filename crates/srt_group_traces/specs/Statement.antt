@@ -14,7 +14,7 @@ use Rattle.srt_group_model.specs.Legs.{largest-64}
 use Rattle.srt_group_model.specs.Nearest.{sequence-of, is-held, nearest}
 use Rattle.srt_group_model.specs.Run.{Mark, put, base-set, collected, gap-skipped, delivered, Run, start, refresh-pending-states, refresh-states}
 use Rattle.srt_group_model.specs.Collecting.{collect-until-held, collect-until-empty}
-use Rattle.srt_group_model.specs.Delivery.{max-visits, given-up-for, gap-given-up}
+use Rattle.srt_group_model.specs.Delivery.{max-visits, gap-given-up}
 use Rattle.srt_group_model.specs.Polls.{delivery-budget, poll-event}
 use Rattle.srt_group_model.specs.Lent.{Call, delivered-by, Lent, Result, call-queue-data, takes, perform}
 use Rattle.srt_group_model.specs.declared.Data.{Data}

@@ -2,7 +2,7 @@
 use mathlib.Core.Path.{_≡_}
 use Prim.Native.Nat.{ℕ, _-_, _≤_, _<_}
 use native.Mathlib.Omega.{arith}
-use lib.ListN.{length, getD, set, length-set}
+use lib.ListN.{length, getD}
 use Rattle.cell_set.specs.laws.Sets.{all-cleared, one-cleared}
 use borrow.Author.Needs.{needs}
 use Rattle.cell_set.proofs.clear.Statement.{statement}

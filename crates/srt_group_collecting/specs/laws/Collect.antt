@@ -13,7 +13,7 @@ use Rattle.srt_group_model.specs.declared.Waiting.{Waiting}
 use Rattle.srt_group_model.specs.Tools.{if_then_else_, if-some_give_otherwise_, is-set, flagged, any, place-of, change}
 use Rattle.srt_group_model.specs.laws.Flag.{other-set}
 use Rattle.srt_group_model.specs.laws.Reason.{not-both, or-right, or-yes-left}
-use Rattle.srt_group_model.specs.State.{Member, State, on-leg, on-membership, with-members, with-receive, with-pending, with-waiting, is-backup, turned, broken-state, on-account}
+use Rattle.srt_group_model.specs.State.{Member, State, on-leg, with-members, with-receive, with-pending, with-waiting, is-backup, turned, broken-state, on-account}
 use Rattle.srt_group_model.specs.Accounts.{reserve}
 use Rattle.srt_group_model.specs.Core.{with-held, with-waiting-count}
 use Rattle.srt_group_model.specs.Legs.{release-data-reservation}

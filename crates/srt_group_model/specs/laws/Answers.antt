@@ -1,21 +1,20 @@
 -- Each accepted call and look answers with the case that Answers names for it.
-use mathlib.Core.Path.{_≡_, refl, sym, ap, _∙_}
-use mathlib.Core.Bool.{Bool, true, false, not, _||_}
+use mathlib.Core.Path.{_≡_, refl}
+use mathlib.Core.Bool.{false}
 use mathlib.Core.List.{List, [], _∷_}
-use mathlib.Core.Option.{Option, none}
 use Prim.Native.Nat.{ℕ}
 use native.Mathlib.Omega.{arith}
 use borrow.Author.Tests.{eq-eqb}
 use lib.Dec.{eqb}
 use Rattle.srt_protocol.specs.Cells.{cells-of}
-use Rattle.srt_group_model.specs.Tools.{any, first-such, All}
-use Rattle.srt_group_model.specs.laws.Reason.{if-elim, if-some-elim, not-both, none-some}
-use Rattle.srt_group_model.specs.State.{Member, State}
+use Rattle.srt_group_model.specs.Tools.{All}
+use Rattle.srt_group_model.specs.laws.Reason.{if-elim, if-some-elim, not-both}
+use Rattle.srt_group_model.specs.State.{State}
 use Rattle.srt_group_model.specs.Run.{start, refresh-states}
 use Rattle.srt_group_model.specs.Members.{has-id, found}
 use Rattle.srt_group_model.specs.Guards.{Answer, no-answer, Check, Step, guard, About, about-group, about-time, about-member}
 use Rattle.srt_group_model.specs.Calls.{add-body, add-member, mark-member-broken, remove-body, remove-member-connection, refresh-member-states, disconnect, event-poll-body, poll-event-call, data-poll-body, poll-data-call, left-by-send, send-flow, send-body, send, taken-cell, can-send-body, can-send-call, can-send-with-pacing-body, can-send-with-pacing-call, read-leg, queue-data-body, queue-data, queue-event, look-checks}
-use Rattle.srt_group_model.specs.Lent.{Lent, Look, look-at, Call, call-add-member, call-mark-member-broken, call-remove-member-connection, call-refresh-member-states, call-disconnect, call-poll-event, call-poll-data-bounded, call-send, call-can-send, call-can-send-with-pacing, call-look, call-read-leg, call-queue-data, call-queue-event, with-bytes, step-of, perform, looking}
+use Rattle.srt_group_model.specs.Lent.{Lent, Look, look-at, Call, call-add-member, call-mark-member-broken, call-remove-member-connection, call-refresh-member-states, call-disconnect, call-poll-event, call-poll-data-bounded, call-send, call-can-send, call-can-send-with-pacing, call-look, call-read-leg, call-queue-data, call-queue-event, with-bytes, step-of, perform}
 use Rattle.srt_group_model.specs.Answers.{CallAnswers}
 
 -- what holds of an accepted step

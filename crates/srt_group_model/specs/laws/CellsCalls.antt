@@ -15,11 +15,10 @@ use Rattle.srt_group_model.specs.Delivery.{skip-to}
 use Rattle.srt_group_model.specs.Run.{Mark}
 use Rattle.srt_group_model.specs.Cells.{used-cells}
 use Rattle.srt_group_model.specs.Validity.{cell-twice, cell-beyond-store}
-use Rattle.srt_group_model.specs.Calls.{no-free-cell, taken-cell, lifecycle-event}
+use Rattle.srt_group_model.specs.Calls.{no-free-cell, taken-cell}
 use Rattle.srt_group_model.specs.Lent.{Lent, Call, perform}
 use Rattle.srt_group_model.specs.laws.Steps.{State-law, state-law-of}
 use Rattle.srt_group_model.specs.laws.EveryCall.{call-keeps}
-use Rattle.srt_group_model.specs.laws.Released.{deliver-released, deliver-relabelled}
 use Rattle.srt_group_model.specs.Sound.{room, uses, Within, one, occurs}
 use Rattle.srt_group_model.specs.laws.CellsKept.{Apart, apart-of-rules, once-of-apart, inside-of-apart, uses-used, one-same, one-other, absent, popped-event}
 use Rattle.srt_group_model.specs.laws.InHand.{used, taken-lowest, deliver-cells, fewer-refreshes, fewer-collects, fewer-polls, fewer-moves}

@@ -10,7 +10,7 @@ use borrow.Author.Tests.{eqb-true, ltb-true, ltb-false, leb-true, leb-false, lt-
 use lib.Dec.{leb, ltb, eqb}
 use lib.ListN.{drop}
 use Rattle.srt_group_model.specs.Tools.{any, such-that, at-place, change, each}
-use Rattle.srt_group_model.specs.laws.Reason.{if-elim, if-some-elim, by-test, not-both, none-some, some-inj, or-left, or-right}
+use Rattle.srt_group_model.specs.laws.Reason.{if-elim, by-test, not-both, none-some, some-inj, or-left, or-right}
 use Rattle.srt_group_model.specs.State.{Member, State}
 use Rattle.srt_group_model.specs.Nearest.{insert}
 use Rattle.srt_group_model.specs.Collecting.{front, retain-group-packet}

@@ -12,7 +12,7 @@ use Rattle.srt_protocol.specs.Cells.{cell-size, cells-of}
 use Rattle.srt_protocol.specs.Sequence.{sequence-further}
 use Rattle.srt_group_model.specs.Tools.{is-empty, first-such, place-of, at-place, change, each, All}
 use Rattle.srt_group_model.specs.laws.Reason.{if-elim, if-some-elim, by-test, not-both, and-left, and-right, or-left, or-right, none-some, some-inj, each-to-at, at-change, first-such-of}
-use Rattle.srt_group_model.specs.State.{Member, Receive, Send, State, is-backup, next-receive-sequence, next-send-sequence, with-receive, with-send, with-members, with-peer, with-base, with-round, with-leg, on-leg, turned, pending-state, active-state, standby-state, unstable-state, broken-state, with-pending, with-waiting, entry-of}
+use Rattle.srt_group_model.specs.State.{Member, Receive, Send, State, is-backup, next-receive-sequence, next-send-sequence, with-receive, with-send, with-members, with-peer, with-base, with-round, with-leg, on-leg, turned, pending-state, active-state, standby-state, unstable-state, broken-state, with-waiting, entry-of}
 use Rattle.srt_group_model.specs.Legs.{largest-16, largest-32, largest-64, handed, goes-back, is-connected, can-send, disconnect-leg, peer-initial-sequence, send-shared-with-sequence}
 use Rattle.srt_group_model.specs.Members.{id-of, has-id, find, in-state, is-active, is-standby, promote-backup-member, promote-if-none, arrives, base-after, peer-after, admit-peer-group, align-member-sequence, steps-from, turn-aligned, settle, requalify, settle-members, break-disconnected, requalify-members}
 use Rattle.srt_group_model.specs.Nearest.{sequence-of, nearest, insert}
@@ -31,7 +31,7 @@ use Rattle.srt_group_model.specs.Lent.{Lent, Call, call-add-member, call
 use Rattle.srt_group_model.specs.laws.Refusals.{guard-elim, guard-passed, look-elim}
 use Rattle.srt_group_model.specs.laws.Frame.{Kept, align-kept, promotion-standby, not-broken, place-passes, active-not-broken, Active-at, first-active-at, take-over-active, found-stands, trim-members, take-over-kept}
 use Rattle.srt_group_model.specs.laws.Moves.{At-base, Not-held, until-empty-base, until-empty-not-held, skip-base, set-base-base}
-use Rattle.srt_group_model.specs.laws.Queues.{pop, packet-of, waiting-of}
+use Rattle.srt_group_model.specs.laws.Queues.{pop, packet-of}
 use Rattle.srt_group_model.specs.laws.Waits.{waits, Few-wait, none-waits, collect-one-waits, refresh-waits}
 use Rattle.srt_group_model.specs.laws.CallLaw.{Member-move, unmoved, turn, admission, colliding, alignment, catching-up, leg-send, leg-end, leg-reading, Joining, Base-source, first-of, nearest-held, In-front, Poll-law, Call-law, Refresh-law, Collect-law, Calling, calling, called, polls-events, polls-packets, queues-it, sends-it}
 use Rattle.srt_group_model.specs.declared.Data.{Data}

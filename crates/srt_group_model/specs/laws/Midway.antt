@@ -11,14 +11,14 @@ use lib.ListN.{length}
 use Rattle.srt_protocol.specs.Cells.{cells-of, overwritten}
 use Rattle.srt_group_model.specs.Tools.{any, all, place-of, at-place, change, each, All}
 use Rattle.srt_group_model.specs.laws.Reason.{if-elim, if-false, by-test, if-some-elim, not-both, none-some, and-left, and-right, and-yes, or-cases, or-yes-left, or-yes-right, no-either, some-inj, at-change, all-map, all-append, Each-to}
-use Rattle.srt_group_model.specs.State.{Member, Receive, Send, State, is-backup, next-receive-sequence, next-send-sequence, backup-carrier, with-receive, with-send, with-members, with-peer, turned, active-state, standby-state}
+use Rattle.srt_group_model.specs.State.{Member, Send, State, is-backup, next-receive-sequence, next-send-sequence, backup-carrier, with-receive, with-send, with-members, with-peer, turned, active-state, standby-state}
 use Rattle.srt_group_model.specs.Legs.{handed, is-connected, on-sender}
 use Rattle.srt_group_model.specs.Members.{id-of, is-active, is-standby, has-active-member, first-active, Placed, first-in-rank, promotion, promote-backup-member, promote-if-none, base-after, peer-after, admit-peer-group}
 use Rattle.srt_group_model.specs.Run.{Run, start, set-base, admit-connected-peer-groups, refresh-pending-states, refresh-states}
 use Rattle.srt_group_model.specs.Sending.{Sent, Flow, ends-with, _and-then_, mark-send-failure, send-broadcast}
 use Rattle.srt_group_model.specs.Backup.{is-stale, demote-stale-backup-carrier, drop-before, trim-backup-history, trim-by-carrier, Replayed, replay-entries, replay-on, replay-flight, align-carrier, take-over-backup-flight, send-own, send-after-promotion, send-at-place, send-backup}
 use Rattle.srt_group_model.specs.Cells.{is-among}
-use Rattle.srt_group_model.specs.Guards.{no-answer, Step, refuse, Check, guard, About, about-group, about-time, about-member}
+use Rattle.srt_group_model.specs.Guards.{Step, refuse, Check, guard, About, about-group, about-time, about-member}
 use Rattle.srt_group_model.specs.Calls.{taken-cell, new-member, add-body, add-member, left-by-send, send-flow, send-body, send, mode}
 use Rattle.srt_group_model.specs.Lent.{Lent, Result, Call, call-add-member, call-mark-member-broken, call-remove-member-connection, call-refresh-member-states, call-disconnect, call-poll-event, call-poll-data-bounded, call-send, call-can-send, call-can-send-with-pacing, call-look, call-read-leg, call-queue-data, call-queue-event, stored, delivered-by, written-out, list-rows, with-bytes, step-of, perform, looking}
 use Rattle.srt_group_model.specs.Codes.{broadcast-codes, backup-codes, look-codes, codes-of}

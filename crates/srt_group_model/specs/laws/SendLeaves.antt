@@ -8,10 +8,10 @@ use Prim.Native.Nat.{ℕ}
 use lib.Dec.{eqb}
 use Rattle.srt_group_model.specs.State.{State, next-receive-sequence}
 use Rattle.srt_group_model.specs.Run.{Mark}
-use Rattle.srt_group_model.specs.Lent.{Lent, call-send, perform, step-of}
+use Rattle.srt_group_model.specs.Lent.{call-send, step-of}
 use Rattle.srt_group_model.specs.laws.Reason.{not-both, none-some, Each-to, each-to-same, each-to-then}
 use Rattle.srt_group_model.specs.laws.CallLaw.{Calling, Polls, polls-events, polls-packets, Refresh-law, Call-law}
-use Rattle.srt_group_model.specs.laws.EveryCall.{call-keeps, step-keeps}
+use Rattle.srt_group_model.specs.laws.EveryCall.{step-keeps}
 use Rattle.srt_group_model.specs.laws.MemberMoves.{Same-account, same-account, account-then, moved-accounts}
 use Rattle.srt_group_model.specs.Calls.{send}
 

@@ -2,11 +2,11 @@
 -- `reserved-sum-wrong` of validity says that they are right.
 use mathlib.Core.Path.{_≡_, refl, sym, ap, _∙_}
 use mathlib.Core.Bool.{Bool, true, false, not, _&&_}
-use mathlib.Core.List.{List, [], _∷_}
+use mathlib.Core.List.{List}
 use native.Mathlib.Omega.{arith}
 use borrow.Author.Tests.{eqb-true, eq-eqb, not-false}
 use lib.Dec.{eqb}
-use Rattle.srt_group_model.specs.Tools.{any, All}
+use Rattle.srt_group_model.specs.Tools.{any}
 use Rattle.srt_group_model.specs.laws.Reason.{by-test, or-left, or-right, or-cases, or-yes-left, or-yes-right, all-map, none-of, of-none, no-either}
 use Rattle.srt_group_model.specs.State.{Member, State}
 use Rattle.srt_group_model.specs.Members.{id-of, has-id}

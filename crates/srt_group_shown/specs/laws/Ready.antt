@@ -15,7 +15,6 @@ use Rattle.srt_group_model.specs.Calls.{new, new-code, store-unfit}
 use Rattle.srt_group_model.specs.Lent.{Lent, Call, stored, delivered-by, written-out, list-rows, with-bytes, step-of, perform}
 use Rattle.srt_group_model.specs.laws.Fixed.{making-kept}
 use Rattle.srt_group_model.specs.laws.Valid.{valid-kept, new-valid}
-use Rattle.srt_group_model.specs.declared.Identity.{Identity}
 use Rattle.cell_set.specs.Sets.{ShowsCells}
 use Rattle.cell_set.specs.Shows.{Shows}
 use Rattle.cell_set.specs.laws.Shows.{shows-new}

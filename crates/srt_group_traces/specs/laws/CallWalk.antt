@@ -24,7 +24,6 @@ use Rattle.srt_group_model.specs.declared.Leg.{Leg}
 use Rattle.srt_group_model.specs.laws.Reason.{if-elim, all-append, or-right, not-both}
 use Rattle.srt_group_traces.specs.laws.Cases.{and-with-true, Each, each-at, all-change, all-such-that, all-without-place, ge-of, each-at-place, all-drop}
 use Rattle.srt_group_traces.specs.laws.Sides.{side, sides, all-sides, all-members, moved-sides, account-side, deliver-packet-leaves-sides}
-use Rattle.srt_group_model.specs.laws.Released.{retirements-keep}
 use Rattle.srt_group_traces.specs.laws.Law.{owned-by-group, EventOk, SideOk, PutLaw}
 use Rattle.srt_group_traces.specs.laws.FreeCells.{unused-elsewhere}
 use Rattle.srt_group_model.specs.Collecting.{front}

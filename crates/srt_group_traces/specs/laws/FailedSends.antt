@@ -1,7 +1,7 @@
 -- A send that is not accepted names no cell that was not named before, whatever store it was lent: where it ends with 22 to 29 the history
 -- has lost entries and gained none, and the queues and the held packets are as they were. So only accepted calls need be lent
 -- stores of one length for the state to stay valid.
-use mathlib.Core.Path.{_≡_, refl, sym, ap, _∙_, subst}
+use mathlib.Core.Path.{_≡_, refl, sym, subst}
 use mathlib.Core.Bool.{false}
 use mathlib.Core.List.{List, [], _∷_, _++_}
 use mathlib.Core.Option.{Option, none}
@@ -9,8 +9,8 @@ use Prim.Native.Nat.{ℕ}
 use lib.Dec.{leb, eqb}
 use Rattle.srt_protocol.specs.Cells.{cells-of}
 use Rattle.srt_group_model.specs.Tools.{All, each}
-use Rattle.srt_group_model.specs.State.{Member, State, Receive, Send, next-send-sequence}
-use Rattle.srt_group_model.specs.Members.{base-after, peer-after}
+use Rattle.srt_group_model.specs.State.{Member, State, Send}
+use Rattle.srt_group_model.specs.Members.{base-after}
 use Rattle.srt_group_model.specs.Run.{Run, start, set-base, admit-connected-peer-groups, refresh-pending-states, refresh-states}
 use Rattle.srt_group_model.specs.Cells.{queued-cells, used-cells}
 use Rattle.srt_group_model.specs.Validity.{cell-beyond-store}

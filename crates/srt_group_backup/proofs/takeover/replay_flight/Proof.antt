@@ -1,7 +1,6 @@
 -- `replay_flight` meets its contract.
 use Rattle.srt_group_backup.specs.laws.TakeOver.{gap-not-replayed, unaligned-not-replayed, aligned-replayed}
 use borrow.Author.Needs.{needs}
-use Rattle.srt_group_tables.specs.Ring.{arrays}
 use Rattle.srt_group_backup.proofs.takeover.replay_flight.Statement.{statement}
 use Rattle.srt_group_backup.proofs.takeover.replay_flight.Tie as tie
 

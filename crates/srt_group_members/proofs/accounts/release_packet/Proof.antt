@@ -1,7 +1,6 @@
 -- `release_packet` meets its contract: the account of what is left.
 use mathlib.Core.Path.{ap}
 use Prim.Native.Nat.{ℕ}
-use Rattle.srt_group_model.specs.declared.Account.{Account}
 use borrow.Author.Needs.{needs}
 use Rattle.srt_group_members.proofs.accounts.release_packet.Statement.{statement}
 use Rattle.srt_group_members.proofs.accounts.release_packet.Tie as tie

@@ -1,6 +1,5 @@
 -- `id_twice` meets its contract. The loop's invariant: the ids before `index` are distinct.
 use Prim.Native.Nat.{_-_}
-use native.Mathlib.Omega.{arith}
 use Rattle.srt_group_rules.specs.Ids.{id-at}
 use Rattle.srt_group_rules.specs.laws.Ids.{Apart, apart-start, apart-one, apart-all, twice-here}
 use borrow.Author.Needs.{needs}

@@ -1,5 +1,4 @@
 -- `data_out_of_range` meets its contract: a word is never above 64 bits.
-use native.Mathlib.Omega.{arith}
 use Rattle.srt_group_model.specs.Tools.{any}
 use Rattle.srt_group_model.specs.Validity.{any-above, data-words, data-out-of-range}
 use Rattle.srt_group_model.specs.laws.Reason.{or-assoc, or-no}

@@ -1,5 +1,4 @@
 -- `entry_out_of_range` meets its contract: a word is never above 64 bits.
-use native.Mathlib.Omega.{arith}
 use Rattle.srt_group_model.specs.Tools.{any}
 use Rattle.srt_group_model.specs.Validity.{any-above, entry-words, entry-out-of-range}
 use Rattle.srt_group_model.specs.laws.Reason.{or-no}

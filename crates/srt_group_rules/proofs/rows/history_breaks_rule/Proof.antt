@@ -1,7 +1,5 @@
 -- `history_breaks_rule` meets its contract. The loop's invariant: no entry that was passed breaks a rule.
-use mathlib.Core.Path.{sym}
 use Prim.Native.Nat.{_-_}
-use native.Mathlib.Omega.{arith}
 use Rattle.srt_group_tables.specs.Ring.{arrays, entry-at}
 use Rattle.srt_group_rules.specs.Rules.{entry-breaks-rule}
 use Rattle.srt_group_rules.specs.laws.Walks.{Passed, passed-start, passed-one, passed-all, stops-there, history-too-long, history-walked}

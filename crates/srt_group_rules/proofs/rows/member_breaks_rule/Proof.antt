@@ -1,6 +1,5 @@
 -- `member_breaks_rule` meets its contract.
 use borrow.Author.Needs.{needs}
-use Rattle.srt_connection_queue.specs.Rows.{member-of}
 use Rattle.srt_group_rules.specs.laws.Rules.{member-tested}
 use Rattle.srt_group_rules.proofs.rows.member_breaks_rule.Statement.{statement}
 use Rattle.srt_group_rules.proofs.rows.member_breaks_rule.Tie as tie

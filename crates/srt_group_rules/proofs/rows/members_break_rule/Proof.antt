@@ -1,6 +1,5 @@
 -- `members_break_rule` meets its contract. The loop's invariant: no row that was passed breaks a rule.
 use Prim.Native.Nat.{_-_}
-use native.Mathlib.Omega.{arith}
 use borrow.Author.Needs.{needs}
 use Rattle.srt_connection_members.specs.Members.{member-at, members-of}
 use Rattle.srt_connection_members.specs.laws.Members.{lent-member}

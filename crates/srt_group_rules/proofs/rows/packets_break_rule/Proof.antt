@@ -1,6 +1,5 @@
 -- `packets_break_rule` meets its contract. The loop's invariant: no row that was passed breaks a rule.
 use Prim.Native.Nat.{_-_}
-use native.Mathlib.Omega.{arith}
 use borrow.Author.Needs.{needs}
 use Rattle.srt_group_tables.specs.Packets.{packet-at}
 use Rattle.srt_group_rules.specs.Rules.{packet-breaks-rule}

@@ -1,6 +1,5 @@
 -- `queue_breaks_rule` meets its contract. The loop's invariant: no event that was passed breaks a rule.
 use Prim.Native.Nat.{_-_}
-use native.Mathlib.Omega.{arith}
 use borrow.Author.Needs.{needs}
 use Rattle.srt_group_rules.specs.Rules.{event-breaks-rule}
 use Rattle.srt_group_rules.specs.laws.Walks.{Passed, passed-start, passed-one, passed-all, stops-there, queued, queue-too-long, queue-walked}

@@ -1,6 +1,5 @@
 -- `waiting_breaks_rule` meets its contract. The loop's invariant: no row that was passed breaks a rule.
 use Prim.Native.Nat.{_-_}
-use native.Mathlib.Omega.{arith}
 use borrow.Author.Needs.{needs}
 use Rattle.srt_group_tables.specs.Waitings.{waiting-at}
 use Rattle.srt_group_model.specs.Validity.{waiting-out-of-range}

@@ -1,5 +1,4 @@
 -- `member_differs` meets its contract.
-use Rattle.srt_connection_queue.specs.Rows.{member-of}
 use Rattle.srt_group_rules.specs.laws.Sums.{queue-good, differs-tested}
 use borrow.Author.Needs.{needs}
 use Rattle.srt_group_rules.proofs.sums.member_differs.Statement.{statement}

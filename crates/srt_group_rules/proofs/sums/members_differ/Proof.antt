@@ -1,7 +1,6 @@
 -- `members_differ` meets its contract. The loop's invariant: no member that was passed differs.
 use mathlib.Core.Path.{refl, ap, _∙_}
 use Prim.Native.Nat.{_-_}
-use native.Mathlib.Omega.{arith}
 use Rattle.srt_connection_members.specs.laws.Members.{lent-member}
 use Rattle.srt_group_rules.specs.Rules.{member-breaks-rule}
 use Rattle.srt_group_rules.specs.laws.Walks.{Passed, passed-start, passed-one, passed-all, stops-there}

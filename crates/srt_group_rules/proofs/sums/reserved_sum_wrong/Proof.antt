@@ -1,5 +1,4 @@
 -- `reserved_sum_wrong` meets its contract.
-use mathlib.Core.Path.{refl}
 use native.Mathlib.Omega.{arith}
 use Rattle.srt_group_model.specs.Tools.{any}
 use Rattle.srt_group_rules.specs.laws.Sums.{sums-small, wrong-nowhere, wrong-own, wrong-members}

@@ -1,6 +1,5 @@
 -- `attempt_sends` meets its contract. The loop's invariant: the members passed are tried, the others not yet.
 use Prim.Native.Nat.{_-_}
-use native.Mathlib.Omega.{arith}
 use Rattle.srt_group_sending.specs.laws.Broadcast.{Attempting, attempting-start, attempting-on, attempting-done}
 use borrow.Author.Needs.{needs}
 use Rattle.srt_group_sending.proofs.broadcast.attempt_sends.Statement.{statement}

@@ -1,6 +1,5 @@
 -- `group_time_until_send` meets its contract. The loop's invariant: `least` is the least wait of the members from `left`
 -- on.
-use native.Mathlib.Omega.{arith}
 use Rattle.srt_group_sending.specs.laws.Readiness.{LeastFrom, least-start, least-on, wait-none, wait-least}
 use borrow.Author.Needs.{needs}
 use Rattle.srt_group_sending.proofs.readiness.group_time_until_send.Statement.{statement}

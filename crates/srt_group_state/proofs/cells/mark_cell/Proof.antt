@@ -1,5 +1,4 @@
 -- `mark_cell` meets its contract: the laws `beyond-refused`, `again-refused` and `cell-marked`.
-use native.Mathlib.Omega.{arith}
 use borrow.Author.Needs.{needs}
 use Rattle.srt_group_state.specs.laws.CellPassLaws.{beyond-refused, again-refused, cell-marked}
 use Rattle.srt_group_state.proofs.cells.mark_cell.Statement.{statement}

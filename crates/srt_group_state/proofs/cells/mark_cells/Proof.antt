@@ -1,6 +1,5 @@
 -- `mark_cells` meets its contract: the lent tables, and then the history.
 use borrow.Author.Needs.{needs}
-use Rattle.srt_group_state.specs.CellPass.{sent-cells}
 use Rattle.srt_group_state.specs.laws.CellPassLaws.{fresh-flags, flags-after, tables-refused, history-marked}
 use Rattle.srt_group_state.proofs.cells.mark_cells.Statement.{statement}
 use Rattle.srt_group_state.proofs.cells.mark_cells.Tie as tie

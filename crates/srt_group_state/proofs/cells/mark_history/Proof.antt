@@ -1,7 +1,6 @@
 -- `mark_history` meets its contract. The loop's invariant: the cells of the entries passed are marked.
 use mathlib.Core.List.{[], _∷_}
 use Prim.Native.Nat.{_+_, _-_, _%_}
-use native.Mathlib.Omega.{arith}
 use lib.ListN.{getD}
 use Rattle.srt_group_model.specs.Backup.{max-history}
 use Rattle.srt_group_tables.specs.Ring.{word-cell}

@@ -1,7 +1,5 @@
 -- `mark_members` meets its contract. The loop's invariant: the cells of the queues passed are marked.
-use mathlib.Core.Path.{refl}
 use Prim.Native.Nat.{_-_}
-use native.Mathlib.Omega.{arith}
 use borrow.Author.Needs.{needs}
 use Rattle.srt_group_model.specs.Cells.{queue-cells}
 use Rattle.srt_connection_members.specs.Members.{member-at}

@@ -1,7 +1,6 @@
 -- `mark_pending` meets its contract. The loop's invariant: the cells of the packets passed are marked.
 use mathlib.Core.List.{[], _∷_}
 use Prim.Native.Nat.{_-_}
-use native.Mathlib.Omega.{arith}
 use borrow.Author.Needs.{needs}
 use Rattle.srt_group_tables.specs.Packets.{packet-at}
 use Rattle.srt_group_state.specs.laws.CellPassLaws.{Marking, pending-are, cell-names, marking-start, marking-on, marking-stopped, marking-done}

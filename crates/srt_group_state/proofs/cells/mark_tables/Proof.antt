@@ -1,7 +1,5 @@
 -- `mark_tables` meets its contract: the queues, and then the held packets.
 use borrow.Author.Needs.{needs}
-use Rattle.srt_group_model.specs.Sound.{pending-cells}
-use Rattle.srt_group_tables.specs.Packets.{packets}
 use Rattle.srt_group_state.specs.laws.CellPassLaws.{flags-after, marks-stopped, marks-then}
 use Rattle.srt_group_state.proofs.cells.mark_tables.Statement.{statement}
 use Rattle.srt_group_state.proofs.cells.mark_tables.Tie as tie
