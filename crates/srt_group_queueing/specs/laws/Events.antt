@@ -1,6 +1,6 @@
 -- An event at the end of a leg's queue is document 01's.
 use mathlib.Core.Path.{_≡_, refl, ap, sym, subst, _∙_}
-use mathlib.Core.Bool.{Bool, true, false, _||_}
+use mathlib.Core.Bool.{Bool, false, _||_}
 use mathlib.Core.List.{List, [], _∷_}
 use Prim.Native.Nat.{ℕ}
 use native.Mathlib.Omega.{arith}
@@ -23,7 +23,7 @@ use Rattle.srt_group_model.specs.Calls.{breaks-rule, queue-full, enqueue, lifec
 use Rattle.srt_group_model.specs.Lent.{call-queue-event, step-of}
 use Rattle.srt_group_model.specs.laws.InHand.{enqueued}
 use Rattle.srt_group_model.specs.declared.Event.{Event}
-use Rattle.srt_connection_members.specs.Members.{member-at, found-of, Changed, PushedAt}
+use Rattle.srt_connection_members.specs.Members.{member-at, found-of, PushedAt}
 use Rattle.srt_connection_members.specs.laws.Members.{changed-by}
 use Rattle.srt_connection_members.specs.declared.Found.the-variants.{At}
 use Rattle.srt_group_shown.specs.Tables.{Parts, Tables, state-of}

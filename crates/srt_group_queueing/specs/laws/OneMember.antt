@@ -15,11 +15,11 @@ use Rattle.srt_protocol.specs.declared.error.Outcome.{Outcome}
 use Rattle.srt_protocol.specs.declared.error.Outcome.the-variants.{Accepted, Refused}
 use Rattle.srt_protocol.specs.Errors.{error-number, outcome-number}
 use Rattle.srt_protocol.specs.Cells.{cell-size, cells-of, max-cells, overwritten}
-use Rattle.srt_group_model.specs.Tools.{if_then_else_, if-some_give_otherwise_, any, place-of, at-place, change}
+use Rattle.srt_group_model.specs.Tools.{if-some_give_otherwise_, any, place-of, at-place, change}
 use Rattle.srt_group_model.specs.laws.Reason.{if-elim, if-some-elim, none-some, or-left, or-yes-right}
 use Rattle.srt_group_model.specs.State.{Member, State, with-members}
 use Rattle.srt_group_model.specs.Members.{has-id, find}
-use Rattle.srt_group_model.specs.Cells.{queue-cells, queued-cells, used-cells}
+use Rattle.srt_group_model.specs.Cells.{queue-cells, queued-cells}
 use Rattle.srt_group_model.specs.Sound.{occurs}
 use Rattle.srt_group_model.specs.Validity.{is-invalid}
 use Rattle.srt_group_model.specs.Guards.{no-answer, Step, accept, Check, _when_, guard}

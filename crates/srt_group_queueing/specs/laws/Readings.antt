@@ -51,7 +51,8 @@ module _ (id field n : ℕ) where
       }
 
   -- the leg of the member that `find` answered, and whether the number goes back on it
-  module _ (p : Parts) (t : Tables) (store used : List ℕ) (ready : Ready p t (length store) used) (fit : reading-unfit ≡ false) (i : ℕ) (at : At i ≡ found-of (find id (state-of p t .members))) (leg : Leg) (there : leg ≡ member-at (t .members) i .leg) (back : Bool) (tested : back ≡ goes-back field n leg) where
+  module _ (p : Parts) (t : Tables) (store used : List ℕ) (ready : Ready p t (length store) used) (fit : reading-unfit ≡ false)
+      (i : ℕ) (at : At i ≡ found-of (find id (state-of p t .members))) (leg : Leg) (there : leg ≡ member-at (t .members) i .leg) (back : Bool) (tested : back ≡ goes-back field n leg) where
     of-leg : goes-back field n (member-at (t .members) i .leg) ≡ back
     of-leg = ap (goes-back field n) (sym there) ∙ sym tested
 
