@@ -1,2 +1,5 @@
 -- What is proved. A reader who trusts the checker need not read it.
+pub mod OneMember
 pub mod Queueing
+pub mod Events
+pub mod Readings

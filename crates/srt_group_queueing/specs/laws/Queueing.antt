@@ -1,6 +1,6 @@
 -- What is proved of the definitions in specs/Queueing.antt, with what the proofs need.
 use mathlib.Core.Path.{_≡_, refl, sym, ap, subst, _∙_}
-use mathlib.Core.Bool.{Bool, true, false, not, _||_}
+use mathlib.Core.Bool.{Bool, true, false}
 use mathlib.Core.List.{List, [], _∷_}
 use mathlib.Core.Option.{Option, none, some}
 use Prim.Native.Nat.{ℕ, _+_, _*_, _^_, _≤_, _<_}
@@ -15,28 +15,26 @@ use Rattle.srt_protocol.specs.declared.error.Outcome.the-variants.{Accepted, Re
 use Rattle.srt_protocol.specs.Errors.{error-number, outcome-number, refuse-if, if-accepted}
 use Rattle.srt_protocol.specs.Cells.{cell-size, cells-of, overwritten, Put}
 use Rattle.srt_protocol.specs.laws.CellLaws.{overwritten-length, cell-accepted}
-use Rattle.srt_group_model.specs.Tools.{if-some_give_otherwise_, any, place-of, at-place, change}
-use Rattle.srt_group_model.specs.laws.Reason.{if-elim, if-some-elim, by-test, none-some, or-right, or-yes-right}
+use Rattle.srt_group_model.specs.Tools.{if-some_give_otherwise_, change}
+use Rattle.srt_group_model.specs.laws.Reason.{by-test, or-right}
 use Rattle.srt_group_model.specs.State.{Member, State, with-members, on-leg}
 use Rattle.srt_group_model.specs.Legs.{add-reservation, largest-16}
-use Rattle.srt_group_model.specs.Members.{has-id, find}
+use Rattle.srt_group_model.specs.Members.{find}
 use Rattle.srt_group_model.specs.Cells.{free-cell}
 use Rattle.srt_group_model.specs.Validity.{above, data-words, is-invalid}
 use Rattle.srt_group_model.specs.Guards.{no-answer, Step, Check, _when_, guard}
 use Rattle.srt_group_model.specs.laws.InRange.{in-range-of}
 use Rattle.srt_group_model.specs.laws.Refusals.{guard-stops, guard-goes-on}
-use Rattle.srt_group_model.specs.laws.Places.{change-nothing, first-such-is-found}
-use Rattle.srt_group_model.specs.laws.Valid.{valid-of, counted-of}
+use Rattle.srt_group_model.specs.laws.Places.{change-nothing}
 use Rattle.srt_group_model.specs.laws.Sound.{sound-of-valid, reservation-most}
 use Rattle.srt_group_model.specs.laws.CellsMoved.{Moves, enqueue-takes}
-use Rattle.srt_group_model.specs.Calls.{store-unfit, data-unfit, is-unknown, no-free-cell, taken-cell, of-member, queue-full, change-member, enqueue, data-event, queue-data-body, queue-data}
+use Rattle.srt_group_model.specs.Calls.{store-unfit, data-unfit, is-unknown, no-free-cell, taken-cell, of-member, queue-full, enqueue, data-event, queue-data-body, queue-data}
 use Rattle.srt_group_model.specs.Lent.{Call, call-queue-data, stored, delivered-by, written-out, list-rows, with-bytes, step-of}
 use Rattle.srt_group_model.specs.declared.Data.{Data}
 use Rattle.srt_group_model.specs.declared.Event.{Event}
-use Rattle.srt_connection_queue.specs.Rows.{row-size}
 use Rattle.srt_connection_queue.specs.Queue.{enqueued}
 use Rattle.srt_connection_members.specs.Members.{member-at, found-of, Changed, PushedAt}
-use Rattle.srt_connection_members.specs.laws.Members.{members-length, members-place, found-some, found-none, found-below, changed-by, changed-twice}
+use Rattle.srt_connection_members.specs.laws.Members.{changed-by, changed-twice}
 use Rattle.srt_connection_members.specs.declared.Found.the-variants.{At, Nothing}
 use Rattle.cell_set.specs.Sets.{Taken, can-take, LowestFree, free-cell-of}
 use Rattle.cell_set.specs.laws.Shows.{shows-taken, lowest-is}
@@ -46,6 +44,7 @@ use Rattle.srt_group_shown.specs.Tables.{Parts, Tables, state-of, Long}
 use Rattle.srt_group_shown.specs.Ready.{Ready, storing, Performs}
 use Rattle.srt_group_shown.specs.laws.Ready.{one-cell, performs-refused, performs-refused-over, performs-accepted}
 use Rattle.srt_group_queueing.specs.Queueing.{Enqueueable, with-data, Enqueues}
+use Rattle.srt_group_queueing.specs.laws.OneMember.{with-table, long-with, is-nowhere, place, is-known, of-found, change-found, found-row, shown-changed}
 
 -- ---- the member at an index, once a cell is found
 
@@ -103,24 +102,6 @@ module _ (index cell : ℕ) (d : Data) (payload members store used : List ℕ) w
 
 -- ---- the call
 
-found-any : (test : Member → Bool) (ms : List Member) (i : ℕ) → place-of test ms ≡ some i → any test ms ≡ true
-unfolding any place-of
-found-any test [] i = λ e. none-some e
-found-any test (m ∷ ms) i =
-    if-elim (λ (o : Option ℕ). o ≡ some i → any test (m ∷ ms) ≡ true) _ _ _ (λ t e. ap (λ (b : Bool). b || any test ms) t)
-    (λ t.
-    if-some-elim (λ (o : Option ℕ). o ≡ some i → any test (m ∷ ms) ≡ true) _ _ _
-    (λ k f e. or-yes-right (test m) (any test ms) (found-any test ms k f)) (λ f e. none-some e))
-
-nowhere-any : (test : Member → Bool) (ms : List Member) → place-of test ms ≡ none → any test ms ≡ false
-unfolding any place-of
-nowhere-any test [] = λ e. refl
-nowhere-any test (m ∷ ms) =
-    if-elim (λ (o : Option ℕ). o ≡ none → any test (m ∷ ms) ≡ false) _ _ _ (λ t e. none-some (sym e))
-    (λ t.
-    if-some-elim (λ (o : Option ℕ). o ≡ none → any test (m ∷ ms) ≡ false) _ _ _ (λ k f e. none-some (sym e))
-    (λ f e. ap (λ (b : Bool). b || any test ms) t ∙ nowhere-any test ms f))
-
 free-some : (o : Option ℕ) (c : ℕ) → Cell c ≡ free-cell-of o → o ≡ some c
 free-some none c e = cc e
 free-some (some k) c e = cc e
@@ -128,11 +109,6 @@ free-some (some k) c e = cc e
 free-none : (o : Option ℕ) → Full ≡ free-cell-of o → o ≡ none
 free-none none e = refl
 free-none (some k) e = cc e
-
--- the table as it is after a call
-abbrev pub with-table : List ℕ → Tables → Tables
-with-table members t =
-    record { members = members; pending = t .pending; waiting = t .waiting; history = t .history; sources = t .sources }
 
 module _ (id : ℕ) (d : Data) (payload : List ℕ) (p : Parts) (t : Tables) (store used : List ℕ) (ready : Ready p t (length store) used) where
   abbrev s : State
@@ -179,16 +155,6 @@ module _ (id : ℕ) (d : Data) (payload : List ℕ) (p : Parts) (t : Tables) (st
   pub data-refused : data-unfit id d ≡ true → Queues (Refused OutOfRange) (t .members) store used
   data-refused unfit = performs-refused call p t (storing store) used ready (error-number OutOfRange) (starts ∙ guard-stops (2 when data-unfit id d) 3-on s body unfit)
 
-  -- what `find` is given
-  pub rows-there : p .core .counts .members * row-size ≤ length (t .members)
-  rows-there =
-      omega (
-        arith,
-        counted-of s (valid-of room s (ready .valid) .counts) .members,
-        members-length (p .core .counts .members) (t .members),
-        ready .long .members,
-      )
-
   module _ (fit : data-unfit id d ≡ false) where
     after-2 : step ≡ guard 3-on s body
     after-2 = starts ∙ guard-goes-on (2 when data-unfit id d) 3-on s body fit
@@ -196,23 +162,11 @@ module _ (id : ℕ) (d : Data) (payload : List ℕ) (p : Parts) (t : Tables) (st
     pub unknown-refused : Nothing ≡ found-of (find id (s .members)) → Queues (Refused UnknownMember) (t .members) store used
     unknown-refused nowhere =
         performs-refused call p t (storing store) used ready (error-number UnknownMember)
-        (after-2
-        ∙ guard-stops (3 when is-unknown id s) 4-on s body
-        (ap not (nowhere-any (has-id id) (s .members) (found-none (find id (s .members)) nowhere))))
+        (after-2 ∙ guard-stops (3 when is-unknown id s) 4-on s body (is-nowhere id p t nowhere))
 
     module _ (i : ℕ) (at : At i ≡ found-of (find id (s .members))) where
-      found-there : find id (s .members) ≡ some i
-      found-there = found-some (find id (s .members)) i at
-
-      below : i < p .core .counts .members
-      below = found-below (p .core .counts .members) id i (t .members) at
-
-      place : at-place i (s .members) ≡ some (member-at (t .members) i)
-      place = members-place (p .core .counts .members) (t .members) i below
-
       after-3 : step ≡ guard 4-on s body
-      after-3 =
-          after-2 ∙ guard-goes-on (3 when is-unknown id s) 4-on s body (ap not (found-any (has-id id) (s .members) i found-there))
+      after-3 = after-2 ∙ guard-goes-on (3 when is-unknown id s) 4-on s body (is-known id p t i at)
 
       pub long-refused : cell-size < length payload → Queues (Refused PayloadTooLong) (t .members) store used
       long-refused long =
@@ -248,20 +202,17 @@ module _ (id : ℕ) (d : Data) (payload : List ℕ) (p : Parts) (t : Tables) (st
               ∙ ap (λ (o : Option ℕ). guard 31-on s (queue-data-body id (if-some o give (λ c. c) otherwise 0) d payload s)) free-there
 
           full-is : of-member id queue-full s ≡ queue-full (member-at (t .members) i)
-          unfolding of-member if-some_give_otherwise_
-          full-is =
-              ap (λ (o : Option Member). if-some o give queue-full otherwise false)
-              (first-such-is-found (has-id id) (s .members) ∙ ap (λ (o : Option ℕ). if-some o give (λ k. at-place k (s .members)) otherwise none) found-there ∙ place)
+          full-is = of-found id p t i at queue-full
 
           pub enqueueable : Enqueueable i cell d (length payload) (t .members) (length store) (length used)
           unfolding data-unfit data-words
           enqueueable =
               record {
-                there = omega (arith, rows-there, below);
+                there = found-row ready id i at;
                 room =
                     omega (
                       arith,
-                      reservation-most s i (member-at (t .members) i) (sound-of-valid room s (omega arith) (ready .valid)) place,
+                      reservation-most s i (member-at (t .members) i) (sound-of-valid room s (omega arith) (ready .valid)) (place id p t i at),
                       count-fits,
                     );
                 one-cell = one-cell ready;
@@ -279,20 +230,12 @@ module _ (id : ℕ) (d : Data) (payload : List ℕ) (p : Parts) (t : Tables) (st
             t′ = with-table members′ t
 
             long-after : Long t′
-            long-after =
-                record {
-                  members = omega (arith, ready .long .members, done .queued .long);
-                  pending = ready .long .pending;
-                  waiting = ready .long .waiting;
-                  history = ready .long .history;
-                  sources = ready .long .sources;
-                }
+            long-after = long-with ready members′ (done .queued .long)
 
             -- the same members, or the packet in the queue of the one at the index
             queued-by : (f : Member → Member) → if-accepted o (with-data cell (length payload) d (member-at (t .members) i)) (member-at (t .members) i) ≡ f (member-at (t .members) i)
                 → state-of p t′ ≡ with-members (change i f (s .members)) s
-            queued-by f same =
-                ap (λ (ms : List Member). with-members ms s) (changed-by i (t .members) members′ f (done .queued) same .members (p .core .counts .members))
+            queued-by f same = shown-changed p t i f members′ (changed-by i (t .members) members′ f (done .queued) same)
 
             refused-31 : queue-full (member-at (t .members) i) ≡ true → Queues o members′ store′ used′
             refused-31 full =
@@ -310,8 +253,8 @@ module _ (id : ℕ) (d : Data) (payload : List ℕ) (p : Parts) (t : Tables) (st
                 (subst (λ (x : List ℕ). Queues (Refused QueueFull) members′ store x) (sym (done .kept QueueFull is)) refused))
 
             body-state : queue-data-body id cell d payload s .state ≡ with-members (change i (with-data cell (length payload) d) (s .members)) s
-            unfolding queue-data-body change-member if-some_give_otherwise_
-            body-state = ap (λ (x : Option ℕ). if-some x give (λ k. with-members (change k (with-data cell (length payload) d) (s .members)) s) otherwise s) found-there
+            unfolding queue-data-body
+            body-state = change-found id p t i at (with-data cell (length payload) d)
 
             accepted : queue-full (member-at (t .members) i) ≡ false → Queues o members′ store′ used′
             unfolding queue-data-body guard with-bytes stored delivered-by written-out list-rows overwritten
@@ -325,7 +268,7 @@ module _ (id : ℕ) (d : Data) (payload : List ℕ) (p : Parts) (t : Tables) (st
                 done .stored-there ∙ ap (λ (x : Outcome). if-accepted x (overwritten (cell * cell-size) payload store) store) is
                 in
                 let moves : Moves (cell ∷ []) [] s (queue-data-body id cell d payload s .state) =
-                subst (Moves (cell ∷ []) [] s) (sym body-state) (enqueue-takes i cell (length payload) d (member-at (t .members) i) s place)
+                subst (Moves (cell ∷ []) [] s) (sym body-state) (enqueue-takes i cell (length payload) d (member-at (t .members) i) s (place id p t i at))
                 in
                 subst (λ (x : Outcome). Queues x members′ store′ used′) (sym is)
                 (performs-accepted call p t (storing store) used ready (queue-data-body id cell d payload s) p t′ (storing store′) used′

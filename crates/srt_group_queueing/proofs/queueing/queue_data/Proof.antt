@@ -3,7 +3,8 @@ use mathlib.Core.Path.{sym, subst, _∙_}
 use Prim.Native.Nat.{ℕ}
 use native.Mathlib.Omega.{arith}
 use Rattle.cell_set.specs.Sets.{LowestFree}
-use Rattle.srt_group_queueing.specs.laws.Queueing.{data-refused, rows-there, unknown-refused, long-refused, full-refused, enqueueable, performed}
+use Rattle.srt_group_queueing.specs.laws.OneMember.{rows-there}
+use Rattle.srt_group_queueing.specs.laws.Queueing.{data-refused, unknown-refused, long-refused, full-refused, enqueueable, performed}
 use borrow.Author.Needs.{needs}
 use Rattle.srt_group_queueing.proofs.queueing.queue_data.Statement.{statement}
 use Rattle.srt_group_queueing.proofs.queueing.queue_data.Tie as tie
@@ -18,8 +19,7 @@ returns c =
     data-refused _ _ _ _ _ _ _ (c .before .before .before .before .before .before .before .before .before .before .pre) (sym (c .before .data-unfit .ensures) ∙ c .if1 .taken)
 
 find-requires : tie.Need-find-requires
-find-requires c κs =
-    rows-there (c .before .before .before .before .before .before .before .before .before .before .before .args .id) (c .before .before .before .before .before .before .before .before .before .before .before .args .content) (c .before .before .before .before .before .before .before .before .before .before .before .args .payload .now) _ _ (c .before .before .before .before .before .before .before .before .before .before .before .args .store .now) _ (c .before .before .before .before .before .before .before .before .before .before .before .pre)
+find-requires c κs = rows-there (c .before .before .before .before .before .before .before .before .before .before .before .pre)
 
 enum-known-found : tie.Need-enum-known-found
 enum-known-found c = search needs
