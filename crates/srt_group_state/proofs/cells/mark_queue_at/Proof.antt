@@ -3,7 +3,7 @@ use mathlib.Core.Path.{ap}
 use borrow.Author.Needs.{needs}
 use Rattle.srt_group_model.specs.Cells.{queue-cells}
 use Rattle.srt_connection_members.specs.laws.Members.{lent-member}
-use Rattle.srt_group_state.specs.laws.CellPassLaws.{marks-as}
+use Rattle.srt_group_state.specs.laws.Cells.{marks-as}
 use Rattle.srt_group_state.proofs.cells.mark_queue_at.Statement.{statement}
 use Rattle.srt_group_state.proofs.cells.mark_queue_at.Tie as tie
 
