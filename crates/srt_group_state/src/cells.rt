@@ -1,7 +1,6 @@
 // One pass over every cell that is named: by queued data events, by held packets, by history entries. Each is marked in the set of
 // cells, so that a cell named twice is seen at once, and the set is the one that a call on a valid state is lent.
 ghost use mathlib.Core.Path.{_≡_};
-ghost use mathlib.Core.List.{[], _∷_};
 ghost use mathlib.Core.Option.{some};
 ghost use Prim.Native.Nat.{_*_, _≤_, _<_};
 ghost use lib.ListN.{length};

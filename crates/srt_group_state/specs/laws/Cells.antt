@@ -1,7 +1,7 @@
 -- What each part of the pass over the named cells does to the words of the set, and what the whole of it says of the state that is shown.
 use mathlib.Core.Path.{_≡_, refl, sym, ap, ap₂, subst, _∙_}
 use mathlib.Core.Bool.{Bool, true, false, not, _||_}
-use mathlib.Core.List.{List, [], _∷_, _++_}
+use mathlib.Core.List.{List, [], _∷_, _++_, append-assoc, append-nil}
 use mathlib.Core.Option.{Option, some}
 use Prim.Native.Nat.{ℕ, zero, suc, _+_, _%_, _≤_, _<_}
 use native.Mathlib.Numerals.{add-one}
@@ -23,7 +23,6 @@ use Rattle.srt_group_model.specs.declared.Event.{Event}
 use Rattle.srt_group_model.specs.declared.Packet.{Packet}
 use Rattle.word_rows.specs.Tab.{tab}
 use Rattle.word_rows.specs.laws.Tab.{tab-length}
-use Rattle.cell_set.specs.Bits.{bit-at}
 use Rattle.cell_set.specs.Sets.{ShowsCells}
 use Rattle.cell_set.specs.Marks.{Marking, Marks}
 use Rattle.srt_connection_queue.specs.declared.rows.Ring.{Ring}
@@ -79,16 +78,12 @@ unfoldable pub joined : ℕ → (ℕ → List ℕ) → List ℕ
 joined zero names = []
 joined (suc n) names = names 0 ++ joined n (λ i. names (suc i))
 
-joined-next : (n : ℕ) (names : ℕ → List ℕ) (c : ℕ) → occurs c (joined (suc n) names) ≡ occurs c (joined n names) + occurs c (names n)
-unfolding joined occurs
-joined-next zero names c = omega (arith, occurs-append c (names 0) [])
-joined-next (suc n) names c =
-    omega (
-      arith,
-      joined-next n (λ i. names (suc i)) c,
-      occurs-append c (names 0) (joined (suc n) (λ i. names (suc i))),
-      occurs-append c (names 0) (joined n (λ i. names (suc i))),
-    )
+joined-next : (n : ℕ) (names : ℕ → List ℕ) → joined (suc n) names ≡ joined n names ++ names n
+unfolding joined
+joined-next zero names = append-nil (names 0)
+joined-next (suc n) names =
+    ap (λ (l : List ℕ). names 0 ++ l) (joined-next n (λ i. names (suc i)))
+    ∙ sym (append-assoc (names 0) (joined n (λ i. names (suc i))) (names (suc n)))
 
 joined-more : (i n : ℕ) (names : ℕ → List ℕ) (c : ℕ) → i ≤ n → occurs c (joined i names) ≤ occurs c (joined n names)
 unfolding joined occurs
@@ -186,48 +181,43 @@ event-read row ring index e is below read =
 
 pub record MarkedTo (cells : ℕ) (names : ℕ → List ℕ) (count : ℕ) (before : List ℕ) (at : ℕ) (here : List ℕ) : Type 0 where
   pub passed : at ≤ count
-  pub marked : (n : ℕ) → bit-at here n ≡ bit-at before n + occurs n (joined at names)
+  pub marks : Marks cells (joined at names) before true here
   pub marking : Marking cells here
 
 pub marking-start : (cells : ℕ) (names : ℕ → List ℕ) (count : ℕ) (before : List ℕ) → Marking cells before → MarkedTo cells names count before 0 before
-unfolding joined occurs
-marking-start cells names count before marking = record { passed = omega arith; marked = λ n. omega arith; marking = marking }
+unfolding joined
+marking-start cells names count before marking =
+    record { passed = omega arith; marks = nothing-marked cells before marking; marking = marking }
 
 module _ (cells : ℕ) (names : ℕ → List ℕ) (count : ℕ) (before : List ℕ) (at : ℕ) (here : List ℕ) (sofar : MarkedTo cells names count before at here)
   where
+    one-more : {named : List ℕ} {r : Bool} {after : List ℕ} → named ≡ names at → Marks cells named here r after
+        → Marks cells (joined (suc at) names) before r after
+    one-more is step =
+        marks-as (sym (joined-next at names)) (marks-then _ _ _ _ _ _ (sofar .marks) refl _ _ (marks-as is step))
+
     pub marking-on : (named : List ℕ) (r : Bool) (after : List ℕ) → named ≡ names at → at < count → not r ≡ false
         → Marks cells named here r after → MarkedTo cells names count before (at + 1) after
     marking-on named r after is more taken step =
-        record {
-          passed = omega arith;
-          marked =
-              λ n.
-              rw add-one
-              (omega (arith, sofar .marked n, step .marked (answered-true r taken) n, ap (occurs n) is, joined-next at names n));
-          marking = step .kept (answered-true r taken);
-        }
+        let marks = subst (λ (b : Bool). Marks cells (joined (suc at) names) before b after) (answered-true r taken) (one-more is step) in
+        record { passed = omega arith; marks = rw add-one marks; marking = marks .kept refl }
 
     pub marking-stopped : (all named : List ℕ) (r : Bool) (after : List ℕ) → joined count names ≡ all → named ≡ names at → at < count → not r ≡ true
         → Marks cells named here r after → Marks cells all before false after
     marking-stopped all named r after are is more refused step =
         marks-as are
         (record {
-          marked = λ e n. not-both e refl;
+          marked = λ e. not-both e refl;
           kept = λ e. not-both e refl;
           broken =
               λ e h.
-              step .broken (answered-false r refused)
-              (λ n. omega (arith, h n, sofar .marked n, ap (occurs n) is, joined-next at names n, joined-more (suc at) count names n (omega arith)));
+              one-more is step .broken (answered-false r refused)
+              (λ n. omega (arith, h n, joined-more (suc at) count names n (omega arith)));
         })
 
     pub marking-done : (all : List ℕ) → joined count names ≡ all → count ≤ at → Marks cells all before true here
     marking-done all are through =
-        marks-as are
-        (record {
-          marked = λ e n. sofar .marked n ∙ ap (λ (k : ℕ). bit-at before n + occurs n (joined k names)) same;
-          kept = λ e. sofar .marking;
-          broken = λ e h. not-both refl e;
-        })
+        marks-as (ap (λ (k : ℕ). joined k names) same ∙ are) (sofar .marks)
       where
         same : at ≡ count
         same = omega (arith, sofar .passed)

@@ -13,19 +13,20 @@ use Rattle.srt_group_model.specs.State.{State}
 use Rattle.srt_group_model.specs.Tools.{any}
 use Rattle.srt_group_model.specs.Cells.{queued-cells, used-cells}
 use Rattle.srt_group_model.specs.Sound.{pending-cells}
-use Rattle.srt_group_model.specs.Validity.{one-twice, cell-twice, cell-beyond-store}
+use Rattle.srt_group_model.specs.Validity.{max-members, max-pending, one-twice, cell-twice, cell-beyond-store}
 use Rattle.srt_group_model.specs.Calls.{store-unfit}
 use Rattle.srt_group_model.specs.Backup.{max-history}
 use Rattle.cell_set.specs.Sets.{ShowsCells}
 use Rattle.cell_set.specs.Marks.{Marks}
 use Rattle.cell_set.specs.laws.Marks.{marks-show}
 use Rattle.srt_connection_members.specs.Members.{members-of}
-use Rattle.srt_group_tables.specs.Packets.{packets}
-use Rattle.srt_group_tables.specs.Ring.{arrays, entry-at, entries-of}
+use Rattle.srt_connection_members.specs.laws.Members.{members-length}
+use Rattle.srt_group_tables.specs.Packets.{packet-at, packets}
+use Rattle.srt_group_tables.specs.Ring.{arrays, entry-at}
 use Rattle.srt_group_shown.specs.Tables.{Parts, Tables, state-of, Long}
 use Rattle.srt_group_shown.specs.Ready.{Ready}
 use Rattle.srt_group_state.specs.Outside.{breaks-rule-outside-cells}
-use Rattle.srt_group_state.specs.laws.Outside.{invalid-is, WithinLimits, within-limits}
+use Rattle.srt_group_state.specs.laws.Outside.{invalid-is, counted}
 use Rattle.srt_group_state.specs.Cells.{named-cells}
 use Rattle.srt_group_state.specs.laws.Cells.{marks-answer, sent-is-history}
 use Rattle.srt_group_state.specs.Tested.{Tested}
@@ -78,14 +79,15 @@ module _ (p : Parts) (t : Tables) where
 
   -- what the pass over the cells relies on
   pub within : breaks-rule-outside-cells state ≡ false
-      → WithinLimits (p .core) (entries-of (p .ring) (arrays (t .history) (t .sources))) (t .members)
+      → (p .core .counts .members ≤ max-members) × ((p .core .counts .pending ≤ max-pending) × (p .ring .length ≤ max-history))
   within fine =
-      within-limits (p .identity) (p .core) (p .sending) (entries-of (p .ring) (arrays (t .history) (t .sources))) (t .members)
-      (t .pending) (t .waiting) fine
-
-  pub ring-fits : breaks-rule-outside-cells state ≡ false → p .ring .length ≤ max-history
-  ring-fits fine =
-      omega (arith, within fine .entries, tab-length (p .ring .length) (entry-at (p .ring) (arrays (t .history) (t .sources))))
+      let most = counted state fine in (
+        omega (arith, most .members, members-length (p .core .counts .members) (t .members)),
+        (
+          omega (arith, most .pending, tab-length (p .core .counts .pending) (packet-at (t .pending))),
+          omega (arith, most .history, tab-length (p .ring .length) (entry-at (p .ring) (arrays (t .history) (t .sources)))),
+        ),
+      )
 
 -- a call that gives neither 5 nor 6 may go on with the form for a valid state
 pub ready-of-tested : {p : Parts} {t : Tables} {store : ℕ} {r : Bool} {used : List ℕ} → Long t → store-unfit store (state-of p t) ≡ false

@@ -4,7 +4,7 @@ use native.Mathlib.Omega.{arith}
 use borrow.Author.Needs.{needs}
 use Rattle.srt_group_shown.specs.Tables.{parts, tables}
 use Rattle.srt_group_state.specs.laws.Cells.{fresh-marking}
-use Rattle.srt_group_state.specs.laws.Tested.{tested-broken, tested-marked, within, ring-fits}
+use Rattle.srt_group_state.specs.laws.Tested.{tested-broken, tested-marked, within}
 use Rattle.srt_group_state.proofs.validity.is_invalid.Statement.{statement}
 use Rattle.srt_group_state.proofs.validity.is_invalid.Tie as tie
 
@@ -27,12 +27,11 @@ mark-cells-requires c κs =
     let pre = c .before .before .before .before .before .before .before .before .before .before .before .before .before .before .pre in
     let p = parts (a .identity) (a .core) (a .sending) (a .ring) in
     let t = tables (a .members .now) (a .pending .now) (a .waiting .now) (a .history .now) (a .sources .now) in
-    let fine = sym (c .before .before .before .before .before .before .before .breaks-rule-outside-cells .ensures) ∙ c .before .before .before .before .before .before .if1 .left in
-    let most = within p t fine in (
-      omega (arith, most .counts .members, pre .0 .0),
+    let most = within p t (sym (c .before .before .before .before .before .before .before .breaks-rule-outside-cells .ensures) ∙ c .before .before .before .before .before .before .if1 .left) in (
+      omega (arith, most .0, pre .0 .0),
       (
-        (pre .0 .1 .0, most .counts .pending),
-        ((ring-fits p t fine, pre .1 .0 .history), fresh-marking _ _ (pre .1 .1 .0) (c .before .before .before .before .clear .ensures)),
+        (pre .0 .1 .0, most .1 .0),
+        ((most .1 .1, pre .1 .0 .history), fresh-marking _ _ (pre .1 .1 .0) (c .before .before .before .before .clear .ensures)),
       ),
     )
 
