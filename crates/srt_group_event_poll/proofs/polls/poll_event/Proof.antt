@@ -14,9 +14,8 @@ packet-in-requires c κs = search needs
 
 write-payload-requires : tie.Need-write-payload-requires
 write-payload-requires c κs =
-    let polled = c .before .before .before .before .before .before .before .before .before .before .poll-event in
-    let began = c .before .before .before .before .before .before .before .before .before .before .before .before .before .before .before .before .before .before .before .before .before .before .before in
-    writable _ _ _ _ _ (polled .ensures .0) _ (c .before .packet-in .ensures) (began .pre .0) (began .pre .1)
+    writable _ _ _ _ _ (c .before .before .before .before .before .before .before .before .before .before .poll-event .ensures .0)
+    _ (c .before .packet-in .ensures) (c .before .before .before .before .before .before .before .before .before .before .before .before .before .before .before .before .before .before .before .before .before .before .before .pre .0) (c .before .before .before .before .before .before .before .before .before .before .before .before .before .before .before .before .before .before .before .before .before .before .before .pre .1)
 
 same-length : tie.Need-same-length
 same-length c = search needs
@@ -35,11 +34,9 @@ same-length-5 c = search needs
 
 returns : tie.Need-returns
 returns c =
-    let polled = c .before .before .before .before .before .before .before .before .before .before .before .before .before .before .poll-event in
-    let began = c .before .before .before .before .before .before .before .before .before .before .before .before .before .before .before .before .before .before .before .before .before .before .before .before .before .before .before in
-    performed _ _ _ _ _ (polled .ensures .0) (began .args .store .now) (began .args .output .now) _ (began .pre .0) (began .pre .1)
-    _ _ (omega (arith, began .good .1 .1 .1 .1 .1 .1 .1 .1 .1 .1 .1 .1 .0)) (polled .ensures .1)
-    (c .before .before .before .before .before .packet-in .ensures) (c .before .before .before .write-payload .ensures)
+    performed _ _ _ _ _ (c .before .before .before .before .before .before .before .before .before .before .before .before .before .before .poll-event .ensures .0) (c .before .before .before .before .before .before .before .before .before .before .before .before .before .before .before .before .before .before .before .before .before .before .before .before .before .before .before .args .store .now) (c .before .before .before .before .before .before .before .before .before .before .before .before .before .before .before .before .before .before .before .before .before .before .before .before .before .before .before .args .output .now) _ (c .before .before .before .before .before .before .before .before .before .before .before .before .before .before .before .before .before .before .before .before .before .before .before .before .before .before .before .pre .0) (c .before .before .before .before .before .before .before .before .before .before .before .before .before .before .before .before .before .before .before .before .before .before .before .before .before .before .before .pre .1)
+    _ _ (omega (arith, c .before .before .before .before .before .before .before .before .before .before .before .before .before .before .before .before .before .before .before .before .before .before .before .before .before .before .before .good .1 .1 .1 .1 .1 .1 .1 .1 .1 .1 .1 .1 .0))
+    (c .before .before .before .before .before .before .before .before .before .before .before .before .before .before .poll-event .ensures .1) (c .before .before .before .before .before .packet-in .ensures) (c .before .before .before .write-payload .ensures)
 
 pub poll-event-spec : {M : Type 1} → statement M
 poll-event-spec =
