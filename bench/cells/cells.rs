@@ -1,6 +1,6 @@
-// Times the proved set of cells, linked as libcell_bench.a, beside the product's scan over 2,048 flags and beside Rust: a scan bit by
-// bit, the ideal (a word that is not all ones, then its trailing ones), and the ideal with a summary word. Every function is called
-// across the C interface, so each figure holds the same call. The best of RUNS turns, in nanoseconds a call.
+// Times the proved set of cells, linked as libcell_bench.a, beside Rust: a scan bit by bit, the ideal (a word that is not all ones,
+// then its trailing ones), and the ideal with a summary word. Every function is called across the C interface, so each figure holds
+// the same call. The best of RUNS turns, in nanoseconds a call.
 use std::hint::black_box;
 use std::time::Instant;
 
@@ -14,7 +14,6 @@ extern "C" {
         payload: *const u8, h: usize,
     ) -> u32;
     fn unqueue_one(members: *mut u64, length: usize, used: *mut u64, words: usize, index: usize, cell: usize);
-    fn flags_lowest(flags: *const u8, length: usize, cells: usize) -> usize;
 }
 
 #[inline(never)]
@@ -117,13 +116,11 @@ fn main() {
     for (legs, taken) in [(4, 0), (4, 332), (4, 1964), (64, 0)] {
         queueing(legs, taken);
     }
-    println!("{:>6} {:>9} {:>9} {:>9} {:>9} {:>9} {:>9} {:>9} {:>11}", "used", "call", "proved", "ideal", "summary", "flags", "bits", "take+free", "lowest+take+free");
+    println!("{:>6} {:>9} {:>9} {:>9} {:>9} {:>9} {:>9} {:>11}", "used", "call", "proved", "ideal", "summary", "bits", "take+free", "lowest+take+free");
     for n in [0usize, 36, 332, 1964, 2048] {
         let mut words = vec![0u64; 33];
-        let mut flags = vec![0u8; 2048];
         for c in 0..n {
             words[c / 64] |= 1 << (c % 64);
-            flags[c] = 1;
         }
         for at in 0..32 {
             if words[at] == !0 {
@@ -131,11 +128,9 @@ fn main() {
             }
         }
         let w = black_box(words.as_mut_ptr());
-        let f = black_box(flags.as_ptr());
         let expected = if n < 2048 { n } else { 2048 };
         unsafe {
             assert_eq!(set_lowest(w, 32, 2048), expected);
-            assert_eq!(flags_lowest(f, 2048, 2048), expected);
         }
         assert_eq!(bit_by_bit(w, 32, 2048), expected);
         assert_eq!(ideal(w, 32, 2048), expected);
@@ -144,7 +139,6 @@ fn main() {
         let ours = best(|| unsafe { set_lowest(black_box(w), 32, 2048) });
         let wanted = best(|| ideal(black_box(w), 32, 2048));
         let short = best(|| summary(black_box(w), 33, 2048));
-        let bytes = best(|| unsafe { flags_lowest(black_box(f), 2048, 2048) });
         let bits = best(|| bit_by_bit(black_box(w), 32, 2048));
         let moved = best(|| unsafe {
             set_take(black_box(w), 32, black_box(2047));
@@ -161,6 +155,6 @@ fn main() {
         } else {
             0.0
         };
-        println!("{n:>6} {call:>9.1} {ours:>9.1} {wanted:>9.1} {short:>9.1} {bytes:>9.1} {bits:>9.1} {moved:>9.1} {whole:>11.1}");
+        println!("{n:>6} {call:>9.1} {ours:>9.1} {wanted:>9.1} {short:>9.1} {bits:>9.1} {moved:>9.1} {whole:>11.1}");
     }
 }

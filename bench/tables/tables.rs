@@ -230,7 +230,7 @@ fn history(kept: u32) {
 }
 
 // Every named cell marked, and the lowest free one: 4 legs with `queued` events each, `held` packets, `entries` sends. Beside it the
-// same in plain Rust over vectors of cells.
+// same in plain Rust over vectors of cells, into the same bits.
 fn cells(queued: u64, held: u64, entries: usize) {
     let rounds = 20_000u64;
     let mut members = vec![0u64; MEMBERS_WORDS];
@@ -284,14 +284,15 @@ fn cells(queued: u64, held: u64, entries: usize) {
             || {
                 let mut sum = 0;
                 for _ in 0..rounds {
-                    let mut flags = [false; 2048];
+                    let mut used = [0u64; 32];
                     let mut fine = true;
                     for &cell in black_box(&named).iter().flatten() {
-                        let cell = cell as usize;
-                        fine &= cell < 2048 && !flags[cell];
-                        flags[cell % 2048] = true;
+                        let (at, bit) = (cell as usize / 64 % 32, 1 << (cell % 64));
+                        fine &= cell < 2048 && used[at] & bit == 0;
+                        used[at] |= bit;
                     }
-                    sum += flags.iter().position(|f| !f).filter(|_| fine).unwrap_or(2048) as u64;
+                    let free = used.iter().position(|w| *w != !0).filter(|_| fine);
+                    sum += free.map_or(2048, |at| at as u64 * 64 + used[at].trailing_ones() as u64);
                 }
                 assert_eq!(sum, rounds * free);
                 sum

@@ -24,7 +24,6 @@ use srt_group_model::Receiving;
 use srt_group_model::Sending;
 use srt_group_model::Visit;
 use srt_group_queueing::queueing::queue_data;
-use srt_group_state::cells;
 use srt_group_tables::history::HistoryRing;
 use srt_protocol::received_payload::MAX_CELLS;
 use srt_protocol::time::Timestamp;
@@ -53,18 +52,6 @@ pub extern "C" fn set_free(used: &mut [u64], cell: usize)
     requires { ⌜ length (now used) ≡ set-size ⌝ }
 {
     free(used, cell);
-}
-
-// As it is now: a byte to a cell.
-#[no_mangle]
-pub extern "C" fn flags_lowest(flags: &[u8], cells: usize) -> usize
-    requires { ⌜ (cells ≤ max-cells) × (cells ≤ length (now flags)) ⌝ }
-{
-    let found = cells::lowest_free(flags, cells);
-    match found {
-        cells::FreeCell::Cell(cell) => cell,
-        cells::FreeCell::Full => MAX_CELLS,
-    }
 }
 
 // A Broadcast group of so many members, nothing held, nothing sent.

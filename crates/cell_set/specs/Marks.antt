@@ -1,5 +1,4 @@
--- The pass of code 6 that marks each named cell in the words themselves: srt_group_state's `Flags` and `Marks` with a bit for a flag, so that
--- the pass leaves the words that the forms for a valid state are given.
+-- The pass of code 6 marks each named cell in the words, and so leaves the words that the forms for a valid state are given.
 use mathlib.Core.Path.{_≡_}
 use mathlib.Core.Bool.{Bool, true, false}
 use mathlib.Core.List.{List}

@@ -1,4 +1,4 @@
-pub mod CellPass
+pub mod Cells
 pub mod Outside
 pub mod Tested
 -- What is proved.

@@ -4,11 +4,10 @@ use mathlib.Core.Bool.{Bool, false}
 use mathlib.Core.List.{List}
 use Prim.Native.Nat.{ℕ}
 use Rattle.srt_group_model.specs.State.{State}
-use Rattle.srt_group_model.specs.Cells.{used-cells}
 use Rattle.srt_group_model.specs.Validity.{is-invalid}
-use Rattle.srt_group_state.specs.CellPass.{Represents}
+use Rattle.cell_set.specs.Shows.{Shows}
 
--- the answer is document 01's; where it is no, the flags show which cells are in use
-pub record Tested (cells : ℕ) (s : State) (r : Bool) (flags : List ℕ) : Type 0 where
+-- the answer is document 01's; where it is no, the words show which cells are in use
+pub record Tested (cells : ℕ) (s : State) (r : Bool) (used : List ℕ) : Type 0 where
   pub is : r ≡ is-invalid cells s
-  pub represents : r ≡ false → Represents flags (used-cells s)
+  pub shows : r ≡ false → Shows used s

@@ -1,4 +1,4 @@
 -- What is proved. A reader who trusts the checker need not read it.
-pub mod CellPassLaws
+pub mod Cells
 pub mod Outside
 pub mod Tested

@@ -1,7 +1,6 @@
-// One pass over every cell that is named: by queued data events, by held packets, by history entries. Each is marked in a table
-// of flags, one to a cell, so that a cell named twice is seen at once, and the lowest free cell is the first that has no mark.
+// One pass over every cell that is named: by queued data events, by held packets, by history entries. Each is marked in the set of
+// cells, so that a cell named twice is seen at once, and the set is the one that a call on a valid state is lent.
 ghost use mathlib.Core.Path.{_≡_};
-ghost use mathlib.Core.List.{[], _∷_};
 ghost use mathlib.Core.Option.{some};
 ghost use Prim.Native.Nat.{_*_, _≤_, _<_};
 ghost use lib.ListN.{length};
@@ -10,11 +9,12 @@ ghost use Rattle.srt_group_model.specs.Cells.{queue-cells, queued-cells};
 ghost use Rattle.srt_group_model.specs.Sound.{pending-cells};
 ghost use Rattle.srt_group_model.specs.Backup.{max-history};
 ghost use Rattle.srt_group_model.specs.Validity.{max-pending};
-ghost use Rattle.srt_protocol.specs.Cells.{max-cells};
+ghost use Rattle.cell_set.specs.Marks.{Marking, Marks};
 ghost use Rattle.srt_connection_queue.specs.Rows.{row-size, member-of};
 ghost use Rattle.srt_connection_members.specs.Members.{member-at, members-of, has-row};
 ghost use Rattle.srt_group_tables.specs.Packets.{pending-size, packets};
-ghost use Rattle.srt_group_state.specs.CellPass.{Flags, Represents, Marks, event-cells, table-cells, sent-cells, named-cells, Marked, LowestFree};
+ghost use Rattle.srt_group_state.specs.Cells.{event-cells, sent-cells, named-cells};
+use cell_set::mark;
 use srt_connection_queue::queue::queue_length;
 use srt_connection_queue::rows::MAX_QUEUED;
 use srt_connection_queue::rows::ROW;
@@ -27,28 +27,6 @@ use srt_group_tables::history::cell_of;
 use srt_group_tables::history::place;
 use srt_group_tables::pending::cell_at;
 
-// The lowest free cell, or that the store is full.
-pub enum FreeCell {
-    Cell(usize),
-    Full,
-}
-
-// Marks a cell. One that is beyond the store, or marked already, is refused.
-fn mark_cell(flags: &mut [u8], cells: usize, cell: u64) -> bool
-    requires { ⌜ Flags cells (now flags) ⌝ }
-    ensures { λ r. ⌜ Marks cells (cell ∷ []) (now (flags .entry)) r (now (flags .exit)) ⌝ }
-{
-    if cells as u64 <= cell {
-        return false;
-    }
-    let at = cell as usize;
-    if flags[at] != 0 {
-        return false;
-    }
-    flags[at] = 1;
-    true
-}
-
 // The event so many places after the front of a queue.
 fn queued_event(row: &[u64], index: u64) -> Event
     requires { ⌜ (length (now row) ≡ row-size) × (index < length (member-of (now row) .queue)) ⌝ }
@@ -59,28 +37,28 @@ fn queued_event(row: &[u64], index: u64) -> Event
 }
 
 // Marks the cell of a queued event: only data has one.
-fn mark_event(flags: &mut [u8], cells: usize, event: Event) -> bool
-    requires { ⌜ Flags cells (now flags) ⌝ }
-    ensures { λ r. ⌜ Marks cells (event-cells event) (now (flags .entry)) r (now (flags .exit)) ⌝ }
+fn mark_event(used: &mut [u64], cells: usize, event: Event) -> bool
+    requires { ⌜ Marking cells (now used) ⌝ }
+    ensures { λ r. ⌜ Marks cells (event-cells event) (now (used .entry)) r (now (used .exit)) ⌝ }
 {
     if event.kind != 0 {
         return true;
     }
-    mark_cell(flags, cells, event.content.cell)
+    mark(used, cells, event.content.cell)
 }
 
 // Marks the cells of a member's queue. The loop is as long as the queue's length says: a caller refuses more than sixteen events
 // before.
-fn mark_queue(flags: &mut [u8], cells: usize, row: &[u64]) -> bool
+fn mark_queue(used: &mut [u64], cells: usize, row: &[u64]) -> bool
     requires { ⌜ length (now row) ≡ row-size ⌝ }
-    requires { ⌜ Flags cells (now flags) ⌝ }
-    ensures { λ r. ⌜ Marks cells (queue-cells (member-of (now (row .entry)))) (now (flags .entry)) r (now (flags .exit)) ⌝ }
+    requires { ⌜ Marking cells (now used) ⌝ }
+    ensures { λ r. ⌜ Marks cells (queue-cells (member-of (now (row .entry)))) (now (used .entry)) r (now (used .exit)) ⌝ }
 {
     let count = queue_length(row);
     let mut index: u64 = 0;
     while index < count {
         let event = queued_event(row, index);
-        if !mark_event(flags, cells, event) {
+        if !mark_event(used, cells, event) {
             return false;
         }
         index += 1;
@@ -88,24 +66,24 @@ fn mark_queue(flags: &mut [u8], cells: usize, row: &[u64]) -> bool
     true
 }
 
-fn mark_queue_at(flags: &mut [u8], cells: usize, members: &[u64], index: usize) -> bool
+fn mark_queue_at(used: &mut [u64], cells: usize, members: &[u64], index: usize) -> bool
     requires { ⌜ has-row index (now members) ⌝ }
-    requires { ⌜ Flags cells (now flags) ⌝ }
-    ensures { λ r. ⌜ Marks cells (queue-cells (member-at (now (members .entry)) index)) (now (flags .entry)) r (now (flags .exit)) ⌝ }
+    requires { ⌜ Marking cells (now used) ⌝ }
+    ensures { λ r. ⌜ Marks cells (queue-cells (member-at (now (members .entry)) index)) (now (used .entry)) r (now (used .exit)) ⌝ }
 {
     let start = index * ROW;
-    mark_queue(flags, cells, &members[start..start + ROW])
+    mark_queue(used, cells, &members[start..start + ROW])
 }
 
 // Marks the cells of the queues of the first `count` members.
-fn mark_members(flags: &mut [u8], cells: usize, members: &[u64], count: usize) -> bool
+fn mark_members(used: &mut [u64], cells: usize, members: &[u64], count: usize) -> bool
     requires { ⌜ count * row-size ≤ length (now members) ⌝ }
-    requires { ⌜ Flags cells (now flags) ⌝ }
-    ensures { λ r. ⌜ Marks cells (queued-cells (members-of count (now (members .entry)))) (now (flags .entry)) r (now (flags .exit)) ⌝ }
+    requires { ⌜ Marking cells (now used) ⌝ }
+    ensures { λ r. ⌜ Marks cells (queued-cells (members-of count (now (members .entry)))) (now (used .entry)) r (now (used .exit)) ⌝ }
 {
     let mut index: usize = 0;
     while index < count {
-        if !mark_queue_at(flags, cells, members, index) {
+        if !mark_queue_at(used, cells, members, index) {
             return false;
         }
         index += 1;
@@ -114,15 +92,15 @@ fn mark_members(flags: &mut [u8], cells: usize, members: &[u64], count: usize) -
 }
 
 // Marks the cells of the first `count` held packets.
-fn mark_pending(flags: &mut [u8], cells: usize, pending: &[u64], count: usize) -> bool
+fn mark_pending(used: &mut [u64], cells: usize, pending: &[u64], count: usize) -> bool
     requires { ⌜ (pending-size ≤ length (now pending)) × (count ≤ max-pending) ⌝ }
-    requires { ⌜ Flags cells (now flags) ⌝ }
-    ensures { λ r. ⌜ Marks cells (pending-cells (packets count (now (pending .entry)))) (now (flags .entry)) r (now (flags .exit)) ⌝ }
+    requires { ⌜ Marking cells (now used) ⌝ }
+    ensures { λ r. ⌜ Marks cells (pending-cells (packets count (now (pending .entry)))) (now (used .entry)) r (now (used .exit)) ⌝ }
 {
     let mut at: usize = 0;
     while at < count {
         let cell = cell_at(pending, at);
-        if !mark_cell(flags, cells, cell as u64) {
+        if !mark(used, cells, cell as u64) {
             return false;
         }
         at += 1;
@@ -130,36 +108,17 @@ fn mark_pending(flags: &mut [u8], cells: usize, pending: &[u64], count: usize) -
     true
 }
 
-// Marks the cells that the lent tables name.
-pub fn mark_tables(
-    flags: &mut [u8],
-    cells: usize,
-    counts: Counts,
-    members: &[u64],
-    pending: &[u64],
-) -> bool
-    requires { ⌜ counts .members * row-size ≤ length (now members) ⌝ }
-    requires { ⌜ (pending-size ≤ length (now pending)) × (counts .pending ≤ max-pending) ⌝ }
-    requires { ⌜ Flags cells (now flags) ⌝ }
-    ensures { λ r. ⌜ Marks cells (table-cells counts (now (members .entry)) (now (pending .entry))) (now (flags .entry)) r (now (flags .exit)) ⌝ }
-{
-    if !mark_members(flags, cells, members, counts.members) {
-        return false;
-    }
-    mark_pending(flags, cells, pending, counts.pending)
-}
-
 // Marks the cells of the history's entries.
-pub fn mark_history(flags: &mut [u8], cells: usize, ring: HistoryRing, history: &[u64]) -> bool
+fn mark_history(used: &mut [u64], cells: usize, ring: HistoryRing, history: &[u64]) -> bool
     requires { ⌜ (ring .length ≤ max-history) × (length (now history) ≡ max-history) ⌝ }
-    requires { ⌜ Flags cells (now flags) ⌝ }
-    ensures { λ r. ⌜ Marks cells (sent-cells ring (now (history .entry))) (now (flags .entry)) r (now (flags .exit)) ⌝ }
+    requires { ⌜ Marking cells (now used) ⌝ }
+    ensures { λ r. ⌜ Marks cells (sent-cells ring (now (history .entry))) (now (used .entry)) r (now (used .exit)) ⌝ }
 {
     let mut index: usize = 0;
     while index < ring.length {
         let at = place(ring, index);
         let cell = cell_of(history[at]);
-        if !mark_cell(flags, cells, cell) {
+        if !mark(used, cells, cell) {
             return false;
         }
         index += 1;
@@ -169,38 +128,26 @@ pub fn mark_history(flags: &mut [u8], cells: usize, ring: HistoryRing, history: 
 
 // Marks every cell that is named. Answers whether each lies in the store and none is named twice.
 pub fn mark_cells(
-    flags: &mut [u8],
+    used: &mut [u64],
     cells: usize,
     counts: Counts,
+    ring: HistoryRing,
     members: &[u64],
     pending: &[u64],
-    ring: HistoryRing,
     history: &[u64],
 ) -> bool
     requires { ⌜ counts .members * row-size ≤ length (now members) ⌝ }
     requires { ⌜ (pending-size ≤ length (now pending)) × (counts .pending ≤ max-pending) ⌝ }
     requires { ⌜ (ring .length ≤ max-history) × (length (now history) ≡ max-history) ⌝ }
-    requires { ⌜ (cells ≤ max-cells) × Represents (now flags) [] ⌝ }
-    ensures { λ r. ⌜ Marked cells
-        (named-cells counts (now (members .entry)) (now (pending .entry)) (sent-cells ring (now (history .entry)))) r (now (flags .exit)) ⌝ }
+    requires { ⌜ Marking cells (now used) ⌝ }
+    ensures { λ r. ⌜ Marks cells (named-cells counts ring (now (members .entry)) (now (pending .entry)) (now (history .entry)))
+        (now (used .entry)) r (now (used .exit)) ⌝ }
 {
-    if !mark_tables(flags, cells, counts, members, pending) {
+    if !mark_members(used, cells, members, counts.members) {
         return false;
     }
-    mark_history(flags, cells, ring, history)
-}
-
-// The lowest cell of the store that has no mark.
-pub fn lowest_free(flags: &[u8], cells: usize) -> FreeCell
-    requires { ⌜ (cells ≤ max-cells) × (cells ≤ length (now flags)) ⌝ }
-    ensures { λ r. ⌜ LowestFree (now (flags .entry)) cells r ⌝ }
-{
-    let mut cell: usize = 0;
-    while cell < cells {
-        if flags[cell] == 0 {
-            return FreeCell::Cell(cell);
-        }
-        cell += 1;
+    if !mark_pending(used, cells, pending, counts.pending) {
+        return false;
     }
-    FreeCell::Full
+    mark_history(used, cells, ring, history)
 }

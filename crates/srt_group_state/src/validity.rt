@@ -8,17 +8,18 @@ ghost use Rattle.srt_group_model.specs.Tools.{any};
 ghost use Rattle.srt_group_model.specs.Validity.{any-above};
 ghost use Rattle.srt_protocol.specs.Handshake.{has-group-mask};
 ghost use Rattle.srt_protocol.specs.Cells.{max-cells};
+ghost use Rattle.cell_set.specs.Bits.{set-size};
 ghost use Rattle.srt_connection_members.specs.Members.{members-of, members-size};
 ghost use Rattle.srt_group_tables.specs.Ring.{Long, arrays};
 ghost use Rattle.srt_group_tables.specs.Packets.{packets, pending-size};
 ghost use Rattle.srt_group_tables.specs.Waitings.{waiting-size};
 ghost use Rattle.srt_group_rules.specs.Rules.{member-breaks-rule, packet-breaks-rule};
-ghost use Rattle.srt_group_state.specs.CellPass.{Represents};
 ghost use Rattle.srt_group_shown.specs.Shown.{rest, shown};
 ghost use Rattle.srt_group_shown.specs.Tables.{parts, tables, state-of};
 ghost use Rattle.srt_group_state.specs.Tested.{Tested};
 ghost use Rattle.srt_group_state.specs.Outside.{core-counts, words-out-of-range, numbers-break-rule, CountsWithin, rows-break-rule, rows-disagree, breaks-rule-outside-cells};
 use crate::cells::mark_cells;
+use cell_set::clear;
 use srt_connection::legs::LARGEST_32;
 use srt_connection::legs::LARGEST_SEQUENCE;
 use srt_connection_members::MAX_MEMBERS;
@@ -156,8 +157,8 @@ pub fn breaks_rule_outside_cells(
     history_breaks_rule(ring, history, sources)
 }
 
-// Document 01's code 6, whole: whether the state breaks a rule over a store of so many cells. Where it breaks none, the flags show
-// which cells are in use.
+// Document 01's code 6, whole: whether the state breaks a rule over a store of so many cells. Where it breaks none, the set
+// shows which cells are in use, whatever it held before.
 pub fn is_invalid(
     identity: Identity,
     core: Core,
@@ -169,14 +170,14 @@ pub fn is_invalid(
     history: &[u64],
     sources: &[u64],
     cells: usize,
-    flags: &mut [u8],
+    used: &mut [u64],
 ) -> bool
     requires { ⌜ (members-size ≤ length (now members)) × ((pending-size ≤ length (now pending)) × (waiting-size ≤ length (now waiting))) ⌝ }
     requires { ⌜ Long (arrays (now history) (now sources)) ⌝ }
-    requires { ⌜ (cells ≤ max-cells) × Represents (now flags) [] ⌝ }
+    requires { ⌜ (cells ≤ max-cells) × (length (now used) ≡ set-size) ⌝ }
     ensures { λ r. ⌜ Tested cells (state-of (parts identity core sending ring)
         (tables (now (members .entry)) (now (pending .entry)) (now (waiting .entry)) (now (history .entry)) (now (sources .entry))))
-        r (now (flags .exit)) ⌝ }
+        r (now (used .exit)) ⌝ }
 {
     if breaks_rule_outside_cells(
         identity,
@@ -191,6 +192,7 @@ pub fn is_invalid(
     ) {
         return true;
     }
+    clear(used);
     let counts = core.counts;
-    !mark_cells(flags, cells, counts, members, pending, ring, history)
+    !mark_cells(used, cells, counts, ring, members, pending, history)
 }

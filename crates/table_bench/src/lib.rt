@@ -16,6 +16,10 @@ ghost use Rattle.srt_group_tables.specs.Packets.{pending-size, packets};
 ghost use Rattle.srt_group_tables.specs.Ring.{arrays};
 ghost use Rattle.srt_connection_queue.specs.Rows.{row-size};
 ghost use Rattle.table_bench.specs.Made.{data-of, InArrays};
+use cell_set::FreeCell;
+use cell_set::WORDS;
+use cell_set::clear;
+use cell_set::lowest_free;
 use srt_connection_members::pop_at;
 use srt_connection_members::push_at;
 use srt_group_model::Counts;
@@ -23,8 +27,6 @@ use srt_group_model::Data;
 use srt_group_model::Entry;
 use srt_group_model::Event;
 use srt_group_model::Packet;
-use srt_group_state::cells::FreeCell;
-use srt_group_state::cells::lowest_free;
 use srt_group_state::cells::mark_cells;
 use srt_group_tables::history::HistoryRing;
 use srt_group_tables::history::drop_before;
@@ -179,19 +181,20 @@ pub extern "C" fn table_cells(
         start: 0,
         length: entries,
     };
-    let mut flags = [0u8; MAX_CELLS];
+    let mut used = [0u64; WORDS];
+    clear(&mut used);
     if !mark_cells(
-        &mut flags,
+        &mut used,
         MAX_CELLS,
         counts,
+        ring,
         members,
         pending,
-        ring,
         history,
     ) {
         return MAX_CELLS;
     }
-    let free = lowest_free(&flags, MAX_CELLS);
+    let free = lowest_free(&used, MAX_CELLS);
     match free {
         FreeCell::Cell(cell) => cell,
         FreeCell::Full => MAX_CELLS,

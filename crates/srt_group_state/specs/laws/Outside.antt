@@ -2,7 +2,7 @@
 use mathlib.Core.Path.{_≡_, refl, ap, ap₂, sym, _∙_}
 use mathlib.Core.Bool.{Bool, true, false, not, _&&_, _||_}
 use mathlib.Core.List.{List, []}
-use Prim.Native.Nat.{ℕ, _-_, _≤_, _<_}
+use Prim.Native.Nat.{ℕ, _-_}
 use native.Mathlib.Omega.{arith}
 use borrow.Author.Tests.{ltb-true, ltb-false, lt-ltb, le-ltb, le-leb, lt-leb}
 use lib.Dec.{leb, ltb}
@@ -22,14 +22,14 @@ use Rattle.srt_group_model.specs.declared.Sending.{Sending}
 use Rattle.srt_group_model.specs.declared.Event.{Event}
 use Rattle.srt_group_model.specs.declared.Entry.{Entry}
 use Rattle.srt_group_model.specs.declared.Packet.{Packet}
-use Rattle.srt_connection_members.specs.Members.{member-at, members-of}
+use Rattle.srt_connection_members.specs.Members.{members-of}
 use Rattle.srt_connection_members.specs.laws.Members.{members-length}
 use Rattle.srt_group_tables.specs.Packets.{packets}
 use Rattle.srt_group_tables.specs.Waitings.{waitings}
 use Rattle.word_rows.specs.laws.Tab.{tab-length}
 use Rattle.srt_group_shown.specs.Shown.{rest, shown}
 use Rattle.srt_group_rules.specs.Rules.{event-breaks-rule, queue-breaks-rule, leg-breaks-rule, member-breaks-rule, packet-breaks-rule, entry-breaks-rule, history-breaks-rule}
-use Rattle.srt_group_rules.specs.laws.Walks.{any-or, none-there}
+use Rattle.srt_group_rules.specs.laws.Walks.{any-or}
 use Rattle.srt_group_rules.specs.Sums.{sums-wrong}
 use Rattle.srt_group_rules.specs.laws.Sums.{sums-wrong-is}
 use Rattle.srt_group_state.specs.Outside.{breaks-rule-outside-cells, core-counts, words-out-of-range, numbers-break-rule, CountsWithin, rows-break-rule, rows-disagree}
@@ -245,28 +245,3 @@ outside-parts identity c sending history members pending waiting =
 pub counted : (s : State) → breaks-rule-outside-cells s ≡ false → Counted s
 unfolding breaks-rule-outside-cells rules-outside-cells any
 counted s h = counted-of s (search neither)
-
--- the counts of the rows in use
-pub record WithinLimits (c : Core) (history : List Entry) (members : List ℕ) : Type 0 where
-  pub counts : CountsWithin c
-  pub entries : length history ≤ max-history
-  pub queues : (i : ℕ) → i < c .counts .members → length (member-at members i .queue) ≤ 16
-
-pub within-limits : (identity : Identity) (c : Core) (sending : Sending) (history : List Entry) (members pending waiting : List ℕ)
-    → breaks-rule-outside-cells (shown c (rest identity sending history) members pending waiting) ≡ false → WithinLimits c history members
-unfolding members-of
-within-limits identity c sending history members pending waiting h =
-    let most = counted (shown c (rest identity sending history) members pending waiting) h in
-    record {
-      counts =
-          record {
-            members = omega (arith, most .members, members-length (c .counts .members) members);
-            pending = omega (arith, most .pending, packet-count identity c sending history members pending waiting);
-            waiting = omega (arith, most .waiting, waiting-count identity c sending history members pending waiting);
-          };
-      entries = most .history;
-      queues =
-          λ i below.
-          ltb-false max-queued (length (member-at members i .queue))
-          (none-there long-queue (c .counts .members) (member-at members) (most .queues) i below);
-    }

@@ -1,15 +1,22 @@
--- `table_cells` may mark: its flags are fresh.
-use Rattle.srt_group_state.specs.laws.CellPassLaws.{no-marks}
+-- `table_cells` may mark: its words are cleared.
+use Rattle.srt_group_state.specs.laws.Cells.{fresh-marking}
 use borrow.Author.Needs.{needs}
+use native.Mathlib.Omega.{arith}
 use Rattle.table_bench.proofs.table_cells.Statement.{statement}
 use Rattle.table_bench.proofs.table_cells.Tie as tie
+
+slice-aggregate-clear : tie.Need-slice-aggregate-clear
+slice-aggregate-clear c = search needs
+
+clear-requires : tie.Need-clear-requires
+clear-requires c κs = search needs
 
 slice-aggregate-mark-cells : tie.Need-slice-aggregate-mark-cells
 slice-aggregate-mark-cells c = search needs
 
 mark-cells-requires : tie.Need-mark-cells-requires
 mark-cells-requires c κs =
-    (search needs, (search needs, (search needs, (search needs, no-marks))))
+    (search needs, (search needs, (search needs, fresh-marking _ _ (omega arith) (c .before .before .clear .ensures))))
 
 returns : tie.Need-returns
 returns c = search needs
@@ -36,6 +43,8 @@ pub table-cells-spec : {M : Type 1} → statement M
 table-cells-spec =
     tie.close
     (tie.spec
+    slice-aggregate-clear
+    clear-requires
     slice-aggregate-mark-cells
     mark-cells-requires
     returns

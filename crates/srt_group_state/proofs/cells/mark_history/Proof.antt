@@ -4,17 +4,17 @@ use Prim.Native.Nat.{_+_, _-_, _%_}
 use lib.ListN.{getD}
 use Rattle.srt_group_model.specs.Backup.{max-history}
 use Rattle.srt_group_tables.specs.Ring.{word-cell}
-use Rattle.srt_group_state.specs.laws.CellPassLaws.{Marking, sent-are, word-names, marking-start, marking-on, marking-stopped, marking-done}
+use Rattle.srt_group_state.specs.laws.Cells.{MarkedTo, sent-are, word-names, marking-start, marking-on, marking-stopped, marking-done}
 use borrow.Author.Needs.{needs}
 use Rattle.srt_group_state.proofs.cells.mark_history.Statement.{statement}
 use Rattle.srt_group_state.proofs.cells.mark_history.Tie as tie
 
 abbrev Inv-loop : tie.InvT-loop
-Inv-loop flags₀ cells ring history index₀ flags index =
-    Marking cells (λ i. word-cell (getD history ((ring .start + i) % max-history) 0) ∷ []) (ring .length) flags₀ index flags
+Inv-loop used₀ cells ring history index₀ used index =
+    MarkedTo cells (λ i. word-cell (getD history ((ring .start + i) % max-history) 0) ∷ []) (ring .length) used₀ index used
 
 abbrev μ-loop : tie.MeasureT-loop
-μ-loop flags₀ cells ring history index₀ flags index = ring .length - index
+μ-loop used₀ cells ring history index₀ used index = ring .length - index
 
 loop-holds : tie.Need-loop-holds Inv-loop μ-loop
 loop-holds c = search marking-start
@@ -31,8 +31,8 @@ shared-slice-read-cell-of c = search needs
 cell-of-requires : tie.Need-cell-of-requires Inv-loop μ-loop
 cell-of-requires c κs = search needs
 
-mark-cell-requires : tie.Need-mark-cell-requires Inv-loop μ-loop
-mark-cell-requires c κs = search needs
+mark-requires : tie.Need-mark-requires Inv-loop μ-loop
+mark-requires c κs = search needs
 
 same-length : tie.Need-same-length Inv-loop μ-loop
 same-length c = search needs
@@ -66,7 +66,7 @@ mark-history-spec =
     mul-cell-of
     shared-slice-read-cell-of
     cell-of-requires
-    mark-cell-requires
+    mark-requires
     same-length
     returns
     add-index

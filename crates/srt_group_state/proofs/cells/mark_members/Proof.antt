@@ -3,16 +3,16 @@ use Prim.Native.Nat.{_-_}
 use borrow.Author.Needs.{needs}
 use Rattle.srt_group_model.specs.Cells.{queue-cells}
 use Rattle.srt_connection_members.specs.Members.{member-at}
-use Rattle.srt_group_state.specs.laws.CellPassLaws.{Marking, queues-are, marking-start, marking-on, marking-stopped, marking-done}
+use Rattle.srt_group_state.specs.laws.Cells.{MarkedTo, queues-are, marking-start, marking-on, marking-stopped, marking-done}
 use Rattle.srt_group_state.proofs.cells.mark_members.Statement.{statement}
 use Rattle.srt_group_state.proofs.cells.mark_members.Tie as tie
 
 abbrev Inv-loop : tie.InvT-loop
-Inv-loop flags₀ cells members count index₀ flags index =
-    Marking cells (λ i. queue-cells (member-at members i)) count flags₀ index flags
+Inv-loop used₀ cells members count index₀ used index =
+    MarkedTo cells (λ i. queue-cells (member-at members i)) count used₀ index used
 
 abbrev μ-loop : tie.MeasureT-loop
-μ-loop flags₀ cells members count index₀ flags index = count - index
+μ-loop used₀ cells members count index₀ used index = count - index
 
 loop-holds : tie.Need-loop-holds Inv-loop μ-loop
 loop-holds c = search marking-start

@@ -3,16 +3,16 @@ use mathlib.Core.List.{[], _∷_}
 use Prim.Native.Nat.{_-_}
 use borrow.Author.Needs.{needs}
 use Rattle.srt_group_tables.specs.Packets.{packet-at}
-use Rattle.srt_group_state.specs.laws.CellPassLaws.{Marking, pending-are, cell-names, marking-start, marking-on, marking-stopped, marking-done}
+use Rattle.srt_group_state.specs.laws.Cells.{MarkedTo, pending-are, cell-names, marking-start, marking-on, marking-stopped, marking-done}
 use Rattle.srt_group_state.proofs.cells.mark_pending.Statement.{statement}
 use Rattle.srt_group_state.proofs.cells.mark_pending.Tie as tie
 
 abbrev Inv-loop : tie.InvT-loop
-Inv-loop flags₀ cells pending count at₀ flags at =
-    Marking cells (λ i. packet-at pending i .content .cell ∷ []) count flags₀ at flags
+Inv-loop used₀ cells pending count at₀ used at =
+    MarkedTo cells (λ i. packet-at pending i .content .cell ∷ []) count used₀ at used
 
 abbrev μ-loop : tie.MeasureT-loop
-μ-loop flags₀ cells pending count at₀ flags at = count - at
+μ-loop used₀ cells pending count at₀ used at = count - at
 
 loop-holds : tie.Need-loop-holds Inv-loop μ-loop
 loop-holds c = search marking-start
@@ -20,8 +20,8 @@ loop-holds c = search marking-start
 cell-at-requires : tie.Need-cell-at-requires Inv-loop μ-loop
 cell-at-requires c κs = search needs
 
-mark-cell-requires : tie.Need-mark-cell-requires Inv-loop μ-loop
-mark-cell-requires c κs = search needs
+mark-requires : tie.Need-mark-requires Inv-loop μ-loop
+mark-requires c κs = search needs
 
 same-length : tie.Need-same-length Inv-loop μ-loop
 same-length c = search needs
@@ -52,7 +52,7 @@ mark-pending-spec =
     μ-loop
     loop-holds
     cell-at-requires
-    mark-cell-requires
+    mark-requires
     same-length
     returns
     add-at

@@ -4,16 +4,16 @@ use native.Mathlib.Omega.{arith}
 use borrow.Author.Needs.{needs}
 use lib.ListN.{length}
 use Rattle.srt_connection_queue.specs.Rows.{member-of}
-use Rattle.srt_group_state.specs.laws.CellPassLaws.{Marking, queue-names, queue-is, event-names, marking-start, marking-on, marking-stopped, marking-done}
+use Rattle.srt_group_state.specs.laws.Cells.{MarkedTo, queue-names, queue-is, event-names, marking-start, marking-on, marking-stopped, marking-done}
 use Rattle.srt_group_state.proofs.cells.mark_queue.Statement.{statement}
 use Rattle.srt_group_state.proofs.cells.mark_queue.Tie as tie
 
 abbrev Inv-loop : tie.InvT-loop
-Inv-loop flags₀ cells row count index₀ flags index =
-    Marking cells (queue-names (member-of row .queue)) (length (member-of row .queue)) flags₀ index flags
+Inv-loop used₀ cells row count index₀ used index =
+    MarkedTo cells (queue-names (member-of row .queue)) (length (member-of row .queue)) used₀ index used
 
 abbrev μ-loop : tie.MeasureT-loop
-μ-loop flags₀ cells row count index₀ flags index = count - index
+μ-loop used₀ cells row count index₀ used index = count - index
 
 queue-length-requires : tie.Need-queue-length-requires Inv-loop μ-loop
 queue-length-requires c κs = search needs

@@ -1,7 +1,7 @@
 -- `mark_queue_at` meets its contract: the row that is lent is the one at the index.
 use borrow.Author.Needs.{needs}
 use Rattle.srt_connection_members.specs.laws.Members.{lent-member}
-use Rattle.srt_group_state.specs.laws.CellPassLaws.{marks-as}
+use Rattle.srt_group_state.specs.laws.Cells.{marks-as}
 use Rattle.srt_group_state.proofs.cells.mark_queue_at.Statement.{statement}
 use Rattle.srt_group_state.proofs.cells.mark_queue_at.Tie as tie
 

@@ -1,6 +1,6 @@
 -- `queued_event` meets its contract: the law `event-read`.
 use borrow.Author.Needs.{needs}
-use Rattle.srt_group_state.specs.laws.CellPassLaws.{event-read}
+use Rattle.srt_group_state.specs.laws.Cells.{event-read}
 use Rattle.srt_group_state.proofs.cells.queued_event.Statement.{statement}
 use Rattle.srt_group_state.proofs.cells.queued_event.Tie as tie
 

@@ -2,8 +2,9 @@
 use mathlib.Core.Path.{sym, _∙_}
 use native.Mathlib.Omega.{arith}
 use borrow.Author.Needs.{needs}
-use Rattle.srt_group_tables.specs.Ring.{arrays}
-use Rattle.srt_group_state.specs.laws.Tested.{tested-broken, tested-marked, within, ring-fits}
+use Rattle.srt_group_shown.specs.Tables.{parts, tables}
+use Rattle.srt_group_state.specs.laws.Cells.{fresh-marking}
+use Rattle.srt_group_state.specs.laws.Tested.{tested-broken, tested-marked, within}
 use Rattle.srt_group_state.proofs.validity.is_invalid.Statement.{statement}
 use Rattle.srt_group_state.proofs.validity.is_invalid.Tie as tie
 
@@ -13,28 +14,24 @@ breaks-rule-outside-cells-requires c κs = search needs
 returns : tie.Need-returns
 returns c =
     let a = c .before .before .before .before .before .before .before .before .args in
-    tested-broken (a .identity) (a .core) (a .sending) (a .ring) (arrays (a .history .now) (a .sources .now)) (a .members .now) (a .pending .now)
-    (a .waiting .now) _ _ (sym (c .before .breaks-rule-outside-cells .ensures) ∙ c .if1 .taken)
+    tested-broken (parts (a .identity) (a .core) (a .sending) (a .ring))
+    (tables (a .members .now) (a .pending .now) (a .waiting .now) (a .history .now) (a .sources .now)) _ _
+    (sym (c .before .breaks-rule-outside-cells .ensures) ∙ c .if1 .taken)
+
+clear-requires : tie.Need-clear-requires
+clear-requires c κs = search needs
 
 mark-cells-requires : tie.Need-mark-cells-requires
 mark-cells-requires c κs =
-    let a = c .before .before .before .before .before .before .before .before .before .before .args in
-    let pre = c .before .before .before .before .before .before .before .before .before .before .pre in
-    let fine = sym (c .before .before .before .breaks-rule-outside-cells .ensures) ∙ c .before .before .if1 .left in
-    let most =
-    within (a .identity) (a .core) (a .sending) (a .ring) (arrays (a .history .now) (a .sources .now)) (a .members .now) (a .pending .now)
-    (a .waiting .now) fine
-    in (
-      omega (arith, most .counts .members, pre .0 .0),
+    let a = c .before .before .before .before .before .before .before .before .before .before .before .before .before .before .args in
+    let pre = c .before .before .before .before .before .before .before .before .before .before .before .before .before .before .pre in
+    let p = parts (a .identity) (a .core) (a .sending) (a .ring) in
+    let t = tables (a .members .now) (a .pending .now) (a .waiting .now) (a .history .now) (a .sources .now) in
+    let most = within p t (sym (c .before .before .before .before .before .before .before .breaks-rule-outside-cells .ensures) ∙ c .before .before .before .before .before .before .if1 .left) in (
+      omega (arith, most .0, pre .0 .0),
       (
-        (pre .0 .1 .0, most .counts .pending),
-        (
-          (
-            ring-fits (a .identity) (a .core) (a .sending) (a .ring) (arrays (a .history .now) (a .sources .now)) (a .members .now) (a .pending .now) (a .waiting .now) fine,
-            pre .1 .0 .history,
-          ),
-          pre .1 .1,
-        ),
+        (pre .0 .1 .0, most .1 .0),
+        ((most .1 .1, pre .1 .0 .history), fresh-marking _ _ (pre .1 .1 .0) (c .before .before .before .before .clear .ensures)),
       ),
     )
 
@@ -43,12 +40,13 @@ same-length c = search needs
 
 returns-2 : tie.Need-returns-2
 returns-2 c =
-    let a = c .before .before .before .before .before .before .before .before .before .before .before .before .before .args in
-    tested-marked (a .identity) (a .core) (a .sending) (a .ring) (arrays (a .history .now) (a .sources .now)) (a .members .now) (a .pending .now)
-    (a .waiting .now) _ _ _
-    (sym (c .before .before .before .before .before .before .breaks-rule-outside-cells .ensures) ∙ c .before .before .before .before .before .if1 .left) (c .before .before .mark-cells .ensures)
+    let a = c .before .before .before .before .before .before .before .before .before .before .before .before .before .before .before .before .before .args in
+    tested-marked (parts (a .identity) (a .core) (a .sending) (a .ring))
+    (tables (a .members .now) (a .pending .now) (a .waiting .now) (a .history .now) (a .sources .now)) _ _ _ _
+    (sym (c .before .before .before .before .before .before .before .before .before .before .breaks-rule-outside-cells .ensures) ∙ c .before .before .before .before .before .before .before .before .before .if1 .left)
+    (c .before .before .before .before .before .before .before .clear .ensures) (c .before .before .mark-cells .ensures)
 
 pub is-invalid-spec : {M : Type 1} → statement M
 is-invalid-spec =
     tie.close
-    (tie.spec breaks-rule-outside-cells-requires returns mark-cells-requires same-length returns-2)
+    (tie.spec breaks-rule-outside-cells-requires returns clear-requires mark-cells-requires same-length returns-2)
