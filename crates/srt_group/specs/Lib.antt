@@ -1,1 +1,5 @@
 pub mod Made
+pub mod Begins
+pub mod Promised
+-- What is proved.
+pub mod laws
