@@ -12,7 +12,7 @@ use Rattle.srt_protocol.specs.Errors.{refuse-if}
 use Rattle.srt_protocol.specs.Cells.{cells-of}
 use Rattle.srt_group_model.specs.Backup.{max-history}
 use Rattle.srt_group_model.specs.Validity.{is-invalid}
-use Rattle.srt_group_model.specs.Calls.{store-unfit}
+use Rattle.srt_group_model.specs.Calls.{store-unfit, breaks-rule}
 use Rattle.srt_connection_members.specs.Members.{members-size}
 use Rattle.srt_group_tables.specs.Packets.{pending-size}
 use Rattle.srt_group_tables.specs.Waitings.{waiting-size}
@@ -26,6 +26,10 @@ are-short t =
     || (ltb (length (t .pending)) pending-size
     || (ltb (length (t .waiting)) waiting-size
     || (not (eqb (length (t .history)) max-history) || not (eqb (length (t .sources)) max-history))))
+
+-- How a call begins that is lent no store: 5 for short tables, 6, or it goes on.
+abbrev pub begun : Parts → Tables → Outcome
+begun p t = refuse-if (are-short t) InsufficientBuffer (refuse-if (breaks-rule (state-of p t)) InvalidState Accepted)
 
 -- How a call begins that is lent a store of so many bytes: 5 for short tables, 5 for the store, 6, or it goes on.
 abbrev pub begun-stored : Parts → Tables → (store : ℕ) → Outcome

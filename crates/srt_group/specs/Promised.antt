@@ -1,11 +1,17 @@
 -- THE PROMISE of a public call (srt_group_traces, `Promise`), over the record and the lent tables before and after it.
+use mathlib.Core.List.{[]}
 use Prim.Native.Nat.{ℕ}
 use Rattle.srt_group_model.specs.Guards.{Answer}
 use Rattle.srt_group_model.specs.Lent.{Lent, Call}
 use Rattle.srt_group_traces.specs.Statement.{Asked}
 use Rattle.srt_group_traces.specs.Port.{Shown, Promise}
 use Rattle.srt_group_shown.specs.Tables.{Parts, Tables, state-of}
+use Rattle.srt_group_shown.specs.Ready.{storing}
 use Rattle.srt_group.specs.Begins.{are-short}
+
+-- beside the tables nothing is lent
+abbrev pub nothing-lent : Lent
+nothing-lent = storing []
 
 -- the call, and what it is lent beside the tables
 abbrev pub asking : Call → Lent → Asked

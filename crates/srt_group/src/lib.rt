@@ -17,6 +17,7 @@ use srt_group_tables::history::HistoryRing;
 use srt_protocol::received_payload;
 
 mod refusals; // refusals.rt: 5 and 6, which the calls share
+pub mod looks; // looks.rt: the calls that only look
 mod stand_in; // stand_in.rt: the calls of the stand-in leg
 
 // By who moves what: fixed at creation; what a poll carries through by value; what sending moves; the places of the history in use.

@@ -4,7 +4,7 @@ use mathlib.Core.Bool.{Bool, true, false, not, _&&_, _||_}
 use mathlib.Core.List.{List}
 use Prim.Native.Nat.{ℕ}
 use native.Mathlib.Omega.{arith}
-use borrow.Author.Tests.{eqb-true, ltb-false, not-false}
+use borrow.Author.Tests.{eqb-true, eq-eqb, ne-eqb, ltb-false, not-false}
 use lib.Dec.{eqb, ltb}
 use lib.ListN.{length}
 use Rattle.srt_protocol.specs.declared.error.Error.{Error}
@@ -12,18 +12,19 @@ use Rattle.srt_protocol.specs.declared.error.Error.the-variants.{InsufficientBu
 use Rattle.srt_protocol.specs.declared.error.Outcome.{Outcome}
 use Rattle.srt_protocol.specs.declared.error.Outcome.the-variants.{Accepted, Refused}
 use Rattle.srt_protocol.specs.Errors.{error-number, outcome-number, refuse-if}
-use Rattle.srt_protocol.specs.Cells.{cell-size, cells-of}
-use Rattle.srt_group_model.specs.laws.Reason.{or-left, or-right, by-test}
+use Rattle.srt_protocol.specs.Cells.{cell-size, max-cells, cells-of}
+use Rattle.srt_group_model.specs.Tools.{if_then_else_}
+use Rattle.srt_group_model.specs.laws.Reason.{if-true, if-false, or-left, or-right, by-test}
 use Rattle.srt_group_model.specs.Backup.{max-history}
 use Rattle.srt_group_model.specs.Validity.{is-invalid}
-use Rattle.srt_group_model.specs.Calls.{store-unfit}
+use Rattle.srt_group_model.specs.Calls.{store-unfit, cells-given, breaks-rule}
 use Rattle.srt_connection_members.specs.Members.{members-size}
 use Rattle.srt_group_tables.specs.Packets.{pending-size}
 use Rattle.srt_group_tables.specs.Waitings.{waiting-size}
 use Rattle.srt_group_shown.specs.Tables.{Parts, Tables, state-of, Long}
 use Rattle.srt_group_state.specs.Tested.{Tested}
 use Rattle.srt_group_state.specs.laws.Tested.{ready-of-tested}
-use Rattle.srt_group.specs.Begins.{are-short, BeginsStored}
+use Rattle.srt_group.specs.Begins.{are-short, begun, BeginsStored}
 
 pub are-long : (t : Tables) → are-short t ≡ false → Long t
 unfolding are-short
@@ -82,7 +83,64 @@ module _ (p : Parts) (t : Tables) (store : ℕ) (used : List ℕ) where
           ready = λ e. ready-of-tested (are-long t long) fits tested valid;
         }
 
--- ---- what a call that has begun knows
+-- ---- a call that is lent no store
+
+pub none-given : {given : ℕ} → given ≡ 0 → max-cells ≡ (if eqb given 0 then max-cells else cells-of given)
+none-given {given} is = sym (if-true (eqb given 0) max-cells (cells-of given) (eq-eqb given 0 is))
+
+pub some-given : {given : ℕ} → (given ≡ 0 → ⊥) → cells-of given ≡ (if eqb given 0 then max-cells else cells-of given)
+some-given {given} not-0 = sym (if-false (eqb given 0) max-cells (cells-of given) (ne-eqb given 0 not-0))
+
+module _ (p : Parts) (t : Tables) where
+  pub begun-short : are-short t ≡ true → Refused InsufficientBuffer ≡ begun p t
+  begun-short short = refused-is _ _ short
+
+  module _ (long : are-short t ≡ false) {cells : ℕ}
+      (is-cells : cells ≡ (if eqb (p .identity .length) 0 then max-cells else cells-of (p .identity .length)))
+      {r : Bool} {used : List ℕ} (found : Tested cells (state-of p t) r used) where
+    broken-is : {b : Bool} → r ≡ b → breaks-rule (state-of p t) ≡ b
+    unfolding cells-given
+    broken-is is = ap (λ (n : ℕ). is-invalid n (state-of p t)) (sym is-cells) ∙ sym (found .is) ∙ is
+
+    pub begun-invalid : r ≡ true → Refused InvalidState ≡ begun p t
+    begun-invalid broken = refused-is _ _ (broken-is broken) ∙ passed-is _ _ long
+
+    pub begun-on : r ≡ false → Accepted ≡ begun p t
+    begun-on valid = passed-is _ _ (broken-is valid) ∙ passed-is _ _ long
+
+-- what it then knows
+module _ (p : Parts) (t : Tables) {r : Outcome} (begins : r ≡ begun p t) where
+  abbrev after-tables : Outcome
+  after-tables = refuse-if (breaks-rule (state-of p t)) InvalidState Accepted
+
+  pub begun-which : {B : Type 0} (e : Error) → r ≡ Refused e
+      → (are-short t ≡ true → error-number e ≡ 5 → B)
+      → (are-short t ≡ false → breaks-rule (state-of p t) ≡ true → error-number e ≡ 6 → B)
+      → B
+  begun-which e refused on-short on-invalid =
+      let is = sym refused ∙ begins in
+      by-test (are-short t)
+      (λ short. on-short short (ap outcome-number (is ∙ sym (refused-is InsufficientBuffer after-tables short))))
+      (λ long.
+      let on = is ∙ sym (passed-is InsufficientBuffer after-tables long) in
+      by-test (breaks-rule (state-of p t))
+      (λ broken. on-invalid long broken (ap outcome-number (on ∙ sym (refused-is InvalidState Accepted broken))))
+      (λ valid. never-accepted (on ∙ sym (passed-is InvalidState Accepted valid))))
+
+  pub begun-long : r ≡ Accepted → are-short t ≡ false
+  begun-long accepted =
+      by-test (are-short t)
+      (λ short. never-accepted (refused-is InsufficientBuffer after-tables short ∙ sym begins ∙ accepted)) (λ long. long)
+
+  pub begun-valid : r ≡ Accepted → breaks-rule (state-of p t) ≡ false
+  begun-valid accepted =
+      by-test (breaks-rule (state-of p t))
+      (λ broken.
+      never-accepted
+      (refused-is InvalidState Accepted broken ∙ passed-is InsufficientBuffer after-tables (begun-long accepted) ∙ sym begins ∙ accepted))
+      (λ valid. valid)
+
+-- ---- what a call that is lent a store and has begun knows
 
 module _ {p : Parts} {t : Tables} {store : ℕ} {r : Outcome} {used : List ℕ} (begins : BeginsStored p t store r used) where
   abbrev after-short : Outcome

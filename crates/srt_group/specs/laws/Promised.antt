@@ -1,7 +1,7 @@
 -- What is proved of the definitions in specs/Promised.antt, with what the proofs need.
 use mathlib.Core.Path.{_≡_, refl, sym, ap, subst, _∙_}
 use mathlib.Core.Bool.{Bool, true, false}
-use mathlib.Core.List.{List, _∷_}
+use mathlib.Core.List.{List, [], _∷_}
 use Prim.Native.Nat.{ℕ}
 use lib.ListN.{length}
 use Rattle.srt_protocol.specs.declared.error.Error.{Error}
@@ -11,8 +11,8 @@ use Rattle.srt_protocol.specs.Errors.{error-number}
 use Rattle.srt_protocol.specs.Cells.{cells-of, overwritten}
 use Rattle.srt_group_model.specs.State.{State}
 use Rattle.srt_group_model.specs.Validity.{is-invalid}
-use Rattle.srt_group_model.specs.Guards.{Answer, no-answer, Step, refuse, Check, _when_, guard}
-use Rattle.srt_group_model.specs.Calls.{store-unfit, queue-data}
+use Rattle.srt_group_model.specs.Guards.{Answer, no-answer, Shown as Looked, shown, Step, refuse, accept, Check, _when_, guard}
+use Rattle.srt_group_model.specs.Calls.{store-unfit, breaks-rule, queue-data}
 use Rattle.srt_group_model.specs.Lent.{Lent, Call, call-queue-data, takes, stored, delivered-by, written-out, list-rows, with-bytes, step-of, perform}
 use Rattle.srt_group_model.specs.laws.Refusals.{guard-stops, guard-goes-on}
 use Rattle.srt_group_model.specs.declared.Data.{Data}
@@ -22,8 +22,8 @@ use Rattle.srt_group_traces.specs.laws.Port.{performs-does}
 use Rattle.srt_group_traces.specs.laws.Rows.{only-sends-fill-rows}
 use Rattle.srt_group_shown.specs.Tables.{Parts, Tables, state-of}
 use Rattle.srt_group_shown.specs.Ready.{storing, Performs}
-use Rattle.srt_group.specs.Begins.{are-short, BeginsStored}
-use Rattle.srt_group.specs.laws.Begins.{not-short, which-refused}
+use Rattle.srt_group.specs.Begins.{are-short, begun, BeginsStored}
+use Rattle.srt_group.specs.laws.Begins.{begun-which, begun-long, begun-valid, not-short, which-refused}
 use Rattle.srt_group.specs.Promised.{asking, showing, Promised}
 
 module _ (call : Call) (p : Parts) (t : Tables) (bytes : Lent) where
@@ -53,6 +53,37 @@ module _ (call : Call) (p : Parts) (t : Tables) (bytes : Lent) where
   promised-does : (x : Shown) → are-short t ≡ false → Does (asking call bytes) s x → Promised call p t bytes x
   promised-does x long does = subst (λ (b : Bool). Promise b (asking call bytes) s x) (sym long) does
 
+  -- refused with a code of its definition
+  refused-by : are-short t ≡ false → (code : ℕ) → step ≡ refuse code s → {number : ℕ} → number ≡ code
+      → Promised call p t bytes (refused-with number)
+  refused-by long code is same =
+      subst (λ (n : ℕ). Promised call p t bytes (refused-with n)) (sym same) (promised-does (refused-with code) long (does-refused code is))
+
+  -- ---- a call that is lent no store, whose definition begins with 6
+
+  module _ {r : Outcome} (begins : r ≡ begun p t) where
+    pub promised-refused-6 : (cs : List Check) (body : Step) → step ≡ guard ((6 when breaks-rule s) ∷ cs) s body
+        → (e : Error) → r ≡ Refused e → Promised call p t bytes (refused-with (error-number e))
+    promised-refused-6 cs body is e refused =
+        begun-which p t begins e refused
+        (λ short five. promised-short (refused-with (error-number e)) short (ap refused-with five))
+        (λ long broken six. refused-by long 6 (is ∙ guard-stops (6 when breaks-rule s) cs s body broken) six)
+
+    -- a look that shows something
+    pub promised-look : (v : Looked) → r ≡ Accepted → step ≡ guard ((6 when breaks-rule s) ∷ []) s (accept s (shown v))
+        → Promised call p t bytes (showing p t bytes 0 (shown v) 0)
+    unfolding do-call perform with-bytes stored delivered-by written-out list-rows overwritten guard
+    promised-look v accepted is =
+        let step-is = is ∙ guard-goes-on (6 when breaks-rule s) [] s (accept s (shown v)) (begun-valid p t begins accepted) in
+        promised-does (showing p t bytes 0 (shown v) 0) (begun-long p t begins accepted)
+        record {
+          code = sym (ap (λ (x : Step). x .code) step-is);
+          answer = sym (ap (λ (x : Step). x .answer) step-is);
+          state = sym (ap (λ (x : Step). x .state) step-is);
+          lent = sym (ap (λ (x : Step). with-bytes bytes x .lent) step-is);
+          rows = sym (ap (λ (x : Step). length (x .sends)) step-is);
+        }
+
   -- ---- a call that is lent a store, whose definition begins with 5 and 6
 
   module _ {r : Outcome} {used : List ℕ} (begins : BeginsStored p t (length (bytes .store)) r used) where
@@ -64,16 +95,12 @@ module _ (call : Call) (p : Parts) (t : Tables) (bytes : Lent) where
     promised-refused cs body is e refused =
         which-refused begins e refused
         (λ short five. promised-short (refused-with (error-number e)) short (ap refused-with five))
-        (λ long unfit five. at-code long 5 five (is ∙ guard-stops (5 when store-unfit (length (bytes .store)) s) _ s body unfit))
+        (λ long unfit five. refused-by long 5 (is ∙ guard-stops (5 when store-unfit (length (bytes .store)) s) _ s body unfit) five)
         (λ long fits broken six.
-        at-code long 6 six
+        refused-by long 6
         (is ∙ guard-goes-on (5 when store-unfit (length (bytes .store)) s) _ s body fits
-        ∙ guard-stops (6 when is-invalid (cells-of (length (bytes .store))) s) cs s body broken))
-      where
-        at-code : are-short t ≡ false → (code : ℕ) → error-number e ≡ code → step ≡ refuse code s
-            → Promised call p t bytes (refused-with (error-number e))
-        at-code long code same is =
-            subst (λ (n : ℕ). Promised call p t bytes (refused-with n)) (sym same) (promised-does (refused-with code) long (does-refused code is))
+        ∙ guard-stops (6 when is-invalid (cells-of (length (bytes .store))) s) cs s body broken)
+        six)
 
     pub promised-performed : takes call .list ≡ false → r ≡ Accepted
         → {number : ℕ} {given : Answer} {p′ : Parts} {t′ : Tables} {bytes′ : Lent} {used′ : List ℕ}
