@@ -24,6 +24,7 @@ use Rattle.srt_group_tables.specs.Waitings.{waiting-size}
 use Rattle.srt_group_shown.specs.Tables.{Parts, Tables, state-of, Long}
 use Rattle.srt_group_state.specs.Tested.{Tested}
 use Rattle.srt_group_state.specs.laws.Tested.{ready-of-tested}
+use Rattle.srt_group_queueing.specs.Steps.{Unbroken}
 use Rattle.srt_group.specs.Begins.{are-short, begun, BeginsStored}
 
 pub are-long : (t : Tables) → are-short t ≡ false → Long t
@@ -139,6 +140,9 @@ module _ (p : Parts) (t : Tables) {r : Outcome} (begins : r ≡ begun p t) where
       never-accepted
       (refused-is InvalidState Accepted broken ∙ passed-is InsufficientBuffer after-tables (begun-long accepted) ∙ sym begins ∙ accepted))
       (λ valid. valid)
+
+  pub begun-unbroken : r ≡ Accepted → Unbroken p t
+  begun-unbroken accepted = record { long = are-long t (begun-long accepted); valid = begun-valid accepted }
 
 -- ---- what a call that is lent a store and has begun knows
 

@@ -22,9 +22,11 @@ use Rattle.srt_group_traces.specs.laws.Port.{performs-does}
 use Rattle.srt_group_traces.specs.laws.Rows.{only-sends-fill-rows}
 use Rattle.srt_group_shown.specs.Tables.{Parts, Tables, state-of}
 use Rattle.srt_group_shown.specs.Ready.{storing, Performs}
+use Rattle.srt_group_queueing.specs.Steps.{Steps}
+use Rattle.srt_group_queueing.specs.laws.OneMember.{OneMember}
 use Rattle.srt_group.specs.Begins.{are-short, begun, BeginsStored}
 use Rattle.srt_group.specs.laws.Begins.{begun-which, begun-long, begun-valid, not-short, which-refused}
-use Rattle.srt_group.specs.Promised.{asking, showing, Promised}
+use Rattle.srt_group.specs.Promised.{nothing-lent, asking, showing, Promised}
 
 module _ (call : Call) (p : Parts) (t : Tables) (bytes : Lent) where
   abbrev s : State
@@ -84,6 +86,21 @@ module _ (call : Call) (p : Parts) (t : Tables) (bytes : Lent) where
           rows = sym (ap (λ (x : Step). length (x .sends)) step-is);
         }
 
+    -- what follows 5 and 6 is the definition's step
+    pub promised-steps : r ≡ Accepted → {code : ℕ} {t′ : Tables} → Steps call p t code t′
+        → Promised call p t bytes (showing p t′ bytes code no-answer 0)
+    unfolding do-call perform with-bytes stored delivered-by written-out list-rows overwritten
+    promised-steps accepted {code} {t′} steps =
+        let step-is = steps .step (length (bytes .store)) (length (bytes .output)) (length (bytes .list)) in
+        promised-does (showing p t′ bytes code no-answer 0) (begun-long p t begins accepted)
+        record {
+          code = sym (ap (λ (x : Step). x .code) step-is);
+          answer = sym (ap (λ (x : Step). x .answer) step-is);
+          state = sym (ap (λ (x : Step). x .state) step-is);
+          lent = sym (ap (λ (x : Step). with-bytes bytes x .lent) step-is);
+          rows = sym (ap (λ (x : Step). length (x .sends)) step-is);
+        }
+
   -- ---- a call that is lent a store, whose definition begins with 5 and 6
 
   module _ {r : Outcome} {used : List ℕ} (begins : BeginsStored p t (length (bytes .store)) r used) where
@@ -109,6 +126,13 @@ module _ (call : Call) (p : Parts) (t : Tables) (bytes : Lent) where
         promised-does (showing p′ t′ bytes′ number given 0) (not-short begins accepted)
         (performs-does call bytes s (showing p′ t′ bytes′ number given 0) (done .code) (done .answer) (done .state) (done .lent)
         (sym (only-sends-fill-rows call bytes s no-list)))
+
+-- ---- `queue_event`, `read_leg`
+
+pub one-member-refused : {call : Call} (c : OneMember call) (p : Parts) (t : Tables) {r : Outcome} (begins : r ≡ begun p t) (e : Error)
+    → r ≡ Refused e → Promised call p t nothing-lent (showing p t nothing-lent (error-number e) no-answer 0)
+one-member-refused {call} c p t begins e refused =
+    promised-refused-6 call p t nothing-lent begins _ _ (c .is 0 0 0 (state-of p t)) e refused
 
 -- ---- `queue_data`
 
