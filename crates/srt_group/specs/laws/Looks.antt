@@ -1,16 +1,13 @@
 -- What is proved of the looks, call by call: how it is refused, and what it shows.
 use mathlib.Core.Path.{_≡_, refl}
-use Prim.Native.Nat.{ℕ}
 use Rattle.srt_protocol.specs.declared.error.Error.{Error}
 use Rattle.srt_protocol.specs.declared.error.Outcome.{Outcome}
 use Rattle.srt_protocol.specs.declared.error.Outcome.the-variants.{Accepted, Refused}
 use Rattle.srt_protocol.specs.Errors.{error-number}
-use Rattle.srt_group_model.specs.State.{State}
 use Rattle.srt_group_model.specs.Guards.{no-answer, shown, number, Shown as Looked}
 use Rattle.srt_group_model.specs.Calls.{look-checks, group-id, mode, skipped-receive-packets}
 use Rattle.srt_group_model.specs.Lent.{Look, look-group-id, look-mode, look-skipped-receive-packets, looking, look-at, call-look, step-of}
-use Rattle.srt_group_shown.specs.Tables.{Parts, Tables, state-of}
-use Rattle.srt_group_shown.specs.Ready.{storing}
+use Rattle.srt_group_shown.specs.Tables.{Parts, Tables}
 use Rattle.srt_group.specs.Begins.{begun}
 use Rattle.srt_group.specs.Promised.{nothing-lent, showing, Promised}
 use Rattle.srt_group.specs.laws.Promised.{promised-refused-6, promised-look}

@@ -5,7 +5,6 @@ use mathlib.Core.List.{List, [], _∷_}
 use Prim.Native.Nat.{ℕ}
 use native.Mathlib.Omega.{arith}
 use lib.Dec.{eqb}
-use lib.ListN.{length}
 use Rattle.srt_protocol.specs.declared.error.Error.the-variants.{QueueFull}
 use Rattle.srt_protocol.specs.declared.error.Outcome.{Outcome}
 use Rattle.srt_protocol.specs.declared.error.Outcome.the-variants.{Accepted, Refused}
