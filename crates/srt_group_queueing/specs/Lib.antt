@@ -1,3 +1,4 @@
 pub mod Queueing
+pub mod Steps
 -- What is proved.
 pub mod laws

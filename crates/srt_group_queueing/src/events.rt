@@ -1,6 +1,7 @@
 // `queue_event` of the stand-in leg: a lifecycle event into a leg's queue.
 ghost use mathlib.Core.Path.{_≡_};
 ghost use mathlib.Core.Bool.{_||_};
+ghost use Prim.Native.Nat.{_*_, _≤_};
 ghost use lib.Dec.{eqb};
 ghost use lib.ListN.{length};
 ghost use Rattle.srt_protocol.specs.Errors.{outcome-number};
@@ -9,8 +10,10 @@ ghost use Rattle.srt_group_model.specs.Validity.{above};
 ghost use Rattle.srt_group_model.specs.Guards.{no-answer};
 ghost use Rattle.srt_group_model.specs.Calls.{lifecycle-event};
 ghost use Rattle.srt_group_model.specs.Lent.{call-queue-event};
+ghost use Rattle.srt_connection_queue.specs.Rows.{row-size};
 ghost use Rattle.srt_group_shown.specs.Tables.{parts, tables};
 ghost use Rattle.srt_group_shown.specs.Ready.{Ready, storing, Performs};
+ghost use Rattle.srt_group_queueing.specs.Steps.{StepsOver};
 use srt_connection::legs::LARGEST_32;
 use srt_connection_members::Found;
 use srt_connection_members::find;
@@ -51,6 +54,21 @@ fn lifecycle_event(kind: u64, reason: u64) -> Event
     }
 }
 
+// `queue_event` after 5 and 6: 2, 3 or 31, or the event at the end of the leg's queue. It touches the members only.
+pub fn push_event(core: Core, members: &mut [u64], id: u64, kind: u64, reason: u64) -> Outcome
+    requires { ⌜ core .counts .members * row-size ≤ length (now members) ⌝ }
+    ensures { λ r. ⌜ StepsOver (call-queue-event id kind reason) core (now (members .entry)) (outcome-number r) (now (members .exit)) ⌝ }
+{
+    if event_unfit(id, kind, reason) {
+        return Outcome::Refused(Error::OutOfRange);
+    }
+    let found = find(members, core.counts.members, id);
+    let Found::At(index) = found else {
+        return Outcome::Refused(Error::UnknownMember);
+    };
+    push_at(members, index, lifecycle_event(kind, reason))
+}
+
 // `queue_event` for a valid state. The cells in use stay the same; the store is lent for its length, over which the state is valid.
 pub fn queue_event(
     identity: Identity,
@@ -76,12 +94,5 @@ pub fn queue_event(
         (tables (now (members .exit)) (now (pending .entry)) (now (waiting .entry)) (now (history .entry)) (now (sources .entry)))
         (storing (now (store .entry))) (now (used .entry)) ⌝ }
 {
-    if event_unfit(id, kind, reason) {
-        return Outcome::Refused(Error::OutOfRange);
-    }
-    let found = find(members, core.counts.members, id);
-    let Found::At(index) = found else {
-        return Outcome::Refused(Error::UnknownMember);
-    };
-    push_at(members, index, lifecycle_event(kind, reason))
+    push_event(core, members, id, kind, reason)
 }

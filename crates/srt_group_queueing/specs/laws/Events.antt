@@ -5,7 +5,6 @@ use mathlib.Core.List.{List, [], _∷_}
 use Prim.Native.Nat.{ℕ}
 use native.Mathlib.Omega.{arith}
 use lib.Dec.{eqb}
-use lib.ListN.{length}
 use Rattle.srt_protocol.specs.declared.error.Error.the-variants.{QueueFull}
 use Rattle.srt_protocol.specs.declared.error.Outcome.{Outcome}
 use Rattle.srt_protocol.specs.declared.error.Outcome.the-variants.{Accepted, Refused}
@@ -27,7 +26,7 @@ use Rattle.srt_connection_members.specs.Members.{member-at, found-of, PushedAt}
 use Rattle.srt_connection_members.specs.laws.Members.{changed-by}
 use Rattle.srt_connection_members.specs.declared.Found.the-variants.{At}
 use Rattle.srt_group_shown.specs.Tables.{Parts, Tables, state-of}
-use Rattle.srt_group_shown.specs.Ready.{Ready}
+use Rattle.srt_group_queueing.specs.Steps.{Unbroken}
 use Rattle.srt_group_queueing.specs.laws.OneMember.{OneMember, member-checks, Ends, member-refused, member-changed}
 
 module _ (id kind reason : ℕ) where
@@ -64,21 +63,21 @@ module _ (id kind reason : ℕ) where
       }
 
   -- pushed at the end of the queue that `find` answered
-  pub event-pushed : (p : Parts) (t : Tables) (store used : List ℕ) (ready : Ready p t (length store) used) → event-unfit ≡ false
+  pub event-pushed : (p : Parts) (t : Tables) (unbroken : Unbroken p t) → event-unfit ≡ false
       → (i : ℕ) → At i ≡ found-of (find id (state-of p t .members))
       → (event : Event) (o : Outcome) (members′ : List ℕ) → event ≡ lifecycle-event kind reason → PushedAt i event (t .members) o members′
-      → Ends event-call p t store used ready o members′
-  event-pushed p t store used ready fit i at event o members′ made pushed =
+      → Ends event-call p t unbroken o members′
+  event-pushed p t unbroken fit i at event o members′ made pushed =
       by-test (queue-full m)
       (λ full.
       let is : o ≡ Refused QueueFull = pushed .outcome ∙ ap (λ (b : Bool). refuse-if b QueueFull Accepted) full in
-      subst (λ (x : Outcome). Ends event-call p t store used ready x members′) (sym is)
-      (member-refused event-call p t store used ready fit i at members′ full
+      subst (λ (x : Outcome). Ends event-call p t unbroken x members′) (sym is)
+      (member-refused event-call p t unbroken fit i at members′ full
       (changed-by i (t .members) members′ (λ x. x) (pushed .changed) (ap (λ (x : Outcome). if-accepted x (enqueue event m) m) is))))
       (λ room.
       let is : o ≡ Accepted = pushed .outcome ∙ ap (λ (b : Bool). refuse-if b QueueFull Accepted) room in
-      subst (λ (x : Outcome). Ends event-call p t store used ready x members′) (sym is)
-      (member-changed event-call p t store used ready fit i at members′ room
+      subst (λ (x : Outcome). Ends event-call p t unbroken x members′) (sym is)
+      (member-changed event-call p t unbroken fit i at members′ room
       (changed-by i (t .members) members′ (enqueue (lifecycle-event kind reason)) (pushed .changed)
       (ap (λ (x : Outcome). if-accepted x (enqueue event m) m) is ∙ ap (λ (e : Event). enqueue e m) made))))
     where

@@ -22,7 +22,7 @@ use Rattle.srt_group_model.specs.Members.{has-id, find}
 use Rattle.srt_group_model.specs.Cells.{queue-cells, queued-cells}
 use Rattle.srt_group_model.specs.Sound.{occurs}
 use Rattle.srt_group_model.specs.Validity.{is-invalid}
-use Rattle.srt_group_model.specs.Guards.{no-answer, Step, accept, Check, _when_, guard}
+use Rattle.srt_group_model.specs.Guards.{no-answer, Step, refuse, accept, Check, _when_, guard}
 use Rattle.srt_group_model.specs.laws.Refusals.{guard-stops, guard-goes-on}
 use Rattle.srt_group_model.specs.laws.Places.{change-nothing, first-such-is-found}
 use Rattle.srt_group_model.specs.laws.Valid.{valid-of, counted-of, valid-wider}
@@ -31,13 +31,14 @@ use Rattle.srt_group_model.specs.laws.CellsMoved.{Keeps}
 use Rattle.srt_group_model.specs.Calls.{store-unfit, cells-given, breaks-rule, is-unknown, of-member, change-member}
 use Rattle.srt_group_model.specs.Lent.{Call, stored, delivered-by, written-out, list-rows, with-bytes, step-of}
 use Rattle.srt_connection_queue.specs.Rows.{row-size}
-use Rattle.srt_connection_members.specs.Members.{member-at, has-row, found-of, Changed}
+use Rattle.srt_connection_members.specs.Members.{members-of, member-at, has-row, found-of, Changed}
 use Rattle.srt_connection_members.specs.laws.Members.{members-length, members-place, found-some, found-none, found-below}
 use Rattle.srt_connection_members.specs.declared.Found.the-variants.{At, Nothing}
 use Rattle.cell_set.specs.laws.Shows.{shows-kept}
 use Rattle.srt_group_shown.specs.Tables.{Parts, Tables, state-of, Long}
 use Rattle.srt_group_shown.specs.Ready.{Ready, storing, Performs}
-use Rattle.srt_group_shown.specs.laws.Ready.{performs-refused, performs-refused-over, performs-accepted}
+use Rattle.srt_group_shown.specs.laws.Ready.{performs-accepted}
+use Rattle.srt_group_queueing.specs.Steps.{Unbroken, left, Steps}
 
 -- ---- what is ready
 
@@ -46,19 +47,19 @@ abbrev pub with-table : List ℕ → Tables → Tables
 with-table members t =
     record { members = members; pending = t .pending; waiting = t .waiting; history = t .history; sources = t .sources }
 
+-- what `find` is given
+pub rows-unbroken : {p : Parts} {t : Tables} → Unbroken p t → p .core .counts .members * row-size ≤ length (t .members)
+rows-unbroken {p} {t} unbroken =
+    omega (
+      arith,
+      counted-of (state-of p t) (valid-of (cells-given (state-of p t)) (state-of p t) (unbroken .valid) .counts) .members,
+      members-length (p .core .counts .members) (t .members),
+      unbroken .long .members,
+    )
+
 module _ {p : Parts} {t : Tables} {store : ℕ} {used : List ℕ} (ready : Ready p t store used) where
   abbrev shown : State
   shown = state-of p t
-
-  -- what `find` is given
-  pub rows-there : p .core .counts .members * row-size ≤ length (t .members)
-  rows-there =
-      omega (
-        arith,
-        counted-of shown (valid-of (cells-of store) shown (ready .valid) .counts) .members,
-        members-length (p .core .counts .members) (t .members),
-        ready .long .members,
-      )
 
   -- 6 is not given by a call that is lent no store either: it has the cells of this store, or more
   pub no-rule-broken : breaks-rule shown ≡ false
@@ -74,15 +75,21 @@ module _ {p : Parts} {t : Tables} {store : ℕ} {used : List ℕ} (ready : Ready
           (subst (λ (b : Bool). (not b && not (eqb store (shown .making .length))) ≡ false) given
           (or-left (not (eqb (shown .making .length) 0) && not (eqb store (shown .making .length))) (ltb store cell-size) (ready .fits)))
 
-  pub long-with : (members′ : List ℕ) → length members′ ≡ length (t .members) → Long (with-table members′ t)
-  long-with members′ same =
-      record {
-        members = omega (arith, ready .long .members, same);
-        pending = ready .long .pending;
-        waiting = ready .long .waiting;
-        history = ready .long .history;
-        sources = ready .long .sources;
-      }
+  pub unbroken-of : Unbroken p t
+  unbroken-of = record { long = ready .long; valid = no-rule-broken }
+
+  pub rows-there : p .core .counts .members * row-size ≤ length (t .members)
+  rows-there = rows-unbroken unbroken-of
+
+pub long-with : {t : Tables} → Long t → (members′ : List ℕ) → length members′ ≡ length (t .members) → Long (with-table members′ t)
+long-with long members′ same =
+    record {
+      members = omega (arith, long .members, same);
+      pending = long .pending;
+      waiting = long .waiting;
+      history = long .history;
+      sources = long .sources;
+    }
 
 -- ---- the member that `find` answers
 
@@ -141,6 +148,10 @@ pub found-row : {p : Parts} {t : Tables} {store : ℕ} {used : List ℕ} → Rea
     → At i ≡ found-of (find id (state-of p t .members)) → has-row i (t .members)
 found-row {p} {t} ready id i at = omega (arith, rows-there ready, below id p t i at)
 
+pub row-there : (count id i : ℕ) (members : List ℕ) → count * row-size ≤ length members
+    → At i ≡ found-of (find id (members-of count members)) → has-row i members
+row-there count id i members rows at = omega (arith, rows, found-below count id i members at)
+
 -- the state that is shown once a row is changed
 pub shown-changed : (p : Parts) (t : Tables) (i : ℕ) (f : Member → Member) (members′ : List ℕ) → Changed i f (t .members) members′
     → state-of p (with-table members′ t) ≡ with-members (change i f (state-of p t .members)) (state-of p t)
@@ -184,14 +195,16 @@ change-keeps i f s same =
           λ n. omega (arith, uses-used n s, uses-used n (with-members (change i f (s .members)) s), change-queued n i f (s .members) (same n));
     }
 
-module _ {call : Call} (c : OneMember call) (p : Parts) (t : Tables) (store used : List ℕ) (ready : Ready p t (length store) used) where
+same-cells : (s : State) → Keeps s s
+same-cells s = record { cells = λ n. refl }
+
+module _ {call : Call} (c : OneMember call) (p : Parts) (t : Tables) (unbroken : Unbroken p t) where
   abbrev before : State
   before = state-of p t
 
   -- what is left to show: the call with an outcome, over the members after it
   abbrev pub Ends : Outcome → (members′ : List ℕ) → Type 0
-  Ends o members′ =
-      Performs call p t (storing store) (outcome-number o) no-answer p (with-table members′ t) (storing store) used
+  Ends o members′ = Steps call p t (outcome-number o) (with-table members′ t)
 
   abbrev body : Step
   body = accept (change-member (c .id) (c .does) before) no-answer
@@ -205,50 +218,83 @@ module _ {call : Call} (c : OneMember call) (p : Parts) (t : Tables) (store used
   abbrev 2-on : List Check
   2-on = (2 when c .unfit) ∷ 3-on
 
-  abbrev step : Step
-  step = step-of (length store) 0 0 call before
+  -- what the call is, whatever is lent
+  abbrev Is : Step → Type 0
+  Is x = (store output list : ℕ) → step-of store output list call before ≡ x
 
-  starts : step ≡ guard 2-on before body
-  starts = c .is (length store) 0 0 before ∙ guard-goes-on (6 when breaks-rule before) 2-on before body (no-rule-broken ready)
+  starts : Is (guard 2-on before body)
+  starts store output list =
+      c .is store output list before ∙ guard-goes-on (6 when breaks-rule before) 2-on before body (unbroken .valid)
+
+  refused : (o : Outcome) → Is (refuse (outcome-number o) before) → Ends o (t .members)
+  refused o is = record { step = is; long = unbroken .long; keeps = same-cells before }
 
   pub unfit-refused : c .unfit ≡ true → Ends (Refused OutOfRange) (t .members)
   unfit-refused unfit =
-      performs-refused call p t (storing store) used ready 2 (starts ∙ guard-stops (2 when c .unfit) 3-on before body unfit)
+      refused (Refused OutOfRange)
+      (λ store output list. starts store output list ∙ guard-stops (2 when c .unfit) 3-on before body unfit)
 
   module _ (fit : c .unfit ≡ false) where
-    after-2 : step ≡ guard 3-on before body
-    after-2 = starts ∙ guard-goes-on (2 when c .unfit) 3-on before body fit
+    after-2 : Is (guard 3-on before body)
+    after-2 store output list = starts store output list ∙ guard-goes-on (2 when c .unfit) 3-on before body fit
 
     pub unknown-refused : Nothing ≡ found-of (find (c .id) (before .members)) → Ends (Refused UnknownMember) (t .members)
     unknown-refused nowhere =
-        performs-refused call p t (storing store) used ready 3
-        (after-2 ∙ guard-stops (3 when is-unknown (c .id) before) own-on before body (is-nowhere (c .id) p t nowhere))
+        refused (Refused UnknownMember)
+        (λ store output list.
+        after-2 store output list
+        ∙ guard-stops (3 when is-unknown (c .id) before) own-on before body (is-nowhere (c .id) p t nowhere))
 
     module _ (i : ℕ) (at : At i ≡ found-of (find (c .id) (before .members))) where
-      after-3 : step ≡ guard own-on before body
-      after-3 = after-2 ∙ guard-goes-on (3 when is-unknown (c .id) before) own-on before body (is-known (c .id) p t i at)
+      after-3 : Is (guard own-on before body)
+      after-3 store output list =
+          after-2 store output list
+          ∙ guard-goes-on (3 when is-unknown (c .id) before) own-on before body (is-known (c .id) p t i at)
 
       -- the member refuses: a table that shows the same
       pub member-refused : (members′ : List ℕ) → c .refuses (member-at (t .members) i) ≡ true → Changed i (λ m. m) (t .members) members′
           → Ends (Refused (c .error)) members′
-      member-refused members′ refused same =
-          performs-refused-over call p t (storing store) used ready (error-number (c .error))
-          (after-3
-          ∙ guard-stops (error-number (c .error) when of-member (c .id) (c .refuses) before) [] before body
-          (of-found (c .id) p t i at (c .refuses) ∙ refused))
-          (with-table members′ t)
-          (shown-changed p t i (λ m. m) members′ same ∙ ap (λ (ms : List Member). with-members ms before) (change-nothing i (before .members)))
-          (long-with ready members′ (same .long))
+      member-refused members′ refuses same =
+          let shows-same : state-of p (with-table members′ t) ≡ before =
+          shown-changed p t i (λ m. m) members′ same ∙ ap (λ (ms : List Member). with-members ms before) (change-nothing i (before .members))
+          in
+          record {
+            step =
+                λ store output list.
+                after-3 store output list
+                ∙ guard-stops (error-number (c .error) when of-member (c .id) (c .refuses) before) [] before body
+                (of-found (c .id) p t i at (c .refuses) ∙ refuses)
+                ∙ ap (refuse (error-number (c .error))) (sym shows-same);
+            long = long-with (unbroken .long) members′ (same .long);
+            keeps = subst (Keeps before) (sym shows-same) (same-cells before);
+          }
 
       pub member-changed : (members′ : List ℕ) → c .refuses (member-at (t .members) i) ≡ false → Changed i (c .does) (t .members) members′
           → Ends Accepted members′
-      unfolding guard with-bytes stored delivered-by written-out list-rows overwritten
+      unfolding guard
       member-changed members′ passes changed =
           let there = change-found (c .id) p t i at (c .does) in
-          performs-accepted call p t (storing store) used ready body p (with-table members′ t) (storing store) used
-          (after-3
-          ∙ guard-goes-on (error-number (c .error) when of-member (c .id) (c .refuses) before) [] before body
-          (of-found (c .id) p t i at (c .refuses) ∙ passes))
-          refl refl (shown-changed p t i (c .does) members′ changed ∙ sym there) refl refl
-          (long-with ready members′ (changed .long))
-          (shows-kept (ready .shows) (subst (Keeps before) (sym there) (change-keeps i (c .does) before (c .cells fit))))
+          let shows-it : state-of p (with-table members′ t) ≡ change-member (c .id) (c .does) before =
+          shown-changed p t i (c .does) members′ changed ∙ sym there
+          in
+          record {
+            step =
+                λ store output list.
+                after-3 store output list
+                ∙ guard-goes-on (error-number (c .error) when of-member (c .id) (c .refuses) before) [] before body
+                (of-found (c .id) p t i at (c .refuses) ∙ passes)
+                ∙ ap (λ (x : State). accept x no-answer) (sym shows-it);
+            long = long-with (unbroken .long) members′ (changed .long);
+            keeps =
+                subst (Keeps before) (sym (shown-changed p t i (c .does) members′ changed)) (change-keeps i (c .does) before (c .cells fit));
+          }
+
+-- ---- a state that is ready
+
+pub performs-steps : {call : Call} {p : Parts} {t : Tables} {store used : List ℕ} → Ready p t (length store) used
+    → {code : ℕ} {t′ : Tables} → Steps call p t code t′
+    → Performs call p t (storing store) code no-answer p t′ (storing store) used
+unfolding with-bytes stored delivered-by written-out list-rows overwritten
+performs-steps {call} {p} {t} {store} {used} ready {code} {t′} steps =
+    performs-accepted call p t (storing store) used ready (left code (state-of p t′)) p t′ (storing store) used
+    (steps .step (length store) 0 0) refl refl refl refl refl (steps .long) (shows-kept (ready .shows) (steps .keeps))

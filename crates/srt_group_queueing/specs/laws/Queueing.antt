@@ -230,7 +230,7 @@ module _ (id : ℕ) (d : Data) (payload : List ℕ) (p : Parts) (t : Tables) (st
             t′ = with-table members′ t
 
             long-after : Long t′
-            long-after = long-with ready members′ (done .queued .long)
+            long-after = long-with (ready .long) members′ (done .queued .long)
 
             -- the same members, or the packet in the queue of the one at the index
             queued-by : (f : Member → Member) → if-accepted o (with-data cell (length payload) d (member-at (t .members) i)) (member-at (t .members) i) ≡ f (member-at (t .members) i)

@@ -3,7 +3,6 @@ use mathlib.Core.Path.{_≡_, refl, ap, sym, _∙_}
 use mathlib.Core.Bool.{Bool, true, false, _||_}
 use mathlib.Core.List.{List, _∷_}
 use Prim.Native.Nat.{ℕ}
-use lib.ListN.{length}
 use Rattle.srt_protocol.specs.declared.error.Error.the-variants.{OutOfTurn}
 use Rattle.srt_protocol.specs.declared.error.Outcome.the-variants.{Accepted, Refused}
 use Rattle.srt_group_model.specs.State.{Member, State, with-leg, on-leg}
@@ -20,7 +19,7 @@ use Rattle.srt_connection_members.specs.Members.{member-at, found-of, Changed}
 use Rattle.srt_connection_members.specs.laws.Members.{leg-changed, unchanged}
 use Rattle.srt_connection_members.specs.declared.Found.the-variants.{At}
 use Rattle.srt_group_shown.specs.Tables.{Parts, Tables, state-of}
-use Rattle.srt_group_shown.specs.Ready.{Ready}
+use Rattle.srt_group_queueing.specs.Steps.{Unbroken}
 use Rattle.srt_group_queueing.specs.laws.OneMember.{OneMember, member-checks, Ends, member-refused, member-changed}
 
 module _ (id field n : ℕ) where
@@ -51,17 +50,17 @@ module _ (id field n : ℕ) where
       }
 
   -- the leg of the member that `find` answered, and whether the number goes back on it
-  module _ (p : Parts) (t : Tables) (store used : List ℕ) (ready : Ready p t (length store) used) (fit : reading-unfit ≡ false)
+  module _ (p : Parts) (t : Tables) (unbroken : Unbroken p t) (fit : reading-unfit ≡ false)
       (i : ℕ) (at : At i ≡ found-of (find id (state-of p t .members))) (leg : Leg) (there : leg ≡ member-at (t .members) i .leg) (back : Bool) (tested : back ≡ goes-back field n leg) where
     of-leg : goes-back field n (member-at (t .members) i .leg) ≡ back
     of-leg = ap (goes-back field n) (sym there) ∙ sym tested
 
-    pub reading-refused : back ≡ true → Ends reading-call p t store used ready (Refused OutOfTurn) (t .members)
+    pub reading-refused : back ≡ true → Ends reading-call p t unbroken (Refused OutOfTurn) (t .members)
     reading-refused is =
-        member-refused reading-call p t store used ready fit i at (t .members) (of-leg ∙ is) (unchanged i (t .members))
+        member-refused reading-call p t unbroken fit i at (t .members) (of-leg ∙ is) (unchanged i (t .members))
 
     pub reading-put : back ≡ false → (read : Leg) (members′ : List ℕ) → read ≡ read-field field n leg
-        → Changed i (with-leg read) (t .members) members′ → Ends reading-call p t store used ready Accepted members′
+        → Changed i (with-leg read) (t .members) members′ → Ends reading-call p t unbroken Accepted members′
     reading-put is read members′ made changed =
-        member-changed reading-call p t store used ready fit i at members′ (of-leg ∙ is)
+        member-changed reading-call p t unbroken fit i at members′ (of-leg ∙ is)
         (leg-changed (read-field field n) changed (made ∙ ap (read-field field n) there))

@@ -1,63 +1,17 @@
--- `queue_event` meets its contract: 2, 3, and then 31 or the event is queued.
-use mathlib.Core.Path.{sym, _∙_}
-use Rattle.srt_group_queueing.specs.laws.OneMember.{rows-there, found-row, unfit-refused, unknown-refused}
-use Rattle.srt_group_queueing.specs.laws.Events.{event-call, event-pushed}
+-- `queue_event` meets its contract: what follows 5 and 6, in a state that is ready.
 use borrow.Author.Needs.{needs}
+use Rattle.srt_group_queueing.specs.laws.OneMember.{rows-there, unbroken-of, performs-steps}
 use Rattle.srt_group_queueing.proofs.events.queue_event.Statement.{statement}
 use Rattle.srt_group_queueing.proofs.events.queue_event.Tie as tie
-use Rattle.srt_group_queueing.proofs.events.event_unfit.Reads as event-unfit-reads
-use Rattle.srt_group_queueing.proofs.events.lifecycle_event.Reads as lifecycle-event-reads
 
-event-unfit-requires : tie.Need-event-unfit-requires
-event-unfit-requires c κs = search needs
-
-returns : tie.Need-returns
-returns c =
-    unfit-refused (event-call (c .before .before .before .before .before .before .before .before .before .args .id) (c .before .before .before .before .before .before .before .before .before .args .kind) (c .before .before .before .before .before .before .before .before .before .args .reason)) _ _ _ _ (c .before .before .before .before .before .before .before .before .before .pre) (sym (c .before .event-unfit .ensures) ∙ c .if1 .taken)
-
-find-requires : tie.Need-find-requires
-find-requires c κs = rows-there (c .before .before .before .before .before .before .before .before .before .before .pre)
-
-enum-known-found : tie.Need-enum-known-found
-enum-known-found c = search needs
-
-enum-told : tie.Need-enum-told
-enum-told c = search needs
+push-event-requires : tie.Need-push-event-requires
+push-event-requires c κs = rows-there (c .before .before .before .before .before .before .before .before .pre)
 
 same-length : tie.Need-same-length
 same-length c = search needs
 
-returns-2 : tie.Need-returns-2
-returns-2 c =
-    unknown-refused (event-call (c .before .before .before .before .before .before .before .before .before .before .before .before .before .args .id) (c .before .before .before .before .before .before .before .before .before .before .before .before .before .args .kind) (c .before .before .before .before .before .before .before .before .before .before .before .before .before .args .reason)) _ _ _ _ (c .before .before .before .before .before .before .before .before .before .before .before .before .before .pre) (sym (c .before .before .before .before .before .event-unfit .ensures) ∙ c .before .before .before .before .if1 .left) (sym (c .enum-told .given .1) ∙ c .before .before .find .ensures)
-
-lifecycle-event-requires : tie.Need-lifecycle-event-requires
-lifecycle-event-requires c κs = search needs
-
-push-at-requires : tie.Need-push-at-requires
-push-at-requires c κs =
-    found-row (c .before .before .before .before .before .before .before .before .before .before .before .before .before .before .before .before .pre) _ _ (sym (c .before .before .before .found .given .1) ∙ c .before .before .before .before .before .find .ensures)
-
-same-length-2 : tie.Need-same-length-2
-same-length-2 c = search needs
-
-returns-3 : tie.Need-returns-3
-returns-3 c =
-    event-pushed _ _ _ _ _ _ _ (c .before .before .before .before .before .before .before .before .before .before .before .before .before .before .before .before .before .before .before .pre) (sym (c .before .before .before .before .before .before .before .before .before .before .before .event-unfit .ensures) ∙ c .before .before .before .before .before .before .before .before .before .before .if1 .left) _ (sym (c .before .before .before .before .before .before .found .given .1) ∙ c .before .before .before .before .before .before .before .before .find .ensures)
-    _ _ _ (c .before .before .before .lifecycle-event .ensures) (c .before .before .push-at .ensures)
+returns : tie.Need-returns
+returns c = performs-steps (c .before .before .before .before .before .before .before .before .before .before .before .pre) (c .before .before .push-event .ensures .over _ _ _ _ _ _ _ (unbroken-of (c .before .before .before .before .before .before .before .before .before .before .before .pre)))
 
 pub queue-event-spec : {M : Type 1} → statement M
-queue-event-spec =
-    tie.close
-    (tie.spec
-    event-unfit-requires
-    returns
-    find-requires
-    enum-known-found
-    enum-told
-    same-length
-    returns-2
-    lifecycle-event-requires
-    push-at-requires
-    same-length-2
-    returns-3)
+queue-event-spec = tie.close (tie.spec push-event-requires same-length returns)

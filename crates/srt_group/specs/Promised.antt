@@ -1,0 +1,27 @@
+-- THE PROMISE of a public call (srt_group_traces, `Promise`), over the record and the lent tables before and after it.
+use mathlib.Core.List.{[]}
+use Prim.Native.Nat.{ℕ}
+use Rattle.srt_group_model.specs.Guards.{Answer}
+use Rattle.srt_group_model.specs.Lent.{Lent, Call}
+use Rattle.srt_group_traces.specs.Statement.{Asked}
+use Rattle.srt_group_traces.specs.Port.{Shown, Promise}
+use Rattle.srt_group_shown.specs.Tables.{Parts, Tables, state-of}
+use Rattle.srt_group_shown.specs.Ready.{storing}
+use Rattle.srt_group.specs.Begins.{are-short}
+
+-- beside the tables nothing is lent
+abbrev pub nothing-lent : Lent
+nothing-lent = storing []
+
+-- the call, and what it is lent beside the tables
+abbrev pub asking : Call → Lent → Asked
+asking call bytes = record { call = call; lent = bytes }
+
+-- what is shown of it: the state of the record and the tables, the bytes lent, the code, the answer, the rows of the list that it filled
+abbrev pub showing : Parts → Tables → Lent → (code : ℕ) → Answer → (rows : ℕ) → Shown
+showing p t bytes code answer rows =
+    record { state = state-of p t; lent = bytes; code = code; answer = answer; rows = rows }
+
+-- with a table too short: 5, and nothing has changed. Else code, answer, state and bytes are those of the call's definition.
+abbrev pub Promised : Call → Parts → Tables → Lent → Shown → Type 0
+Promised call p t bytes x = Promise (are-short t) (asking call bytes) (state-of p t) x
