@@ -19,7 +19,7 @@ use srt_protocol::received_payload::copy_payload;
 use srt_protocol::time::Timestamp;
 
 // The payload of a packet that is given, from byte 12 of the output on.
-fn write_payload(store: &[u8], output: &mut [u8], gave: OptionalPacket)
+pub fn write_payload(store: &[u8], output: &mut [u8], gave: OptionalPacket)
     requires { ⌜ Writable gave (length (now store)) (length (now output)) ⌝ }
     ensures { λ _. ⌜ now (output .exit) ≡ written-out (option-of gave) (now (store .entry)) (now (output .entry)) ⌝ }
 {

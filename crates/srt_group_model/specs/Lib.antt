@@ -14,6 +14,7 @@ pub mod Removal
 pub mod Sending
 pub mod Backup
 pub mod Cells
+pub mod Queued
 pub mod Validity
 pub mod Guards
 pub mod Calls

@@ -23,7 +23,7 @@ use mathlib.Core.Logic.{_⊎_}
 use lib.ListN.{length, take, drop}
 use Rattle.srt_protocol.specs.Cells.{head-size, cells-of}
 use Rattle.srt_group_model.specs.Calls.{new, data-event, taken-cell}
-use Rattle.srt_group_model.specs.laws.HonestLog.{queued-at, collected-from}
+use Rattle.srt_group_model.specs.Queued.{queued-at, collected-from}
 
 -- ---- a call
 

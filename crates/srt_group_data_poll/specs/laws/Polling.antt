@@ -16,18 +16,19 @@ use Rattle.srt_protocol.specs.laws.CellLaws.{cell-accepted}
 use Rattle.srt_group_model.specs.State.{State}
 use Rattle.srt_group_model.specs.Legs.{largest-64}
 use Rattle.srt_group_model.specs.Cells.{used-cells}
-use Rattle.srt_group_model.specs.Run.{start}
+use Rattle.srt_group_model.specs.Run.{Run, start}
 use Rattle.srt_group_model.specs.Validity.{above, is-invalid}
-use Rattle.srt_group_model.specs.Guards.{data-polled, Step, _when_, guard}
+use Rattle.srt_group_model.specs.Guards.{Answer, data-polled, Step, Check, _when_, guard}
 use Rattle.srt_group_model.specs.laws.Refusals.{guard-goes-on}
 use Rattle.srt_group_model.specs.Polls.{poll-data-bounded}
-use Rattle.srt_group_model.specs.Calls.{store-unfit, output-unfit, data-poll-body, poll-data-call}
+use Rattle.srt_group_model.specs.Calls.{store-unfit, output-unfit, left-by, data-poll-body, poll-data-call}
 use Rattle.srt_group_model.specs.Lent.{Call, call-poll-data-bounded, stored, delivered-by, written-out, list-rows, with-bytes, step-of}
 use Rattle.srt_group_model.specs.Sound.{Sending-fit, Sound}
 use Rattle.srt_group_model.specs.laws.Valid.{counted-of, valid-of}
 use Rattle.srt_group_model.specs.laws.Sound.{sound-of-valid}
 use Rattle.srt_group_model.specs.Given.{GaveData, InStore}
 use Rattle.srt_group_model.specs.laws.Given.{given-in-store, valid-within}
+use Rattle.srt_group_model.specs.declared.Core.{Core}
 use Rattle.srt_group_model.specs.declared.Packet.{Packet}
 use Rattle.word_rows.specs.laws.Tab.{tab-length}
 use Rattle.srt_connection_members.specs.laws.Members.{members-length}
@@ -72,7 +73,7 @@ pub wrote-none : (gave : OptionalPacket) (store output : List ℕ) → gave ≡ 
 unfolding written-out
 wrote-none gave store output is = ap (λ (x : OptionalPacket). written-out (option-of x) store output) (sym is)
 
--- ---- the poll
+-- ---- a poll of a valid state
 
 -- the tables that receiving moves, and the five with those moved
 abbrev pub moved-of : Tables → ReceiveTables
@@ -102,74 +103,93 @@ module _ {p : Parts} {t : Tables} {store : ℕ} {used : List ℕ} (ready : Ready
   pub sending-fits : Sending-fit (p .sending)
   sending-fits = sound .fit .sending
 
--- what it gives, and what the form promises of it
-module _ (time max-events : ℕ) (p : Parts) (t : Tables) (r : DataPoll) (u : ReceiveTables)
-    (polls : PollsData (sends (p .sending)) (poll-data-bounded time max-events) (p .core) (moved-of t) r u) where
-  abbrev s : State
-  s = state-of p t
-
-  gives : GivesData (poll-data-bounded time max-events (start s)) r (rest-of p t) u
-  gives = polls .run (rest-of p t) refl [] 0
-
-  pub writable : {store output : ℕ} {used : List ℕ} → Ready p t store used → output-size ≤ output → Writable (r .gave) store output
-  writable {store} ready room-there =
+  -- what a data poll gives can be written to an output that is long enough
+  pub writable-given : {output : ℕ} (time max-events : ℕ) (gave : OptionalPacket)
+      → poll-data-bounded time max-events (start (state-of p t)) .gave ≡ option-of gave → output-size ≤ output → Writable gave store output
+  writable-given time max-events gave is room-there =
       record {
         given =
-            subst (GaveData (InStore (cells-of store))) (gives .gave)
-            (given-in-store (cells-of store) time max-events s (valid-within (cells-of store) s (ready .valid)) (sound ready .fit));
+            subst (GaveData (InStore (cells-of store))) is
+            (given-in-store (cells-of store) time max-events (state-of p t) (valid-within (cells-of store) (state-of p t) (ready .valid)) (sound .fit));
         one-cell = one-cell ready;
         room = room-there;
       }
 
-  module _ (store output used : List ℕ) (ready : Ready p t (length store) used) (room-there : output-size ≤ length output) where
-    abbrev cells : ℕ
-    cells = cells-of (length store)
+-- What either poll promises, of the record, the tables and the words that the inner poll leaves: no test refuses it, so it is its
+-- body, which leaves the state that they show, and an answer.
+module _ (time : ℕ) (p : Parts) (t : Tables) (store output used : List ℕ) (ready : Ready p t (length store) used)
+    (room-there : output-size ≤ length output) (small : time ≤ largest-64) where
+  abbrev before : State
+  before = state-of p t
 
-    no-5 : (store-unfit (length store) s || output-unfit (length output)) ≡ false
-    no-5 = rw (ready .fits) (le-ltb (length output) (head-size + cell-size) room-there)
+  abbrev checks : List Check
+  checks =
+      (5 when (store-unfit (length store) before || output-unfit (length output))) ∷ (6 when is-invalid (cells-of (length store)) before)
+      ∷ (2 when above largest-64 time) ∷ []
 
-    module _ (used′ output′ : List ℕ) (small : time ≤ largest-64)
-        (follows : Follows (p .core) (t .members) (t .pending) used (r .core) (u .members) (u .pending) used′)
-        (wrote-out : output′ ≡ written-out (option-of (r .gave)) store output) where
-      abbrev p′ : Parts
-      p′ = parts (p .identity) (r .core) (p .sending) (p .ring)
+  no-5 : (store-unfit (length store) before || output-unfit (length output)) ≡ false
+  no-5 = rw (ready .fits) (le-ltb (length output) (head-size + cell-size) room-there)
 
-      abbrev t′ : Tables
-      t′ = with-moved u t
+  none-refuses : (body : Step) → guard checks before body ≡ body
+  unfolding guard
+  none-refuses body =
+      guard-goes-on (5 when (store-unfit (length store) before || output-unfit (length output)))
+      ((6 when is-invalid (cells-of (length store)) before) ∷ (2 when above largest-64 time) ∷ []) before body no-5
+      ∙ guard-goes-on (6 when is-invalid (cells-of (length store)) before) ((2 when above largest-64 time) ∷ []) before body (ready .valid)
+      ∙ guard-goes-on (2 when above largest-64 time) [] before body (le-ltb largest-64 time small)
 
-      abbrev call : Call
-      call = call-poll-data-bounded time max-events
+  module _ (core : Core) (u : ReceiveTables) (used′ output′ : List ℕ) (members-long : length (u .members) ≡ length (t .members))
+      (pending-long : length (u .pending) ≡ length (t .pending)) (waiting-long : length (u .waiting) ≡ length (t .waiting))
+      (follows : Follows (p .core) (t .members) (t .pending) used core (u .members) (u .pending) used′) where
+    abbrev p′ : Parts
+    p′ = parts (p .identity) core (p .sending) (p .ring)
 
-      abbrev body : Step
-      body = data-poll-body time max-events s
+    abbrev t′ : Tables
+    t′ = with-moved u t
 
-      step-is : step-of (length store) (length output) 0 call s ≡ body
-      unfolding step-of poll-data-call guard
-      step-is =
-          guard-goes-on (5 when (store-unfit (length store) s || output-unfit (length output)))
-          ((6 when is-invalid cells s) ∷ (2 when above largest-64 time) ∷ []) s body no-5
-          ∙ guard-goes-on (6 when is-invalid cells s) ((2 when above largest-64 time) ∷ []) s body (ready .valid)
-          ∙ guard-goes-on (2 when above largest-64 time) [] s body (le-ltb largest-64 time small)
+    long-after : Long t′
+    long-after =
+        record {
+          members = omega (arith, ready .long .members, members-long);
+          pending = omega (arith, ready .long .pending, pending-long);
+          waiting = omega (arith, ready .long .waiting, waiting-long);
+          history = ready .long .history;
+          sources = ready .long .sources;
+        }
 
-      long-after : Long t′
-      long-after =
-          record {
-            members = omega (arith, ready .long .members, polls .members-long);
-            pending = omega (arith, ready .long .pending, polls .pending-long);
-            waiting = omega (arith, ready .long .waiting, polls .waiting-long);
-            history = ready .long .history;
-            sources = ready .long .sources;
-          }
+    shows-after : Shows used′ (state-of p′ t′)
+    unfolding used-cells
+    shows-after = record { cells = follows .shows (entries-of (p .ring) (arrays (t .history) (t .sources))) (ready .shows .cells) }
 
-      shows-after : Shows used′ (state-of p′ t′)
-      unfolding used-cells
-      shows-after = record { cells = follows .shows (entries-of (p .ring) (arrays (t .history) (t .sources))) (ready .shows .cells) }
+    pub poll-performed : (call : Call) (run : Run) (answer given : Answer)
+        → step-of (length store) (length output) 0 call before ≡ guard checks before (left-by run answer) → given ≡ answer
+        → run .state ≡ state-of p′ t′ → output′ ≡ written-out (delivered-by given) store output
+        → Performs call p t (lending store output) 0 given p′ t′ (lending store output′) used′
+    unfolding with-bytes stored overwritten list-rows
+    poll-performed call run answer given is is-answer is-state wrote-out =
+        performs-accepted call p t (lending store output) used ready (left-by run answer) p′ t′ (lending store output′) used′
+        (is ∙ none-refuses (left-by run answer)) refl is-answer (sym is-state)
+        (ap (lending store) (wrote-out ∙ ap (λ (x : Answer). written-out (delivered-by x) store output) is-answer))
+        refl long-after (subst (Shows used′) (sym is-state) shows-after)
 
-      pub performed : Performs call p t (lending store output) 0 (answer-of r) p′ t′ (lending store output′) used′
-      unfolding with-bytes stored delivered-by overwritten list-rows data-poll-body
-      performed =
-          performs-accepted call p t (lending store output) used ready body p′ t′ (lending store output′) used′ step-is refl
-          (ap₂ (λ (o : Option Packet) (b : Bool). data-polled o b) (sym (gives .gave)) (sym (gives .continuation)))
-          (sym (gives .state))
-          (ap (lending store) (wrote-out ∙ ap (λ (o : Option Packet). written-out o store output) (sym (gives .gave))))
-          refl long-after (subst (Shows used′) (sym (gives .state)) shows-after)
+-- ---- the data poll
+
+module _ (time max-events : ℕ) (p : Parts) (t : Tables) (r : DataPoll) (u : ReceiveTables)
+    (polls : PollsData (sends (p .sending)) (poll-data-bounded time max-events) (p .core) (moved-of t) r u) where
+  gives : GivesData (poll-data-bounded time max-events (start (state-of p t))) r (rest-of p t) u
+  gives = polls .run (rest-of p t) refl [] 0
+
+  pub writable : {store output : ℕ} {used : List ℕ} → Ready p t store used → output-size ≤ output → Writable (r .gave) store output
+  writable ready room-there = writable-given ready time max-events (r .gave) (gives .gave) room-there
+
+  pub performed : (store output used : List ℕ) → Ready p t (length store) used → output-size ≤ length output → (used′ output′ : List ℕ)
+      → time ≤ largest-64 → Follows (p .core) (t .members) (t .pending) used (r .core) (u .members) (u .pending) used′
+      → output′ ≡ written-out (option-of (r .gave)) store output
+      → Performs (call-poll-data-bounded time max-events) p t (lending store output) 0 (answer-of r)
+      (parts (p .identity) (r .core) (p .sending) (p .ring)) (with-moved u t) (lending store output′) used′
+  unfolding step-of poll-data-call data-poll-body delivered-by
+  performed store output used ready room-there used′ output′ small follows wrote-out =
+      poll-performed time p t store output used ready room-there small (r .core) u used′ output′ (polls .members-long)
+      (polls .pending-long) (polls .waiting-long) follows (call-poll-data-bounded time max-events)
+      (poll-data-bounded time max-events (start (state-of p t)) .run) _ (answer-of r) refl
+      (ap₂ (λ (o : Option Packet) (b : Bool). data-polled o b) (sym (gives .gave)) (sym (gives .continuation))) (gives .state) wrote-out

@@ -8,7 +8,8 @@ use Rattle.srt_group_model.specs.Members.{id-of}
 use Rattle.srt_group_model.specs.Validity.{one-twice}
 use Rattle.srt_group_model.specs.Calls.{new}
 use Rattle.srt_group_model.specs.Lent.{Lent, call-poll-event, call-poll-data-bounded, Call, call-add-member, call-mark-member-broken, call-remove-member-connection, call-refresh-member-states, call-disconnect, call-send, call-can-send, call-can-send-with-pacing, call-look, call-read-leg, call-queue-data, call-queue-event, perform}
-use Rattle.srt_group_model.specs.laws.HonestLog.{queued-at, collected-from, event-poll-honest, data-poll-honest}
+use Rattle.srt_group_model.specs.Queued.{queued-at, collected-from}
+use Rattle.srt_group_model.specs.laws.HonestLog.{event-poll-honest, data-poll-honest}
 use native.Mathlib.Omega.{arith}
 use Rattle.srt_group_model.specs.laws.Reason.{not-both}
 use Rattle.srt_group_model.specs.laws.Unique.{Named, names-kept}

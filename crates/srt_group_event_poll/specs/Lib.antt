@@ -1,0 +1,3 @@
+pub mod Polling
+-- What is proved.
+pub mod laws
