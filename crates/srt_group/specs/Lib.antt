@@ -1,5 +1,7 @@
 pub mod Made
 pub mod Begins
 pub mod Promised
+pub mod DataPolled
+pub mod EventPolled
 -- What is proved.
 pub mod laws
