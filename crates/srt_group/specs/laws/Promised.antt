@@ -38,7 +38,7 @@ module _ (call : Call) (p : Parts) (t : Tables) (bytes : Lent) where
   abbrev refused-with : ℕ → Shown
   refused-with code = showing p t bytes code no-answer 0
 
-  does-refused : (code : ℕ) → step ≡ refuse code s → Does (asking call bytes) s (refused-with code)
+  pub does-refused : (code : ℕ) → step ≡ refuse code s → Does (asking call bytes) s (refused-with code)
   unfolding do-call perform with-bytes stored delivered-by written-out list-rows overwritten
   does-refused code is =
       record {
@@ -49,10 +49,10 @@ module _ (call : Call) (p : Parts) (t : Tables) (bytes : Lent) where
         rows = sym (ap (λ (x : Step). length (x .sends)) is);
       }
 
-  promised-short : (x : Shown) → are-short t ≡ true → x ≡ refused-with 5 → Promised call p t bytes x
+  pub promised-short : (x : Shown) → are-short t ≡ true → x ≡ refused-with 5 → Promised call p t bytes x
   promised-short x short is = subst (λ (b : Bool). Promise b (asking call bytes) s x) (sym short) is
 
-  promised-does : (x : Shown) → are-short t ≡ false → Does (asking call bytes) s x → Promised call p t bytes x
+  pub promised-does : (x : Shown) → are-short t ≡ false → Does (asking call bytes) s x → Promised call p t bytes x
   promised-does x long does = subst (λ (b : Bool). Promise b (asking call bytes) s x) (sym long) does
 
   -- refused with a code of its definition

@@ -1,0 +1,239 @@
+// The polls, over the record and the lent tables.
+ghost use Rattle.srt_group_model.specs.Lent.{call-poll-data-bounded, call-poll-data, call-poll-event};
+ghost use Rattle.srt_group_shown.specs.Tables.{tables};
+ghost use Rattle.srt_group_shown.specs.Ready.{lending};
+ghost use Rattle.srt_group.specs.Made.{parts-of};
+ghost use Rattle.srt_group.specs.Promised.{showing, Promised};
+ghost use Rattle.srt_group.specs.DataPolled.{data-number, data-answer};
+ghost use Rattle.srt_group.specs.EventPolled.{event-number, event-answer};
+use crate::Group;
+use crate::refusals::begin_stored;
+use srt_group_collecting::collecting::MAX_VISITS;
+use srt_group_data_poll::polls::poll_data_bounded;
+use srt_group_delivery::delivery::Polled;
+use srt_group_event_poll::polls::poll_event;
+use srt_group_polls::polls::OptionalPacket;
+use srt_protocol::error::Error;
+use srt_protocol::error::Outcome;
+use srt_protocol::received_payload::OUTPUT;
+use srt_protocol::time::Timestamp;
+
+// A packet or none, and whether the poll should be called again at once.
+pub struct GroupDataPoll {
+    pub packet: OptionalPacket,
+    pub continuation: u64,
+}
+
+// What a data poll answers.
+pub enum DataAnswer {
+    Refused(Error),
+    Polled(GroupDataPoll),
+}
+
+// The answer, and the record after the call: as it was where the call is refused.
+pub struct DataPolled {
+    pub group: Group,
+    pub answer: DataAnswer,
+}
+
+// What an event poll answers: nothing, an event or a packet.
+pub enum EventAnswer {
+    Refused(Error),
+    Polled(Polled),
+}
+
+// The answer, and the record after the call: as it was where the call is refused.
+pub struct EventPolled {
+    pub group: Group,
+    pub answer: EventAnswer,
+}
+
+impl Group {
+    // The next packet in order, after at most so many events, which are dropped. Its payload is written from byte 12 of the output on.
+    pub fn poll_data_bounded(
+        self,
+        members: &mut [u64],
+        pending: &mut [u64],
+        waiting: &mut [u64],
+        history: &[u64],
+        sources: &[u64],
+        store: &[u8],
+        output: &mut [u8],
+        time: Timestamp,
+        max_events: usize,
+    ) -> DataPolled
+        ensures { λ r. ⌜ Promised (call-poll-data-bounded (time .0) «max_events») (parts-of self)
+            (tables (now (members .entry)) (now (pending .entry)) (now (waiting .entry)) (now (history .entry)) (now (sources .entry)))
+            (lending (now (store .entry)) (now (output .entry)))
+            (showing (parts-of (r .group))
+            (tables (now (members .exit)) (now (pending .exit)) (now (waiting .exit)) (now (history .entry)) (now (sources .entry)))
+            (lending (now (store .entry)) (now (output .exit))) (data-number (r .answer)) (data-answer (r .answer)) 0) ⌝ }
+    {
+        if output.len() < OUTPUT {
+            return DataPolled {
+                group: self,
+                answer: DataAnswer::Refused(Error::InsufficientBuffer),
+            };
+        }
+        let mut used = [0u64; 32];
+        let begun = begin_stored(
+            self,
+            members,
+            pending,
+            waiting,
+            history,
+            sources,
+            store.len(),
+            &mut used,
+        );
+        if let Outcome::Refused(error) = begun {
+            return DataPolled {
+                group: self,
+                answer: DataAnswer::Refused(error),
+            };
+        }
+        let Group {
+            identity,
+            core,
+            sending,
+            ring,
+        } = self;
+        let polled = poll_data_bounded(
+            identity,
+            core,
+            sending,
+            ring,
+            members,
+            pending,
+            waiting,
+            history,
+            sources,
+            store,
+            output,
+            &mut used,
+            time,
+            max_events,
+        );
+        let after = polled.core;
+        let packet = polled.gave;
+        DataPolled {
+            group: Group {
+                identity,
+                core: after,
+                sending,
+                ring,
+            },
+            answer: DataAnswer::Polled(GroupDataPoll {
+                packet,
+                continuation: polled.continuation,
+            }),
+        }
+    }
+    // `poll_data_bounded` with as many events as it may pass, 64.
+    pub fn poll_data(
+        self,
+        members: &mut [u64],
+        pending: &mut [u64],
+        waiting: &mut [u64],
+        history: &[u64],
+        sources: &[u64],
+        store: &[u8],
+        output: &mut [u8],
+        time: Timestamp,
+    ) -> DataPolled
+        ensures { λ r. ⌜ Promised (call-poll-data (time .0)) (parts-of self)
+            (tables (now (members .entry)) (now (pending .entry)) (now (waiting .entry)) (now (history .entry)) (now (sources .entry)))
+            (lending (now (store .entry)) (now (output .entry)))
+            (showing (parts-of (r .group))
+            (tables (now (members .exit)) (now (pending .exit)) (now (waiting .exit)) (now (history .entry)) (now (sources .entry)))
+            (lending (now (store .entry)) (now (output .exit))) (data-number (r .answer)) (data-answer (r .answer)) 0) ⌝ }
+    {
+        self.poll_data_bounded(
+            members,
+            pending,
+            waiting,
+            history,
+            sources,
+            store,
+            output,
+            time,
+            MAX_VISITS,
+        )
+    }
+
+    // The next event, or the next packet in order, its payload written from byte 12 of the output on.
+    pub fn poll_event(
+        self,
+        members: &mut [u64],
+        pending: &mut [u64],
+        waiting: &mut [u64],
+        history: &[u64],
+        sources: &[u64],
+        store: &[u8],
+        output: &mut [u8],
+        time: Timestamp,
+    ) -> EventPolled
+        ensures { λ r. ⌜ Promised (call-poll-event (time .0)) (parts-of self)
+            (tables (now (members .entry)) (now (pending .entry)) (now (waiting .entry)) (now (history .entry)) (now (sources .entry)))
+            (lending (now (store .entry)) (now (output .entry)))
+            (showing (parts-of (r .group))
+            (tables (now (members .exit)) (now (pending .exit)) (now (waiting .exit)) (now (history .entry)) (now (sources .entry)))
+            (lending (now (store .entry)) (now (output .exit))) (event-number (r .answer)) (event-answer (r .answer)) 0) ⌝ }
+    {
+        if output.len() < OUTPUT {
+            return EventPolled {
+                group: self,
+                answer: EventAnswer::Refused(Error::InsufficientBuffer),
+            };
+        }
+        let mut used = [0u64; 32];
+        let begun = begin_stored(
+            self,
+            members,
+            pending,
+            waiting,
+            history,
+            sources,
+            store.len(),
+            &mut used,
+        );
+        if let Outcome::Refused(error) = begun {
+            return EventPolled {
+                group: self,
+                answer: EventAnswer::Refused(error),
+            };
+        }
+        let Group {
+            identity,
+            core,
+            sending,
+            ring,
+        } = self;
+        let given = poll_event(
+            identity,
+            core,
+            sending,
+            ring,
+            members,
+            pending,
+            waiting,
+            history,
+            sources,
+            store,
+            output,
+            &mut used,
+            time,
+        );
+        let after = given.core;
+        let gave = given.gave;
+        EventPolled {
+            group: Group {
+                identity,
+                core: after,
+                sending,
+                ring,
+            },
+            answer: EventAnswer::Polled(gave),
+        }
+    }
+}
