@@ -3,16 +3,16 @@ ghost use Rattle.srt_group_model.specs.Lent.{call-poll-data-bounded, call-poll-
 ghost use Rattle.srt_group_shown.specs.Tables.{tables};
 ghost use Rattle.srt_group_shown.specs.Ready.{lending};
 ghost use Rattle.srt_group.specs.Made.{parts-of};
-ghost use Rattle.srt_group.specs.Promised.{showing, Promised};
+ghost use Rattle.srt_group_refusals.specs.Promised.{showing, Promised};
 ghost use Rattle.srt_group.specs.DataPolled.{data-number, data-answer};
 ghost use Rattle.srt_group.specs.EventPolled.{event-number, event-answer};
 use crate::Group;
-use crate::refusals::begin_stored;
 use srt_group_collecting::collecting::MAX_VISITS;
 use srt_group_data_poll::polls::poll_data_bounded;
 use srt_group_delivery::delivery::Polled;
 use srt_group_event_poll::polls::poll_event;
 use srt_group_polls::polls::OptionalPacket;
+use srt_group_refusals::refusals::begin_stored;
 use srt_protocol::error::Error;
 use srt_protocol::error::Outcome;
 use srt_protocol::received_payload::OUTPUT;
@@ -75,9 +75,18 @@ impl Group {
                 answer: DataAnswer::Refused(Error::InsufficientBuffer),
             };
         }
+        let Group {
+            identity,
+            core,
+            sending,
+            ring,
+        } = self;
         let mut used = [0u64; 32];
         let begun = begin_stored(
-            self,
+            identity,
+            core,
+            sending,
+            ring,
             members,
             pending,
             waiting,
@@ -92,12 +101,6 @@ impl Group {
                 answer: DataAnswer::Refused(error),
             };
         }
-        let Group {
-            identity,
-            core,
-            sending,
-            ring,
-        } = self;
         let polled = poll_data_bounded(
             identity,
             core,
@@ -186,9 +189,18 @@ impl Group {
                 answer: EventAnswer::Refused(Error::InsufficientBuffer),
             };
         }
+        let Group {
+            identity,
+            core,
+            sending,
+            ring,
+        } = self;
         let mut used = [0u64; 32];
         let begun = begin_stored(
-            self,
+            identity,
+            core,
+            sending,
+            ring,
             members,
             pending,
             waiting,
@@ -203,12 +215,6 @@ impl Group {
                 answer: EventAnswer::Refused(error),
             };
         }
-        let Group {
-            identity,
-            core,
-            sending,
-            ring,
-        } = self;
         let given = poll_event(
             identity,
             core,

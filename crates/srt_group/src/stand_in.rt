@@ -5,14 +5,14 @@ ghost use Rattle.srt_group_model.specs.Lent.{call-queue-data, call-queue-event,
 ghost use Rattle.srt_group_shown.specs.Tables.{tables};
 ghost use Rattle.srt_group_shown.specs.Ready.{storing};
 ghost use Rattle.srt_group.specs.Made.{parts-of};
-ghost use Rattle.srt_group.specs.Promised.{nothing-lent, showing, Promised};
+ghost use Rattle.srt_group_refusals.specs.Promised.{nothing-lent, showing, Promised};
 use crate::Group;
-use crate::refusals::begin;
-use crate::refusals::begin_stored;
 use srt_group_model::Data;
 use srt_group_queueing::events;
 use srt_group_queueing::queueing;
 use srt_group_queueing::readings;
+use srt_group_refusals::refusals::begin;
+use srt_group_refusals::refusals::begin_stored;
 use srt_protocol::error::Outcome;
 
 impl Group {
@@ -36,9 +36,18 @@ impl Group {
             (tables (now (members .exit)) (now (pending .entry)) (now (waiting .entry)) (now (history .entry)) (now (sources .entry)))
             (storing (now (store .exit))) (outcome-number r) no-answer 0) ⌝ }
     {
+        let Group {
+            identity,
+            core,
+            sending,
+            ring,
+        } = self;
         let mut used = [0u64; 32];
         let begun = begin_stored(
-            self,
+            identity,
+            core,
+            sending,
+            ring,
             members,
             pending,
             waiting,
@@ -50,12 +59,6 @@ impl Group {
         if let Outcome::Refused(error) = begun {
             return Outcome::Refused(error);
         }
-        let Group {
-            identity,
-            core,
-            sending,
-            ring,
-        } = self;
         queueing::queue_data(
             identity,
             core,
@@ -93,11 +96,27 @@ impl Group {
             (tables (now (members .exit)) (now (pending .entry)) (now (waiting .entry)) (now (history .entry)) (now (sources .entry)))
             nothing-lent (outcome-number r) no-answer 0) ⌝ }
     {
-        let begun = begin(self, members, pending, waiting, history, sources);
+        let Group {
+            identity,
+            core,
+            sending,
+            ring,
+        } = self;
+        let begun = begin(
+            identity,
+            core,
+            sending,
+            ring,
+            members,
+            pending,
+            waiting,
+            history,
+            sources,
+        );
         if let Outcome::Refused(error) = begun {
             return Outcome::Refused(error);
         }
-        events::push_event(self.core, members, id, kind, reason)
+        events::push_event(core, members, id, kind, reason)
     }
 
     // A number into a field of a leg. The record stays as it was.
@@ -119,10 +138,26 @@ impl Group {
             (tables (now (members .exit)) (now (pending .entry)) (now (waiting .entry)) (now (history .entry)) (now (sources .entry)))
             nothing-lent (outcome-number r) no-answer 0) ⌝ }
     {
-        let begun = begin(self, members, pending, waiting, history, sources);
+        let Group {
+            identity,
+            core,
+            sending,
+            ring,
+        } = self;
+        let begun = begin(
+            identity,
+            core,
+            sending,
+            ring,
+            members,
+            pending,
+            waiting,
+            history,
+            sources,
+        );
         if let Outcome::Refused(error) = begun {
             return Outcome::Refused(error);
         }
-        readings::put_reading(self.core, members, id, field, number)
+        readings::put_reading(core, members, id, field, number)
     }
 }

@@ -3,7 +3,7 @@ use borrow.Author.Needs.{needs}
 use borrow.Author.Tests.{lt-ltb, le-ltb}
 use Rattle.srt_group_shown.specs.Tables.{tables}
 use Rattle.srt_group.specs.Made.{parts-of}
-use Rattle.srt_group.specs.laws.Polled.{data-poll-no-room, data-poll-refused, data-poll-performed}
+use Rattle.srt_group_refusals.specs.laws.Polled.{data-poll-no-room, data-poll-refused, data-poll-performed}
 use Rattle.srt_group.proofs.Group.poll_data_bounded.Statement.{statement}
 use Rattle.srt_group.proofs.Group.poll_data_bounded.Tie as tie
 
@@ -34,11 +34,11 @@ same-length-3 c = search needs
 
 returns-2 : tie.Need-returns-2
 returns-2 c =
-    let a = c .before .before .before .before .before .before .before .before .before .before .before .before .before .before .before .before .before .args in
+    let a = c .before .before .before .before .before .before .before .before .before .before .before .before .before .before .before .before .before .before .before .before .before .args in
     data-poll-refused (a .time .0) (a .max-events) (parts-of (a .self))
     (tables (a .members .now) (a .pending .now) (a .waiting .now) (a .history .now) (a .sources .now)) (a .store .now) (a .output .now)
     (c .before .before .before .before .begin-stored .ensures)
-    (le-ltb _ _ (c .before .before .before .before .before .before .before .before .before .if1 .left))
+    (le-ltb _ _ (c .before .before .before .before .before .before .before .before .before .before .before .before .before .if1 .left))
     _ (c .before .begun .given .1)
 
 enum-told : tie.Need-enum-told
@@ -49,7 +49,7 @@ slice-aggregate-poll-data-bounded c = search needs
 
 poll-data-bounded-requires : tie.Need-poll-data-bounded-requires
 poll-data-bounded-requires c κs = (
-  c .before .before .before .before .before .before .before .before .before .before .before .before .begin-stored .ensures .ready (c .before .before .before .before .before .before .before .before .before .enum-told .given .1),
+  c .before .before .before .before .before .before .before .before .begin-stored .ensures .ready (c .before .before .before .before .before .enum-told .given .1),
   c .before .before .before .before .before .before .before .before .before .before .before .before .before .before .before .before .before .if1 .left,
 )
 
@@ -70,7 +70,7 @@ returns-3 c =
     let a = c .before .before .before .before .before .before .before .before .before .before .before .before .before .before .before .before .before .before .before .before .before .before .before .before .before .before .before .before .before .before .before .before .before .before .before .before .args in
     data-poll-performed (a .time .0) (a .max-events) (parts-of (a .self))
     (tables (a .members .now) (a .pending .now) (a .waiting .now) (a .history .now) (a .sources .now)) (a .store .now) (a .output .now)
-    (c .before .before .before .before .before .before .before .before .before .before .before .before .before .before .before .before .before .before .before .before .before .before .before .begin-stored .ensures) (c .before .before .before .before .before .before .before .before .before .before .before .before .before .before .before .before .before .before .before .before .enum-told .given .1)
+    (c .before .before .before .before .before .before .before .before .before .before .before .before .before .before .before .before .before .before .before .begin-stored .ensures) (c .before .before .before .before .before .before .before .before .before .before .before .before .before .before .before .before .enum-told .given .1)
     (c .before .before .before .before .before .before .before .before .before .before .poll-data-bounded .ensures)
 
 pub poll-data-bounded-spec : {M : Type 1} → statement M

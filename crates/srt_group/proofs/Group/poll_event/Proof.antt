@@ -3,7 +3,7 @@ use borrow.Author.Needs.{needs}
 use borrow.Author.Tests.{lt-ltb, le-ltb}
 use Rattle.srt_group_shown.specs.Tables.{tables}
 use Rattle.srt_group.specs.Made.{parts-of}
-use Rattle.srt_group.specs.laws.Polled.{event-poll-no-room, event-poll-refused, event-poll-performed}
+use Rattle.srt_group_refusals.specs.laws.Polled.{event-poll-no-room, event-poll-refused, event-poll-performed}
 use Rattle.srt_group.proofs.Group.poll_event.Statement.{statement}
 use Rattle.srt_group.proofs.Group.poll_event.Tie as tie
 
@@ -34,11 +34,11 @@ same-length-3 c = search needs
 
 returns-2 : tie.Need-returns-2
 returns-2 c =
-    let a = c .before .before .before .before .before .before .before .before .before .before .before .before .before .before .before .before .before .args in
+    let a = c .before .before .before .before .before .before .before .before .before .before .before .before .before .before .before .before .before .before .before .before .before .args in
     event-poll-refused (a .time .0) (parts-of (a .self))
     (tables (a .members .now) (a .pending .now) (a .waiting .now) (a .history .now) (a .sources .now)) (a .store .now) (a .output .now)
     (c .before .before .before .before .begin-stored .ensures)
-    (le-ltb _ _ (c .before .before .before .before .before .before .before .before .before .if1 .left))
+    (le-ltb _ _ (c .before .before .before .before .before .before .before .before .before .before .before .before .before .if1 .left))
     _ (c .before .begun .given .1)
 
 enum-told : tie.Need-enum-told
@@ -49,7 +49,7 @@ slice-aggregate-poll-event c = search needs
 
 poll-event-requires : tie.Need-poll-event-requires
 poll-event-requires c κs = (
-  c .before .before .before .before .before .before .before .before .before .before .before .before .begin-stored .ensures .ready (c .before .before .before .before .before .before .before .before .before .enum-told .given .1),
+  c .before .before .before .before .before .before .before .before .begin-stored .ensures .ready (c .before .before .before .before .before .enum-told .given .1),
   c .before .before .before .before .before .before .before .before .before .before .before .before .before .before .before .before .before .if1 .left,
 )
 
@@ -70,7 +70,7 @@ returns-3 c =
     let a = c .before .before .before .before .before .before .before .before .before .before .before .before .before .before .before .before .before .before .before .before .before .before .before .before .before .before .before .before .before .before .before .before .before .before .before .before .args in
     event-poll-performed (a .time .0) (parts-of (a .self))
     (tables (a .members .now) (a .pending .now) (a .waiting .now) (a .history .now) (a .sources .now)) (a .store .now) (a .output .now)
-    (c .before .before .before .before .before .before .before .before .before .before .before .before .before .before .before .before .before .before .before .before .before .before .before .begin-stored .ensures) (c .before .before .before .before .before .before .before .before .before .before .before .before .before .before .before .before .before .before .before .before .enum-told .given .1)
+    (c .before .before .before .before .before .before .before .before .before .before .before .before .before .before .before .before .before .before .before .begin-stored .ensures) (c .before .before .before .before .before .before .before .before .before .before .before .before .before .before .before .before .enum-told .given .1)
     (c .before .before .before .before .before .before .before .before .before .before .poll-event .ensures)
 
 pub poll-event-spec : {M : Type 1} → statement M

@@ -2,7 +2,7 @@
 use borrow.Author.Needs.{needs}
 use Rattle.srt_group_shown.specs.Tables.{tables}
 use Rattle.srt_group.specs.Made.{parts-of}
-use Rattle.srt_group.specs.laws.Promised.{data-refused-first, data-queued}
+use Rattle.srt_group_refusals.specs.laws.Promised.{data-refused-first, data-queued}
 use Rattle.srt_group.proofs.Group.queue_data.Statement.{statement}
 use Rattle.srt_group.proofs.Group.queue_data.Tie as tie
 
@@ -20,7 +20,7 @@ same-length c = search needs
 
 returns : tie.Need-returns
 returns c =
-    let a = c .before .before .before .before .before .before .before .before .before .before .before .before .before .before .args in
+    let a = c .before .before .before .before .before .before .before .before .before .before .before .before .before .before .before .before .before .before .args in
     data-refused-first (a .id) (a .content) (a .payload .now) (parts-of (a .self))
     (tables (a .members .now) (a .pending .now) (a .waiting .now) (a .history .now) (a .sources .now)) (a .store .now)
     (c .before .before .before .before .begin-stored .ensures) _ (c .before .begun .given .1)
@@ -32,7 +32,7 @@ slice-aggregate-queue-data : tie.Need-slice-aggregate-queue-data
 slice-aggregate-queue-data c = search needs
 
 queue-data-requires : tie.Need-queue-data-requires
-queue-data-requires c κs = c .before .before .before .before .before .before .before .before .before .before .begin-stored .ensures .ready (c .before .before .before .before .before .before .before .enum-told .given .1)
+queue-data-requires c κs = c .before .before .before .before .before .before .begin-stored .ensures .ready (c .before .before .before .enum-told .given .1)
 
 same-length-2 : tie.Need-same-length-2
 same-length-2 c = search needs
@@ -45,7 +45,7 @@ returns-2 c =
     let a = c .before .before .before .before .before .before .before .before .before .before .before .before .before .before .before .before .before .before .before .before .before .before .before .before .before .before .args in
     data-queued (a .id) (a .content) (a .payload .now) (parts-of (a .self))
     (tables (a .members .now) (a .pending .now) (a .waiting .now) (a .history .now) (a .sources .now)) (a .store .now)
-    (c .before .before .before .before .before .before .before .before .before .before .before .before .before .before .before .before .begin-stored .ensures) (c .before .before .before .before .before .before .before .before .before .before .before .before .before .enum-told .given .1) (c .before .before .before .before .before .queue-data .ensures)
+    (c .before .before .before .before .before .before .before .before .before .before .before .before .begin-stored .ensures) (c .before .before .before .before .before .before .before .before .before .enum-told .given .1) (c .before .before .before .before .before .queue-data .ensures)
 
 pub queue-data-spec : {M : Type 1} → statement M
 queue-data-spec =

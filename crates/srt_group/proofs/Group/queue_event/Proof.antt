@@ -2,12 +2,12 @@
 use borrow.Author.Needs.{needs}
 use Rattle.srt_group_model.specs.Lent.{call-queue-event}
 use Rattle.srt_group_shown.specs.Tables.{tables}
-use Rattle.srt_group_queueing.specs.laws.OneMember.{rows-unbroken}
+use Rattle.srt_group_shown.specs.laws.Steps.{rows-unbroken, nothing-delivered}
 use Rattle.srt_group_queueing.specs.laws.Events.{event-call}
 use Rattle.srt_group.specs.Made.{parts-of}
-use Rattle.srt_group.specs.Promised.{nothing-lent}
-use Rattle.srt_group.specs.laws.Begins.{begun-unbroken}
-use Rattle.srt_group.specs.laws.Promised.{one-member-refused, promised-steps}
+use Rattle.srt_group_refusals.specs.Promised.{nothing-lent}
+use Rattle.srt_group_refusals.specs.laws.Begins.{begun-unbroken}
+use Rattle.srt_group_refusals.specs.laws.Promised.{one-member-refused, promised-steps}
 use Rattle.srt_group.proofs.Group.queue_event.Statement.{statement}
 use Rattle.srt_group.proofs.Group.queue_event.Tie as tie
 
@@ -22,7 +22,7 @@ same-length c = search needs
 
 returns : tie.Need-returns
 returns c =
-    let a = c .before .before .before .before .before .before .before .before .before .before .args in
+    let a = c .before .before .before .before .before .before .before .before .before .before .before .before .before .before .args in
     one-member-refused (event-call (a .id) (a .kind) (a .reason)) (parts-of (a .self))
     (tables (a .members .now) (a .pending .now) (a .waiting .now) (a .history .now) (a .sources .now))
     (c .before .before .before .begin .ensures) _ (c .before .begun .given .1)
@@ -32,7 +32,7 @@ enum-told c = search needs
 
 push-event-requires : tie.Need-push-event-requires
 push-event-requires c κs =
-    let a = c .before .before .before .before .before .before .before .before .before .before .args in
+    let a = c .before .before .before .before .before .before .before .before .before .before .before .before .before .before .args in
     rows-unbroken
     (begun-unbroken (parts-of (a .self)) (tables (a .members .now) (a .pending .now) (a .waiting .now) (a .history .now) (a .sources .now))
     (c .before .before .before .begin .ensures) (c .before .enum-told .given .1))
@@ -42,12 +42,13 @@ same-length-2 c = search needs
 
 returns-2 : tie.Need-returns-2
 returns-2 c =
-    let a = c .before .before .before .before .before .before .before .before .before .before .before .before .before .args in
+    let a = c .before .before .before .before .before .before .before .before .before .before .before .before .before .before .before .before .before .args in
     let t = tables (a .members .now) (a .pending .now) (a .waiting .now) (a .history .now) (a .sources .now) in
     promised-steps (call-queue-event (a .id) (a .kind) (a .reason)) (parts-of (a .self)) t nothing-lent
     (c .before .before .before .before .before .before .begin .ensures) (c .before .before .before .before .enum-told .given .1)
-    (c .before .before .push-event .ensures .over (a .self .identity) (a .self .sending) (a .self .ring) (a .pending .now) (a .waiting .now) (a .history .now) (a .sources .now)
-    (begun-unbroken (parts-of (a .self)) t (c .before .before .before .before .before .before .begin .ensures) (c .before .before .before .before .enum-told .given .1)))
+    nothing-delivered
+    ((c .before .before .push-event .ensures .over (a .self .identity) (a .self .sending) (a .self .ring) (a .pending .now) (a .waiting .now) (a .history .now) (a .sources .now)
+    (begun-unbroken (parts-of (a .self)) t (c .before .before .before .before .before .before .begin .ensures) (c .before .before .before .before .enum-told .given .1))) .steps)
 
 pub queue-event-spec : {M : Type 1} → statement M
 queue-event-spec =

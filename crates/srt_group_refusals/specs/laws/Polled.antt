@@ -17,9 +17,9 @@ use Rattle.srt_group_model.specs.laws.Reason.{by-test, or-no, or-yes-right}
 use Rattle.srt_group_model.specs.laws.Refusals.{guard-stops}
 use Rattle.srt_group_shown.specs.Tables.{Parts, Tables, state-of}
 use Rattle.srt_group_shown.specs.Ready.{lending, Performs}
-use Rattle.srt_group.specs.Begins.{are-short, BeginsStored}
-use Rattle.srt_group.specs.Promised.{showing, Promised}
-use Rattle.srt_group.specs.laws.Promised.{does-refused, promised-short, promised-does, promised-refused, promised-performed}
+use Rattle.srt_group_refusals.specs.Begins.{are-short, BeginsStored}
+use Rattle.srt_group_refusals.specs.Promised.{showing, Promised}
+use Rattle.srt_group_refusals.specs.laws.Promised.{does-refused, promised-short, promised-does, promised-refused, promised-performed}
 
 module _ (call : Call) (p : Parts) (t : Tables) (store output : List ℕ) (cs : List Check) (body : Step) where
   abbrev step : Step

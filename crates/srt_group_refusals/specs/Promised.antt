@@ -7,7 +7,7 @@ use Rattle.srt_group_traces.specs.Statement.{Asked}
 use Rattle.srt_group_traces.specs.Port.{Shown, Promise}
 use Rattle.srt_group_shown.specs.Tables.{Parts, Tables, state-of}
 use Rattle.srt_group_shown.specs.Ready.{storing}
-use Rattle.srt_group.specs.Begins.{are-short}
+use Rattle.srt_group_refusals.specs.Begins.{are-short}
 
 -- beside the tables nothing is lent
 abbrev pub nothing-lent : Lent

@@ -2,9 +2,9 @@
 use mathlib.Core.Path.{_∙_}
 use native.Mathlib.Omega.{arith}
 use borrow.Author.Needs.{needs}
-use Rattle.srt_group.specs.laws.Begins.{none-given, some-given}
-use Rattle.srt_group.proofs.refusals.cells_given.Statement.{statement}
-use Rattle.srt_group.proofs.refusals.cells_given.Tie as tie
+use Rattle.srt_group_refusals.specs.laws.Begins.{none-given, some-given}
+use Rattle.srt_group_refusals.proofs.refusals.cells_given.Statement.{statement}
+use Rattle.srt_group_refusals.proofs.refusals.cells_given.Tie as tie
 
 returns : tie.Need-returns
 returns c = (none-given (c .if1 .taken), omega arith)

@@ -8,12 +8,14 @@ ghost use lib.ListN.{length};
 ghost use Rattle.srt_protocol.specs.Cells.{cell-size, max-cells, cells-of};
 ghost use Rattle.srt_group_model.specs.Tools.{if_then_else_};
 ghost use Rattle.cell_set.specs.Bits.{set-size};
-ghost use Rattle.srt_group_shown.specs.Tables.{tables};
-ghost use Rattle.srt_group.specs.Made.{parts-of};
-ghost use Rattle.srt_group.specs.Begins.{are-short, begun, BeginsStored};
-use crate::Group;
+ghost use Rattle.srt_group_shown.specs.Tables.{parts, tables};
+ghost use Rattle.srt_group_refusals.specs.Begins.{are-short, begun, BeginsStored};
 use srt_connection_members::MEMBERS_LENGTH;
+use srt_group_model::Core;
+use srt_group_model::Identity;
+use srt_group_model::Sending;
 use srt_group_state::validity::is_invalid;
+use srt_group_tables::history::HistoryRing;
 use srt_group_tables::history::MAX_HISTORY;
 use srt_group_tables::pending::PENDING_LENGTH;
 use srt_group_tables::waiting::WAITING_LENGTH;
@@ -60,25 +62,22 @@ fn cells_given(given: usize) -> usize
 
 // 5 or 6 of a call that is lent no store; or it goes on.
 pub fn begin(
-    group: Group,
+    identity: Identity,
+    core: Core,
+    sending: Sending,
+    ring: HistoryRing,
     members: &[u64],
     pending: &[u64],
     waiting: &[u64],
     history: &[u64],
     sources: &[u64],
 ) -> Outcome
-    ensures { λ r. ⌜ r ≡ begun (parts-of group)
+    ensures { λ r. ⌜ r ≡ begun (parts identity core sending ring)
         (tables (now (members .entry)) (now (pending .entry)) (now (waiting .entry)) (now (history .entry)) (now (sources .entry))) ⌝ }
 {
     if are_short(members, pending, waiting, history, sources) {
         return Outcome::Refused(Error::InsufficientBuffer);
     }
-    let Group {
-        identity,
-        core,
-        sending,
-        ring,
-    } = group;
     let cells = cells_given(identity.length);
     let mut used = [0u64; 32];
     let broken = is_invalid(
@@ -103,7 +102,10 @@ pub fn begin(
 
 // 5 or 6 of a call that is lent a store of so many bytes; or it goes on, and the set shows which cells are in use, whatever it held.
 pub fn begin_stored(
-    group: Group,
+    identity: Identity,
+    core: Core,
+    sending: Sending,
+    ring: HistoryRing,
     members: &[u64],
     pending: &[u64],
     waiting: &[u64],
@@ -113,19 +115,13 @@ pub fn begin_stored(
     used: &mut [u64],
 ) -> Outcome
     requires { ⌜ length (now used) ≡ set-size ⌝ }
-    ensures { λ r. ⌜ BeginsStored (parts-of group)
+    ensures { λ r. ⌜ BeginsStored (parts identity core sending ring)
         (tables (now (members .entry)) (now (pending .entry)) (now (waiting .entry)) (now (history .entry)) (now (sources .entry)))
         store r (now (used .exit)) ⌝ }
 {
     if are_short(members, pending, waiting, history, sources) {
         return Outcome::Refused(Error::InsufficientBuffer);
     }
-    let Group {
-        identity,
-        core,
-        sending,
-        ring,
-    } = group;
     if store_unfit(store, identity.length) {
         return Outcome::Refused(Error::InsufficientBuffer);
     }

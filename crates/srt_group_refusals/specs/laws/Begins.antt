@@ -24,8 +24,8 @@ use Rattle.srt_group_tables.specs.Waitings.{waiting-size}
 use Rattle.srt_group_shown.specs.Tables.{Parts, Tables, state-of, Long}
 use Rattle.srt_group_state.specs.Tested.{Tested}
 use Rattle.srt_group_state.specs.laws.Tested.{ready-of-tested}
-use Rattle.srt_group_queueing.specs.Steps.{Unbroken}
-use Rattle.srt_group.specs.Begins.{are-short, begun, BeginsStored}
+use Rattle.srt_group_shown.specs.Steps.{Unbroken}
+use Rattle.srt_group_refusals.specs.Begins.{are-short, begun, BeginsStored}
 
 pub are-long : (t : Tables) → are-short t ≡ false → Long t
 unfolding are-short

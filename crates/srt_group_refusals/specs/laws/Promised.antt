@@ -2,6 +2,7 @@
 use mathlib.Core.Path.{_≡_, refl, sym, ap, subst, _∙_}
 use mathlib.Core.Bool.{Bool, true, false}
 use mathlib.Core.List.{List, [], _∷_}
+use mathlib.Core.Option.{none}
 use Prim.Native.Nat.{ℕ}
 use lib.ListN.{length}
 use Rattle.srt_protocol.specs.declared.error.Error.{Error}
@@ -22,11 +23,12 @@ use Rattle.srt_group_traces.specs.laws.Port.{performs-does}
 use Rattle.srt_group_traces.specs.laws.Rows.{only-sends-fill-rows}
 use Rattle.srt_group_shown.specs.Tables.{Parts, Tables, state-of}
 use Rattle.srt_group_shown.specs.Ready.{storing, Performs}
-use Rattle.srt_group_queueing.specs.Steps.{Steps}
+use Rattle.srt_group_shown.specs.Steps.{Steps}
+use Rattle.srt_group_shown.specs.laws.Steps.{left-bytes}
 use Rattle.srt_group_queueing.specs.laws.OneMember.{OneMember}
-use Rattle.srt_group.specs.Begins.{are-short, begun, BeginsStored}
-use Rattle.srt_group.specs.laws.Begins.{begun-which, begun-long, begun-valid, not-short, which-refused}
-use Rattle.srt_group.specs.Promised.{nothing-lent, asking, showing, Promised}
+use Rattle.srt_group_refusals.specs.Begins.{are-short, begun, BeginsStored}
+use Rattle.srt_group_refusals.specs.laws.Begins.{begun-which, begun-long, begun-valid, not-short, which-refused}
+use Rattle.srt_group_refusals.specs.Promised.{nothing-lent, asking, showing, Promised}
 
 module _ (call : Call) (p : Parts) (t : Tables) (bytes : Lent) where
   abbrev s : State
@@ -87,18 +89,18 @@ module _ (call : Call) (p : Parts) (t : Tables) (bytes : Lent) where
         }
 
     -- what follows 5 and 6 is the definition's step
-    pub promised-steps : r ≡ Accepted → {code : ℕ} {t′ : Tables} → Steps call p t code t′
-        → Promised call p t bytes (showing p t′ bytes code no-answer 0)
-    unfolding do-call perform with-bytes stored delivered-by written-out list-rows overwritten
-    promised-steps accepted {code} {t′} steps =
-        let step-is = steps .step (length (bytes .store)) (length (bytes .output)) (length (bytes .list)) in
-        promised-does (showing p t′ bytes code no-answer 0) (begun-long p t begins accepted)
+    pub promised-steps : r ≡ Accepted → {number : ℕ} {given : Answer} {p′ : Parts} {t′ : Tables} → delivered-by given ≡ none
+        → Steps call p t number given p′ t′ → Promised call p t bytes (showing p′ t′ bytes number given 0)
+    unfolding do-call perform with-bytes
+    promised-steps accepted {number} {given} {p′} {t′} no-packet steps =
+        let left = steps .step (length (bytes .store)) (length (bytes .output)) (length (bytes .list)) in
+        promised-does (showing p′ t′ bytes number given 0) (begun-long p t begins accepted)
         record {
-          code = sym (ap (λ (x : Step). x .code) step-is);
-          answer = sym (ap (λ (x : Step). x .answer) step-is);
-          state = sym (ap (λ (x : Step). x .state) step-is);
-          lent = sym (ap (λ (x : Step). with-bytes bytes x .lent) step-is);
-          rows = sym (ap (λ (x : Step). length (x .sends)) step-is);
+          code = sym (left .code);
+          answer = sym (left .answer);
+          state = sym (left .state);
+          lent = left-bytes bytes step left no-packet;
+          rows = sym (ap length (left .sends));
         }
 
   -- ---- a call that is lent a store, whose definition begins with 5 and 6

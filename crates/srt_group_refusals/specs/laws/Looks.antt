@@ -8,9 +8,9 @@ use Rattle.srt_group_model.specs.Guards.{no-answer, shown, number, Shown as Loo
 use Rattle.srt_group_model.specs.Calls.{look-checks, group-id, mode, skipped-receive-packets}
 use Rattle.srt_group_model.specs.Lent.{Look, look-group-id, look-mode, look-skipped-receive-packets, looking, look-at, call-look, step-of}
 use Rattle.srt_group_shown.specs.Tables.{Parts, Tables}
-use Rattle.srt_group.specs.Begins.{begun}
-use Rattle.srt_group.specs.Promised.{nothing-lent, showing, Promised}
-use Rattle.srt_group.specs.laws.Promised.{promised-refused-6, promised-look}
+use Rattle.srt_group_refusals.specs.Begins.{begun}
+use Rattle.srt_group_refusals.specs.Promised.{nothing-lent, showing, Promised}
+use Rattle.srt_group_refusals.specs.laws.Promised.{promised-refused-6, promised-look}
 
 module _ (p : Parts) (t : Tables) {r : Outcome} (begins : r ≡ begun p t) where
   abbrev refused-with : Error → Look → Type 0
