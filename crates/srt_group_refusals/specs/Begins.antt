@@ -2,17 +2,17 @@
 use mathlib.Core.Path.{_≡_}
 use mathlib.Core.Bool.{Bool, not, _||_}
 use mathlib.Core.List.{List}
-use Prim.Native.Nat.{ℕ}
+use Prim.Native.Nat.{ℕ, _≤_}
 use lib.Dec.{eqb, ltb}
 use lib.ListN.{length}
 use Rattle.srt_protocol.specs.declared.error.Error.the-variants.{InsufficientBuffer, InvalidState}
 use Rattle.srt_protocol.specs.declared.error.Outcome.{Outcome}
 use Rattle.srt_protocol.specs.declared.error.Outcome.the-variants.{Accepted}
 use Rattle.srt_protocol.specs.Errors.{refuse-if}
-use Rattle.srt_protocol.specs.Cells.{cells-of}
+use Rattle.srt_protocol.specs.Cells.{cells-of, output-size}
 use Rattle.srt_group_model.specs.Backup.{max-history}
 use Rattle.srt_group_model.specs.Validity.{is-invalid}
-use Rattle.srt_group_model.specs.Calls.{store-unfit, breaks-rule}
+use Rattle.srt_group_model.specs.Calls.{store-unfit, output-unfit, breaks-rule}
 use Rattle.srt_connection_members.specs.Members.{members-size}
 use Rattle.srt_group_tables.specs.Packets.{pending-size}
 use Rattle.srt_group_tables.specs.Waitings.{waiting-size}
@@ -42,3 +42,12 @@ begun-stored p t store =
 pub record BeginsStored (p : Parts) (t : Tables) (store : ℕ) (r : Outcome) (used : List ℕ) : Type 0 where
   pub is : r ≡ begun-stored p t store
   pub ready : r ≡ Accepted → Ready p t store used
+
+-- how a poll begins, which is lent an output too: 5 if that has no room, then the same
+abbrev pub begun-poll : Parts → Tables → (store output : ℕ) → Outcome
+begun-poll p t store output = refuse-if (output-unfit output) InsufficientBuffer (begun-stored p t store)
+
+pub record BeginsPoll (p : Parts) (t : Tables) (store output : ℕ) (r : Outcome) (used : List ℕ) : Type 0 where
+  pub is : r ≡ begun-poll p t store output
+  pub ready : r ≡ Accepted → Ready p t store used
+  pub room : r ≡ Accepted → output-size ≤ output

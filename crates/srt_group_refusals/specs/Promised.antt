@@ -1,7 +1,9 @@
 -- THE PROMISE of a public call (srt_group_traces, `Promise`), over the record and the lent tables before and after it.
 use mathlib.Core.List.{[]}
 use Prim.Native.Nat.{ℕ}
-use Rattle.srt_group_model.specs.Guards.{Answer}
+use Rattle.srt_protocol.specs.declared.error.Outcome.{Outcome}
+use Rattle.srt_protocol.specs.declared.error.Outcome.the-variants.{Accepted, Refused}
+use Rattle.srt_group_model.specs.Guards.{Answer, no-answer}
 use Rattle.srt_group_model.specs.Lent.{Lent, Call}
 use Rattle.srt_group_traces.specs.Statement.{Asked}
 use Rattle.srt_group_traces.specs.Port.{Shown, Promise}
@@ -12,6 +14,11 @@ use Rattle.srt_group_refusals.specs.Begins.{are-short}
 -- beside the tables nothing is lent
 abbrev pub nothing-lent : Lent
 nothing-lent = storing []
+
+-- the answer of a call: none where it is refused
+abbrev pub answered : Outcome → Answer → Answer
+answered Accepted given = given
+answered (Refused e) given = no-answer
 
 -- the call, and what it is lent beside the tables
 abbrev pub asking : Call → Lent → Asked

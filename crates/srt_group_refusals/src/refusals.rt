@@ -9,7 +9,7 @@ ghost use Rattle.srt_protocol.specs.Cells.{cell-size, max-cells, cells-of};
 ghost use Rattle.srt_group_model.specs.Tools.{if_then_else_};
 ghost use Rattle.cell_set.specs.Bits.{set-size};
 ghost use Rattle.srt_group_shown.specs.Tables.{parts, tables};
-ghost use Rattle.srt_group_refusals.specs.Begins.{are-short, begun, BeginsStored};
+ghost use Rattle.srt_group_refusals.specs.Begins.{are-short, begun, BeginsStored, BeginsPoll};
 use srt_connection_members::MEMBERS_LENGTH;
 use srt_group_model::Core;
 use srt_group_model::Identity;
@@ -23,6 +23,7 @@ use srt_protocol::error::Error;
 use srt_protocol::error::Outcome;
 use srt_protocol::received_payload::CELL;
 use srt_protocol::received_payload::MAX_CELLS;
+use srt_protocol::received_payload::OUTPUT;
 use srt_protocol::received_payload::cells_of;
 
 // 5: a table has fewer words than its rows take, or one of the history's two is not 512 long.
@@ -142,4 +143,32 @@ pub fn begin_stored(
         return Outcome::Refused(Error::InvalidState);
     }
     Outcome::Accepted
+}
+
+// The same of a poll, which is lent an output of so many bytes too: 5 first if it has no room for a head and a payload.
+pub fn begin_poll(
+    identity: Identity,
+    core: Core,
+    sending: Sending,
+    ring: HistoryRing,
+    members: &[u64],
+    pending: &[u64],
+    waiting: &[u64],
+    history: &[u64],
+    sources: &[u64],
+    store: usize,
+    output: usize,
+    used: &mut [u64],
+) -> Outcome
+    requires { ⌜ length (now used) ≡ set-size ⌝ }
+    ensures { λ r. ⌜ BeginsPoll (parts identity core sending ring)
+        (tables (now (members .entry)) (now (pending .entry)) (now (waiting .entry)) (now (history .entry)) (now (sources .entry)))
+        store output r (now (used .exit)) ⌝ }
+{
+    if output < OUTPUT {
+        return Outcome::Refused(Error::InsufficientBuffer);
+    }
+    begin_stored(
+        identity, core, sending, ring, members, pending, waiting, history, sources, store, used,
+    )
 }

@@ -4,7 +4,7 @@ use mathlib.Core.Bool.{Bool, true, false, not, _&&_, _||_}
 use mathlib.Core.List.{List}
 use Prim.Native.Nat.{ℕ}
 use native.Mathlib.Omega.{arith}
-use borrow.Author.Tests.{eqb-true, eq-eqb, ne-eqb, ltb-false, not-false}
+use borrow.Author.Tests.{eqb-true, eq-eqb, ne-eqb, ltb-false, le-ltb, not-false}
 use lib.Dec.{eqb, ltb}
 use lib.ListN.{length}
 use Rattle.srt_protocol.specs.declared.error.Error.{Error}
@@ -17,7 +17,7 @@ use Rattle.srt_group_model.specs.Tools.{if_then_else_}
 use Rattle.srt_group_model.specs.laws.Reason.{if-true, if-false, or-left, or-right, by-test}
 use Rattle.srt_group_model.specs.Backup.{max-history}
 use Rattle.srt_group_model.specs.Validity.{is-invalid}
-use Rattle.srt_group_model.specs.Calls.{store-unfit, cells-given, breaks-rule}
+use Rattle.srt_group_model.specs.Calls.{store-unfit, output-unfit, cells-given, breaks-rule}
 use Rattle.srt_connection_members.specs.Members.{members-size}
 use Rattle.srt_group_tables.specs.Packets.{pending-size}
 use Rattle.srt_group_tables.specs.Waitings.{waiting-size}
@@ -25,7 +25,7 @@ use Rattle.srt_group_shown.specs.Tables.{Parts, Tables, state-of, Long}
 use Rattle.srt_group_state.specs.Tested.{Tested}
 use Rattle.srt_group_state.specs.laws.Tested.{ready-of-tested}
 use Rattle.srt_group_shown.specs.Steps.{Unbroken}
-use Rattle.srt_group_refusals.specs.Begins.{are-short, begun, BeginsStored}
+use Rattle.srt_group_refusals.specs.Begins.{are-short, begun, begun-stored, BeginsStored, BeginsPoll}
 
 pub are-long : (t : Tables) → are-short t ≡ false → Long t
 unfolding are-short
@@ -185,3 +185,31 @@ module _ {p : Parts} {t : Tables} {store : ℕ} {r : Outcome} {used : List ℕ} 
       never-accepted
       (begun ∙ sym (passed-is InsufficientBuffer after-short long) ∙ sym (passed-is InsufficientBuffer after-unfit fits)
       ∙ sym (passed-is InvalidState Accepted valid)))))
+
+-- ---- a poll
+
+module _ (p : Parts) (t : Tables) (store output : ℕ) (used : List ℕ) where
+  pub begins-no-room : output-unfit output ≡ true → BeginsPoll p t store output (Refused InsufficientBuffer) used
+  begins-no-room unfit =
+      record { is = refused-is _ _ unfit; ready = λ never. never-accepted never; room = λ never. never-accepted never }
+
+  pub begins-with-room : output-unfit output ≡ false → {r : Outcome} → BeginsStored p t store r used → BeginsPoll p t store output r used
+  begins-with-room room begins =
+      record { is = begins .is ∙ passed-is _ _ room; ready = begins .ready; room = λ accepted. ltb-false _ _ room }
+
+module _ {p : Parts} {t : Tables} {store output : ℕ} {r : Outcome} {used : List ℕ} (begins : BeginsPoll p t store output r used) where
+  -- with room for a payload it begins as a call that is lent a store
+  pub begins-as-stored : output-unfit output ≡ false → BeginsStored p t store r used
+  begins-as-stored room = record { is = begins .is ∙ sym (passed-is InsufficientBuffer (begun-stored p t store) room); ready = begins .ready }
+
+  pub has-room : r ≡ Accepted → output-unfit output ≡ false
+  has-room accepted = le-ltb _ _ (begins .room accepted)
+
+  pub which-poll-refused : {B : Type 0} (e : Error) → r ≡ Refused e
+      → (output-unfit output ≡ true → error-number e ≡ 5 → B)
+      → (output-unfit output ≡ false → BeginsStored p t store r used → B)
+      → B
+  which-poll-refused e refused on-output on-stored =
+      by-test (output-unfit output)
+      (λ unfit. on-output unfit (ap outcome-number (sym refused ∙ begins .is ∙ sym (refused-is InsufficientBuffer (begun-stored p t store) unfit))))
+      (λ room. on-stored room (begins-as-stored room))

@@ -13,22 +13,20 @@ use Rattle.srt_protocol.specs.Cells.{cells-of, overwritten}
 use Rattle.srt_group_model.specs.State.{State}
 use Rattle.srt_group_model.specs.Validity.{is-invalid}
 use Rattle.srt_group_model.specs.Guards.{Answer, no-answer, Shown as Looked, shown, Step, refuse, accept, Check, _when_, guard}
-use Rattle.srt_group_model.specs.Calls.{store-unfit, breaks-rule, queue-data}
-use Rattle.srt_group_model.specs.Lent.{Lent, Call, call-queue-data, takes, stored, delivered-by, written-out, list-rows, with-bytes, step-of, perform}
+use Rattle.srt_group_model.specs.Calls.{store-unfit, breaks-rule}
+use Rattle.srt_group_model.specs.Lent.{Lent, Call, takes, stored, delivered-by, written-out, list-rows, with-bytes, step-of, perform}
 use Rattle.srt_group_model.specs.laws.Refusals.{guard-stops, guard-goes-on}
-use Rattle.srt_group_model.specs.declared.Data.{Data}
 use Rattle.srt_group_traces.specs.Statement.{do-call}
 use Rattle.srt_group_traces.specs.Port.{Shown, Does, Promise}
 use Rattle.srt_group_traces.specs.laws.Port.{performs-does}
 use Rattle.srt_group_traces.specs.laws.Rows.{only-sends-fill-rows}
 use Rattle.srt_group_shown.specs.Tables.{Parts, Tables, state-of}
-use Rattle.srt_group_shown.specs.Ready.{storing, Performs}
+use Rattle.srt_group_shown.specs.Ready.{Performs}
 use Rattle.srt_group_shown.specs.Steps.{Steps}
 use Rattle.srt_group_shown.specs.laws.Steps.{left-bytes}
-use Rattle.srt_group_queueing.specs.laws.OneMember.{OneMember}
 use Rattle.srt_group_refusals.specs.Begins.{are-short, begun, BeginsStored}
 use Rattle.srt_group_refusals.specs.laws.Begins.{begun-which, begun-long, begun-valid, not-short, which-refused}
-use Rattle.srt_group_refusals.specs.Promised.{nothing-lent, asking, showing, Promised}
+use Rattle.srt_group_refusals.specs.Promised.{asking, showing, Promised}
 
 module _ (call : Call) (p : Parts) (t : Tables) (bytes : Lent) where
   abbrev s : State
@@ -128,24 +126,3 @@ module _ (call : Call) (p : Parts) (t : Tables) (bytes : Lent) where
         promised-does (showing p′ t′ bytes′ number given 0) (not-short begins accepted)
         (performs-does call bytes s (showing p′ t′ bytes′ number given 0) (done .code) (done .answer) (done .state) (done .lent)
         (sym (only-sends-fill-rows call bytes s no-list)))
-
--- ---- `queue_event`, `read_leg`
-
-pub one-member-refused : {call : Call} (c : OneMember call) (p : Parts) (t : Tables) {r : Outcome} (begins : r ≡ begun p t) (e : Error)
-    → r ≡ Refused e → Promised call p t nothing-lent (showing p t nothing-lent (error-number e) no-answer 0)
-one-member-refused {call} c p t begins e refused =
-    promised-refused-6 call p t nothing-lent begins _ _ (c .is 0 0 0 (state-of p t)) e refused
-
--- ---- `queue_data`
-
-module _ (id : ℕ) (d : Data) (payload : List ℕ) (p : Parts) (t : Tables) (store : List ℕ) {r : Outcome} {used : List ℕ}
-    (begins : BeginsStored p t (length store) r used) where
-  pub data-refused-first : (e : Error) → r ≡ Refused e
-      → Promised (call-queue-data id d payload) p t (storing store) (showing p t (storing store) (error-number e) no-answer 0)
-  unfolding step-of queue-data
-  data-refused-first e refused = promised-refused (call-queue-data id d payload) p t (storing store) begins _ _ refl e refused
-
-  pub data-queued : r ≡ Accepted → {number : ℕ} {t′ : Tables} {store′ used′ : List ℕ}
-      → Performs (call-queue-data id d payload) p t (storing store) number no-answer p t′ (storing store′) used′
-      → Promised (call-queue-data id d payload) p t (storing store) (showing p t′ (storing store′) number no-answer 0)
-  data-queued accepted done = promised-performed (call-queue-data id d payload) p t (storing store) begins refl accepted done
