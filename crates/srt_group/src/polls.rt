@@ -1,83 +1,29 @@
 // The polls, over the record and the lent tables.
-ghost use Rattle.srt_protocol.specs.Errors.{outcome-number};
 ghost use Rattle.srt_group_model.specs.Lent.{call-poll-data-bounded, call-poll-data, call-poll-event};
 ghost use Rattle.srt_group_shown.specs.Tables.{tables};
 ghost use Rattle.srt_group_shown.specs.Ready.{lending};
-ghost use Rattle.srt_group_refusals.specs.Promised.{answered, showing, Promised, Answers};
-ghost use Rattle.srt_group_data_poll.specs.Polling.{answer-of as data-given};
-ghost use Rattle.srt_group_event_poll.specs.Polling.{answer-of as event-given};
+ghost use Rattle.srt_group_refusals.specs.Promised.{showing, Promised};
+ghost use Rattle.srt_group_data_poll.specs.Answers.{data-number, data-answer};
+ghost use Rattle.srt_group_event_poll.specs.Answers.{event-number, event-answer};
 ghost use Rattle.srt_group.specs.Made.{parts-of};
-ghost use Rattle.srt_group.specs.DataPolled.{data-number, data-answer};
-ghost use Rattle.srt_group.specs.EventPolled.{event-number, event-answer};
 use crate::Group;
 use srt_group_collecting::collecting::MAX_VISITS;
 use srt_group_data_poll::calls;
-use srt_group_delivery::delivery::Poll;
-use srt_group_delivery::delivery::Polled;
+use srt_group_data_poll::calls::DataAnswer;
 use srt_group_event_poll::calls as event_calls;
-use srt_group_polls::polls::DataPoll;
-use srt_group_polls::polls::OptionalPacket;
-use srt_protocol::error::Error;
-use srt_protocol::error::Outcome;
+use srt_group_event_poll::calls::EventAnswer;
 use srt_protocol::time::Timestamp;
 
-// A packet or none, and whether the poll should be called again at once.
-pub struct GroupDataPoll {
-    pub packet: OptionalPacket,
-    pub continuation: u64,
-}
-
-// What a data poll answers.
-pub enum DataAnswer {
-    Refused(Error),
-    Polled(GroupDataPoll),
-}
-
-// The answer, and the record after the call: as it was where the call is refused.
+// What a data poll answers, and the record after the call: as it was where the call is refused.
 pub struct DataPolled {
     pub group: Group,
     pub answer: DataAnswer,
 }
 
-// What an event poll answers: nothing, an event or a packet.
-pub enum EventAnswer {
-    Refused(Error),
-    Polled(Polled),
-}
-
-// The answer, and the record after the call: as it was where the call is refused.
+// The same of an event poll.
 pub struct EventPolled {
     pub group: Group,
     pub answer: EventAnswer,
-}
-
-// What a data poll answers, from its outcome and what it gave.
-fn data_answer(outcome: Outcome, poll: DataPoll) -> DataAnswer
-    ensures { λ r. ⌜ Answers (outcome-number outcome) (answered outcome (data-given poll)) (data-number r) (data-answer r) ⌝ }
-{
-    match outcome {
-        Outcome::Refused(error) => DataAnswer::Refused(error),
-        Outcome::Accepted => {
-            let packet = poll.gave;
-            DataAnswer::Polled(GroupDataPoll {
-                packet,
-                continuation: poll.continuation,
-            })
-        }
-    }
-}
-
-// The same of an event poll.
-fn event_answer(outcome: Outcome, poll: Poll) -> EventAnswer
-    ensures { λ r. ⌜ Answers (outcome-number outcome) (answered outcome (event-given poll)) (event-number r) (event-answer r) ⌝ }
-{
-    match outcome {
-        Outcome::Refused(error) => EventAnswer::Refused(error),
-        Outcome::Accepted => {
-            let gave = poll.gave;
-            EventAnswer::Polled(gave)
-        }
-    }
 }
 
 impl Group {
@@ -122,9 +68,8 @@ impl Group {
             time,
             max_events,
         );
-        let outcome = called.outcome;
-        let poll = called.poll;
-        let after = poll.core;
+        let after = called.core;
+        let answer = called.answer;
         DataPolled {
             group: Group {
                 identity,
@@ -132,7 +77,7 @@ impl Group {
                 sending,
                 ring,
             },
-            answer: data_answer(outcome, poll),
+            answer,
         }
     }
 
@@ -207,9 +152,8 @@ impl Group {
             output,
             time,
         );
-        let outcome = called.outcome;
-        let poll = called.poll;
-        let after = poll.core;
+        let after = called.core;
+        let answer = called.answer;
         EventPolled {
             group: Group {
                 identity,
@@ -217,7 +161,7 @@ impl Group {
                 sending,
                 ring,
             },
-            answer: event_answer(outcome, poll),
+            answer,
         }
     }
 }

@@ -55,10 +55,10 @@ same-length-7 c = search needs
 
 returns-2 : tie.Need-returns-2
 returns-2 c =
-    let a = c .before .before .before .before .before .before .before .before .before .before .before .before .before .before .before .before .before .before .before .before .before .before .before .before .before .before .before .before .before .before .args in
+    let a = c .before .before .before .before .before .before .before .before .before .before .before .before .before .before .before .before .before .before .before .before .before .before .before .before .before .before .before .before .before .before .before .args in
     event-poll-performed (a .time .0) (parts (a .identity) (a .core) (a .sending) (a .ring))
     (tables (a .members .now) (a .pending .now) (a .waiting .now) (a .history .now) (a .sources .now)) (a .store .now) (a .output .now)
-    (c .before .before .before .before .before .before .before .before .before .before .before .before .before .before .before .before .before .before .begin-poll .ensures) (c .before .before .before .before .before .before .before .before .before .before .before .before .before .before .before .enum-told .given .1) (c .before .before .before .before .before .before .before .before .before .poll-event .ensures)
+    (c .before .before .before .before .before .before .before .before .before .before .before .before .before .before .before .before .before .before .before .begin-poll .ensures) (c .before .before .before .before .before .before .before .before .before .before .before .before .before .before .before .before .enum-told .given .1) (c .before .before .before .before .before .before .before .before .before .before .poll-event .ensures)
 
 pub poll-event-spec : {M : Type 1} → statement M
 poll-event-spec =
