@@ -15,7 +15,7 @@ use cell_set::lowest_free;
 use cell_set::take;
 use srt_connection_members::pop_at;
 use srt_group::Group;
-use srt_group_model::Account;
+use srt_group_members::accounts::NO_PACKETS;
 use srt_group_model::Core;
 use srt_group_model::Counts;
 use srt_group_model::Data;
@@ -75,7 +75,7 @@ fn made(members: usize) -> Group
             continuation: 0,
             round: 0,
         },
-        own: Account { reserved: 0 },
+        own: NO_PACKETS,
     };
     Group {
         identity: Identity {

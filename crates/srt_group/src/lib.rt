@@ -6,7 +6,7 @@ ghost use lib.ListN.{length};
 ghost use Rattle.srt_group_model.specs.Backup.{max-history};
 ghost use Rattle.srt_group_model.specs.Calls.{new};
 ghost use Rattle.srt_group.specs.Made.{Fresh};
-use srt_group_model::Account;
+use srt_group_members::accounts::NO_PACKETS;
 use srt_group_model::Core;
 use srt_group_model::Counts;
 use srt_group_model::Identity;
@@ -57,7 +57,7 @@ impl Group {
                 continuation: 0,
                 round: 0,
             },
-            own: Account { reserved: 0 },
+            own: NO_PACKETS,
         };
         Self {
             identity: Identity { id, length },

@@ -11,6 +11,7 @@ use Rattle.srt_group_model.specs.declared.Packet.{Packet}
 use Rattle.srt_group_model.specs.declared.Waiting.{Waiting}
 use Rattle.srt_group_model.specs.Tools.{if_then_else_, change}
 use Rattle.srt_group_model.specs.State.{Member, Receive, is-backup, turned, broken-state, receive-side}
+use Rattle.srt_group_model.specs.Accounts.{reserve, Fits}
 use Rattle.srt_group_model.specs.Legs.{largest-sequence}
 use Rattle.srt_group_model.specs.Members.{promote-backup-member}
 use Rattle.srt_group_model.specs.Validity.{max-pending, ascends}
@@ -31,7 +32,7 @@ pub record Holdable (held : ℕ) (pending : List ℕ) (p : Packet) (m : Member) 
   pub sequence : p .content .sequence ≤ largest-sequence
   pub cell : p .content .cell < max-cells
   pub apart : is-among (p .content .cell) (pending-cells (packets held pending)) ≡ false
-  pub reserved : m .membership .account .reserved + p .content .count < 18446744073709551616
+  pub room : Fits (reserve (p .content .count) (m .membership .account))
 
 -- over any waiting events, which stay
 pub record Retained (i : ℕ) (p : Packet) (core : Core) (ms ps : List ℕ) (after : Core) (ms′ ps′ : List ℕ) : Type 0 where

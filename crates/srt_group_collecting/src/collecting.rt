@@ -8,7 +8,7 @@ ghost use lib.ListN.{length};
 ghost use Rattle.srt_protocol.specs.Sequence.{sequence-before};
 ghost use Rattle.srt_group_model.specs.Tools.{is-set, bit, flagged, if-some_give_otherwise_};
 ghost use Rattle.srt_group_model.specs.State.{on-membership, on-account};
-ghost use Rattle.srt_group_model.specs.Accounts.{reserve};
+ghost use Rattle.srt_group_model.specs.Accounts.{reserve, Fits};
 ghost use Rattle.srt_group_model.specs.Core.{with-next, continued};
 ghost use Rattle.srt_group_model.specs.Collecting.{is-discarded, take-front, collect-one-event, has-pending-data};
 ghost use Rattle.srt_group_model.specs.Nearest.{is-held};
@@ -106,7 +106,7 @@ fn is_late(receiving: Receiving, sequence: u64) -> bool
 // The count of a packet that is held for a member is added to its sum.
 fn reserve_at(members: &mut [u64], index: usize, count: u64)
     requires { ⌜ has-row index (now members) ⌝ }
-    requires { ⌜ member-at (now members) index .membership .account .reserved + count < 18446744073709551616 ⌝ }
+    requires { ⌜ Fits (reserve count (member-at (now members) index .membership .account)) ⌝ }
     ensures { λ _. ⌜ Changed index (on-account (reserve count))
         (now (members .entry)) (now (members .exit)) ⌝ }
 {

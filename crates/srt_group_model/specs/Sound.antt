@@ -9,14 +9,14 @@ use lib.ListN.{length}
 use Rattle.srt_protocol.specs.Cells.{cell-size, max-cells}
 use Rattle.srt_group_model.specs.Tools.{each, if_then_else_, All}
 use Rattle.srt_group_model.specs.State.{Member, State}
+use Rattle.srt_group_model.specs.Accounts.{account-of}
 use Rattle.srt_group_model.specs.Members.{id-of}
 use Rattle.srt_group_model.specs.Cells.{queued-cells, is-among, is-data}
 use Rattle.srt_group_model.specs.declared.Account.{Account}
-use Rattle.srt_group_model.specs.declared.Data.{Data}
 use Rattle.srt_group_model.specs.declared.Packet.{Packet}
 use Rattle.srt_group_model.specs.declared.Entry.{Entry}
 use Rattle.srt_group_model.specs.Removal.{is-owned}
-use Rattle.srt_group_model.specs.Validity.{one-twice, held-weight, own-weight, queued-weight, held-count, queued-count, max-queued, is-too-large, event-out-of-range, data-out-of-range, ascends}
+use Rattle.srt_group_model.specs.Validity.{one-twice, is-held-for, held-count, queued-count, max-queued, is-too-large, event-out-of-range, data-out-of-range, ascends}
 use Rattle.srt_group_model.specs.Legs.{is-connected, has-sender, no-sequence, largest-sequence, largest-16, largest-32, largest-64}
 use Rattle.srt_group_model.specs.declared.Leg.{Leg}
 use Rattle.srt_group_model.specs.declared.Event.{Event}
@@ -62,37 +62,20 @@ Within bound s = (n : ℕ) → uses n (s .members) (s .receive .pending) (s .sen
 abbrev pub Placed : List ℕ → Packet → Type 0
 Placed l p = (is-owned p || is-among (p .member) l) ≡ true
 
--- A rule of accounts: what a packet weighs; how a member's account and its leg's reservation stand to what its queue weighs and what
--- is held for it; how the group's own account stands to what it holds itself.
-pub record Account-rule : Type 1 where
-  pub weight : Data → ℕ
-  pub member : (queued held : ℕ) → Account → (reservation : ℕ) → Type 0
-  pub group : (held : ℕ) → Account → Type 0
+-- the member's account is that of the packets held for it, its leg's reservation their counts and those of its queue
+pub record Summed (ps : List Packet) (m : Member) : Type 0 where
+  pub account : m .membership .account ≡ account-of (is-held-for (id-of m)) ps
+  pub reservation : m .leg .receiver .reserved ≡ held-count (id-of m) ps + queued-count (m .queue)
 
--- every account is as the rule says, and every held packet is in one
-pub record Accounts (rule : Account-rule) (ps : List Packet) (ms : List Member) (account : Account) : Type 0 where
+-- every account is that of the packets it is of, and every held packet is in one
+pub record Sums (ps : List Packet) (ms : List Member) (own-account : Account) : Type 0 where
   pub unique : one-twice (ids ms) ≡ false
-  pub members :
-      All
-      (λ (m : Member).
-      rule .member (queued-weight (rule .weight) (m .queue)) (held-weight (rule .weight) (id-of m) ps) (m .membership .account) (m .leg .receiver .reserved))
-      ms
+  pub members : All (Summed ps) ms
   pub placed : All (Placed (ids ms)) ps
-  pub own : rule .group (own-weight (rule .weight) ps) account
-
--- the reserved sums: a packet weighs its count, an account is what is held, a leg's reservation what is held and queued
-pub record Reserved (queued held : ℕ) (account : Account) (leg : ℕ) : Type 0 where
-  pub reserved : account .reserved ≡ held
-  pub reservation : leg ≡ held + queued
-
-abbrev pub reserved-sums : Account-rule
-reserved-sums = record { weight = λ d. d .count; member = Reserved; group = λ held account. account .reserved ≡ held }
-
-abbrev pub Summed : List Packet → Member → Type 0
-Summed ps m = Reserved (queued-count (m .queue)) (held-count (id-of m) ps) (m .membership .account) (m .leg .receiver .reserved)
+  pub own : own-account ≡ account-of is-owned ps
 
 abbrev pub Sums-right : State → Type 0
-Sums-right s = Accounts reserved-sums (s .receive .pending) (s .members) (s .own)
+Sums-right s = Sums (s .receive .pending) (s .members) (s .own)
 
 -- ---- the range of each number of a member
 

@@ -8,6 +8,7 @@ use lib.ListN.{length}
 use Rattle.srt_protocol.specs.Handshake.{has-group-mask}
 use Rattle.srt_protocol.specs.Cells.{cell-size}
 use Rattle.srt_group_model.specs.Tools.{if_then_else_, any, each, total, counted}
+use Rattle.srt_group_model.specs.Accounts.{account-of, unlike}
 use Rattle.srt_group_model.specs.State.{Member, State, Making}
 use Rattle.srt_group_model.specs.Legs.{is-connected, has-sender, no-sequence, largest-sequence, largest-16, largest-32, largest-64}
 use Rattle.srt_group_model.specs.Members.{id-of, has-id}
@@ -145,10 +146,10 @@ own-count = own-weight (λ d. d .count)
 abbrev pub queued-count : List Event → ℕ
 queued-count = queued-weight (λ d. d .count)
 
--- the member's sum is that of its held packets, its leg's reservation that of the held and the queued ones
+-- the member's account is that of its held packets, its leg's reservation the counts of the held and the queued ones
 unfoldable pub member-sum-wrong : List Packet → Member → Bool
 member-sum-wrong ps m =
-    not (eqb (m .membership .account .reserved) (held-count (id-of m) ps))
+    unlike (m .membership .account) (account-of (is-held-for (id-of m)) ps)
     || not (eqb (m .leg .receiver .reserved) (held-count (id-of m) ps + queued-count (m .queue)))
 
 -- a held packet is counted nowhere: not the group's own, and of no member
@@ -159,7 +160,7 @@ unfoldable pub reserved-sum-wrong : State → Bool
 reserved-sum-wrong s =
     any (member-sum-wrong (s .receive .pending)) (s .members)
     || (any (is-unreserved (s .members)) (s .receive .pending)
-    || not (eqb (s .own .reserved) (own-count (s .receive .pending))))
+    || unlike (s .own) (account-of is-owned (s .receive .pending)))
 
 -- ---- a word of the record above its range
 

@@ -34,6 +34,7 @@ pub mod Fixed
 pub mod CellsMoved
 pub mod Unique
 pub mod Weights
+pub mod Accounts
 pub mod AccountLaw
 pub mod SumsKept
 pub mod InRange

@@ -2,13 +2,13 @@
 -- over every rest of the group and all waiting events, since a removal reads none of them.
 use mathlib.Core.Path.{_≡_}
 use mathlib.Core.List.{List}
-use Prim.Native.Nat.{ℕ, suc, _+_, _*_, _≤_, _<_}
+use Prim.Native.Nat.{ℕ, suc, _≤_, _<_}
 use lib.ListN.{length}
 use Rattle.srt_group_model.specs.declared.Core.{Core}
 use Rattle.srt_group_model.specs.declared.Account.{Account}
-use Rattle.srt_group_model.specs.Legs.{largest-16}
+use Rattle.srt_group_model.specs.Accounts.{add-account, Fits}
 use Rattle.srt_group_model.specs.Removal.{take-out, remove-member-at, leg-given-back}
-use Rattle.srt_group_model.specs.Validity.{max-pending, max-members}
+use Rattle.srt_group_model.specs.Validity.{max-members}
 use Rattle.srt_connection_members.specs.Members.{members-size, member-at}
 use Rattle.srt_group_shown.specs.Shown.{Rest, shown}
 use Rattle.srt_group_removal.specs.declared.removal.Removed.{Removed}
@@ -17,13 +17,13 @@ use Rattle.srt_group_model.specs.Core.{with-own-account, with-member-count, wit
 
 -- ---- what a removal may rely on, and what it leaves
 
--- the tables are long enough, the counts within their limits, the member is there, and its sum and the group's own add up in 64 bits
+-- the tables are long enough, the counts within their limits, the member is there, and its account and the group's own add up in 64 bits
 pub record Removable (i : ℕ) (core : Core) (members pending : List ℕ) : Type 0 where
   pub members-long : members-size ≤ length members
   pub members-few : core .counts .members ≤ max-members
   pub there : i < core .counts .members
   pub held : Held core pending
-  pub sum : core .own .reserved + member-at members i .membership .account .reserved ≤ largest-16 * max-pending
+  pub sum : Fits (add-account (member-at members i .membership .account) (core .own))
 
 -- a member less, the round's place and the group's own sum
 abbrev pub taken-out : (left round : ℕ) → Account → Core → Core

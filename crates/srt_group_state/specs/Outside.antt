@@ -16,7 +16,7 @@ use Rattle.srt_group_tables.specs.Packets.{packets}
 use Rattle.srt_group_tables.specs.Waitings.{waitings}
 use Rattle.srt_group_shown.specs.Shown.{rest, shown}
 use Rattle.srt_group_rules.specs.Rules.{member-breaks-rule, packet-breaks-rule}
-use Rattle.srt_group_rules.specs.Sums.{sums-wrong}
+use Rattle.srt_group_rules.specs.Sums.{accounts-wrong}
 
 -- ---- definitions
 
@@ -61,4 +61,4 @@ unfoldable pub rows-disagree : Core → (members pending : List ℕ) → Bool
 rows-disagree c members pending =
     one-twice (each id-of (members-of (c .counts .members) members))
     || (not (ascends (packets (c .counts .pending) pending))
-    || sums-wrong (members-of (c .counts .members) members) (packets (c .counts .pending) pending) (c .own .reserved))
+    || accounts-wrong (members-of (c .counts .members) members) (packets (c .counts .pending) pending) (c .own))

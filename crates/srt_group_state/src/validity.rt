@@ -31,7 +31,7 @@ use srt_group_rules::rows::history_breaks_rule;
 use srt_group_rules::rows::members_break_rule;
 use srt_group_rules::rows::packets_break_rule;
 use srt_group_rules::rows::waiting_breaks_rule;
-use srt_group_rules::sums::reserved_sum_wrong;
+use srt_group_rules::sums::accounts_wrong;
 use srt_group_tables::history::HistoryRing;
 use srt_group_tables::pending::MAX_PENDING;
 use srt_group_tables::pending::is_ascending;
@@ -108,8 +108,7 @@ fn rows_disagree(core: Core, members: &[u64], pending: &[u64]) -> bool
     if id_twice(members, count) {
         return true;
     }
-    !is_ascending(pending, held)
-        | reserved_sum_wrong(core.own.reserved, members, count, pending, held)
+    !is_ascending(pending, held) | accounts_wrong(core.own, members, count, pending, held)
 }
 
 // Every rule that needs no history and no cell.

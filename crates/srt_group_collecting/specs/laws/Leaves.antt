@@ -3,11 +3,12 @@ use mathlib.Core.Path.{_≡_, ap, sym}
 use mathlib.Core.List.{List, []}
 use Prim.Native.Nat.{ℕ}
 use native.Mathlib.Omega.{arith}
+use Rattle.srt_protocol.specs.Cells.{max-cells}
 use Rattle.srt_group_model.specs.declared.Core.{Core}
 use Rattle.srt_group_model.specs.declared.Sending.{Sending}
 use Rattle.srt_group_model.specs.Tools.{each}
 use Rattle.srt_group_model.specs.State.{Member, with-members}
-use Rattle.srt_group_model.specs.Sound.{occurs, Sending-fit, Sound}
+use Rattle.srt_group_model.specs.Sound.{Within, room, occurs, Sending-fit, Sound}
 use Rattle.srt_connection_members.specs.Members.{members-of}
 use Rattle.srt_group_shown.specs.Shown.{Rest, shown, remembering, nothing-sent, blank}
 use Rattle.srt_group_shown.specs.Tables.{ReceiveTables, shown-by}
@@ -19,24 +20,8 @@ pub sound-with : (core : Core) (others : Rest) (t : ReceiveTables) (sending : Se
     → Sound (shown-by core (remembering sending []) t)
 unfolding each occurs
 sound-with core others t sending fits h =
-    record {
-      ascending = h .ascending;
-      cells = λ n. omega (arith, h .cells n);
-      fit =
-          record {
-            members = h .fit .members;
-            pending = h .fit .pending;
-            history = tt;
-            remembered = omega arith;
-            waiting = h .fit .waiting;
-            receiving = h .fit .receiving;
-            sending = fits;
-            continuation = h .fit .continuation;
-            peer = h .fit .peer;
-          };
-      sums = record { unique = h .sums .unique; members = h .sums .members; placed = h .sums .placed; own = h .sums .own };
-      round = h .round;
-    }
+    let cells : Within (room max-cells) (shown-by core (remembering sending []) t) = λ n. omega (arith, h .cells n) in
+    search (arith, cells)
 
 pub sound-blank : (core : Core) (others : Rest) (t : ReceiveTables) → Sound (shown-by core others t) → Sound (shown-by core blank t)
 sound-blank core others t =

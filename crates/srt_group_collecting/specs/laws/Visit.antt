@@ -13,6 +13,7 @@ use Rattle.srt_group_model.specs.declared.Core.{Core}
 use Rattle.srt_group_model.specs.declared.Event.{Event}
 use Rattle.srt_group_model.specs.declared.Membership.{Membership}
 use Rattle.srt_group_model.specs.Tools.{if_then_else_, if-some_give_otherwise_, bit, at-place, change}
+use Rattle.srt_group_model.specs.Accounts.{reserve, Fits}
 use Rattle.srt_group_model.specs.State.{Member, State, with-members, with-round, with-continuation, with-queue}
 use Rattle.srt_group_model.specs.Core.{with-next, continued}
 use Rattle.srt_group_model.specs.Members.{id-of}
@@ -321,7 +322,6 @@ module _ (core : Core) (ms ps ws : List ℕ) (usable : Usable core (receive-tabl
         holdable =
             λ is.
             let f = data-front e (g .front) is in
-            let same : member-at ms₁ i .membership .account .reserved ≡ member-at ms i .membership .account .reserved = ap (λ (m : Member). m .membership .account .reserved) (changed .here) in
             record {
               long = usable .pending-long;
               few = omega (arith, f .held, tab-length (core .counts .pending) (packet-at ps));
@@ -329,7 +329,7 @@ module _ (core : Core) (ms ps ws : List ℕ) (usable : Usable core (receive-tabl
               sequence = f .sequence;
               cell = f .cell;
               apart = f .apart;
-              reserved = omega (arith, same, f .reserved, f .count);
+              room = subst (λ (m : Member). Fits (reserve (e .content .count) (m .membership .account))) (sym (changed .here)) (f .room);
             };
       }
 

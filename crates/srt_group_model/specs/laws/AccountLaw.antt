@@ -24,7 +24,7 @@ use Rattle.srt_group_model.specs.Cells.{is-data, is-among}
 use Rattle.srt_group_model.specs.Validity.{one-twice, ascends, held-weight, own-weight, queued-weight}
 use Rattle.srt_group_model.specs.Calls.{data-event, no-data, new-member}
 use Rattle.srt_group_model.specs.Lent.{Lent, Call, perform}
-use Rattle.srt_group_model.specs.Sound.{ids, Placed, Account-rule, Accounts}
+use Rattle.srt_group_model.specs.Sound.{ids, Placed}
 use Rattle.srt_group_model.specs.laws.Frame.{place-passes}
 use Rattle.srt_group_model.specs.laws.HonestLog.{relabelled-ids, among-ids}
 use Rattle.srt_group_model.specs.laws.Unique.{among-any, ids-append, among-append, once-append, without-once}
@@ -40,6 +40,26 @@ use Rattle.srt_group_model.specs.declared.Data.{Data}
 use Rattle.srt_group_model.specs.declared.Event.{Event}
 use Rattle.srt_group_model.specs.declared.Leg.{Leg}
 use Rattle.srt_group_model.specs.declared.Packet.{Packet}
+
+-- ---- a rule
+
+-- A rule of accounts: what a packet weighs; how a member's account and its leg's reservation stand to what its queue weighs and what
+-- is held for it; how the group's own account stands to what it holds itself.
+pub record Account-rule : Type 1 where
+  pub weight : Data → ℕ
+  pub member : (queued held : ℕ) → Account → (reservation : ℕ) → Type 0
+  pub group : (held : ℕ) → Account → Type 0
+
+-- every account is as the rule says, and every held packet is in one
+pub record Accounts (rule : Account-rule) (ps : List Packet) (ms : List Member) (account : Account) : Type 0 where
+  pub unique : one-twice (ids ms) ≡ false
+  pub members :
+      All
+      (λ (m : Member).
+      rule .member (queued-weight (rule .weight) (m .queue)) (held-weight (rule .weight) (id-of m) ps) (m .membership .account) (m .leg .receiver .reserved))
+      ms
+  pub placed : All (Placed (ids ms)) ps
+  pub own : rule .group (own-weight (rule .weight) ps) account
 
 -- ---- the moves
 

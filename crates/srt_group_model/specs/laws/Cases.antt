@@ -12,7 +12,7 @@ use Rattle.srt_group_model.specs.Tools.{if-some_give_otherwise_, bit, at
 use borrow.Author.Tests.{eqb-true}
 use Rattle.srt_group_model.specs.laws.Reason.{and-left, and-right, not-both}
 use Rattle.srt_group_model.specs.State.{Member, State, with-receive, with-members, with-send, on-leg, active-state, standby-state, on-account}
-use Rattle.srt_group_model.specs.Accounts.{no-packets}
+use Rattle.srt_group_model.specs.Accounts.{no-packets, reserve}
 use Rattle.srt_group_model.specs.laws.State.{broadcast-mode, backup-mode, ordinary}
 use Rattle.srt_group_model.specs.Legs.{moment, with-reservation}
 use Rattle.srt_group_model.specs.Members.{id-of, promotion}
@@ -79,7 +79,7 @@ holding base ps ms =
 
 -- member 1, with so much reserved by it and on its leg
 unfoldable pub reserving : (count : ℕ) → Member
-reserving count = on-account (λ x. record { reserved = count }) (on-leg (with-reservation count) (joined 1 0 active-state (leg 0 8 0 0)))
+reserving count = on-account (reserve count) (on-leg (with-reservation count) (joined 1 0 active-state (leg 0 8 0 0)))
 
 -- what the members and their legs have reserved
 unfoldable pub reserved-by : List Member → List ℕ

@@ -23,8 +23,7 @@ use Rattle.srt_group_model.specs.Validity.{cell-twice, cell-beyond-store
 use Rattle.srt_group_model.specs.laws.InRange.{in-range-of}
 use Rattle.srt_group_model.specs.laws.RangesCalls.{fit-law}
 use Rattle.srt_group_model.specs.laws.Valid.{valid-of}
-use Rattle.srt_group_model.specs.laws.Steps.{State-law, refresh-has, refresh-pending-has, until-held-has, until-empty-has, poll-event-has}
-use Rattle.srt_group_model.specs.laws.Sound.{both-laws}
+use Rattle.srt_group_model.specs.laws.Steps.{State-law, both-laws, refresh-has, refresh-pending-has, until-held-has, until-empty-has, poll-event-has}
 use Rattle.srt_group_model.specs.declared.Data.{Data}
 use Rattle.srt_group_model.specs.declared.Packet.{Packet}
 use Rattle.srt_group_model.specs.Given.{GaveData, InStore}

@@ -1,6 +1,6 @@
 -- A law of the steps: a valid state is sound, and stays so between the steps of a poll. And what soundness says of the event in
 -- front of a queue.
-use mathlib.Core.Path.{_≡_, refl}
+use mathlib.Core.Path.{_≡_, refl, sym, subst}
 use mathlib.Core.Bool.{Bool, true, false, _&&_}
 use mathlib.Core.List.{List, [], _∷_}
 use mathlib.Core.Option.{some}
@@ -11,14 +11,15 @@ use lib.Dec.{ltb, eqb}
 use lib.ListN.{length}
 use Rattle.srt_protocol.specs.Cells.{max-cells}
 use Rattle.srt_group_model.specs.Tools.{at-place, each, total, All}
-use Rattle.srt_group_model.specs.laws.Reason.{if-elim, by-test, not-both, or-right, all-at}
+use Rattle.srt_group_model.specs.laws.Reason.{if-elim, by-test, not-both, or-right, all-at, all-map}
 use Rattle.srt_group_model.specs.State.{Member, State, with-send, with-history}
+use Rattle.srt_group_model.specs.Accounts.{reserve, Fits}
 use Rattle.srt_group_model.specs.Legs.{largest-sequence, largest-16, largest-32}
 use Rattle.srt_group_model.specs.Members.{id-of}
 use Rattle.srt_group_model.specs.Collecting.{front}
 use Rattle.srt_group_model.specs.Cells.{is-data, is-among, used-cells}
-use Rattle.srt_group_model.specs.Validity.{any-above, event-words, ascends, data-words, data-out-of-range, event-out-of-range, held-sequence-twice, id-twice, cell-twice, cell-beyond-store, is-invalid, queued-count, max-queued, max-pending, is-held-for, held-count}
-use Rattle.srt_group_model.specs.laws.Steps.{State-law}
+use Rattle.srt_group_model.specs.Validity.{any-above, event-words, ascends, data-words, data-out-of-range, event-out-of-range, held-sequence-twice, id-twice, cell-twice, cell-beyond-store, is-invalid, queued-count, max-queued, max-pending, is-held-for}
+use Rattle.srt_group_model.specs.laws.Steps.{State-law, both-laws, law-as}
 use Rattle.srt_group_model.specs.Sound.{Within, room, one, occurs, pending-cells, In-round, Event-fit, Member-fit, Packet-fit, Fit, Sound}
 use Rattle.srt_group_model.specs.laws.CellsKept.{room-inside, room-most, one-same, present, popped-data, apart-of-rules, uses-used}
 use Rattle.srt_group_model.specs.laws.CellsCalls.{within-law}
@@ -29,6 +30,8 @@ use Rattle.srt_group_model.specs.laws.InRange.{in-range-of}
 use Rattle.srt_group_model.specs.laws.RangesCalls.{fit-law}
 use Rattle.srt_group_model.specs.laws.SumsKept.{sums-of-rule, right-law, Right}
 use Rattle.srt_group_model.specs.laws.Valid.{valid-of, counted-of, fit-of}
+use Rattle.srt_group_model.specs.laws.Accounts.{Small, few-account, few-room}
+use Rattle.srt_group_model.specs.declared.Account.{Account}
 use Rattle.srt_group_model.specs.declared.Data.{Data}
 use Rattle.srt_group_model.specs.declared.Event.{Event}
 use Rattle.srt_group_model.specs.declared.Packet.{Packet}
@@ -36,55 +39,25 @@ use Rattle.srt_group_model.specs.laws.Weights.{counted-most}
 
 -- ---- the steps keep it
 
--- laws that hold together
-module _ (P Q : State → Type 0) (p : State-law P) (q : State-law Q) where
-  pub both-laws : State-law (λ s. P s × Q s)
-  both-laws =
-      record {
-        admits = λ r h. (p .admits r (h .0), q .admits r (h .1));
-        settles = λ s h. (p .settles s (h .0), q .settles s (h .1));
-        requalifies = λ s h. (p .requalifies s (h .0), q .requalifies s (h .1));
-        continues = λ s b h. (p .continues s b (h .0), q .continues s b (h .1));
-        turns = λ s i m at h. (p .turns s i m at (h .0), q .turns s i m at (h .1));
-        takes = λ s i m e at f d h. (p .takes s i m e at f d (h .0), q .takes s i m e at f d (h .1));
-        reports = λ s i m e at f d h. (p .reports s i m e at f d (h .0), q .reports s i m e at f d (h .1));
-        delivers = λ s base x g h. (p .delivers s base x g (h .0), q .delivers s base x g (h .1));
-        skips = λ s base x g h. (p .skips s base x g (h .0), q .skips s base x g (h .1));
-        bases = λ s x g h. (p .bases s x g (h .0), q .bases s x g (h .1));
-        gives = λ s h. (p .gives s (h .0), q .gives s (h .1));
-      }
+-- its parts, each with a law of its own
+Parts : State → Type 0
+Parts s = Right s × (Within (room max-cells) s × (Fit s × In-round s))
 
-All-four : State → Type 0
-All-four s = Right s × (Within (room max-cells) s × (Fit s × In-round s))
-
-four-law : State-law All-four
-unfolding All-four
-four-law =
+parts-law : State-law Parts
+unfolding Parts
+parts-law =
     both-laws _ _ right-law (both-laws _ _ (within-law max-cells) (both-laws _ _ fit-law round-law))
 
-of-sound : (s : State) → Sound s → All-four s
-unfolding All-four
-of-sound s h = (record { accounts = h .sums; ascending = h .ascending }, (h .cells, (h .fit, h .round)))
+parts-of : (s : State) → Sound s → Parts s
+unfolding Parts
+parts-of s h = (record { accounts = h .sums; ascending = h .ascending }, (h .cells, (h .fit, h .round)))
 
-to-sound : (s : State) → All-four s → Sound s
-unfolding All-four
-to-sound s h = record { ascending = h .0 .ascending; cells = h .1 .0; fit = h .1 .1 .0; sums = h .0 .accounts; round = h .1 .1 .1 }
+of-parts : (s : State) → Parts s → Sound s
+unfolding Parts
+of-parts s h = record { ascending = h .0 .ascending; cells = h .1 .0; fit = h .1 .1 .0; sums = h .0 .accounts; round = h .1 .1 .1 }
 
 pub sound-law : State-law Sound
-sound-law =
-    record {
-      admits = λ r h. to-sound _ (four-law .admits r (of-sound _ h));
-      settles = λ s h. to-sound _ (four-law .settles s (of-sound _ h));
-      requalifies = λ s h. to-sound _ (four-law .requalifies s (of-sound _ h));
-      continues = λ s b h. to-sound _ (four-law .continues s b (of-sound _ h));
-      turns = λ s i m at h. to-sound _ (four-law .turns s i m at (of-sound _ h));
-      takes = λ s i m e at f d h. to-sound _ (four-law .takes s i m e at f d (of-sound _ h));
-      reports = λ s i m e at f d h. to-sound _ (four-law .reports s i m e at f d (of-sound _ h));
-      delivers = λ s base p g h. to-sound _ (four-law .delivers s base p g (of-sound _ h));
-      skips = λ s base p g h. to-sound _ (four-law .skips s base p g (of-sound _ h));
-      bases = λ s p g h. to-sound _ (four-law .bases s p g (of-sound _ h));
-      gives = λ s h. to-sound _ (four-law .gives s (of-sound _ h));
-    }
+sound-law = law-as Parts Sound parts-of of-parts parts-law
 
 -- ---- a valid state has it
 
@@ -113,24 +86,8 @@ sound-of-valid cells s wide fine =
 pub sound-without-history : (s : State) → Sound s → Sound (with-send (with-history [] (s .send)) s)
 unfolding each occurs
 sound-without-history s h =
-    record {
-      ascending = h .ascending;
-      cells = λ n. omega (arith, h .cells n);
-      fit =
-          record {
-            members = h .fit .members;
-            pending = h .fit .pending;
-            history = tt;
-            remembered = omega arith;
-            waiting = h .fit .waiting;
-            receiving = h .fit .receiving;
-            sending = h .fit .sending;
-            continuation = h .fit .continuation;
-            peer = h .fit .peer;
-          };
-      sums = h .sums;
-      round = h .round;
-    }
+    let cells : Within (room max-cells) (with-send (with-history [] (s .send)) s) = λ n. omega (arith, h .cells n) in
+    search (arith, cells)
 
 -- ---- the event in front of a queue
 
@@ -141,7 +98,7 @@ pub record Front-data (s : State) (m : Member) (e : Event) : Type 0 where
   pub cell : e .content .cell < max-cells
   pub apart : is-among (e .content .cell) (pending-cells (s .receive .pending)) ≡ false
   pub held : length (s .receive .pending) < max-pending
-  pub reserved : m .membership .account .reserved ≤ largest-16 * max-pending
+  pub room : Fits (reserve (e .content .count) (m .membership .account))
   pub id : id-of m ≤ largest-32
 
 right-of : (a b : Bool) → a ≡ true → a && b ≡ false → b ≡ false
@@ -152,12 +109,8 @@ pub count-fits : (d : Data) → data-out-of-range d ≡ false → d .count ≤ l
 unfolding data-out-of-range data-words
 count-fits d h = in-range-of _ (or-right (eqb (d .count) 0) _ h) .1 .0
 
--- the counts of packets held for a member: at most 65,535 each
-held-most : (id : ℕ) (ps : List Packet) → All Packet-fit ps → held-count id ps ≤ largest-16 * length ps
-unfolding total
-held-most id [] h = omega arith
-held-most id (p ∷ ps) h =
-    omega (arith, counted-most largest-16 (is-held-for id) (λ q. q .content .count) p (λ e. count-fits (p .content) (h .0 .fields)), held-most id ps (h .1))
+pub small-packets : (ps : List Packet) → All Packet-fit ps → All Small ps
+small-packets = all-map Packet-fit Small (λ p h. count-fits (p .content) (h .fields))
 
 module _ (s : State) (i : ℕ) (m : Member) (e : Event) (sound : Sound s) (at : at-place i (s .members) ≡ some m)
     (in-front : front (m .queue) ≡ some e) (is-packet : eqb (e .kind) 0 ≡ true) where
@@ -201,14 +154,10 @@ module _ (s : State) (i : ℕ) (m : Member) (e : Event) (sound : Sound s) (at : 
             )))
             (λ g. g);
         held = omega (arith, few, pending-length (s .receive .pending));
-        reserved =
-            omega (
-              arith,
-              all-at _ i m (s .members) at (sound .sums .members) .reserved,
-              held-most (id-of m) (s .receive .pending) (sound .fit .pending),
-              few,
-              pending-length (s .receive .pending),
-            );
+        room =
+            subst (λ (a : Account). Fits (reserve (e .content .count) a)) (sym (all-at _ i m (s .members) at (sound .sums .members) .account))
+            (few-room (omega (arith, few, pending-length (s .receive .pending))) (count-fits (e .content) fields-fit)
+            (few-account (is-held-for (id-of m)) (s .receive .pending) (small-packets (s .receive .pending) (sound .fit .pending))));
         id = member-fits .id;
       }
 
@@ -229,7 +178,7 @@ reservation-most s i m sound at =
     omega (
       arith,
       all-at _ i m (s .members) at (sound .sums .members) .reservation,
-      held-most (id-of m) (s .receive .pending) (sound .fit .pending),
+      few-account (is-held-for (id-of m)) (s .receive .pending) (small-packets (s .receive .pending) (sound .fit .pending)) .reserved,
       apart-few max-cells (pending-cells (s .receive .pending)) (λ n. omega (arith, sound .cells n)),
       pending-length (s .receive .pending),
       queued-most (m .queue) (fits .queue),

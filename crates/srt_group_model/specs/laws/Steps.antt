@@ -41,6 +41,42 @@ pub record State-law (Good : State → Type 0) : Type 0 where
   pub bases : (s : State) (p : Packet) → nearest (s .receive .pending) ≡ some p → Good s → Good (with-receive (with-base (sequence-of p) (s .receive)) s)
   pub gives : (s : State) → Good s → Good (with-waiting (drop 1 (s .waiting)) s)
 
+-- laws that hold together
+module _ (P Q : State → Type 0) (p : State-law P) (q : State-law Q) where
+  pub both-laws : State-law (λ s. P s × Q s)
+  both-laws =
+      record {
+        admits = λ r h. (p .admits r (h .0), q .admits r (h .1));
+        settles = λ s h. (p .settles s (h .0), q .settles s (h .1));
+        requalifies = λ s h. (p .requalifies s (h .0), q .requalifies s (h .1));
+        continues = λ s b h. (p .continues s b (h .0), q .continues s b (h .1));
+        turns = λ s i m at h. (p .turns s i m at (h .0), q .turns s i m at (h .1));
+        takes = λ s i m e at f d h. (p .takes s i m e at f d (h .0), q .takes s i m e at f d (h .1));
+        reports = λ s i m e at f d h. (p .reports s i m e at f d (h .0), q .reports s i m e at f d (h .1));
+        delivers = λ s base x g h. (p .delivers s base x g (h .0), q .delivers s base x g (h .1));
+        skips = λ s base x g h. (p .skips s base x g (h .0), q .skips s base x g (h .1));
+        bases = λ s x g h. (p .bases s x g (h .0), q .bases s x g (h .1));
+        gives = λ s h. (p .gives s (h .0), q .gives s (h .1));
+      }
+
+-- a law of what says the same
+module _ (P Q : State → Type 0) (to : (s : State) → Q s → P s) (from : (s : State) → P s → Q s) where
+  pub law-as : State-law P → State-law Q
+  law-as p =
+      record {
+        admits = λ r h. from _ (p .admits r (to _ h));
+        settles = λ s h. from _ (p .settles s (to _ h));
+        requalifies = λ s h. from _ (p .requalifies s (to _ h));
+        continues = λ s b h. from _ (p .continues s b (to _ h));
+        turns = λ s i m at h. from _ (p .turns s i m at (to _ h));
+        takes = λ s i m e at f d h. from _ (p .takes s i m e at f d (to _ h));
+        reports = λ s i m e at f d h. from _ (p .reports s i m e at f d (to _ h));
+        delivers = λ s base x g h. from _ (p .delivers s base x g (to _ h));
+        skips = λ s base x g h. from _ (p .skips s base x g (to _ h));
+        bases = λ s x g h. from _ (p .bases s x g (to _ h));
+        gives = λ s h. from _ (p .gives s (to _ h));
+      }
+
 -- What every move of a poll keeps, these steps keep. A report is asked for however many wait; a delivery, a skip and a first base
 -- at any base.
 module _ (P : Option ℕ → State → List Mark → Type 0) (Good : State → Type 0) (law : Refresh-law P) (collects : Collect-law P) (polls : Poll-law P)

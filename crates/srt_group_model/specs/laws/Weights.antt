@@ -120,6 +120,13 @@ module _ (weight : Data → ℕ) where
   unfolding if_then_else_
   held-owned id p o = by-test (eqb (p .member) id) (λ e. rw (e, o)) (λ e. rw e)
 
+  -- a packet weighs for the group or for a member, not for both
+  pub counted-once : (id : ℕ) (p : Packet) → for-group p + for-member id p ≤ weight (p .content)
+  counted-once id p =
+      let most = counted-most (weight (p .content)) (is-held-for id) (λ q. weight (q .content)) p (λ e. omega arith) in
+      by-test (is-owned p) (λ o. omega (arith, counted-yes is-owned (λ q. weight (q .content)) p o, held-owned id p o))
+      (λ o. omega (arith, counted-no is-owned (λ q. weight (q .content)) p o, most))
+
   pub held-mine : (id : ℕ) (p : Packet) → id ≡ p .member → is-owned p ≡ false → for-member id p ≡ weight (p .content)
   unfolding if_then_else_
   held-mine id p e o = rw (eq-eqb (p .member) id (sym e), o)

@@ -1,8 +1,8 @@
 -- What is proved of the definitions in specs/Removal.antt, with what the proofs need.
 use mathlib.Core.Path.{_≡_, refl, ap, ap₂, sym, subst, _∙_}
 use mathlib.Core.Bool.{true}
-use mathlib.Core.List.{List, [], _∷_}
-use Prim.Native.Nat.{ℕ, suc, _+_, _-_, _*_, _≤_, _<_, min}
+use mathlib.Core.List.{List, []}
+use Prim.Native.Nat.{ℕ, suc, _-_, _≤_, _<_, min}
 use native.Mathlib.Omega.{arith}
 use lib.ListN.{length}
 use Rattle.word_rows.specs.laws.Tab.{tab-length}
@@ -10,21 +10,20 @@ use Rattle.srt_group_model.specs.declared.Core.{Core}
 use Rattle.srt_group_model.specs.declared.Leg.{Leg}
 use Rattle.srt_group_model.specs.declared.Membership.{Membership}
 use Rattle.srt_group_model.specs.declared.Packet.{Packet}
-use Rattle.srt_group_model.specs.Tools.{if-some_give_otherwise_, each, without-place, counted, total, All}
-use Rattle.srt_group_model.specs.laws.Reason.{by-test}
+use Rattle.srt_group_model.specs.Tools.{if-some_give_otherwise_, each, without-place}
 use Rattle.srt_group_model.specs.State.{Member, State, with-receive, with-pending, with-round, with-members, with-own}
-use Rattle.srt_group_model.specs.Accounts.{add-account}
-use Rattle.srt_group_model.specs.Legs.{with-reservation, largest-16}
+use Rattle.srt_group_model.specs.Accounts.{add-account, account-of, Fits}
+use Rattle.srt_group_model.specs.Legs.{with-reservation}
 use Rattle.srt_group_model.specs.Members.{id-of, has-id, find}
 use Rattle.srt_group_model.specs.laws.Frame.{found-at}
-use Rattle.srt_group_model.specs.Removal.{is-owned, own-packet, largest-window, bound-group-owned-pending, retirement-base, take-out, remove-member-at}
-use Rattle.srt_group_model.specs.Validity.{max-pending, max-members, ascends, is-held-for, held-count, own-count}
+use Rattle.srt_group_model.specs.Removal.{own-packet, largest-window, bound-group-owned-pending, retirement-base, take-out, remove-member-at}
+use Rattle.srt_group_model.specs.Validity.{max-pending, max-members, ascends, is-held-for}
 use Rattle.srt_group_model.specs.laws.Ascending.{own-ascends}
-use Rattle.srt_group_model.specs.Sound.{Packet-fit, Summed, Sound}
-use Rattle.srt_group_model.specs.laws.Weights.{counted-yes, counted-no, counted-most, held-owned}
+use Rattle.srt_group_model.specs.Sound.{Summed, Sound}
+use Rattle.srt_group_model.specs.laws.Accounts.{few-fits, few-together}
 use Rattle.srt_group_model.specs.Guards.{accept, leg-back}
 use Rattle.srt_group_model.specs.Calls.{remove-body}
-use Rattle.srt_group_model.specs.laws.Sound.{count-fits}
+use Rattle.srt_group_model.specs.laws.Sound.{small-packets}
 use Rattle.srt_connection_members.specs.Members.{members-size, member-at, members-of, found-of, Removed as RowRemoved}
 use Rattle.srt_connection_members.specs.laws.Members.{members-length, members-place, found-some, found-below}
 use Rattle.srt_connection_queue.specs.laws.Tab.{all-tab}
@@ -38,20 +37,6 @@ use Rattle.srt_group_removal.specs.Removal.{Removable, taken-out, TakesO
 use Rattle.srt_group_model.specs.declared.Account.{Account}
 
 -- ---- a sound state gives what a removal relies on
-
-abbrev packet-count : Packet → ℕ
-packet-count p = p .content .count
-
--- a packet counts for the group or for a member, not for both
-counted-once : (id : ℕ) (p : Packet) → counted is-owned packet-count p + counted (is-held-for id) packet-count p ≤ packet-count p
-counted-once id p =
-    by-test (is-owned p) (λ o. omega (arith, counted-yes is-owned packet-count p o, held-owned (λ d. d .count) id p o))
-    (λ o. omega (arith, counted-no is-owned packet-count p o, counted-most (packet-count p) (is-held-for id) packet-count p (λ e. omega arith)))
-
-sums-most : (id : ℕ) (ps : List Packet) → All Packet-fit ps → own-count ps + held-count id ps ≤ largest-16 * length ps
-unfolding total
-sums-most id [] h = omega arith
-sums-most id (p ∷ ps) h = omega (arith, counted-once id p, count-fits (p .content) (h .0 .fields), sums-most id ps (h .1))
 
 pub removable : (i : ℕ) (core : Core) (others : Rest) (ms ps ws : List ℕ) → members-size ≤ length ms → pending-size ≤ length ps
     → core .counts .members ≤ max-members → Sound (shown core others ms ps ws) → i < core .counts .members → Removable i core ms ps
@@ -68,14 +53,11 @@ removable i core others ms ps ws members-long pending-long members-few sound the
             ascending = sound .ascending;
           };
       sum =
-          omega (
-            arith,
-            sound .sums .own,
-            all-tab (Summed (packets held ps)) (core .counts .members) (member-at ms) (sound .sums .members) i there .reserved,
-            sums-most (id-of (member-at ms i)) (packets held ps) (sound .fit .pending),
-            tab-length held (packet-at ps),
-            few,
-          );
+          subst (λ (a : Account). Fits (add-account a (core .own)))
+          (sym (all-tab (Summed (packets held ps)) (core .counts .members) (member-at ms) (sound .sums .members) i there .account))
+          (subst (λ (a : Account). Fits (add-account (account-of (is-held-for (id-of (member-at ms i))) (packets held ps)) a)) (sym (sound .sums .own))
+          (few-fits (omega (arith, tab-length held (packet-at ps), few))
+          (few-together (id-of (member-at ms i)) (packets held ps) (small-packets (packets held ps) (sound .fit .pending)))));
     }
   where
     held : ℕ

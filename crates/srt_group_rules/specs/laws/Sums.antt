@@ -2,19 +2,18 @@
 -- are added to the sum of its place, that of its member or the group's own.
 use mathlib.Core.Path.{_≡_, refl, ap, ap₂, sym, subst, _∙_}
 use mathlib.Core.Bool.{Bool, true, false, not, _&&_, _||_}
-use mathlib.Core.List.{List, [], _∷_}
+use mathlib.Core.List.{List, [], _∷_, _++_}
 use mathlib.Core.Logic.{_⊎_, ⊎-elim, inl, inr}
-use Prim.Native.Nat.{ℕ, zero, suc, _+_, _*_, _^_, _≤_, _<_}
-use native.Mathlib.Nat.{add-zero}
+use Prim.Native.Nat.{ℕ, zero, suc, _+_, _-_, _*_, _^_, _≤_, _<_}
 use native.Mathlib.Numerals.{add-one}
 use native.Mathlib.Decide.{decLt}
 use native.Mathlib.Omega.{arith}
-use borrow.Author.Tests.{eq-eqb, ne-eqb, ltb-false}
-use lib.Dec.{eqb, ltb}
-use lib.ListN.{length, getD, set, length-set}
+use borrow.Author.Tests.{eq-eqb, ne-eqb, eqb-true, eqb-false, ltb-false}
+use lib.Dec.{eqb}
+use lib.ListN.{length, take, drop, set, length-set, replicate, getD-replicate}
 use lib.Seq.{getD-set-same, getD-set-other}
-use Rattle.srt_group_model.specs.Tools.{if_then_else_, any, each, total, counted}
-use Rattle.srt_group_model.specs.laws.Reason.{by-test, not-both, or-left, or-right, or-yes-left, or-yes-right, place-none}
+use Rattle.srt_group_model.specs.Tools.{if_then_else_, any, each, total, counted, All}
+use Rattle.srt_group_model.specs.laws.Reason.{by-test, or-left, or-right, or-yes-left, or-yes-right, place-none}
 use Rattle.srt_group_model.specs.laws.Sound.{count-fits}
 use Rattle.srt_group_model.specs.State.{Member, State}
 use Rattle.srt_group_model.specs.Legs.{largest-16}
@@ -29,24 +28,27 @@ use Rattle.srt_group_model.specs.declared.Receiver.{Receiver}
 use Rattle.srt_connection_queue.specs.declared.rows.Ring.{Ring}
 use Rattle.srt_connection_members.specs.declared.Found.{Found}
 use Rattle.srt_connection_members.specs.declared.Found.the-variants.{At, Nothing}
-use Rattle.srt_connection_queue.specs.Rows.{receiver-part, part, ring-of, member-of}
+use Rattle.srt_connection_queue.specs.Rows.{row-size, receiver-part, part, ring-of, member-of}
 use Rattle.srt_connection_members.specs.Members.{member-at, members-of, found-of}
-use Rattle.srt_connection_members.specs.laws.Members.{found-below, found-id, found-none}
+use Rattle.srt_connection_members.specs.laws.Members.{found-below, found-id, found-none, lent-member}
 use Rattle.srt_group_tables.specs.Packets.{packet-at, packets}
 use Rattle.word_rows.specs.Tab.{tab}
-use Rattle.word_rows.specs.laws.Tab.{tab-push}
+use Rattle.word_rows.specs.laws.Tab.{tab-length, tab-push}
 use Rattle.srt_group_rules.specs.Rules.{event-breaks-rule, queue-breaks-rule, member-breaks-rule, packet-breaks-rule, leg-breaks-rule}
-use Rattle.srt_group_rules.specs.laws.Walks.{any-there, any-nowhere, any-same, none-there, queued, the-queue, queue-length}
+use Rattle.srt_group_rules.specs.laws.Walks.{all-of-tab, any-there, any-nowhere, any-same, none-there, Passed, passed-one, passed-all, stops-there, queued, the-queue, queue-length}
 use Rattle.srt_group_rules.specs.Ids.{id-at}
 use Rattle.srt_group_rules.specs.laws.Ids.{Apart, ids-of, once-apart}
-use Rattle.srt_group_rules.specs.Sums.{sum-of, packet-count, event-count, own-place, sum-place, differs, sums-wrong, Adding, AddedUp, member-differs, index-of, sums-differ}
-use Rattle.srt_group_model.specs.laws.Weights.{counted-yes, counted-no, counted-most, total-append}
+use Rattle.srt_group_rules.specs.Sums.{sum-of, event-count, own-place, account-place, differs, accounts-wrong, account-at, Adding, member-differs, index-of, accounts-differ}
+use Rattle.srt_group_model.specs.laws.Accounts.{account-yes, account-no, Small, Few, few-account, few-room}
+use Rattle.srt_group_model.specs.Accounts.{no-packets, reserve, account-of, unlike, Fits}
+use Rattle.srt_group_model.specs.declared.Account.{Account}
+use Rattle.srt_group_model.specs.laws.Weights.{counted-most, total-append}
 
 -- ---- definitions
 
-pub sums-wrong-is : (s : State) → sums-wrong (s .members) (s .receive .pending) (s .own .reserved) ≡ reserved-sum-wrong s
-unfolding sums-wrong reserved-sum-wrong
-sums-wrong-is s = refl
+pub accounts-wrong-is : (s : State) → accounts-wrong (s .members) (s .receive .pending) (s .own) ≡ reserved-sum-wrong s
+unfolding accounts-wrong reserved-sum-wrong
+accounts-wrong-is s = refl
 
 -- ---- a sum, one element more
 
@@ -74,7 +76,7 @@ module _ {A : Type 0} (test : A → Bool) (count : A → ℕ) where
 
 -- ---- counts that a packet or an event can have, from the rows' tests
 
-pub packet-small : (p : Packet) → packet-breaks-rule p ≡ false → packet-count p ≤ largest-16
+pub packet-small : (p : Packet) → packet-breaks-rule p ≡ false → Small p
 unfolding packet-breaks-rule packet-out-of-range
 packet-small p h =
     count-fits (p .content)
@@ -161,110 +163,14 @@ queued-count-small row ring read good =
       queue-short row ring read good,
     )
 
--- a list of zeros reads 0 everywhere
-pub all-zero : (l : List ℕ) → any (ltb 0) l ≡ false → (i : ℕ) → getD l i 0 ≡ 0
-unfolding any
-all-zero [] zeros i = refl
-all-zero (x ∷ l) zeros zero = omega (arith, ltb-false 0 x (or-left (ltb 0 x) _ zeros))
-all-zero (x ∷ l) zeros (suc i) = all-zero l (or-right (ltb 0 x) _ zeros) i
+-- ---- the packets, added up front to back: the accounts of the members, and the group's own behind them
 
--- ---- the packets' counts, added up front to back: the sums of the members, and the group's own behind them
-
--- a packet with a place: what its count adds to each sum
-record Placed (t : List ℕ) (count : ℕ) (p : Packet) (place : ℕ) : Type 0 where
-  inside : (place ≡ own-place) ⊎ (place < count)
-  reserved : is-unreserved (members-of count t) p ≡ false
-  own : (sums : List ℕ) → length sums ≡ 65
-      → getD (set sums place (getD sums place 0 + packet-count p)) own-place 0 ≡ getD sums own-place 0 + counted is-owned packet-count p
-  held : (sums : List ℕ) → length sums ≡ 65 → (i : ℕ) → i < count
-      → getD (set sums place (getD sums place 0 + packet-count p)) i 0 ≡ getD sums i 0 + counted (is-held-for (id-at t i)) packet-count p
-
-module _ (sums : List ℕ) (place more : ℕ) (long : place < length sums) where
-  sum-there : (add : ℕ) → add ≡ more → getD (set sums place (getD sums place 0 + more)) place 0 ≡ getD sums place 0 + add
-  sum-there add is = getD-set-same sums place (getD sums place 0 + more) 0 long ∙ ap (λ (n : ℕ). getD sums place 0 + n) (sym is)
-
-  sum-elsewhere : (i add : ℕ) → (i ≡ place → ⊥) → add ≡ 0 → getD (set sums place (getD sums place 0 + more)) i 0 ≡ getD sums i 0 + add
-  sum-elsewhere i add other is =
-      getD-set-other sums place i (getD sums place 0 + more) 0 other ∙ sym (ap (λ (n : ℕ). getD sums i 0 + n) is ∙ add-zero (getD sums i 0))
-
-module _ (t : List ℕ) (count : ℕ) (few : count ≤ max-members) (p : Packet) where
-  placed-own : is-owned p ≡ true → Placed t count p own-place
-  unfolding is-unreserved
-  placed-own mine =
-      record {
-        inside = inl refl;
-        reserved = ap (λ (b : Bool). not b && not (any (has-id (p .member)) (members-of count t))) mine;
-        own =
-            λ sums long.
-            sum-there sums own-place (packet-count p) (omega arith) (counted is-owned packet-count p)
-            (counted-yes is-owned packet-count p mine);
-        held =
-            λ sums long i below.
-            sum-elsewhere sums own-place (packet-count p) (omega arith) i (counted (is-held-for (id-at t i)) packet-count p)
-            (λ e. omega arith) (counted-no (is-held-for (id-at t i)) packet-count p (not-mine i));
-      }
-    where
-      not-mine : (i : ℕ) → is-held-for (id-at t i) p ≡ false
-      not-mine i = ap (λ (b : Bool). eqb (p .member) (id-at t i) && not b) mine ∙ and-no (eqb (p .member) (id-at t i))
-        where
-          and-no : (b : Bool) → b && false ≡ false
-          and-no true = refl
-          and-no false = refl
-
-  module _ (apart : Apart (id-at t) count) (other : is-owned p ≡ false) where
-    placed-held : (place : ℕ) → place < count → id-at t place ≡ p .member → Placed t count p place
-    unfolding is-unreserved members-of
-    placed-held place below mine =
-        record {
-          inside = inr below;
-          reserved =
-              ap₂ (λ (b found : Bool). not b && not found) other
-              (any-there (has-id (p .member)) count (member-at t) place below (eq-eqb (id-at t place) (p .member) mine));
-          own =
-              λ sums long.
-              sum-elsewhere sums place (packet-count p) (omega arith) own-place (counted is-owned packet-count p)
-              (λ e. omega arith) (counted-no is-owned packet-count p other);
-          held = λ sums long i inside. held-at sums long i inside (decLt i place) (decLt place i);
-        }
-      where
-        test-is : (i : ℕ) → is-held-for (id-at t i) p ≡ eqb (p .member) (id-at t i)
-        test-is i = ap (λ (b : Bool). eqb (p .member) (id-at t i) && not b) other ∙ and-yes (eqb (p .member) (id-at t i))
-          where
-            and-yes : (b : Bool) → b && true ≡ b
-            and-yes true = refl
-            and-yes false = refl
-
-        elsewhere : (i : ℕ) → (id-at t i ≡ id-at t place → ⊥) → counted (is-held-for (id-at t i)) packet-count p ≡ 0
-        elsewhere i differ =
-            counted-no (is-held-for (id-at t i)) packet-count p
-            (test-is i ∙ ne-eqb (p .member) (id-at t i) (λ e. differ (sym (mine ∙ e))))
-
-        held-at : (sums : List ℕ) → length sums ≡ 65 → (i : ℕ) → i < count → Dec (i < place) → Dec (place < i)
-            → getD (set sums place (getD sums place 0 + packet-count p)) i 0
-            ≡ getD sums i 0 + counted (is-held-for (id-at t i)) packet-count p
-        held-at sums long i inside (yes lower) h =
-            sum-elsewhere sums place (packet-count p) (omega arith) i (counted (is-held-for (id-at t i)) packet-count p)
-            (λ e. omega arith) (elsewhere i (λ e. apart .apart i place lower below e))
-        held-at sums long i inside (no l) (yes higher) =
-            sum-elsewhere sums place (packet-count p) (omega arith) i (counted (is-held-for (id-at t i)) packet-count p)
-            (λ e. omega arith) (elsewhere i (λ e. apart .apart place i higher inside (sym e)))
-        held-at sums long i inside (no l) (no h) =
-            let same : place ≡ i = omega arith in
-            subst
-            (λ (k : ℕ).
-            getD (set sums place (getD sums place 0 + packet-count p)) k 0
-            ≡ getD sums k 0 + counted (is-held-for (id-at t k)) packet-count p)
-            same
-            (sum-there sums place (packet-count p) (omega arith) (counted (is-held-for (id-at t place)) packet-count p)
-            (counted-yes (is-held-for (id-at t place)) packet-count p
-            (test-is place ∙ eq-eqb (p .member) (id-at t place) (sym mine))))
-
-pub place-own : (ms : List Member) (p : Packet) → is-owned p ≡ true → sum-place ms p ≡ At own-place
-unfolding sum-place if_then_else_
+pub place-own : (ms : List Member) (p : Packet) → is-owned p ≡ true → account-place ms p ≡ At own-place
+unfolding account-place if_then_else_
 place-own ms p mine = rw mine
 
-pub place-held : (ms : List Member) (p : Packet) → is-owned p ≡ false → sum-place ms p ≡ found-of (find (p .member) ms)
-unfolding sum-place if_then_else_
+pub place-held : (ms : List Member) (p : Packet) → is-owned p ≡ false → account-place ms p ≡ found-of (find (p .member) ms)
+unfolding account-place if_then_else_
 place-held ms p other = rw other
 
 same-place : (i j : ℕ) → _≡_ {A = Found} (At i) (At j) → i ≡ j
@@ -273,114 +179,170 @@ same-place i j e = cc
 never-nothing : {C : Type 0} (i : ℕ) → _≡_ {A = Found} Nothing (At i) → C
 never-nothing i e = let different : _≡_ {A = ℕ} 0 1 = cc in absurd (omega arith)
 
-module _ (t : List ℕ) (count : ℕ) (few : count ≤ max-members) (once : one-twice (each id-of (members-of count t)) ≡ false) where
-  ids-apart : Apart (id-at t) count
-  ids-apart = once-apart count (id-at t) (ap one-twice (sym (ids-of count t)) ∙ once)
+-- a packet with a place: the account there is the one that it is added to, and no other is
+record Placed (t : List ℕ) (count : ℕ) (p : Packet) (place : ℕ) : Type 0 where
+  inside : (place ≡ own-place) ⊎ (place < count)
+  reserved : is-unreserved (members-of count t) p ≡ false
+  own-yes : own-place ≡ place → is-owned p ≡ true
+  own-no : (own-place ≡ place → ⊥) → is-owned p ≡ false
+  held-yes : (i : ℕ) → i < count → i ≡ place → is-held-for (id-at t i) p ≡ true
+  held-no : (i : ℕ) → i < count → (i ≡ place → ⊥) → is-held-for (id-at t i) p ≡ false
 
-  placed : (p : Packet) (place : ℕ) → At place ≡ sum-place (members-of count t) p → Placed t count p place
+and-no : (b : Bool) → b && false ≡ false
+and-no true = refl
+and-no false = refl
+
+module _ (t : List ℕ) (count : ℕ) (few : count ≤ max-members) (once : one-twice (each id-of (members-of count t)) ≡ false) where
+  module _ (p : Packet) where
+    placed-own : is-owned p ≡ true → Placed t count p own-place
+    unfolding is-unreserved
+    placed-own mine =
+        record {
+          inside = inl refl;
+          reserved = ap (λ (b : Bool). not b && not (any (has-id (p .member)) (members-of count t))) mine;
+          own-yes = λ e. mine;
+          own-no = λ other. absurd (other refl);
+          held-yes = λ i below e. absurd (omega (arith, e));
+          held-no = λ i below other. ap (λ (b : Bool). eqb (p .member) (id-at t i) && not b) mine ∙ and-no (eqb (p .member) (id-at t i));
+        }
+
+    placed-held : is-owned p ≡ false → (place : ℕ) → place < count → id-at t place ≡ p .member → Placed t count p place
+    unfolding is-unreserved members-of
+    placed-held other place below mine =
+        record {
+          inside = inr below;
+          reserved =
+              ap₂ (λ (b found : Bool). not b && not found) other
+              (any-there (has-id (p .member)) count (member-at t) place below (eq-eqb (id-at t place) (p .member) mine));
+          own-yes = λ e. absurd (omega (arith, e));
+          own-no = λ e. other;
+          held-yes =
+              λ i inside e.
+              ap₂ (λ (a b : Bool). a && not b)
+              (eq-eqb (p .member) (id-at t i) (sym (ap (id-at t) e ∙ mine))) other;
+          held-no =
+              λ i inside differ.
+              ap (λ (a : Bool). a && not (is-owned p)) (ne-eqb (p .member) (id-at t i) (λ e. apart i inside differ (sym e ∙ sym mine)));
+        }
+      where
+        ids-apart : Apart (id-at t) count
+        ids-apart = once-apart count (id-at t) (ap one-twice (sym (ids-of count t)) ∙ once)
+
+        apart : (i : ℕ) → i < count → (i ≡ place → ⊥) → id-at t i ≡ id-at t place → ⊥
+        apart i inside differ same = by-order (decLt i place) (decLt place i)
+          where
+            by-order : Dec (i < place) → Dec (place < i) → ⊥
+            by-order (yes lower) h = ids-apart .apart i place lower below same
+            by-order (no l) (yes higher) = ids-apart .apart place i higher inside (sym same)
+            by-order (no l) (no h) = differ (omega arith)
+
+  placed : (p : Packet) (place : ℕ) → At place ≡ account-place (members-of count t) p → Placed t count p place
   placed p place found =
       by-test (is-owned p)
       (λ mine.
       subst (Placed t count p) (sym (same-place place own-place (found ∙ place-own (members-of count t) p mine)))
-      (placed-own t count few p mine))
+      (placed-own p mine))
       (λ other.
       let is = found ∙ place-held (members-of count t) p other in
-      placed-held t count few p ids-apart other place (found-below count (p .member) place t is) (found-id count (p .member) place t is))
+      placed-held p other place (found-below count (p .member) place t is) (found-id count (p .member) place t is))
 
-  module _ (pending : List ℕ) (n : ℕ) (good : any packet-breaks-rule (packets n pending) ≡ false) where
-    count-small : (k : ℕ) → k < n → packet-count (packet-at pending k) ≤ largest-16
-    count-small k below =
-        packet-small (packet-at pending k) (none-there packet-breaks-rule n (packet-at pending) good k below)
+pub adding-start : (t : List ℕ) (count : ℕ) (pending : List ℕ) → count ≤ max-members → Adding t count pending 0 (replicate 65 no-packets)
+unfolding tab total
+adding-start t count pending few =
+    record {
+      long = refl;
+      reserved = λ k below. absurd (omega arith);
+      own = refl;
+      held = λ i below. getD-replicate 65 i no-packets no-packets (omega (arith, few, below));
+    }
 
-    pub adding-start : (sums : List ℕ) → length sums ≡ 65 → any (ltb 0) sums ≡ false → Adding t count pending 0 sums
-    adding-start sums long empty =
+-- an account grows by the packet, if it is the one at the packet's place
+one-more : (test : Packet → Bool) (pending : List ℕ) (at : ℕ) (accounts : List Account) (place j : ℕ) → place < length accounts
+    → account-at accounts j ≡ account-of test (packets at pending)
+    → (j ≡ place → test (packet-at pending at) ≡ true) → ((j ≡ place → ⊥) → test (packet-at pending at) ≡ false)
+    → account-at (set accounts place (reserve (packet-at pending at .content .count) (account-at accounts place))) j ≡ account-of test (packets (at + 1) pending)
+one-more test pending at accounts place j long so-far yes-there no-else =
+    by-test (eqb j place)
+    (λ e.
+    let same = eqb-true j place e in
+    ap (account-at after) same ∙ getD-set-same accounts place _ no-packets long
+    ∙ ap (reserve (p .content .count)) (sym (ap (account-at accounts) same) ∙ so-far)
+    ∙ sym (account-yes test (packets at pending) p (yes-there same)) ∙ sym pushed)
+    (λ e.
+    let other = eqb-false j place e in
+    getD-set-other accounts place j _ no-packets other ∙ so-far ∙ sym (account-no test (packets at pending) p (no-else other)) ∙ sym pushed)
+  where
+    p : Packet
+    p = packet-at pending at
+
+    after : List Account
+    after = set accounts place (reserve (packet-at pending at .content .count) (account-at accounts place))
+
+    pushed : account-of test (packets (at + 1) pending) ≡ account-of test (packets at pending ++ (packet-at pending at ∷ []))
+    pushed =
+        ap (account-of test)
+        (ap (λ (k : ℕ). packets k pending) (add-one at) ∙ tab-push at (packet-at pending) (packet-at pending) (packet-at pending at) (λ i below. refl) refl)
+
+all-small : (pending : List ℕ) (n : ℕ) → any packet-breaks-rule (packets n pending) ≡ false → (at : ℕ) → at ≤ n → All Small (packets at pending)
+all-small pending n good at most = all-of-tab Small at (packet-at pending) (λ k below. packet-small _ (none-there packet-breaks-rule n (packet-at pending) good k (omega arith)))
+
+module _ (t : List ℕ) (count : ℕ) (pending : List ℕ) (n at : ℕ) (accounts : List Account) (few : count ≤ max-members)
+    (once : one-twice (each id-of (members-of count t)) ≡ false) (good : any packet-breaks-rule (packets n pending) ≡ false)
+    (here : Adding t count pending at accounts) where
+  -- the accounts are of at most so many packets
+  small-at : at ≤ n → (place : ℕ) → (place ≡ own-place) ⊎ (place < count) → Few at (account-at accounts place)
+  small-at most place =
+      ⊎-elim
+      (λ e. subst (Few at) (sym (ap (account-at accounts) e ∙ here .own)) (few-of is-owned))
+      (λ below. subst (Few at) (sym (here .held place below)) (few-of (is-held-for (id-at t place))))
+    where
+      few-of : (test : Packet → Bool) → Few at (account-of test (packets at pending))
+      few-of test = subst (λ (k : ℕ). Few k (account-of test (packets at pending))) (tab-length at (packet-at pending)) (few-account test (packets at pending) (all-small pending n good at most))
+
+  pub member-small : at ≤ n → n ≤ max-pending → (i : ℕ) → i < count → account-at accounts i .reserved ≤ largest-16 * max-pending
+  member-small within most i below = omega (arith, small-at within i (inr below) .reserved)
+
+  module _ (found : Found) (p : Packet) (place : ℕ) (is : found ≡ At place) (found-is : found ≡ account-place (members-of count t) p)
+      (read : p ≡ packet-at pending at) where
+    there : Placed t count p place
+    there = placed t count few once p place (sym is ∙ found-is)
+
+    pub place-inside : place < 65
+    place-inside = ⊎-elim (λ own. omega (arith, own)) (λ held. omega (arith, few, held)) (there .inside)
+
+    -- its words stay far below 2^64
+    pub account-fits : at < n → n ≤ max-pending → Fits (reserve (p .content .count) (account-at accounts place))
+    account-fits inside most =
+        few-room (omega arith)
+        (subst Small (sym read) (packet-small _ (none-there packet-breaks-rule n (packet-at pending) good at inside)))
+        (small-at (omega arith) place (there .inside))
+
+    pub added-one : (after : Account) → after ≡ reserve (p .content .count) (account-at accounts place) → Adding t count pending (at + 1) (set accounts place after)
+    added-one after after-is =
+        subst (λ (x : Account). Adding t count pending (at + 1) (set accounts place x))
+        (sym (after-is ∙ ap (λ (x : Packet). reserve (x .content .count) (account-at accounts place)) read))
         record {
-          long = long;
-          reserved = λ k below. absurd (omega arith);
-          own = all-zero sums empty own-place ∙ sym (sum-none is-owned packet-count (packet-at pending));
-          held = λ i below. all-zero sums empty i ∙ sym (sum-none (is-held-for (id-at t i)) packet-count (packet-at pending));
+          long = length-set accounts place _ ∙ here .long;
+          reserved = λ k below. passed k below (decLt k at);
+          own =
+              one-more is-owned pending at accounts place own-place long (here .own) (λ e. ap is-owned (sym read) ∙ there .own-yes e)
+              (λ e. ap is-owned (sym read) ∙ there .own-no e);
+          held =
+              λ i below.
+              one-more (is-held-for (id-at t i)) pending at accounts place i long (here .held i below)
+              (λ e. ap (is-held-for (id-at t i)) (sym read) ∙ there .held-yes i below e)
+              (λ e. ap (is-held-for (id-at t i)) (sym read) ∙ there .held-no i below e);
         }
+      where
+        long : place < length accounts
+        long = omega (arith, place-inside, here .long)
 
-    module _ (at : ℕ) (sums : List ℕ) (here : Adding t count pending at sums) (most : at ≤ n) where
-      pub own-small : getD sums own-place 0 ≤ largest-16 * at
-      own-small =
-          omega (arith, here .own, sum-small is-owned packet-count at (packet-at pending) (λ i below it. count-small i (omega arith)))
-
-      pub held-small : (i : ℕ) → i < count → getD sums i 0 ≤ largest-16 * at
-      held-small i below =
-          omega (
-            arith,
-            here .held i below,
-            sum-small (is-held-for (id-at t i)) packet-count at (packet-at pending) (λ i below it. count-small i (omega arith)),
-          )
-
-    module _ (at : ℕ) (inside : at < n) (p : Packet) (read : p ≡ packet-at pending at) where
-      pub nowhere-there : (sums : List ℕ) → length sums ≡ 65 → Nothing ≡ sum-place (members-of count t) p
-          → AddedUp t count pending n true sums
-      unfolding is-unreserved
-      nowhere-there sums long found =
-          record {
-            long = long;
-            nowhere =
-                sym
-                (any-there (is-unreserved (members-of count t)) n (packet-at pending) at inside
-                (ap (is-unreserved (members-of count t)) (sym read) ∙ unreserved));
-            sums-are = λ e. not-both {t = true} refl e;
-          }
-        where
-          unreserved : (not (is-owned p) && not (any (has-id (p .member)) (members-of count t))) ≡ true
-          unreserved =
-              by-test (is-owned p) (λ mine. never-nothing own-place (found ∙ place-own (members-of count t) p mine))
-              (λ other.
-              ap₂ (λ (b there : Bool). not b && not there) other
-              (place-none (has-id (p .member)) (members-of count t)
-              (found-none (find (p .member) (members-of count t)) (found ∙ place-held (members-of count t) p other))))
-
-      module _ (place : ℕ) (found : At place ≡ sum-place (members-of count t) p) (sums : List ℕ) (here : Adding t count pending at sums) where
-        pub place-inside : place < length sums
-        place-inside = ⊎-elim (λ own. omega (arith, here .long)) (λ held. omega (arith, here .long)) (placed p place found .inside)
-
-        -- the sum stays far below 2^64
-        pub sum-fits : n ≤ max-pending → getD sums place 0 + packet-count p < 2 ^ 64
-        sum-fits most =
-            omega (
-              arith,
-              ⊎-elim (λ own. subst (λ (k : ℕ). getD sums k 0 ≤ largest-16 * at) (sym own) (own-small at sums here (omega arith)))
-                  (λ held. held-small at sums here (omega arith) place held) (placed p place found .inside),
-              ap packet-count read,
-              count-small at inside,
-            )
-
-        pub added-one : Adding t count pending (at + 1) (set sums place (getD sums place 0 + packet-count p))
-        added-one =
-            record {
-              long = length-set sums place (getD sums place 0 + packet-count p) ∙ here .long;
-              reserved = λ k below. one-more k below (decLt k at);
-              own =
-                  placed p place found .own sums (here .long)
-                  ∙ ap₂ _+_ (here .own) (ap (counted is-owned packet-count) read)
-                  ∙ sym (sum-more is-owned packet-count at (packet-at pending));
-              held =
-                  λ i below.
-                  placed p place found .held sums (here .long) i below
-                  ∙ ap₂ _+_ (here .held i below) (ap (counted (is-held-for (id-at t i)) packet-count) read)
-                  ∙ sym (sum-more (is-held-for (id-at t i)) packet-count at (packet-at pending));
-            }
-          where
-            one-more : (k : ℕ) → k < at + 1 → Dec (k < at) → is-unreserved (members-of count t) (packet-at pending k) ≡ false
-            one-more k below (yes lower) = here .reserved k lower
-            one-more k below (no other) =
-                let last : k ≡ at = omega arith in
-                ap (λ (j : ℕ). is-unreserved (members-of count t) (packet-at pending j)) last
-                ∙ ap (is-unreserved (members-of count t)) (sym read) ∙ placed p place found .reserved
-
-    pub added-all : (at : ℕ) (sums : List ℕ) → Adding t count pending at sums → n ≤ at → at ≤ n → AddedUp t count pending n false sums
-    added-all at sums here all most =
-        record {
-          long = here .long;
-          nowhere = sym (any-nowhere (is-unreserved (members-of count t)) n (packet-at pending) (λ k below. here .reserved k (omega arith)));
-          sums-are = λ e. let whole : at ≡ n = omega arith in subst (λ (k : ℕ). Adding t count pending k sums) whole here;
-        }
+        passed : (k : ℕ) → k < at + 1 → Dec (k < at) → is-unreserved (members-of count t) (packet-at pending k) ≡ false
+        passed k below (yes lower) = here .reserved k lower
+        passed k below (no other) =
+            let last : k ≡ at = omega arith in
+            ap (λ (j : ℕ). is-unreserved (members-of count t) (packet-at pending j)) last
+            ∙ ap (is-unreserved (members-of count t)) (sym read) ∙ there .reserved
 
 -- ---- the comparison
 
@@ -389,38 +351,64 @@ pub queue-good : (m : Member) → member-breaks-rule m ≡ false → queue-break
 unfolding member-breaks-rule
 queue-good m h = or-right (leg-breaks-rule (m .leg)) _ (or-right (membership-out-of-range (m .membership)) _ h)
 
-pub member-good : (t : List ℕ) (count : ℕ) → any member-breaks-rule (members-of count t) ≡ false → (i : ℕ) → i < count
-    → member-breaks-rule (member-at t i) ≡ false
+-- the row of a member that is lent
+abbrev lent : List ℕ → ℕ → Member
+lent t i = member-of (take (i * row-size + row-size - i * row-size) (drop (i * row-size) t))
+
+pub member-good : (t : List ℕ) (count : ℕ) → any member-breaks-rule (members-of count t) ≡ false → (i : ℕ) → i < count → member-breaks-rule (lent t i) ≡ false
 unfolding members-of
-member-good t count good i below = none-there member-breaks-rule count (member-at t) good i below
+member-good t count good i below = ap member-breaks-rule (lent-member t i) ∙ none-there member-breaks-rule count (member-at t) good i below
+
+pub member-passed : (t : List ℕ) (accounts : List Account) (i : ℕ) (answer : Bool) → answer ≡ differs (account-at accounts i) (lent t i)
+    → Passed (member-differs t accounts) index-of i → answer ≡ false → Passed (member-differs t accounts) index-of (i + 1)
+member-passed t accounts i answer is = passed-one (member-differs t accounts) index-of i i answer refl (is ∙ ap (differs (account-at accounts i)) (lent-member t i))
 
 -- what was read of a member, compared
-pub differs-tested : (held : ℕ) (m : Member) (x : Membership) (y : Receiver) (queued : ℕ) → x ≡ m .membership → y ≡ m .leg .receiver
-    → queued ≡ queued-count (m .queue)
-    → (not (eqb (x .account .reserved) held) || not (eqb (y .reserved) (held + queued))) ≡ differs held m
+pub differs-tested : (held : Account) (m : Member) (x : Membership) (y : Receiver) (queued : ℕ) (other : Bool) → x ≡ m .membership → y ≡ m .leg .receiver
+    → queued ≡ queued-count (m .queue) → other ≡ unlike (x .account) held
+    → (other || not (eqb (y .reserved) (held .reserved + queued))) ≡ differs held m
 unfolding differs
-differs-tested held m x y queued x-is y-is queued-is =
-    ap₂ _||_ (ap (λ (v : Membership). not (eqb (v .account .reserved) held)) x-is)
-    (ap₂ (λ (v : Receiver) (n : ℕ). not (eqb (v .reserved) (held + n))) y-is queued-is)
+differs-tested held m x y queued other x-is y-is queued-is other-is =
+    ap₂ _||_ (other-is ∙ ap (λ (v : Membership). unlike (v .account) held) x-is)
+    (ap₂ (λ (v : Receiver) (n : ℕ). not (eqb (v .reserved) (held .reserved + n))) y-is queued-is)
 
--- the whole rule, from the walk and the comparison
-module _ (t : List ℕ) (count : ℕ) (pending : List ℕ) (n owned : ℕ) (answer : Bool) (sums : List ℕ)
-    (added : AddedUp t count pending n answer sums) where
-  pub wrong-nowhere : answer ≡ true → true ≡ sums-wrong (members-of count t) (packets n pending) owned
-  unfolding sums-wrong
-  wrong-nowhere it =
+-- ---- the whole rule, from the walk and the comparison
+
+module _ (t : List ℕ) (count : ℕ) (pending : List ℕ) (n at : ℕ) (own : Account) where
+  -- a packet is in no account
+  pub wrong-nowhere : (found : Found) (p : Packet) → found ≡ Nothing → found ≡ account-place (members-of count t) p → p ≡ packet-at pending at → at < n
+      → true ≡ accounts-wrong (members-of count t) (packets n pending) own
+  unfolding accounts-wrong is-unreserved
+  wrong-nowhere found p is found-is read inside =
       sym
       (or-yes-right (any (member-sum-wrong (packets n pending)) (members-of count t)) _
-      (or-yes-left (any (is-unreserved (members-of count t)) (packets n pending)) _ (sym (added .nowhere) ∙ it)))
+      (or-yes-left (any (is-unreserved (members-of count t)) (packets n pending)) _
+      (any-there (is-unreserved (members-of count t)) n (packet-at pending) at inside (ap (is-unreserved (members-of count t)) (sym read) ∙ unreserved))))
+    where
+      nothing : Nothing ≡ account-place (members-of count t) p
+      nothing = sym is ∙ found-is
 
-  module _ (none : answer ≡ false) where
-    wrong-is : sums-wrong (members-of count t) (packets n pending) owned ≡ (not (eqb owned (getD sums own-place 0)) || sums-differ t sums count)
-    unfolding sums-wrong sums-differ members-of sum-of member-sum-wrong differs
+      unreserved : (not (is-owned p) && not (any (has-id (p .member)) (members-of count t))) ≡ true
+      unreserved =
+          by-test (is-owned p) (λ mine. never-nothing own-place (nothing ∙ place-own (members-of count t) p mine))
+          (λ other.
+          ap₂ (λ (b there : Bool). not b && not there) other
+          (place-none (has-id (p .member)) (members-of count t)
+          (found-none (find (p .member) (members-of count t)) (nothing ∙ place-held (members-of count t) p other))))
+
+  module _ (accounts : List Account) (here : Adding t count pending at accounts) (all : n ≤ at) (most : at ≤ n) where
+    whole : Adding t count pending n accounts
+    whole = let same : at ≡ n = omega arith in subst (λ (k : ℕ). Adding t count pending k accounts) same here
+
+    wrong-is : accounts-wrong (members-of count t) (packets n pending) own ≡ (unlike own (account-at accounts own-place) || accounts-differ t accounts count)
+    unfolding accounts-wrong accounts-differ members-of member-sum-wrong differs
     wrong-is =
         ap₂ _||_
-        (any-same (member-sum-wrong (packets n pending)) (member-differs t sums) count (member-at t) index-of (λ i below. member-is i below))
-        (ap₂ _||_ (sym (added .nowhere) ∙ none) (ap (λ (k : ℕ). not (eqb owned k)) (sym (added .sums-are none .own))))
-        ∙ or-swap (any (member-differs t sums) (tab count index-of)) (not (eqb owned (getD sums own-place 0)))
+        (any-same (member-sum-wrong (packets n pending)) (member-differs t accounts) count (member-at t) index-of (λ i below. member-is i below))
+        (ap₂ _||_
+        (any-nowhere (is-unreserved (members-of count t)) n (packet-at pending) (λ k below. whole .reserved k below))
+        (ap (unlike own) (sym (whole .own))))
+        ∙ or-swap (any (member-differs t accounts) (tab count index-of)) (unlike own (account-at accounts own-place))
       where
         or-swap : (a b : Bool) → (a || (false || b)) ≡ (b || a)
         or-swap true true = refl
@@ -428,22 +416,24 @@ module _ (t : List ℕ) (count : ℕ) (pending : List ℕ) (n owned : ℕ) (answ
         or-swap false true = refl
         or-swap false false = refl
 
-        member-is : (i : ℕ) → i < count → member-sum-wrong (packets n pending) (member-at t i) ≡ member-differs t sums i
-        member-is i below = ap (λ (held : ℕ). differs held (member-at t i)) (sym (added .sums-are none .held i below))
+        member-is : (i : ℕ) → i < count → member-sum-wrong (packets n pending) (member-at t i) ≡ member-differs t accounts i
+        member-is i below = ap (λ (held : Account). differs held (member-at t i)) (sym (whole .held i below))
 
-    pub wrong-own : (owned ≡ getD sums own-place 0 → ⊥) → true ≡ sums-wrong (members-of count t) (packets n pending) owned
-    wrong-own other =
-        sym (wrong-is ∙ ap (λ (b : Bool). not b || sums-differ t sums count) (ne-eqb owned (getD sums own-place 0) other))
+    module _ (other : Bool) (other-is : other ≡ unlike own (account-at accounts own-place)) where
+      pub wrong-own : other ≡ true → true ≡ accounts-wrong (members-of count t) (packets n pending) own
+      wrong-own e = sym (wrong-is ∙ ap (λ (b : Bool). b || accounts-differ t accounts count) (sym other-is ∙ e))
 
-    pub wrong-members : {r : Bool} → owned ≡ getD sums own-place 0 → r ≡ sums-differ t sums count
-        → r ≡ sums-wrong (members-of count t) (packets n pending) owned
-    wrong-members same r-is =
-        r-is
-        ∙ sym (wrong-is ∙ ap (λ (b : Bool). not b || sums-differ t sums count) (eq-eqb owned (getD sums own-place 0) same))
+      module _ (same : other ≡ false) where
+        wrong-members : accounts-differ t accounts count ≡ accounts-wrong (members-of count t) (packets n pending) own
+        wrong-members = sym (wrong-is ∙ ap (λ (b : Bool). b || accounts-differ t accounts count) (sym other-is ∙ same))
 
--- the sums stay far below 2^64
-pub sums-small : (t : List ℕ) (count : ℕ) → count ≤ max-members → one-twice (each id-of (members-of count t)) ≡ false → (pending : List ℕ) (n : ℕ)
-    → any packet-breaks-rule (packets n pending) ≡ false → n ≤ max-pending → (answer : Bool) (sums : List ℕ)
-    → AddedUp t count pending n answer sums → answer ≡ false → (i : ℕ) → i < count → getD sums i 0 ≤ largest-16 * max-pending
-sums-small t count few once pending n good most answer sums added reserved i below =
-    omega (arith, held-small t count few once pending n good n sums (added .sums-are reserved) (omega arith) i below)
+        pub wrong-member : (i : ℕ) (answer : Bool) → answer ≡ differs (account-at accounts i) (lent t i) → i < count → answer ≡ true
+            → true ≡ accounts-wrong (members-of count t) (packets n pending) own
+        unfolding accounts-differ
+        wrong-member i answer is below it =
+            stops-there (member-differs t accounts) index-of i i answer refl (is ∙ ap (differs (account-at accounts i)) (lent-member t i)) count below it
+            ∙ wrong-members
+
+        pub wrong-none : (i : ℕ) → Passed (member-differs t accounts) index-of i → count ≤ i → false ≡ accounts-wrong (members-of count t) (packets n pending) own
+        unfolding accounts-differ
+        wrong-none i passed all-passed = passed-all (member-differs t accounts) index-of count i passed all-passed ∙ wrong-members

@@ -7,7 +7,7 @@ use native.Mathlib.Decide.{decLt}
 use native.Mathlib.Omega.{arith}
 use borrow.Author.Tests.{lt-ltb, le-ltb}
 use lib.ListN.{length}
-use Rattle.srt_group_model.specs.Tools.{any}
+use Rattle.srt_group_model.specs.Tools.{any, All}
 use Rattle.srt_group_model.specs.laws.Reason.{or-left, or-right, or-yes-left, or-yes-right}
 use Rattle.srt_group_model.specs.Backup.{max-history}
 use Rattle.srt_group_model.specs.Validity.{max-queued}
@@ -48,6 +48,11 @@ module _ {A : Type 0} where
   any-same a b zero f g same = refl
   any-same a b (suc n) f g same =
       ap₂ _||_ (same 0 (omega arith)) (any-same a b n (λ k. f (suc k)) (λ k. g (suc k)) (λ i below. same (suc i) (omega arith)))
+
+  pub all-of-tab : (P : A → Type 0) (n : ℕ) (f : ℕ → A) → ((i : ℕ) → i < n → P (f i)) → All P (tab n f)
+  unfolding tab
+  all-of-tab P zero f h = tt
+  all-of-tab P (suc n) f h = (h 0 (omega arith), all-of-tab P n (λ i. f (suc i)) (λ i below. h (suc i) (omega arith)))
 
   pub any-or : (a b : A → Bool) (l : List A) → any (λ x. a x || b x) l ≡ (any a l || any b l)
   unfolding any

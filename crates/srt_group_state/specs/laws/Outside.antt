@@ -30,8 +30,8 @@ use Rattle.word_rows.specs.laws.Tab.{tab-length}
 use Rattle.srt_group_shown.specs.Shown.{rest, shown}
 use Rattle.srt_group_rules.specs.Rules.{event-breaks-rule, queue-breaks-rule, leg-breaks-rule, member-breaks-rule, packet-breaks-rule, entry-breaks-rule, history-breaks-rule}
 use Rattle.srt_group_rules.specs.laws.Walks.{any-or}
-use Rattle.srt_group_rules.specs.Sums.{sums-wrong}
-use Rattle.srt_group_rules.specs.laws.Sums.{sums-wrong-is}
+use Rattle.srt_group_rules.specs.Sums.{accounts-wrong}
+use Rattle.srt_group_rules.specs.laws.Sums.{accounts-wrong-is}
 use Rattle.srt_group_state.specs.Outside.{breaks-rule-outside-cells, core-counts, words-out-of-range, numbers-break-rule, CountsWithin, rows-break-rule, rows-disagree}
 
 pub invalid-is : (cells : ℕ) (s : State) → is-invalid cells s ≡ (breaks-rule-outside-cells s || (cell-twice s || cell-beyond-store cells s))
@@ -131,8 +131,8 @@ module _ (identity : Identity) (c : Core) (sending : Sending) (history : List En
       let remembered = ltb-false max-history (length history) (search neither) in
       of-in-range (counts state) (search (arith, member-count, packet-count, waiting-count)))
 
-  sums-shown : sums-wrong (state .members) (state .receive .pending) (c .own .reserved) ≡ reserved-sum-wrong state
-  sums-shown = sums-wrong-is state
+  sums-shown : accounts-wrong (state .members) (state .receive .pending) (c .own) ≡ reserved-sum-wrong state
+  sums-shown = accounts-wrong-is state
 
   words-shown : words-out-of-range identity c sending ≡ record-out-of-range state
   unfolding words-out-of-range record-out-of-range group-words
@@ -175,7 +175,7 @@ module _ (c : Core) (members pending : List ℕ) where
     disagree-by-id it = sym (or-yes-left (one-twice (each id-of (members-of (c .counts .members) members))) _ (sym id-is ∙ it))
 
     pub disagree-else : (up wrong : Bool) → id ≡ false → up ≡ ascends (packets (c .counts .pending) pending)
-        → wrong ≡ sums-wrong (members-of (c .counts .members) members) (packets (c .counts .pending) pending) (c .own .reserved)
+        → wrong ≡ accounts-wrong (members-of (c .counts .members) members) (packets (c .counts .pending) pending) (c .own)
         → (not up || wrong) ≡ rows-disagree c members pending
     unfolding rows-disagree
     disagree-else up wrong once up-is wrong-is =
@@ -184,7 +184,7 @@ module _ (c : Core) (members pending : List ℕ) where
         (λ (b : Bool).
         b
         || (not (ascends (packets (c .counts .pending) pending))
-        || sums-wrong (members-of (c .counts .members) members) (packets (c .counts .pending) pending) (c .own .reserved)))
+        || accounts-wrong (members-of (c .counts .members) members) (packets (c .counts .pending) pending) (c .own)))
         (sym once ∙ id-is)
 
 module _ (c : Core) (members pending waiting : List ℕ) where

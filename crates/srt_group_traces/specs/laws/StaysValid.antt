@@ -72,21 +72,8 @@ failed-send-valid n time payload lent s h failed =
     (λ bad. subst (ValidAt n) (sym (unfit-send-leaves (length (lent .store)) (length (lent .list)) time payload s bad)) h)
     (λ ok.
     let v = valid-of (cells-of (length (lent .store))) _ (valid-kept (call-send time payload) lent s ok) in
-    of-valid (cells-of n) _
-    record {
-      blank = v .blank;
-      counts = v .counts;
-      sequences = v .sequences;
-      ids-once = v .ids-once;
-      ascending = v .ascending;
-      cells-once = v .cells-once;
-      cells-inside =
-          failed-send-stays-inside (cells-of n) lent time payload s
-          (valid-of (cells-of n) s h .cells-inside) failed;
-      sums = v .sums;
-      words = v .words;
-      fields = v .fields;
-    })
+    let inside = failed-send-stays-inside (cells-of n) lent time payload s (valid-of (cells-of n) s h .cells-inside) failed in
+    of-valid (cells-of n) _ (search (v, inside)))
 
 -- a call that is lent a store and is not accepted
 failed-by : {c : Call} (n : ℕ) (lent : Lent) (s : State) → Kind c → takes-store c ≡ true → ValidAt n s

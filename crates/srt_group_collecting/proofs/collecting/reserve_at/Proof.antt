@@ -1,12 +1,11 @@
 -- `reserve_at` meets its contract: the membership that is put is the one that was there with the count added.
-use mathlib.Core.Path.{ap, ap₂, _∙_}
+use mathlib.Core.Path.{ap, ap₂, sym, subst, _∙_}
 use Rattle.srt_group_model.specs.declared.Membership.{Membership}
 use Rattle.srt_connection_members.specs.laws.Members.{membership-changed}
 use borrow.Author.Needs.{needs}
-use native.Mathlib.Omega.{arith}
 use Rattle.srt_group_collecting.proofs.collecting.reserve_at.Statement.{statement}
 use Rattle.srt_group_collecting.proofs.collecting.reserve_at.Tie as tie
-use Rattle.srt_group_model.specs.Accounts.{reserve}
+use Rattle.srt_group_model.specs.Accounts.{reserve, Fits}
 use Rattle.srt_group_model.specs.State.{with-account}
 
 membership-at-requires : tie.Need-membership-at-requires
@@ -15,7 +14,7 @@ membership-at-requires c κs = search needs
 reserve-packet-requires : tie.Need-reserve-packet-requires
 reserve-packet-requires c κs =
     let before = c .before .before .before in
-    omega (arith, before .pre .1, ap (λ (x : Membership). x .account .reserved) (c .membership-at .ensures))
+    subst (λ (x : Membership). Fits (reserve (before .args .count) (x .account))) (sym (c .membership-at .ensures)) (before .pre .1)
 
 put-membership-at-requires : tie.Need-put-membership-at-requires
 put-membership-at-requires c κs = search needs

@@ -1,6 +1,6 @@
 -- `take_out` meets its contract: the held packets owned and the row removed are its parts.
-use mathlib.Core.Path.{ap}
-use native.Mathlib.Omega.{arith}
+use mathlib.Core.Path.{sym, subst}
+use Rattle.srt_group_model.specs.Accounts.{add-account, Fits}
 use Rattle.srt_group_model.specs.declared.Membership.{Membership}
 use Rattle.srt_group_removal.specs.laws.Removal.{taken-all}
 use borrow.Author.Needs.{needs}
@@ -25,7 +25,8 @@ lowered-requires c κs = search needs
 add-account-requires : tie.Need-add-account-requires
 add-account-requires c κs =
     let read = c .before .before .before .before .before .before .before .before .before in
-    omega (arith, read .before .before .before .before .pre .sum, ap (λ (m : Membership). m .account .reserved) (read .membership-at .ensures))
+    let start = read .before .before .before .before in
+    subst (λ (m : Membership). Fits (add-account (m .account) (start .args .core .own))) (sym (read .membership-at .ensures)) (start .pre .sum)
 
 same-length : tie.Need-same-length
 same-length c = search needs

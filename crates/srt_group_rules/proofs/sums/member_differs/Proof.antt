@@ -16,10 +16,13 @@ receiver-requires c κs = search needs
 add-both : tie.Need-add-both
 add-both c = search needs
 
+is-unlike-requires : tie.Need-is-unlike-requires
+is-unlike-requires c κs = search needs
+
 returns : tie.Need-returns
 returns c = search differs-tested
 
 pub member-differs-spec : {M : Type 1} → statement M
 member-differs-spec =
     tie.close
-    (tie.spec queued-count-requires membership-requires receiver-requires add-both returns)
+    (tie.spec queued-count-requires membership-requires receiver-requires add-both is-unlike-requires returns)

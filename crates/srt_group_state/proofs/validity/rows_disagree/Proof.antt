@@ -15,8 +15,8 @@ returns c = search disagree-by-id
 is-ascending-requires : tie.Need-is-ascending-requires
 is-ascending-requires c κs = search needs
 
-reserved-sum-wrong-requires : tie.Need-reserved-sum-wrong-requires
-reserved-sum-wrong-requires c κs =
+accounts-wrong-requires : tie.Need-accounts-wrong-requires
+accounts-wrong-requires c κs =
     let pre = c .before .before .before .before .before .pre in (
       (omega (arith, pre .0 .0, pre .1 .0 .members), pre .1 .0 .members),
       ((pre .0 .1, pre .1 .0 .pending), (sym (c .before .before .id-twice .ensures) ∙ c .before .if1 .left, pre .1 .1)),
@@ -32,5 +32,5 @@ rows-disagree-spec =
     id-twice-requires
     returns
     is-ascending-requires
-    reserved-sum-wrong-requires
+    accounts-wrong-requires
     returns-2)
