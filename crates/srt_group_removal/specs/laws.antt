@@ -2,3 +2,4 @@
 pub mod Queue
 pub mod Retire
 pub mod Removal
+pub mod Connection
