@@ -12,7 +12,7 @@ use Rattle.srt_group_model.specs.declared.Identity.{Identity}
 use Rattle.srt_group_model.specs.declared.Leg.{Leg}
 use Rattle.srt_group_model.specs.declared.Sending.{Sending}
 use Rattle.srt_group_model.specs.State.{State}
-use Rattle.srt_group_model.specs.Guards.{Answer, no-answer, leg-back}
+use Rattle.srt_group_model.specs.Guards.{Answer, leg-back}
 use Rattle.srt_group_model.specs.Lent.{Lent, call-remove-member-connection, perform}
 use Rattle.srt_connection_queue.specs.Rows.{row-size, member-from}
 use Rattle.srt_connection_members.specs.Members.{member-at}
@@ -20,6 +20,7 @@ use Rattle.srt_group_tables.specs.declared.history.HistoryRing.{HistoryRing}
 use Rattle.srt_group_shown.specs.Tables.{Parts, parts, Tables, tables, state-of}
 use Rattle.srt_group_shown.specs.Ready.{Performs}
 use Rattle.srt_group_shown.specs.Steps.{Unbroken, Steps}
+use Rattle.srt_group_refusals.specs.Promised.{answered, nothing-lent, showing, Promised}
 use Rattle.srt_group_removal.specs.declared.connection.Removal.{Removal}
 use Rattle.srt_group_removal.specs.Removal.{Removable}
 
@@ -47,8 +48,7 @@ RowAfter (Refused e) row row′ = row′ ≡ row
 
 -- the answer of the call: accepted, the leg in the row
 abbrev pub given-back : Outcome → (row : List ℕ) → Answer
-given-back Accepted row = leg-back (leg-in row)
-given-back (Refused e) row = no-answer
+given-back o row = answered o (leg-back (leg-in row))
 
 -- ---- the call
 
@@ -67,3 +67,9 @@ answer-dropped id bytes s = perform (call-remove-member-connection id) bytes s .
 abbrev pub PerformsDropping : (id : ℕ) → Parts → Tables → Lent → (number : ℕ) → Parts → Tables → Lent → (used′ : List ℕ) → Type 0
 PerformsDropping id p t bytes number p′ t′ bytes′ used′ =
     Performs (call-remove-member-connection id) p t bytes number (answer-dropped id bytes (state-of p t)) p′ t′ bytes′ used′
+
+-- the promise of `remove_member`
+abbrev pub PromisedDropping : (id : ℕ) → Parts → Tables → Outcome → Parts → Tables → Type 0
+PromisedDropping id p t o p′ t′ =
+    Promised (call-remove-member-connection id) p t nothing-lent
+    (showing p′ t′ nothing-lent (outcome-number o) (answered o (answer-dropped id nothing-lent (state-of p t))) 0)

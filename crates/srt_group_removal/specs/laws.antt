@@ -3,3 +3,4 @@ pub mod Queue
 pub mod Retire
 pub mod Removal
 pub mod Connection
+pub mod Calls
