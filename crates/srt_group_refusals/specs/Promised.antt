@@ -1,11 +1,15 @@
 -- THE PROMISE of a public call (srt_group_traces, `Promise`), over the record and the lent tables before and after it.
 use mathlib.Core.Path.{_≡_}
-use mathlib.Core.List.{[]}
+use mathlib.Core.Bool.{Bool, _||_}
+use mathlib.Core.List.{List, []}
 use Prim.Native.Nat.{ℕ}
+use lib.Dec.{ltb}
+use lib.ListN.{length}
 use Rattle.srt_protocol.specs.declared.error.Outcome.{Outcome}
 use Rattle.srt_protocol.specs.declared.error.Outcome.the-variants.{Accepted, Refused}
 use Rattle.srt_group_model.specs.Guards.{Answer, no-answer}
 use Rattle.srt_group_model.specs.Lent.{Lent, Call}
+use Rattle.srt_connection_queue.specs.Rows.{row-size}
 use Rattle.srt_group_traces.specs.Statement.{Asked}
 use Rattle.srt_group_traces.specs.Port.{Shown, Promise}
 use Rattle.srt_group_shown.specs.Tables.{Parts, Tables, state-of}
@@ -42,3 +46,13 @@ answering code answer x = record { state = x .state; lent = x .lent; code = code
 -- with a table too short: 5, and nothing has changed. Else code, answer, state and bytes are those of the call's definition.
 pub record Promised (call : Call) (p : Parts) (t : Tables) (bytes : Lent) (x : Shown) : Type 0 where
   pub holds : Promise (are-short t) (asking call bytes) (state-of p t) x
+
+-- ---- a call that is lent a row of the members' table too: the leg that it is handed, or that it gives back
+
+-- the row has fewer words than it takes
+abbrev pub row-short : List ℕ → Bool
+row-short row = ltb (length row) row-size
+
+-- with the row or a table too short: 5, and nothing has changed. Else the same promise.
+pub record PromisedRow (call : Call) (p : Parts) (t : Tables) (row : List ℕ) (x : Shown) : Type 0 where
+  pub holds : Promise (row-short row || are-short t) (asking call nothing-lent) (state-of p t) x

@@ -1,4 +1,5 @@
 pub mod Retire
 pub mod Removal
+pub mod Connection
 -- What is proved.
 pub mod laws

@@ -14,6 +14,8 @@ use Rattle.srt_group_model.specs.Removal.{retire}
 use Rattle.srt_group_model.specs.Validity.{max-pending, ascends}
 use Rattle.srt_group_tables.specs.Packets.{pending-size, packets}
 use Rattle.srt_group_shown.specs.Shown.{Rest, shown}
+use Rattle.cell_set.specs.Bits.{set-size}
+use Rattle.srt_group_collecting.specs.Follows.{Follows}
 
 -- ---- what retirement may rely on, and what it leaves
 
@@ -37,3 +39,8 @@ pub record Retires (f : State → State) (core : Core) (ps : List ℕ) (after : 
 pub record Retired (p : Packet) (core : Core) (ps : List ℕ) (after : Core) (ps′ : List ℕ) : Type 0 where
   pub one-less : suc (after .counts .pending) ≡ core .counts .pending
   pub retires : Retires (retire p) core ps after ps′
+
+-- the set of used cells follows, over any members: a retirement touches none
+pub record FollowsHeld (core : Core) (ps used : List ℕ) (after : Core) (ps′ used′ : List ℕ) : Type 0 where
+  pub used-long : length used′ ≡ set-size
+  pub over : (members : List ℕ) → Follows core members ps used after members ps′ used′

@@ -1,7 +1,11 @@
 // A member is taken out, and its leg given back.
 ghost use mathlib.Core.Path.{_≡_};
 ghost use Prim.Native.Nat.{_-_, min};
+ghost use lib.ListN.{length};
+ghost use Rattle.cell_set.specs.Bits.{set-size};
+ghost use Rattle.srt_group_collecting.specs.Follows.{Follows};
 ghost use Rattle.srt_group_removal.specs.Removal.{Removable, TakesOut, Removes};
+use crate::queue::free_queue_at;
 use crate::retirement::bound_group_owned_pending;
 use crate::retirement::retirement_base;
 use srt_group_members::accounts;
@@ -27,12 +31,22 @@ fn lowered(round: usize, left: usize) -> usize
     if last < round { last } else { round }
 }
 
-// The member at the index goes, with its queue; its held packets become the group's own.
-fn take_out(mut core: Core, members: &mut [u64], pending: &mut [u64], index: usize) -> Core
+// The member at the index goes, with its queue, whose cells are free; its held packets become the group's own.
+fn take_out(
+    mut core: Core,
+    members: &mut [u64],
+    pending: &mut [u64],
+    used: &mut [u64],
+    index: usize,
+) -> Core
     requires { ⌜ Removable index core (now members) (now pending) ⌝ }
+    requires { ⌜ length (now used) ≡ set-size ⌝ }
     ensures { λ r. ⌜ TakesOut index core (now (members .entry)) (now (pending .entry))
         r (now (members .exit)) (now (pending .exit)) ⌝ }
+    ensures { λ r. ⌜ Follows core (now (members .entry)) (now (pending .entry)) (now (used .entry))
+        r (now (members .exit)) (now (pending .exit)) (now (used .exit)) ⌝ }
 {
+    free_queue_at(members, used, index);
     let membership = srt_connection_members::membership_at(members, index);
     let held = core.counts.pending;
     pending::own_packets(pending, held, membership.id);
@@ -53,19 +67,23 @@ pub fn remove_member_at(
     core: Core,
     members: &mut [u64],
     pending: &mut [u64],
+    used: &mut [u64],
     index: usize,
 ) -> Removed
     requires { ⌜ Removable index core (now members) (now pending) ⌝ }
+    requires { ⌜ length (now used) ≡ set-size ⌝ }
     ensures { λ r. ⌜ Removes index core (now (members .entry)) (now (pending .entry))
         r (now (members .exit)) (now (pending .exit)) ⌝ }
+    ensures { λ r. ⌜ Follows core (now (members .entry)) (now (pending .entry)) (now (used .entry))
+        (r .core) (now (members .exit)) (now (pending .exit)) (now (used .exit)) ⌝ }
 {
     let mut leg = srt_connection_members::leg_at(members, index);
     let window = leg.receiver.window;
-    let taken = take_out(core, members, pending, index);
+    let taken = take_out(core, members, pending, used, index);
     let left = taken.counts.members;
     let limit = largest_window(members, left, window);
     let base = retirement_base(taken, pending);
-    let after = bound_group_owned_pending(taken, pending, limit, base);
+    let after = bound_group_owned_pending(taken, pending, used, limit, base);
     leg.receiver.reserved = 0;
     Removed { core: after, leg }
 }

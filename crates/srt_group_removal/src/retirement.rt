@@ -2,25 +2,33 @@
 ghost use mathlib.Core.Path.{_≡_};
 ghost use mathlib.Core.List.{List};
 ghost use Prim.Native.Nat.{ℕ, _-_, _<_};
+ghost use lib.ListN.{length};
 ghost use Rattle.srt_group_model.specs.Removal.{bound-group-owned-pending, retirement-base};
 ghost use Rattle.srt_group_tables.specs.Packets.{packet-at};
 ghost use Rattle.srt_group_shown.specs.Shown.{Rest, shown};
-ghost use Rattle.srt_group_removal.specs.Retire.{Held, Retires, Retired};
+ghost use Rattle.cell_set.specs.Bits.{set-size};
+ghost use Rattle.srt_group_removal.specs.Retire.{Held, Retires, Retired, FollowsHeld};
+use cell_set::free;
 use srt_group_members::accounts;
 use srt_group_model::Core;
 use srt_group_tables::pending;
 
-// The packet at a place is taken out, and the group's own sum falls by its count.
-fn retire_at(mut core: Core, pending: &mut [u64], at: usize) -> Core
+// The packet at a place is taken out: its cell is free, and the group's own sum falls by its count.
+fn retire_at(mut core: Core, pending: &mut [u64], used: &mut [u64], at: usize) -> Core
     requires { ⌜ Held core (now pending) ⌝ }
     requires { ⌜ at < core .counts .pending ⌝ }
+    requires { ⌜ length (now used) ≡ set-size ⌝ }
     ensures { λ r. ⌜ Retired (packet-at (now (pending .entry)) at) core (now (pending .entry))
         r (now (pending .exit)) ⌝ }
+    ensures { λ r. ⌜ FollowsHeld core (now (pending .entry)) (now (used .entry))
+        r (now (pending .exit)) (now (used .exit)) ⌝ }
 {
     let packet = pending::packet(pending, at);
+    let content = packet.content;
     let held = core.counts.pending;
     pending::remove(pending, held, at);
-    let own = accounts::release_packet(core.own, packet.content.count);
+    free(used, content.cell as usize);
+    let own = accounts::release_packet(core.own, content.count);
     let left = held - 1;
     core.counts.pending = left;
     core.own = own;
@@ -28,10 +36,19 @@ fn retire_at(mut core: Core, pending: &mut [u64], at: usize) -> Core
 }
 
 // While the sum of the group's own exceeds the limit, the one farthest ahead of the base is retired.
-pub fn bound_group_owned_pending(mut core: Core, pending: &mut [u64], limit: u64, base: u64) -> Core
+pub fn bound_group_owned_pending(
+    mut core: Core,
+    pending: &mut [u64],
+    used: &mut [u64],
+    limit: u64,
+    base: u64,
+) -> Core
     requires { ⌜ Held core (now pending) ⌝ }
+    requires { ⌜ length (now used) ≡ set-size ⌝ }
     ensures { λ r. ⌜ Retires (bound-group-owned-pending (core .counts .pending) limit base) core (now (pending .entry))
         r (now (pending .exit)) ⌝ }
+    ensures { λ r. ⌜ FollowsHeld core (now (pending .entry)) (now (used .entry))
+        r (now (pending .exit)) (now (used .exit)) ⌝ }
 {
     while limit < core.own.reserved {
         let held = core.counts.pending;
@@ -39,7 +56,7 @@ pub fn bound_group_owned_pending(mut core: Core, pending: &mut [u64], limit: u64
         let pending::Found::At(at) = farthest else {
             return core;
         };
-        core = retire_at(core, pending, at);
+        core = retire_at(core, pending, used, at);
     }
     core
 }

@@ -28,7 +28,7 @@ use srt_group_tables::history::place;
 use srt_group_tables::pending::cell_at;
 
 // The event so many places after the front of a queue.
-fn queued_event(row: &[u64], index: u64) -> Event
+pub fn queued_event(row: &[u64], index: u64) -> Event
     requires { ⌜ (length (now row) ≡ row-size) × (index < length (member-of (now row) .queue)) ⌝ }
     ensures { λ r. ⌜ at-place index (member-of (now (row .entry)) .queue) ≡ some r ⌝ }
 {

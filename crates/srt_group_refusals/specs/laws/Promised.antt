@@ -1,9 +1,10 @@
 -- What is proved of the definitions in specs/Promised.antt, with what the proofs need.
 use mathlib.Core.Path.{_≡_, refl, sym, ap, subst, _∙_}
-use mathlib.Core.Bool.{Bool, true, false}
+use mathlib.Core.Bool.{Bool, true, false, _||_}
 use mathlib.Core.List.{List, [], _∷_}
 use mathlib.Core.Option.{none}
-use Prim.Native.Nat.{ℕ}
+use Prim.Native.Nat.{ℕ, _≤_, _<_}
+use borrow.Author.Tests.{lt-ltb, le-ltb}
 use lib.ListN.{length}
 use Rattle.srt_protocol.specs.declared.error.Error.{Error}
 use Rattle.srt_protocol.specs.declared.error.Outcome.{Outcome}
@@ -16,6 +17,7 @@ use Rattle.srt_group_model.specs.Guards.{Answer, no-answer, Shown as Looked, sh
 use Rattle.srt_group_model.specs.Calls.{store-unfit, breaks-rule}
 use Rattle.srt_group_model.specs.Lent.{Lent, Call, takes, stored, delivered-by, written-out, list-rows, with-bytes, step-of, perform}
 use Rattle.srt_group_model.specs.laws.Refusals.{guard-stops, guard-goes-on}
+use Rattle.srt_connection_queue.specs.Rows.{row-size}
 use Rattle.srt_group_traces.specs.Statement.{do-call}
 use Rattle.srt_group_traces.specs.Port.{Shown, Does, Promise}
 use Rattle.srt_group_traces.specs.laws.Port.{performs-does}
@@ -26,7 +28,7 @@ use Rattle.srt_group_shown.specs.Steps.{Steps}
 use Rattle.srt_group_shown.specs.laws.Steps.{left-bytes}
 use Rattle.srt_group_refusals.specs.Begins.{are-short, begun, BeginsStored}
 use Rattle.srt_group_refusals.specs.laws.Begins.{begun-which, begun-long, begun-valid, not-short, which-refused}
-use Rattle.srt_group_refusals.specs.Promised.{asking, showing, answering, Promised, Answers}
+use Rattle.srt_group_refusals.specs.Promised.{asking, showing, answering, Promised, Answers, nothing-lent, PromisedRow}
 
 module _ (call : Call) (p : Parts) (t : Tables) (bytes : Lent) where
   abbrev s : State
@@ -139,3 +141,31 @@ promised-answers {call} {p} {t} {bytes} {x} promised same =
           subst (λ (y : Shown). Promise (are-short t) (asking call bytes) (state-of p t) y)
           (λ i. answering (sym (same .same-code) i) (sym (same .same-answer) i) x) (promised .holds);
     }
+
+-- ---- a call that is lent a row too
+
+module _ (call : Call) (p : Parts) (t : Tables) (row : List ℕ) where
+  pub row-refused : length row < row-size → PromisedRow call p t row (showing p t nothing-lent 5 no-answer 0)
+  row-refused short =
+      record {
+        holds =
+            subst (λ (b : Bool). Promise (b || are-short t) (asking call nothing-lent) (state-of p t) (showing p t nothing-lent 5 no-answer 0))
+            (sym (lt-ltb (length row) row-size short)) refl;
+      }
+
+  module _ (long : row-size ≤ length row) where
+    pub over-row : {x : Shown} → Promised call p t nothing-lent x → PromisedRow call p t row x
+    over-row {x} promised =
+        record {
+          holds =
+              subst (λ (b : Bool). Promise (b || are-short t) (asking call nothing-lent) (state-of p t) x)
+              (sym (le-ltb (length row) row-size long)) (promised .holds);
+        }
+
+    pub without-row : {x : Shown} → PromisedRow call p t row x → Promised call p t nothing-lent x
+    without-row {x} promised =
+        record {
+          holds =
+              subst (λ (b : Bool). Promise (b || are-short t) (asking call nothing-lent) (state-of p t) x)
+              (le-ltb (length row) row-size long) (promised .holds);
+        }

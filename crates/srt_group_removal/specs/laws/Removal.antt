@@ -18,6 +18,8 @@ use Rattle.srt_group_model.specs.Members.{id-of, has-id, find}
 use Rattle.srt_group_model.specs.laws.Frame.{found-at}
 use Rattle.srt_group_model.specs.Removal.{own-packet, largest-window, bound-group-owned-pending, retirement-base, take-out, remove-member-at}
 use Rattle.srt_group_model.specs.Validity.{max-pending, max-members, ascends, is-held-for}
+use Rattle.srt_group_model.specs.Cells.{queue-cells}
+use Rattle.srt_group_model.specs.laws.CellsMoved.{take-out-frees}
 use Rattle.srt_group_model.specs.laws.Ascending.{own-ascends}
 use Rattle.srt_group_model.specs.Sound.{Summed, Sound}
 use Rattle.srt_group_model.specs.laws.Accounts.{few-fits, few-together}
@@ -29,10 +31,13 @@ use Rattle.srt_connection_members.specs.laws.Members.{members-length, members-p
 use Rattle.srt_connection_queue.specs.laws.Tab.{all-tab}
 use Rattle.srt_connection_members.specs.declared.Found.the-variants.{At}
 use Rattle.srt_group_tables.specs.Packets.{pending-size, packet-at, packets, Holds}
-use Rattle.srt_group_shown.specs.Shown.{Rest, shown, blank}
+use Rattle.srt_group_shown.specs.Shown.{Rest, shown, blank, nothing-sent}
+use Rattle.cell_set.specs.Sets.{Freed}
+use Rattle.srt_group_collecting.specs.Follows.{Follows}
+use Rattle.srt_group_collecting.specs.laws.Follows.{follows-then, follows-freed}
 use Rattle.srt_group_shown.specs.laws.Shown.{held-few}
 use Rattle.srt_group_removal.specs.declared.removal.Removed.{Removed}
-use Rattle.srt_group_removal.specs.Retire.{Held, Retires}
+use Rattle.srt_group_removal.specs.Retire.{Held, Retires, FollowsHeld}
 use Rattle.srt_group_removal.specs.Removal.{Removable, taken-out, TakesOut, Removes}
 use Rattle.srt_group_model.specs.declared.Account.{Account}
 
@@ -103,6 +108,17 @@ taken-all {x} {left} {round} {own} i core ms ps ms′ ps′ there is owns goes f
     own-now =
         ap (λ (m : Membership). each (own-packet (m .id)) (packets (core .counts .pending) ps)) (sym is) ∙ sym (owns .is)
 
+-- the cells of its queue are free
+pub taken-and-freed : {i : ℕ} {core : Core} {ms ps used : List ℕ} {after : Core} {ms′ ps′ used′ : List ℕ} → i < core .counts .members
+    → TakesOut i core ms ps after ms′ ps′ → Freed (queue-cells (member-at ms i)) used used′
+    → TakesOut i core ms ps after ms′ ps′ × Follows core ms ps used after ms′ ps′ used′
+taken-and-freed {i} {core} {ms} {ps} {used} {after} {ms′} {ps′} {used′} there takes freed = (
+  takes,
+  follows-freed core after ms ps [] ms′ ps′ [] used used′ nothing-sent (λ others. take-out i (member-at ms i) (shown core others ms ps []))
+      (λ others same. takes .state others []) freed
+      (λ others. take-out-frees i (member-at ms i) (shown core others ms ps []) (members-place (core .counts .members) ms i there)),
+)
+
 -- the held packets are as few, and ascend as before
 module _ (i : ℕ) (core : Core) (ms ps : List ℕ) (may : Removable i core ms ps) (taken : Core) (ms₁ ps₁ : List ℕ)
     (takes : TakesOut i core ms ps taken ms₁ ps₁) where
@@ -150,6 +166,11 @@ module _ (i : ℕ) (core : Core) (ms ps : List ℕ) (may : Removable i core ms p
             ∙ ap (λ (b : ℕ). bound-group-owned-pending (taken .counts .pending) limit b t) (sym (bases others ms₁ ws))
             ∙ retires .state others ms₁ ws;
       }
+
+  pub removed-and-followed : {answer : Removed} {used used₁ : List ℕ} {ps′ used′ : List ℕ} → Removes i core ms ps answer ms₁ ps′
+      → Follows core ms ps used taken ms₁ ps₁ used₁ → FollowsHeld taken ps₁ used₁ (answer .core) ps′ used′
+      → Removes i core ms ps answer ms₁ ps′ × Follows core ms ps used (answer .core) ms₁ ps′ used′
+  removed-and-followed removes first second = (removes, follows-then first (second .over ms₁))
 
 -- ---- the member that the call names
 

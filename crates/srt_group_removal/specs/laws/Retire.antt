@@ -12,7 +12,7 @@ use Rattle.word_rows.specs.Tab.{removed}
 use Rattle.srt_group_model.specs.declared.Core.{Core}
 use Rattle.srt_group_model.specs.declared.Account.{Account}
 use Rattle.srt_group_model.specs.declared.Packet.{Packet}
-use Rattle.srt_group_model.specs.Tools.{if_then_else_, if-some_give_otherwise_, flagged, such-that, at-place}
+use Rattle.srt_group_model.specs.Tools.{if_then_else_, if-some_give_otherwise_, flagged, such-that, at-place, each}
 use Rattle.srt_group_model.specs.laws.Flag.{other-set}
 use Rattle.srt_group_model.specs.laws.Reason.{none-some, some-inj}
 use Rattle.srt_group_model.specs.State.{State, with-receive, with-pending, with-own}
@@ -20,13 +20,18 @@ use Rattle.srt_group_model.specs.Accounts.{release}
 use Rattle.srt_group_model.specs.Nearest.{sequence-of, has-sequence, nearest, farthest}
 use Rattle.srt_group_model.specs.Removal.{is-owned, retire, bound-group-owned-pending, retirement-base}
 use Rattle.srt_group_model.specs.Validity.{ascends}
+use Rattle.srt_group_model.specs.Sound.{pending-cells}
+use Rattle.srt_group_model.specs.laws.CellsMoved.{Moves, retire-frees}
 use Rattle.srt_group_model.specs.laws.Ascending.{Above, ascends-rest, ascends-above, such-that-ascends}
 use Rattle.srt_connection_queue.specs.laws.Tab.{tab-place}
 use Rattle.srt_group_tables.specs.Packets.{packet-at, packets, packet-found, Holds, FoundPacket}
 use Rattle.srt_group_tables.specs.declared.pending.Found.{Found}
 use Rattle.srt_group_tables.specs.declared.pending.Found.the-variants.{At, Nothing}
-use Rattle.srt_group_shown.specs.Shown.{Rest, shown, blank}
-use Rattle.srt_group_removal.specs.Retire.{Held, holding, Retires, Retired}
+use Rattle.srt_group_shown.specs.Shown.{Rest, shown, blank, nothing-sent}
+use Rattle.cell_set.specs.Sets.{Freed}
+use Rattle.cell_set.specs.Bits.{set-size}
+use Rattle.srt_group_collecting.specs.laws.Follows.{follows-same, follows-then, follows-freed}
+use Rattle.srt_group_removal.specs.Retire.{Held, holding, Retires, Retired, FollowsHeld}
 
 -- ---- the packet at a place, in an ascending list, is the only one with its sequence
 
@@ -54,6 +59,23 @@ removed-by-sequence (suc at) (q ∷ qs) p a e =
     let above = above-at (sequence-of q) at qs p (ascends-above q qs a) e in
     rw (ne-eqb (sequence-of q) (sequence-of p) (λ same. omega (arith, above)))
     (ap (λ (l : List Packet). q ∷ l) (removed-by-sequence at qs p (ascends-rest q qs a) e))
+
+none-above : (n : ℕ) (l : List Packet) → Above n l → such-that (has-sequence n) l ≡ []
+unfolding such-that if_then_else_
+none-above n [] h = refl
+none-above n (q ∷ qs) h = rw (ne-eqb (sequence-of q) n (λ e. omega (arith, h .0))) (none-above n qs (h .1))
+
+alone-by-sequence : (at : ℕ) (l : List Packet) (p : Packet) → ascends l ≡ true → at-place at l ≡ some p
+    → such-that (has-sequence (sequence-of p)) l ≡ p ∷ []
+unfolding at-place such-that if_then_else_
+alone-by-sequence at [] p a e = none-some e
+alone-by-sequence zero (q ∷ qs) p a e =
+    rw (eq-eqb (sequence-of q) (sequence-of p) (ap sequence-of (some-inj e)))
+    (subst (λ (x : Packet). q ∷ such-that (has-sequence (sequence-of x)) qs ≡ x ∷ []) (some-inj e)
+    (ap (λ (l : List Packet). q ∷ l) (none-above (sequence-of q) qs (ascends-above q qs a))))
+alone-by-sequence (suc at) (q ∷ qs) p a e =
+    let above = above-at (sequence-of q) at qs p (ascends-above q qs a) e in
+    rw (ne-eqb (sequence-of q) (sequence-of p) (λ same. omega (arith, above))) (alone-by-sequence at qs p (ascends-rest q qs a) e)
 
 -- ---- one packet is retired
 
@@ -85,6 +107,41 @@ module _ (core : Core) (ps : List ℕ) (at : ℕ) (held : Held core ps) (inside 
                   (ap (λ (q : Packet). release (q .content .count) (core .own)) (sym is) ∙ sym sum);
             };
       }
+
+  -- ---- the set of used cells
+
+  only-one : such-that (has-sequence (sequence-of (packet-at ps at))) (packets (core .counts .pending) ps) ≡ packet-at ps at ∷ []
+  only-one =
+      alone-by-sequence at (packets (core .counts .pending) ps) (packet-at ps at) (held .ascending)
+      (tab-place (core .counts .pending) (packet-at ps) at inside)
+
+  retired-follows : {p : Packet} (used : List ℕ) (after : Core) (ps′ used′ : List ℕ) → p ≡ packet-at ps at
+      → Retired (packet-at ps at) core ps after ps′ → Freed (p .content .cell ∷ []) used used′ → FollowsHeld core ps used after ps′ used′
+  unfolding each
+  retired-follows {p} used after ps′ used′ is one freed =
+      record {
+        used-long = freed .long;
+        over =
+            λ ms.
+            follows-freed core after ms ps [] ms ps′ [] used used′ nothing-sent (λ others. retire (packet-at ps at) (shown core others ms ps []))
+            (λ others same. one .retires .state others ms [])
+            (subst (λ (q : Packet). Freed (q .content .cell ∷ []) used used′) is freed)
+            (λ others.
+            subst (λ (l : List Packet). Moves [] (pending-cells l) (shown core others ms ps []) (retire (packet-at ps at) (shown core others ms ps [])))
+            only-one (retire-frees (packet-at ps at) (shown core others ms ps [])));
+      }
+
+  pub retired-and-freed : {p : Packet} {used : List ℕ} {after : Core} {ps′ used′ : List ℕ} → Retired (packet-at ps at) core ps after ps′ → p ≡ packet-at ps at
+      → Freed (p .content .cell ∷ []) used used′ → Retired (packet-at ps at) core ps after ps′ × FollowsHeld core ps used after ps′ used′
+  retired-and-freed {p} {used} {after} {ps′} {used′} one is freed = (one, retired-follows used after ps′ used′ is one freed)
+
+pub held-follows-same : (core : Core) (ps used : List ℕ) → length used ≡ set-size → FollowsHeld core ps used core ps used
+held-follows-same core ps used long = record { used-long = long; over = λ ms. follows-same core ms ps used long }
+
+pub held-follows-then : {core core₁ core₂ : Core} {ps used ps₁ used₁ ps₂ used₂ : List ℕ} → FollowsHeld core ps used core₁ ps₁ used₁
+    → FollowsHeld core₁ ps₁ used₁ core₂ ps₂ used₂ → FollowsHeld core ps used core₂ ps₂ used₂
+held-follows-then first second =
+    record { used-long = second .used-long; over = λ ms. follows-then (first .over ms) (second .over ms) }
 
 -- what is left is held as before
 pub still-held : (p : Packet) (core after : Core) (ps ps′ : List ℕ) → Held core ps → Retired p core ps after ps′ → Held after ps′

@@ -78,7 +78,7 @@ unfoldable pub joined : ℕ → (ℕ → List ℕ) → List ℕ
 joined zero names = []
 joined (suc n) names = names 0 ++ joined n (λ i. names (suc i))
 
-joined-next : (n : ℕ) (names : ℕ → List ℕ) → joined (suc n) names ≡ joined n names ++ names n
+pub joined-next : (n : ℕ) (names : ℕ → List ℕ) → joined (suc n) names ≡ joined n names ++ names n
 unfolding joined
 joined-next zero names = append-nil (names 0)
 joined-next (suc n) names =
