@@ -1,0 +1,3 @@
+pub mod Addition
+-- What is proved.
+pub mod laws

@@ -1,0 +1,2 @@
+// `add_member` of the Rust's srt_group/mod.rs: a leg that is handed over in a lent row joins the group.
+pub mod addition; // addition.rt: the member behind the others, admitted and aligned if its leg is connected
