@@ -2,3 +2,4 @@
 pub mod Addition
 pub mod Cells
 pub mod Handed
+pub mod Promised
