@@ -17,6 +17,5 @@ row-short row = ltb (length row) row-size
 
 -- with the row or a table too short: 5, and nothing has changed. Else code, answer and state are those of the call's definition, of the
 -- leg and the queue that the row shows.
-abbrev pub PromisedAddition : (id weight : ℕ) → (row : List ℕ) → Parts → Tables → Shown → Type 0
-PromisedAddition id weight row p t x =
-    Promise (row-short row || are-short t) (asking (call-of-row id weight row) nothing-lent) (state-of p t) x
+pub record PromisedAddition (id weight : ℕ) (row : List ℕ) (p : Parts) (t : Tables) (x : Shown) : Type 0 where
+  pub holds : Promise (row-short row || are-short t) (asking (call-of-row id weight row) nothing-lent) (state-of p t) x

@@ -40,14 +40,20 @@ module _ (id weight : ℕ) (row : List ℕ) (p : Parts) (t : Tables) where
 
   pub row-refused : length row < row-size → refused-with 5
   row-refused short =
-      subst (λ (b : Bool). Promise (b || are-short t) (asking (call-of-row id weight row) nothing-lent) (state-of p t) (showing p t nothing-lent 5 no-answer 0))
-      (sym (lt-ltb (length row) row-size short)) refl
+      record {
+        holds =
+            subst (λ (b : Bool). Promise (b || are-short t) (asking (call-of-row id weight row) nothing-lent) (state-of p t) (showing p t nothing-lent 5 no-answer 0))
+            (sym (lt-ltb (length row) row-size short)) refl;
+      }
 
   module _ (long : row-size ≤ length row) where
     over-row : (x : Shown) → Promised (call-of-row id weight row) p t nothing-lent x → PromisedAddition id weight row p t x
     over-row x promised =
-        subst (λ (b : Bool). Promise (b || are-short t) (asking (call-of-row id weight row) nothing-lent) (state-of p t) x)
-        (sym (le-ltb (length row) row-size long)) promised
+        record {
+          holds =
+              subst (λ (b : Bool). Promise (b || are-short t) (asking (call-of-row id weight row) nothing-lent) (state-of p t) x)
+              (sym (le-ltb (length row) row-size long)) (promised .holds);
+        }
 
     module _ {r : Outcome} (begins : r ≡ begun p t) where
       pub addition-refused-6 : (e : Error) → r ≡ Refused e → refused-with (error-number e)
