@@ -1,0 +1,5 @@
+pub mod Addition
+pub mod Handed
+pub mod Promised
+-- What is proved.
+pub mod laws
