@@ -1,4 +1,2 @@
 pub mod Made
 pub mod Looks
-pub mod DataPolled
-pub mod EventPolled

@@ -2,47 +2,25 @@
 ghost use Rattle.srt_group_model.specs.Lent.{call-poll-data-bounded, call-poll-data, call-poll-event};
 ghost use Rattle.srt_group_shown.specs.Tables.{tables};
 ghost use Rattle.srt_group_shown.specs.Ready.{lending};
-ghost use Rattle.srt_group.specs.Made.{parts-of};
 ghost use Rattle.srt_group_refusals.specs.Promised.{showing, Promised};
-ghost use Rattle.srt_group.specs.DataPolled.{data-number, data-answer};
-ghost use Rattle.srt_group.specs.EventPolled.{event-number, event-answer};
+ghost use Rattle.srt_group_data_poll.specs.Answers.{data-number, data-answer};
+ghost use Rattle.srt_group_event_poll.specs.Answers.{event-number, event-answer};
+ghost use Rattle.srt_group.specs.Made.{parts-of};
 use crate::Group;
 use srt_group_collecting::collecting::MAX_VISITS;
-use srt_group_data_poll::polls::poll_data_bounded;
-use srt_group_delivery::delivery::Polled;
-use srt_group_event_poll::polls::poll_event;
-use srt_group_polls::polls::OptionalPacket;
-use srt_group_refusals::refusals::begin_stored;
-use srt_protocol::error::Error;
-use srt_protocol::error::Outcome;
-use srt_protocol::received_payload::OUTPUT;
+use srt_group_data_poll::calls;
+use srt_group_data_poll::calls::DataAnswer;
+use srt_group_event_poll::calls as event_calls;
+use srt_group_event_poll::calls::EventAnswer;
 use srt_protocol::time::Timestamp;
 
-// A packet or none, and whether the poll should be called again at once.
-pub struct GroupDataPoll {
-    pub packet: OptionalPacket,
-    pub continuation: u64,
-}
-
-// What a data poll answers.
-pub enum DataAnswer {
-    Refused(Error),
-    Polled(GroupDataPoll),
-}
-
-// The answer, and the record after the call: as it was where the call is refused.
+// What a data poll answers, and the record after the call: as it was where the call is refused.
 pub struct DataPolled {
     pub group: Group,
     pub answer: DataAnswer,
 }
 
-// What an event poll answers: nothing, an event or a packet.
-pub enum EventAnswer {
-    Refused(Error),
-    Polled(Polled),
-}
-
-// The answer, and the record after the call: as it was where the call is refused.
+// The same of an event poll.
 pub struct EventPolled {
     pub group: Group,
     pub answer: EventAnswer,
@@ -69,39 +47,13 @@ impl Group {
             (tables (now (members .exit)) (now (pending .exit)) (now (waiting .exit)) (now (history .entry)) (now (sources .entry)))
             (lending (now (store .entry)) (now (output .exit))) (data-number (r .answer)) (data-answer (r .answer)) 0) ⌝ }
     {
-        if output.len() < OUTPUT {
-            return DataPolled {
-                group: self,
-                answer: DataAnswer::Refused(Error::InsufficientBuffer),
-            };
-        }
         let Group {
             identity,
             core,
             sending,
             ring,
         } = self;
-        let mut used = [0u64; 32];
-        let begun = begin_stored(
-            identity,
-            core,
-            sending,
-            ring,
-            members,
-            pending,
-            waiting,
-            history,
-            sources,
-            store.len(),
-            &mut used,
-        );
-        if let Outcome::Refused(error) = begun {
-            return DataPolled {
-                group: self,
-                answer: DataAnswer::Refused(error),
-            };
-        }
-        let polled = poll_data_bounded(
+        let called = calls::poll_data_bounded(
             identity,
             core,
             sending,
@@ -113,12 +65,11 @@ impl Group {
             sources,
             store,
             output,
-            &mut used,
             time,
             max_events,
         );
-        let after = polled.core;
-        let packet = polled.gave;
+        let after = called.core;
+        let answer = called.answer;
         DataPolled {
             group: Group {
                 identity,
@@ -126,12 +77,10 @@ impl Group {
                 sending,
                 ring,
             },
-            answer: DataAnswer::Polled(GroupDataPoll {
-                packet,
-                continuation: polled.continuation,
-            }),
+            answer,
         }
     }
+
     // `poll_data_bounded` with as many events as it may pass, 64.
     pub fn poll_data(
         self,
@@ -183,39 +132,13 @@ impl Group {
             (tables (now (members .exit)) (now (pending .exit)) (now (waiting .exit)) (now (history .entry)) (now (sources .entry)))
             (lending (now (store .entry)) (now (output .exit))) (event-number (r .answer)) (event-answer (r .answer)) 0) ⌝ }
     {
-        if output.len() < OUTPUT {
-            return EventPolled {
-                group: self,
-                answer: EventAnswer::Refused(Error::InsufficientBuffer),
-            };
-        }
         let Group {
             identity,
             core,
             sending,
             ring,
         } = self;
-        let mut used = [0u64; 32];
-        let begun = begin_stored(
-            identity,
-            core,
-            sending,
-            ring,
-            members,
-            pending,
-            waiting,
-            history,
-            sources,
-            store.len(),
-            &mut used,
-        );
-        if let Outcome::Refused(error) = begun {
-            return EventPolled {
-                group: self,
-                answer: EventAnswer::Refused(error),
-            };
-        }
-        let given = poll_event(
+        let called = event_calls::poll_event(
             identity,
             core,
             sending,
@@ -227,11 +150,10 @@ impl Group {
             sources,
             store,
             output,
-            &mut used,
             time,
         );
-        let after = given.core;
-        let gave = given.gave;
+        let after = called.core;
+        let answer = called.answer;
         EventPolled {
             group: Group {
                 identity,
@@ -239,7 +161,7 @@ impl Group {
                 sending,
                 ring,
             },
-            answer: EventAnswer::Polled(gave),
+            answer,
         }
     }
 }

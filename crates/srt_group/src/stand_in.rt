@@ -4,15 +4,11 @@ ghost use Rattle.srt_group_model.specs.Guards.{no-answer};
 ghost use Rattle.srt_group_model.specs.Lent.{call-queue-data, call-queue-event, call-read-leg};
 ghost use Rattle.srt_group_shown.specs.Tables.{tables};
 ghost use Rattle.srt_group_shown.specs.Ready.{storing};
-ghost use Rattle.srt_group.specs.Made.{parts-of};
 ghost use Rattle.srt_group_refusals.specs.Promised.{nothing-lent, showing, Promised};
+ghost use Rattle.srt_group.specs.Made.{parts-of};
 use crate::Group;
 use srt_group_model::Data;
-use srt_group_queueing::events;
-use srt_group_queueing::queueing;
-use srt_group_queueing::readings;
-use srt_group_refusals::refusals::begin;
-use srt_group_refusals::refusals::begin_stored;
+use srt_group_queueing::calls;
 use srt_protocol::error::Outcome;
 
 impl Group {
@@ -42,24 +38,7 @@ impl Group {
             sending,
             ring,
         } = self;
-        let mut used = [0u64; 32];
-        let begun = begin_stored(
-            identity,
-            core,
-            sending,
-            ring,
-            members,
-            pending,
-            waiting,
-            history,
-            sources,
-            store.len(),
-            &mut used,
-        );
-        if let Outcome::Refused(error) = begun {
-            return Outcome::Refused(error);
-        }
-        queueing::queue_data(
+        calls::queue_data(
             identity,
             core,
             sending,
@@ -70,7 +49,6 @@ impl Group {
             history,
             sources,
             store,
-            &mut used,
             id,
             content,
             payload,
@@ -102,7 +80,7 @@ impl Group {
             sending,
             ring,
         } = self;
-        let begun = begin(
+        calls::queue_event(
             identity,
             core,
             sending,
@@ -112,11 +90,10 @@ impl Group {
             waiting,
             history,
             sources,
-        );
-        if let Outcome::Refused(error) = begun {
-            return Outcome::Refused(error);
-        }
-        events::push_event(core, members, id, kind, reason)
+            id,
+            kind,
+            reason,
+        )
     }
 
     // A number into a field of a leg. The record stays as it was.
@@ -144,7 +121,7 @@ impl Group {
             sending,
             ring,
         } = self;
-        let begun = begin(
+        calls::read_leg(
             identity,
             core,
             sending,
@@ -154,10 +131,9 @@ impl Group {
             waiting,
             history,
             sources,
-        );
-        if let Outcome::Refused(error) = begun {
-            return Outcome::Refused(error);
-        }
-        readings::put_reading(core, members, id, field, number)
+            id,
+            field,
+            number,
+        )
     }
 }

@@ -1,4 +1,5 @@
 -- THE PROMISE of a public call (srt_group_traces, `Promise`), over the record and the lent tables before and after it.
+use mathlib.Core.Path.{_≡_}
 use mathlib.Core.List.{[]}
 use Prim.Native.Nat.{ℕ}
 use Rattle.srt_protocol.specs.declared.error.Outcome.{Outcome}
@@ -20,6 +21,11 @@ abbrev pub answered : Outcome → Answer → Answer
 answered Accepted given = given
 answered (Refused e) given = no-answer
 
+-- an answer of one form says what another does: the same code, and the same is given
+pub record Answers (code : ℕ) (given : Answer) (number : ℕ) (answer : Answer) : Type 0 where
+  pub same-code : number ≡ code
+  pub same-answer : answer ≡ given
+
 -- the call, and what it is lent beside the tables
 abbrev pub asking : Call → Lent → Asked
 asking call bytes = record { call = call; lent = bytes }
@@ -29,6 +35,10 @@ abbrev pub showing : Parts → Tables → Lent → (code : ℕ) → Answer → (
 showing p t bytes code answer rows =
     record { state = state-of p t; lent = bytes; code = code; answer = answer; rows = rows }
 
+-- the same, with a code and an answer of another form
+abbrev pub answering : (code : ℕ) → Answer → Shown → Shown
+answering code answer x = record { state = x .state; lent = x .lent; code = code; answer = answer; rows = x .rows }
+
 -- with a table too short: 5, and nothing has changed. Else code, answer, state and bytes are those of the call's definition.
-abbrev pub Promised : Call → Parts → Tables → Lent → Shown → Type 0
-Promised call p t bytes x = Promise (are-short t) (asking call bytes) (state-of p t) x
+pub record Promised (call : Call) (p : Parts) (t : Tables) (bytes : Lent) (x : Shown) : Type 0 where
+  pub holds : Promise (are-short t) (asking call bytes) (state-of p t) x

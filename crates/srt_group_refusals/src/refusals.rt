@@ -169,6 +169,16 @@ pub fn begin_poll(
         return Outcome::Refused(Error::InsufficientBuffer);
     }
     begin_stored(
-        identity, core, sending, ring, members, pending, waiting, history, sources, store, used,
+        identity,
+        core,
+        sending,
+        ring,
+        members,
+        pending,
+        waiting,
+        history,
+        sources,
+        store,
+        used,
     )
 }

@@ -26,7 +26,7 @@ use Rattle.srt_group_shown.specs.Steps.{Steps}
 use Rattle.srt_group_shown.specs.laws.Steps.{left-bytes}
 use Rattle.srt_group_refusals.specs.Begins.{are-short, begun, BeginsStored}
 use Rattle.srt_group_refusals.specs.laws.Begins.{begun-which, begun-long, begun-valid, not-short, which-refused}
-use Rattle.srt_group_refusals.specs.Promised.{asking, showing, Promised}
+use Rattle.srt_group_refusals.specs.Promised.{asking, showing, answering, Promised, Answers}
 
 module _ (call : Call) (p : Parts) (t : Tables) (bytes : Lent) where
   abbrev s : State
@@ -50,10 +50,10 @@ module _ (call : Call) (p : Parts) (t : Tables) (bytes : Lent) where
       }
 
   pub promised-short : (x : Shown) → are-short t ≡ true → x ≡ refused-with 5 → Promised call p t bytes x
-  promised-short x short is = subst (λ (b : Bool). Promise b (asking call bytes) s x) (sym short) is
+  promised-short x short is = record { holds = subst (λ (b : Bool). Promise b (asking call bytes) s x) (sym short) is }
 
   pub promised-does : (x : Shown) → are-short t ≡ false → Does (asking call bytes) s x → Promised call p t bytes x
-  promised-does x long does = subst (λ (b : Bool). Promise b (asking call bytes) s x) (sym long) does
+  promised-does x long does = record { holds = subst (λ (b : Bool). Promise b (asking call bytes) s x) (sym long) does }
 
   -- refused with a code of its definition
   refused-by : are-short t ≡ false → (code : ℕ) → step ≡ refuse code s → {number : ℕ} → number ≡ code
@@ -126,3 +126,14 @@ module _ (call : Call) (p : Parts) (t : Tables) (bytes : Lent) where
         promised-does (showing p′ t′ bytes′ number given 0) (not-short begins accepted)
         (performs-does call bytes s (showing p′ t′ bytes′ number given 0) (done .code) (done .answer) (done .state) (done .lent)
         (sym (only-sends-fill-rows call bytes s no-list)))
+
+-- ---- an answer of another form
+
+pub promised-answers : {call : Call} {p : Parts} {t : Tables} {bytes : Lent} {x : Shown} → Promised call p t bytes x
+    → {number : ℕ} {answer : Answer} → Answers (x .code) (x .answer) number answer → Promised call p t bytes (answering number answer x)
+promised-answers {call} {p} {t} {bytes} {x} promised same =
+    record {
+      holds =
+          subst (λ (y : Shown). Promise (are-short t) (asking call bytes) (state-of p t) y)
+          (λ i. answering (sym (same .same-code) i) (sym (same .same-answer) i) x) (promised .holds);
+    }
