@@ -3,8 +3,8 @@ ghost use Rattle.srt_protocol.specs.Errors.{outcome-number};
 ghost use Rattle.srt_group_model.specs.Guards.{no-answer};
 ghost use Rattle.srt_group_shown.specs.Tables.{tables};
 ghost use Rattle.srt_group.specs.Made.{parts-of};
-ghost use Rattle.srt_group_refusals.specs.Promised.{nothing-lent, showing};
-ghost use Rattle.srt_group_addition.specs.Promised.{PromisedAddition};
+ghost use Rattle.srt_group_refusals.specs.Promised.{nothing-lent, showing, PromisedRow};
+ghost use Rattle.srt_group_addition.specs.Handed.{call-of-row};
 use crate::handed::add_leg;
 use srt_connection_queue::rows::ROW;
 use srt_group::Group;
@@ -30,8 +30,9 @@ pub fn add_member(
     id: u64,
     weight: u64,
 ) -> MemberAdded
-    ensures { λ r. ⌜ PromisedAddition id weight (now (row .entry)) (parts-of group)
+    ensures { λ r. ⌜ PromisedRow (call-of-row id weight (now (row .entry))) (parts-of group)
         (tables (now (members .entry)) (now (pending .entry)) (now (waiting .entry)) (now (history .entry)) (now (sources .entry)))
+        (now (row .entry))
         (showing (parts-of (r .group))
         (tables (now (members .exit)) (now (pending .entry)) (now (waiting .entry)) (now (history .entry)) (now (sources .entry)))
         nothing-lent (outcome-number (r .outcome)) no-answer 0) ⌝ }

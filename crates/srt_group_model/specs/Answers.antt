@@ -8,11 +8,11 @@ use Prim.Native.Nat.{ℕ}
 use Rattle.srt_group_model.specs.Tools.{bit}
 use Rattle.srt_group_model.specs.State.{State}
 use Rattle.srt_group_model.specs.Delivery.{Polled, nothing, event, packet}
-use Rattle.srt_group_model.specs.Guards.{Shown, truth, number, optional, membership, memberships, Answer, no-answer, shown, polled, data-polled, leg-back}
+use Rattle.srt_group_model.specs.Guards.{Shown, truth, number, optional, one-member, all-members, Answer, no-answer, shown, polled, data-polled, leg-back}
 use Rattle.srt_group_model.specs.Lent.{looking, Call, call-add-member, call-mark-member-broken, call-remove-member-connection, call-refresh-member-states, call-disconnect, call-poll-event, call-poll-data-bounded, call-send, call-can-send, call-can-send-with-pacing, call-look, call-read-leg, call-queue-data, call-queue-event}
 use Rattle.srt_group_model.specs.declared.Packet.{Packet}
 use Rattle.srt_group_model.specs.declared.Leg.{Leg}
-use Rattle.srt_group_model.specs.declared.Membership.{Membership}
+use Rattle.srt_group_model.specs.declared.MemberShown.{MemberShown}
 
 -- leg, sequence, count (0: no packet), message number, timestamp, source time, length of the payload, which is in the output
 abbrev pub packet-values : Option Packet → List ℕ
@@ -32,14 +32,17 @@ leg-values l =
     ∷ l .receiver .reserved ∷ l .receiver .advanced ∷ l .trip .srtt ∷ l .trip .rttvar ∷ l .trip .heard .0
     ∷ []
 
--- id, weight, state (0 pending, 1 active, 2 standby, 3 unstable, 4 broken), admitted, reserved, collision: expected, actual
-abbrev pub membership-values : Membership → List ℕ
-membership-values m =
-    m .id ∷ m .weight ∷ m .state ∷ m .admitted ∷ m .account .reserved ∷ m .collision .expected ∷ m .collision .actual ∷ []
+-- id, weight, state (0 pending, 1 active, 2 standby, 3 unstable, 4 broken), the leg's state (0 handshaking, 1 connected,
+-- 2 disconnected), admitted, reserved, collision: expected, actual
+abbrev pub member-values : MemberShown → List ℕ
+member-values x =
+    let m = x .membership in
+    m .id ∷ m .weight ∷ m .state ∷ x .connection ∷ m .admitted ∷ m .account .reserved ∷ m .collision .expected ∷ m .collision .actual
+    ∷ []
 
-unfoldable pub all-values : List Membership → List ℕ
+unfoldable pub all-values : List MemberShown → List ℕ
 all-values [] = []
-all-values (m ∷ ms) = membership-values m ++ all-values ms
+all-values (m ∷ ms) = member-values m ++ all-values ms
 
 -- What is shown: of a readiness test or flag 0 or 1; of a number itself; of what may be missing none or one; of members their words.
 unfoldable pub shown-values : Shown → List ℕ
@@ -47,9 +50,9 @@ shown-values (truth b) = bit b ∷ []
 shown-values (number n) = n ∷ []
 shown-values (optional none) = []
 shown-values (optional (some n)) = n ∷ []
-shown-values (membership none) = []
-shown-values (membership (some m)) = membership-values m
-shown-values (memberships ms) = all-values ms
+shown-values (one-member none) = []
+shown-values (one-member (some m)) = member-values m
+shown-values (all-members ms) = all-values ms
 
 -- The values of each case: of an event poll the event (1 connected, 2 error, 3 disconnected), its leg and reason, or 0 and the packet;
 -- of a data poll the continuation and the packet; of a removal the leg.

@@ -21,10 +21,11 @@ use Rattle.srt_group_model.specs.Sending.{list-size, Flow, ends-with, ab
 use Rattle.srt_group_model.specs.Backup.{stability-timeout, demote-stale-backup-carrier, trim-by-carrier, send-backup, backup-send-ready, group-time-until-send}
 use Rattle.srt_group_model.specs.Cells.{free-cell}
 use Rattle.srt_group_model.specs.Validity.{above, _at-most_, any-above, data-words, is-invalid, leg-out-of-range, leg-sequence-too-large, max-members, max-queued, making-words}
-use Rattle.srt_group_model.specs.Guards.{Answer, no-answer, truth, number, optional, polled, data-polled, leg-back, membership, memberships, Step, refuse, accept, _when_, Check, guard, shown, About, about-group, about-time, about-member, Looking}
+use Rattle.srt_group_model.specs.Guards.{Answer, no-answer, truth, number, optional, polled, data-polled, leg-back, one-member, all-members, Step, refuse, accept, _when_, Check, guard, shown, About, about-group, about-time, about-member, Looking}
 use Rattle.srt_group_model.specs.declared.Data.{Data}
 use Rattle.srt_group_model.specs.declared.Event.{Event}
 use Rattle.srt_group_model.specs.declared.Leg.{Leg}
+use Rattle.srt_group_model.specs.declared.MemberShown.{MemberShown}
 
 -- ---- the guards that calls share
 
@@ -146,13 +147,17 @@ unfoldable pub remove-member-connection : (id : ℕ) → State → Step
 remove-member-connection id s =
     guard ((6 when breaks-rule s) ∷ (2 when above largest-32 id) ∷ (3 when is-unknown id s) ∷ []) s (remove-body id s)
 
--- `member`: its state, its weight and its collision
+-- a member without its queue, and of its leg the state alone
+abbrev pub member-shown : Member → MemberShown
+member-shown m = record { membership = m .membership; connection = m .leg .link .state }
+
+-- `member`: its membership (state, weight, collision), and its leg's state
 unfoldable pub member : (id : ℕ) → Looking
 member id =
     record {
       about = about-member id;
       shows =
-          λ s. membership (if-some first-such (has-id id) (s .members) give (λ m. some (m .membership)) otherwise none);
+          λ s. one-member (if-some first-such (has-id id) (s .members) give (λ m. some (member-shown m)) otherwise none);
     }
 
 -- accepted, with the log of a call under way
@@ -302,9 +307,9 @@ look-checks (about-time time) s = (6 when breaks-rule s) ∷ (2 when above large
 look-checks (about-member id) s =
     (6 when breaks-rule s) ∷ (2 when above largest-32 id) ∷ (3 when is-unknown id s) ∷ []
 
--- `members`: the memberships, in the order of addition
+-- `members`: what is shown of each, in the order of addition
 unfoldable pub members-call : Looking
-members-call = record { about = about-group; shows = λ s. memberships (each (λ m. m .membership) (s .members)) }
+members-call = record { about = about-group; shows = λ s. all-members (each member-shown (s .members)) }
 
 unfoldable pub group-id : Looking
 group-id = record { about = about-group; shows = λ s. number (s .making .id) }

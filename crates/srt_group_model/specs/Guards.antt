@@ -11,7 +11,7 @@ use Rattle.srt_group_model.specs.Delivery.{Polled}
 use Rattle.srt_group_model.specs.Sending.{Sent}
 use Rattle.srt_group_model.specs.declared.Packet.{Packet}
 use Rattle.srt_group_model.specs.declared.Leg.{Leg}
-use Rattle.srt_group_model.specs.declared.Membership.{Membership}
+use Rattle.srt_group_model.specs.declared.MemberShown.{MemberShown}
 
 -- what an answer says of the group
 pub data Shown : Type 0 where
@@ -22,9 +22,9 @@ pub data Shown : Type 0 where
   -- a timeout, a peer group; none where there is none
   optional : Option ℕ → Shown
   -- a member; none where there is none, which code 3 refuses
-  membership : Option Membership → Shown
+  one-member : Option MemberShown → Shown
   -- all members, in the order of their addition
-  memberships : List Membership → Shown
+  all-members : List MemberShown → Shown
 
 pub data Answer : Type 0 where
   no-answer : Answer

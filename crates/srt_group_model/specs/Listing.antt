@@ -12,7 +12,7 @@ use Rattle.srt_group_model.specs.Legs.{moment}
 use Rattle.srt_group_model.specs.Delivery.{max-visits}
 use Rattle.srt_group_model.specs.Validity.{above}
 use Rattle.srt_group_model.specs.Sending.{list-size}
-use Rattle.srt_group_model.specs.Guards.{truth, number, optional, membership, memberships, Answer, no-answer, shown, polled, data-polled, leg-back, Step, refuse}
+use Rattle.srt_group_model.specs.Guards.{truth, number, optional, one-member, all-members, Answer, no-answer, shown, polled, data-polled, leg-back, Step, refuse}
 use Rattle.srt_group_model.specs.Calls.{new, new-code, add-member, mark-member-broken, remove-member-connection, poll-data-call, send, read-leg, queue-data, queue-event}
 use Rattle.srt_group_model.specs.declared.Leg.{Leg}
 
@@ -88,8 +88,8 @@ columns (data-polled none more) s = 0 ∷ 0 ∷ 0 ∷ s .receive .numbers .skipp
 columns (data-polled (some p) more) s =
     p .member ∷ p .content .sequence ∷ p .content .count ∷ s .receive .numbers .skipped ∷ []
 columns (leg-back l) s = 0 ∷ 0 ∷ 0 ∷ 0 ∷ []
-columns (shown (membership m)) s = 0 ∷ 0 ∷ 0 ∷ 0 ∷ []
-columns (shown (memberships ms)) s = 0 ∷ 0 ∷ 0 ∷ 0 ∷ []
+columns (shown (one-member m)) s = 0 ∷ 0 ∷ 0 ∷ 0 ∷ []
+columns (shown (all-members ms)) s = 0 ∷ 0 ∷ 0 ∷ 0 ∷ []
 
 abbrev pub refused-line : (verb code : ℕ) → List ℕ
 refused-line verb code = verb ∷ code ∷ 0 ∷ 0 ∷ 0 ∷ 0 ∷ []

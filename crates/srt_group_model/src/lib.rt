@@ -118,6 +118,12 @@ pub struct Membership {
     pub collision: Collision,
 }
 
+// A member as it is shown to a host: its membership, and of its leg (the Rust's `connection`) the state.
+pub struct MemberShown {
+    pub membership: Membership,
+    pub connection: u64,
+}
+
 // ---- the group's own numbers
 //
 // Every field of the record is a 64-bit word, so that any record a host lends can be read, shown and, if a word is beyond

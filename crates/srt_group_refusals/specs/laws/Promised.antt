@@ -146,6 +146,7 @@ promised-answers {call} {p} {t} {bytes} {x} promised same =
 
 module _ (call : Call) (p : Parts) (t : Tables) (row : List ℕ) where
   pub row-refused : length row < row-size → PromisedRow call p t row (showing p t nothing-lent 5 no-answer 0)
+  unfolding showing
   row-refused short =
       record {
         holds =

@@ -3,7 +3,9 @@ use native.Mathlib.Omega.{arith}
 use Rattle.srt_group_shown.specs.Tables.{tables}
 use Rattle.srt_group.specs.Made.{parts-of}
 use Rattle.srt_group_refusals.specs.laws.Begins.{begun-unbroken}
-use Rattle.srt_group_addition.specs.laws.Promised.{row-refused, addition-refused-6, addition-promised}
+use Rattle.srt_group_addition.specs.laws.Promised.{addition-refused-6, addition-promised}
+use Rattle.srt_group_addition.specs.Handed.{call-of-row}
+use Rattle.srt_group_refusals.specs.laws.Promised.{row-refused}
 use borrow.Author.Needs.{needs}
 use Rattle.srt_group_addition.proofs.calls.add_member.Statement.{statement}
 use Rattle.srt_group_addition.proofs.calls.add_member.Tie as tie
@@ -11,7 +13,7 @@ use Rattle.srt_group_addition.proofs.calls.add_member.Tie as tie
 returns : tie.Need-returns
 returns c =
     let a = c .before .before .before .before .before .before .before .args in
-    row-refused (a .id) (a .weight) (a .row .now) (parts-of (a .group)) (tables (a .members .now) (a .pending .now) (a .waiting .now) (a .history .now) (a .sources .now)) (c .if1 .taken)
+    row-refused (call-of-row (a .id) (a .weight) (a .row .now)) (parts-of (a .group)) (tables (a .members .now) (a .pending .now) (a .waiting .now) (a .history .now) (a .sources .now)) (a .row .now) (c .if1 .taken)
 
 begin-requires : tie.Need-begin-requires
 begin-requires c κs = search needs

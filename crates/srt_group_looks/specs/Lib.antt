@@ -1,0 +1,3 @@
+pub mod Looks
+-- What is proved.
+pub mod laws
