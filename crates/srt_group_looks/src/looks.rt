@@ -1,15 +1,13 @@
 // The looks at the group.
 ghost use Rattle.srt_group_model.specs.Lent.{look-group-id, look-mode, look-peer-group-id, look-skipped-receive-packets};
 ghost use Rattle.srt_group_model.specs.Lent.{look-has-pending-data, look-has-receive-continuation, look-time-until-send};
-ghost use Rattle.srt_group_shown.specs.Tables.{parts, tables};
+ghost use Rattle.srt_group.specs.Made.{parts-of};
+ghost use Rattle.srt_group_shown.specs.Tables.{tables};
 ghost use Rattle.srt_group_looks.specs.Looks.{Looked, number-code, number-answer, optional-code, optional-answer, truth-code, truth-answer};
+use srt_group::Group;
 use srt_group_collecting::collecting;
-use srt_group_model::Core;
-use srt_group_model::Identity;
-use srt_group_model::Sending;
 use srt_group_refusals::refusals::begin;
 use srt_group_sending::readiness::group_time_until_send;
-use srt_group_tables::history::HistoryRing;
 use srt_protocol::error::Error;
 use srt_protocol::error::Outcome;
 use srt_protocol::time::Timestamp;
@@ -35,20 +33,23 @@ pub enum TruthLook {
 
 // The group's id.
 pub fn group_id(
-    identity: Identity,
-    core: Core,
-    sending: Sending,
-    ring: HistoryRing,
+    group: Group,
     members: &[u64],
     pending: &[u64],
     waiting: &[u64],
     history: &[u64],
     sources: &[u64],
 ) -> NumberLook
-    ensures { λ r. ⌜ Looked look-group-id (parts identity core sending ring)
+    ensures { λ r. ⌜ Looked look-group-id (parts-of group)
         (tables (now (members .entry)) (now (pending .entry)) (now (waiting .entry)) (now (history .entry)) (now (sources .entry)))
         (number-code r) (number-answer r) ⌝ }
 {
+    let Group {
+        identity,
+        core,
+        sending,
+        ring,
+    } = group;
     let begun = begin(
         identity,
         core,
@@ -68,20 +69,23 @@ pub fn group_id(
 
 // 0 for Broadcast, 1 for Backup.
 pub fn mode(
-    identity: Identity,
-    core: Core,
-    sending: Sending,
-    ring: HistoryRing,
+    group: Group,
     members: &[u64],
     pending: &[u64],
     waiting: &[u64],
     history: &[u64],
     sources: &[u64],
 ) -> NumberLook
-    ensures { λ r. ⌜ Looked look-mode (parts identity core sending ring)
+    ensures { λ r. ⌜ Looked look-mode (parts-of group)
         (tables (now (members .entry)) (now (pending .entry)) (now (waiting .entry)) (now (history .entry)) (now (sources .entry)))
         (number-code r) (number-answer r) ⌝ }
 {
+    let Group {
+        identity,
+        core,
+        sending,
+        ring,
+    } = group;
     let begun = begin(
         identity,
         core,
@@ -101,20 +105,23 @@ pub fn mode(
 
 // The peer group that the group is bound to, if it is.
 pub fn peer_group_id(
-    identity: Identity,
-    core: Core,
-    sending: Sending,
-    ring: HistoryRing,
+    group: Group,
     members: &[u64],
     pending: &[u64],
     waiting: &[u64],
     history: &[u64],
     sources: &[u64],
 ) -> OptionalLook
-    ensures { λ r. ⌜ Looked look-peer-group-id (parts identity core sending ring)
+    ensures { λ r. ⌜ Looked look-peer-group-id (parts-of group)
         (tables (now (members .entry)) (now (pending .entry)) (now (waiting .entry)) (now (history .entry)) (now (sources .entry)))
         (optional-code r) (optional-answer r) ⌝ }
 {
+    let Group {
+        identity,
+        core,
+        sending,
+        ring,
+    } = group;
     let begun = begin(
         identity,
         core,
@@ -137,20 +144,23 @@ pub fn peer_group_id(
 
 // How many packets were skipped for good.
 pub fn skipped_receive_packets(
-    identity: Identity,
-    core: Core,
-    sending: Sending,
-    ring: HistoryRing,
+    group: Group,
     members: &[u64],
     pending: &[u64],
     waiting: &[u64],
     history: &[u64],
     sources: &[u64],
 ) -> NumberLook
-    ensures { λ r. ⌜ Looked look-skipped-receive-packets (parts identity core sending ring)
+    ensures { λ r. ⌜ Looked look-skipped-receive-packets (parts-of group)
         (tables (now (members .entry)) (now (pending .entry)) (now (waiting .entry)) (now (history .entry)) (now (sources .entry)))
         (number-code r) (number-answer r) ⌝ }
 {
+    let Group {
+        identity,
+        core,
+        sending,
+        ring,
+    } = group;
     let begun = begin(
         identity,
         core,
@@ -170,20 +180,23 @@ pub fn skipped_receive_packets(
 
 // Whether a packet is held, an event waits, or the continuation is asked for.
 pub fn has_pending_data(
-    identity: Identity,
-    core: Core,
-    sending: Sending,
-    ring: HistoryRing,
+    group: Group,
     members: &[u64],
     pending: &[u64],
     waiting: &[u64],
     history: &[u64],
     sources: &[u64],
 ) -> TruthLook
-    ensures { λ r. ⌜ Looked look-has-pending-data (parts identity core sending ring)
+    ensures { λ r. ⌜ Looked look-has-pending-data (parts-of group)
         (tables (now (members .entry)) (now (pending .entry)) (now (waiting .entry)) (now (history .entry)) (now (sources .entry)))
         (truth-code r) (truth-answer r) ⌝ }
 {
+    let Group {
+        identity,
+        core,
+        sending,
+        ring,
+    } = group;
     let begun = begin(
         identity,
         core,
@@ -203,20 +216,23 @@ pub fn has_pending_data(
 
 // Whether the last poll stopped with work left.
 pub fn has_receive_continuation(
-    identity: Identity,
-    core: Core,
-    sending: Sending,
-    ring: HistoryRing,
+    group: Group,
     members: &[u64],
     pending: &[u64],
     waiting: &[u64],
     history: &[u64],
     sources: &[u64],
 ) -> TruthLook
-    ensures { λ r. ⌜ Looked look-has-receive-continuation (parts identity core sending ring)
+    ensures { λ r. ⌜ Looked look-has-receive-continuation (parts-of group)
         (tables (now (members .entry)) (now (pending .entry)) (now (waiting .entry)) (now (history .entry)) (now (sources .entry)))
         (truth-code r) (truth-answer r) ⌝ }
 {
+    let Group {
+        identity,
+        core,
+        sending,
+        ring,
+    } = group;
     let begun = begin(
         identity,
         core,
@@ -236,10 +252,7 @@ pub fn has_receive_continuation(
 
 // How long until pacing lets a member send, in microseconds.
 pub fn time_until_send(
-    identity: Identity,
-    core: Core,
-    sending: Sending,
-    ring: HistoryRing,
+    group: Group,
     members: &[u64],
     pending: &[u64],
     waiting: &[u64],
@@ -247,10 +260,16 @@ pub fn time_until_send(
     sources: &[u64],
     time: Timestamp,
 ) -> NumberLook
-    ensures { λ r. ⌜ Looked (look-time-until-send (time .0)) (parts identity core sending ring)
+    ensures { λ r. ⌜ Looked (look-time-until-send (time .0)) (parts-of group)
         (tables (now (members .entry)) (now (pending .entry)) (now (waiting .entry)) (now (history .entry)) (now (sources .entry)))
         (number-code r) (number-answer r) ⌝ }
 {
+    let Group {
+        identity,
+        core,
+        sending,
+        ring,
+    } = group;
     let begun = begin(
         identity,
         core,

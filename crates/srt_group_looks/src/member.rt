@@ -3,7 +3,8 @@ ghost use mathlib.Core.Path.{_≡_};
 ghost use Rattle.srt_group_model.specs.Calls.{member-shown};
 ghost use Rattle.srt_group_model.specs.Lent.{look-member, look-backup-stability-timeout-micros};
 ghost use Rattle.srt_connection_members.specs.Members.{member-at, has-row};
-ghost use Rattle.srt_group_shown.specs.Tables.{parts, tables};
+ghost use Rattle.srt_group.specs.Made.{parts-of};
+ghost use Rattle.srt_group_shown.specs.Tables.{tables};
 ghost use Rattle.srt_group_looks.specs.Looks.{Looked, optional-code, optional-answer, member-code, member-answer};
 use crate::looks::OptionalLook;
 use srt_connection::legs::LARGEST_32;
@@ -12,13 +13,11 @@ use srt_connection_members::Found;
 use srt_connection_members::find;
 use srt_connection_members::leg_at;
 use srt_connection_members::membership_at;
+use srt_group::Group;
 use srt_group_backup::stale::stability_timeout;
 use srt_group_model::Core;
-use srt_group_model::Identity;
 use srt_group_model::MemberShown;
-use srt_group_model::Sending;
 use srt_group_refusals::refusals::begin;
-use srt_group_tables::history::HistoryRing;
 use srt_protocol::error::Error;
 use srt_protocol::error::Outcome;
 
@@ -43,10 +42,7 @@ pub fn shown_at(members: &[u64], index: usize) -> MemberShown
 
 // A member: its membership, with its label and its collision, and its leg's state.
 pub fn member(
-    identity: Identity,
-    core: Core,
-    sending: Sending,
-    ring: HistoryRing,
+    group: Group,
     members: &[u64],
     pending: &[u64],
     waiting: &[u64],
@@ -54,10 +50,16 @@ pub fn member(
     sources: &[u64],
     id: u64,
 ) -> MemberLook
-    ensures { λ r. ⌜ Looked (look-member id) (parts identity core sending ring)
+    ensures { λ r. ⌜ Looked (look-member id) (parts-of group)
         (tables (now (members .entry)) (now (pending .entry)) (now (waiting .entry)) (now (history .entry)) (now (sources .entry)))
         (member-code r) (member-answer r) ⌝ }
 {
+    let Group {
+        identity,
+        core,
+        sending,
+        ring,
+    } = group;
     let begun = begin(
         identity,
         core,
@@ -84,10 +86,7 @@ pub fn member(
 
 // How long the member may be silent as the carrier of a Backup group, in microseconds; nothing for a leg without a sender.
 pub fn backup_stability_timeout_micros(
-    identity: Identity,
-    core: Core,
-    sending: Sending,
-    ring: HistoryRing,
+    group: Group,
     members: &[u64],
     pending: &[u64],
     waiting: &[u64],
@@ -95,10 +94,16 @@ pub fn backup_stability_timeout_micros(
     sources: &[u64],
     id: u64,
 ) -> OptionalLook
-    ensures { λ r. ⌜ Looked (look-backup-stability-timeout-micros id) (parts identity core sending ring)
+    ensures { λ r. ⌜ Looked (look-backup-stability-timeout-micros id) (parts-of group)
         (tables (now (members .entry)) (now (pending .entry)) (now (waiting .entry)) (now (history .entry)) (now (sources .entry)))
         (optional-code r) (optional-answer r) ⌝ }
 {
+    let Group {
+        identity,
+        core,
+        sending,
+        ring,
+    } = group;
     let begun = begin(
         identity,
         core,

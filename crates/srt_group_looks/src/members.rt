@@ -8,16 +8,15 @@ ghost use Rattle.srt_group_model.specs.Calls.{member-shown};
 ghost use Rattle.srt_group_model.specs.Answers.{member-values, all-values};
 ghost use Rattle.srt_connection_queue.specs.Rows.{row-size};
 ghost use Rattle.srt_connection_members.specs.Members.{member-at, members-of, has-row};
-ghost use Rattle.srt_group_shown.specs.Tables.{parts, tables};
+ghost use Rattle.srt_group.specs.Made.{parts-of};
+ghost use Rattle.srt_group_shown.specs.Tables.{tables};
 ghost use Rattle.srt_group_looks.specs.Looks.{member-row-size, ListsMembers};
 use crate::member::shown_at;
 use srt_connection_members::MAX_MEMBERS;
+use srt_group::Group;
 use srt_group_model::Core;
-use srt_group_model::Identity;
 use srt_group_model::MemberShown;
-use srt_group_model::Sending;
 use srt_group_refusals::refusals::begin;
-use srt_group_tables::history::HistoryRing;
 use srt_protocol::error::Error;
 use srt_protocol::error::Outcome;
 
@@ -75,10 +74,7 @@ fn list_members(members: &[u64], count: usize, list: &mut [u64])
 
 // All members. A list shorter than 64 rows is 5.
 pub fn members(
-    identity: Identity,
-    core: Core,
-    sending: Sending,
-    ring: HistoryRing,
+    group: Group,
     members: &[u64],
     pending: &[u64],
     waiting: &[u64],
@@ -86,10 +82,16 @@ pub fn members(
     sources: &[u64],
     list: &mut [u64],
 ) -> MembersLook
-    ensures { λ r. ⌜ ListsMembers (parts identity core sending ring)
+    ensures { λ r. ⌜ ListsMembers (parts-of group)
         (tables (now (members .entry)) (now (pending .entry)) (now (waiting .entry)) (now (history .entry)) (now (sources .entry)))
         (now (list .entry)) r (now (list .exit)) ⌝ }
 {
+    let Group {
+        identity,
+        core,
+        sending,
+        ring,
+    } = group;
     if list.len() < LIST_LENGTH {
         return MembersLook::Refused(Error::InsufficientBuffer);
     }

@@ -1,7 +1,8 @@
 -- `has_receive_continuation` meets its contract: 5, 6, or the flag.
 use borrow.Author.Needs.{needs}
 use Rattle.srt_group_model.specs.Lent.{look-has-receive-continuation}
-use Rattle.srt_group_shown.specs.Tables.{parts, tables}
+use Rattle.srt_group_shown.specs.Tables.{tables}
+use Rattle.srt_group.specs.Made.{parts-of}
 use Rattle.srt_group_looks.specs.laws.Looks.{look-refused, continuation-shown}
 use Rattle.srt_group_looks.proofs.looks.has_receive_continuation.Statement.{statement}
 use Rattle.srt_group_looks.proofs.looks.has_receive_continuation.Tie as tie
@@ -15,7 +16,7 @@ enum-known-begun c = search needs
 returns : tie.Need-returns
 returns c =
     let a = c .before .before .before .before .before .before .before .before .before .args in
-    look-refused look-has-receive-continuation (parts (a .identity) (a .core) (a .sending) (a .ring)) (tables (a .members .now) (a .pending .now) (a .waiting .now) (a .history .now) (a .sources .now)) (c .before .before .before .begin .ensures) _ (c .before .begun .given .1)
+    look-refused look-has-receive-continuation (parts-of (a .group)) (tables (a .members .now) (a .pending .now) (a .waiting .now) (a .history .now) (a .sources .now)) (c .before .before .before .begin .ensures) _ (c .before .begun .given .1)
 
 enum-told : tie.Need-enum-told
 enum-told c = search needs
@@ -23,7 +24,7 @@ enum-told c = search needs
 returns-2 : tie.Need-returns-2
 returns-2 c =
     let a = c .before .before .before .before .before .before .before .before .before .args in
-    continuation-shown (parts (a .identity) (a .core) (a .sending) (a .ring)) (tables (a .members .now) (a .pending .now) (a .waiting .now) (a .history .now) (a .sources .now)) (c .before .before .before .begin .ensures) (c .before .enum-told .given .1)
+    continuation-shown (parts-of (a .group)) (tables (a .members .now) (a .pending .now) (a .waiting .now) (a .history .now) (a .sources .now)) (c .before .before .before .begin .ensures) (c .before .enum-told .given .1)
 
 pub has-receive-continuation-spec : {M : Type 1} → statement M
 has-receive-continuation-spec =

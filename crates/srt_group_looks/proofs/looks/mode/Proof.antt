@@ -1,7 +1,8 @@
 -- `mode` meets its contract: 5, 6, or the number.
 use borrow.Author.Needs.{needs}
 use Rattle.srt_group_model.specs.Lent.{look-mode}
-use Rattle.srt_group_shown.specs.Tables.{parts, tables}
+use Rattle.srt_group_shown.specs.Tables.{tables}
+use Rattle.srt_group.specs.Made.{parts-of}
 use Rattle.srt_group_looks.specs.laws.Looks.{look-refused, mode-shown}
 use Rattle.srt_group_looks.proofs.looks.mode.Statement.{statement}
 use Rattle.srt_group_looks.proofs.looks.mode.Tie as tie
@@ -15,7 +16,7 @@ enum-known-begun c = search needs
 returns : tie.Need-returns
 returns c =
     let a = c .before .before .before .before .before .before .before .before .before .args in
-    look-refused look-mode (parts (a .identity) (a .core) (a .sending) (a .ring)) (tables (a .members .now) (a .pending .now) (a .waiting .now) (a .history .now) (a .sources .now)) (c .before .before .before .begin .ensures) _ (c .before .begun .given .1)
+    look-refused look-mode (parts-of (a .group)) (tables (a .members .now) (a .pending .now) (a .waiting .now) (a .history .now) (a .sources .now)) (c .before .before .before .begin .ensures) _ (c .before .begun .given .1)
 
 enum-told : tie.Need-enum-told
 enum-told c = search needs
@@ -23,7 +24,7 @@ enum-told c = search needs
 returns-2 : tie.Need-returns-2
 returns-2 c =
     let a = c .before .before .before .before .before .before .before .before .args in
-    mode-shown (parts (a .identity) (a .core) (a .sending) (a .ring)) (tables (a .members .now) (a .pending .now) (a .waiting .now) (a .history .now) (a .sources .now)) (c .before .before .begin .ensures) (c .enum-told .given .1)
+    mode-shown (parts-of (a .group)) (tables (a .members .now) (a .pending .now) (a .waiting .now) (a .history .now) (a .sources .now)) (c .before .before .begin .ensures) (c .enum-told .given .1)
 
 pub mode-spec : {M : Type 1} → statement M
 mode-spec = tie.close (tie.spec begin-requires enum-known-begun returns enum-told returns-2)

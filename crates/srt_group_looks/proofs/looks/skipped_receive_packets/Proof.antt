@@ -1,7 +1,8 @@
 -- `skipped_receive_packets` meets its contract: 5, 6, or the number.
 use borrow.Author.Needs.{needs}
 use Rattle.srt_group_model.specs.Lent.{look-skipped-receive-packets}
-use Rattle.srt_group_shown.specs.Tables.{parts, tables}
+use Rattle.srt_group_shown.specs.Tables.{tables}
+use Rattle.srt_group.specs.Made.{parts-of}
 use Rattle.srt_group_looks.specs.laws.Looks.{look-refused, skipped-shown}
 use Rattle.srt_group_looks.proofs.looks.skipped_receive_packets.Statement.{statement}
 use Rattle.srt_group_looks.proofs.looks.skipped_receive_packets.Tie as tie
@@ -15,7 +16,7 @@ enum-known-begun c = search needs
 returns : tie.Need-returns
 returns c =
     let a = c .before .before .before .before .before .before .before .before .before .args in
-    look-refused look-skipped-receive-packets (parts (a .identity) (a .core) (a .sending) (a .ring)) (tables (a .members .now) (a .pending .now) (a .waiting .now) (a .history .now) (a .sources .now)) (c .before .before .before .begin .ensures) _ (c .before .begun .given .1)
+    look-refused look-skipped-receive-packets (parts-of (a .group)) (tables (a .members .now) (a .pending .now) (a .waiting .now) (a .history .now) (a .sources .now)) (c .before .before .before .begin .ensures) _ (c .before .begun .given .1)
 
 enum-told : tie.Need-enum-told
 enum-told c = search needs
@@ -23,7 +24,7 @@ enum-told c = search needs
 returns-2 : tie.Need-returns-2
 returns-2 c =
     let a = c .before .before .before .before .before .before .before .before .args in
-    skipped-shown (parts (a .identity) (a .core) (a .sending) (a .ring)) (tables (a .members .now) (a .pending .now) (a .waiting .now) (a .history .now) (a .sources .now)) (c .before .before .begin .ensures) (c .enum-told .given .1)
+    skipped-shown (parts-of (a .group)) (tables (a .members .now) (a .pending .now) (a .waiting .now) (a .history .now) (a .sources .now)) (c .before .before .begin .ensures) (c .enum-told .given .1)
 
 pub skipped-receive-packets-spec : {M : Type 1} → statement M
 skipped-receive-packets-spec =

@@ -1,7 +1,8 @@
 -- `refresh_member_states` meets its contract: 5, 6, and then what follows them.
 use borrow.Author.Needs.{needs}
 use Rattle.srt_group_model.specs.Lent.{call-refresh-member-states}
-use Rattle.srt_group_shown.specs.Tables.{parts, tables}
+use Rattle.srt_group_shown.specs.Tables.{tables}
+use Rattle.srt_group.specs.Made.{parts-of}
 use Rattle.srt_group_shown.specs.laws.Steps.{rows-unbroken, nothing-delivered}
 use Rattle.srt_group_refusals.specs.Promised.{nothing-lent}
 use Rattle.srt_group_refusals.specs.laws.Begins.{begun-unbroken}
@@ -22,7 +23,7 @@ same-length c = search needs
 returns : tie.Need-returns
 returns c =
     let a = c .before .before .before .before .before .before .before .before .before .before .args in
-    refresh-refused (parts (a .identity) (a .core) (a .sending) (a .ring)) (tables (a .members .now) (a .pending .now) (a .waiting .now) (a .history .now) (a .sources .now)) (c .before .before .before .begin .ensures) _ (c .before .begun .given .1)
+    refresh-refused (parts-of (a .group)) (tables (a .members .now) (a .pending .now) (a .waiting .now) (a .history .now) (a .sources .now)) (c .before .before .before .begin .ensures) _ (c .before .begun .given .1)
 
 enum-told : tie.Need-enum-told
 enum-told c = search needs
@@ -30,7 +31,7 @@ enum-told c = search needs
 refresh-states-requires : tie.Need-refresh-states-requires
 refresh-states-requires c κs =
     let a = c .before .before .before .before .before .before .before .before .before .before .args in
-    rows-unbroken (begun-unbroken (parts (a .identity) (a .core) (a .sending) (a .ring)) (tables (a .members .now) (a .pending .now) (a .waiting .now) (a .history .now) (a .sources .now)) (c .before .before .before .begin .ensures) (c .before .enum-told .given .1))
+    rows-unbroken (begun-unbroken (parts-of (a .group)) (tables (a .members .now) (a .pending .now) (a .waiting .now) (a .history .now) (a .sources .now)) (c .before .before .before .begin .ensures) (c .before .enum-told .given .1))
 
 same-length-2 : tie.Need-same-length-2
 same-length-2 c = search needs
@@ -38,7 +39,7 @@ same-length-2 c = search needs
 returns-2 : tie.Need-returns-2
 returns-2 c =
     let a = c .before .before .before .before .before .before .before .before .before .before .before .before .before .args in
-    let p = (parts (a .identity) (a .core) (a .sending) (a .ring)) in
+    let p = (parts-of (a .group)) in
     let t = (tables (a .members .now) (a .pending .now) (a .waiting .now) (a .history .now) (a .sources .now)) in
     promised-steps call-refresh-member-states p t nothing-lent (c .before .before .before .before .before .before .begin .ensures) (c .before .before .before .before .enum-told .given .1) nothing-delivered
     (refreshed p t (begun-unbroken p t (c .before .before .before .before .before .before .begin .ensures) (c .before .before .before .before .enum-told .given .1)) _ _ (c .before .before .refresh-states .ensures) .steps)
