@@ -39,6 +39,7 @@ module _ (id weight : ℕ) (row : List ℕ) (p : Parts) (t : Tables) where
   refused-with code = PromisedAddition id weight row p t (showing p t nothing-lent code no-answer 0)
 
   pub row-refused : length row < row-size → refused-with 5
+  unfolding showing
   row-refused short =
       record {
         holds =
