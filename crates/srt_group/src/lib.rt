@@ -17,7 +17,8 @@ use srt_group_tables::history::HistoryRing;
 use srt_protocol::received_payload;
 
 pub mod polls; // polls.rt: the polls, with what they answer
-pub mod looks; // looks.rt: the calls that only look
+pub mod members; // members.rt: the calls that change the members
+mod looks; // looks.rt: the calls that only look
 mod stand_in; // stand_in.rt: the calls of the stand-in leg
 
 // By who moves what: fixed at creation; what a poll carries through by value; what sending moves; the places of the history in use.
