@@ -13,7 +13,7 @@ use Rattle.srt_protocol.specs.Errors.{error-number}
 use Rattle.srt_protocol.specs.Cells.{cells-of, overwritten}
 use Rattle.srt_group_model.specs.State.{State}
 use Rattle.srt_group_model.specs.Validity.{is-invalid}
-use Rattle.srt_group_model.specs.Guards.{Answer, no-answer, Shown as Looked, shown, Step, refuse, accept, Check, _when_, guard}
+use Rattle.srt_group_model.specs.Guards.{Answer, no-answer, Step, refuse, Check, _when_, guard}
 use Rattle.srt_group_model.specs.Calls.{store-unfit, breaks-rule}
 use Rattle.srt_group_model.specs.Lent.{Lent, Call, takes, stored, delivered-by, written-out, list-rows, with-bytes, step-of, perform}
 use Rattle.srt_group_model.specs.laws.Refusals.{guard-stops, guard-goes-on}
