@@ -14,7 +14,7 @@ enum-known-begun c = search needs
 
 returns : tie.Need-returns
 returns c =
-    let a = c .before .before .before .before .before .before .before .before .before .args in
+    let a = c .before .before .before .before .before .before .before .before .before .before .before .before .before .args in
     look-refused look-has-pending-data (parts-of (a .group)) (tables (a .members .now) (a .pending .now) (a .waiting .now) (a .history .now) (a .sources .now)) (c .before .before .before .begin .ensures) _ (c .before .begun .given .1)
 
 enum-told : tie.Need-enum-told
@@ -25,7 +25,7 @@ has-pending-data-requires c κs = search needs
 
 returns-2 : tie.Need-returns-2
 returns-2 c =
-    let a = c .before .before .before .before .before .before .before .before .before .args in
+    let a = c .before .before .before .before .before .before .before .before .before .before .before .before .before .args in
     let p = (parts-of (a .group)) in
     let t = (tables (a .members .now) (a .pending .now) (a .waiting .now) (a .history .now) (a .sources .now)) in
     pending-data-shown p t (c .before .before .before .begin .ensures) (c .before .enum-told .given .1) _
