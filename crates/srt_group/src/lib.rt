@@ -1,5 +1,6 @@
-// `SrtGroup` of srt_group/mod.rs: the group's record, by value, with `new` and its limits, and its public calls. All that is large is
-// lent: the members with their legs and queues, the held packets, the waiting events, the history's two arrays, the store.
+// `SrtGroup` of srt_group/mod.rs: the group's record, by value, with `new` and its limits. All that is large is lent: the members with
+// their legs and queues, the held packets, the waiting events, the history's two arrays, the store. The public calls over it stand in the
+// crates of their subjects, each in a module `calls`, in which nothing has a `requires`.
 ghost use mathlib.Core.Path.{_≡_};
 ghost use lib.ListN.{length};
 ghost use Rattle.srt_group_model.specs.Backup.{max-history};
@@ -15,10 +16,6 @@ use srt_group_model::Visit;
 use srt_group_tables::history;
 use srt_group_tables::history::HistoryRing;
 use srt_protocol::received_payload;
-
-pub mod polls; // polls.rt: the polls, with what they answer
-pub mod looks; // looks.rt: the calls that only look
-mod stand_in; // stand_in.rt: the calls of the stand-in leg
 
 // By who moves what: fixed at creation; what a poll carries through by value; what sending moves; the places of the history in use.
 // Every field is a 64-bit word, so that whatever a host lends can be read, and refused (6) where it is beyond its range.

@@ -35,7 +35,7 @@ abbrev pub asking : Call → Lent → Asked
 asking call bytes = record { call = call; lent = bytes }
 
 -- what is shown of it: the state of the record and the tables, the bytes lent, the code, the answer, the rows of the list that it filled
-abbrev pub showing : Parts → Tables → Lent → (code : ℕ) → Answer → (rows : ℕ) → Shown
+unfoldable pub showing : Parts → Tables → Lent → (code : ℕ) → Answer → (rows : ℕ) → Shown
 showing p t bytes code answer rows =
     record { state = state-of p t; lent = bytes; code = code; answer = answer; rows = rows }
 

@@ -41,7 +41,7 @@ module _ (call : Call) (p : Parts) (t : Tables) (bytes : Lent) where
   refused-with code = showing p t bytes code no-answer 0
 
   pub does-refused : (code : ℕ) → step ≡ refuse code s → Does (asking call bytes) s (refused-with code)
-  unfolding do-call perform with-bytes stored delivered-by written-out list-rows overwritten
+  unfolding showing do-call perform with-bytes stored delivered-by written-out list-rows overwritten
   does-refused code is =
       record {
         code = sym (ap (λ (x : Step). x .code) is);
@@ -52,6 +52,7 @@ module _ (call : Call) (p : Parts) (t : Tables) (bytes : Lent) where
       }
 
   pub promised-short : (x : Shown) → are-short t ≡ true → x ≡ refused-with 5 → Promised call p t bytes x
+  unfolding showing
   promised-short x short is = record { holds = subst (λ (b : Bool). Promise b (asking call bytes) s x) (sym short) is }
 
   pub promised-does : (x : Shown) → are-short t ≡ false → Does (asking call bytes) s x → Promised call p t bytes x
@@ -76,7 +77,7 @@ module _ (call : Call) (p : Parts) (t : Tables) (bytes : Lent) where
     -- a look that shows something
     pub promised-look : (v : Looked) → r ≡ Accepted → step ≡ guard ((6 when breaks-rule s) ∷ []) s (accept s (shown v))
         → Promised call p t bytes (showing p t bytes 0 (shown v) 0)
-    unfolding do-call perform with-bytes stored delivered-by written-out list-rows overwritten guard
+    unfolding showing do-call perform with-bytes stored delivered-by written-out list-rows overwritten guard
     promised-look v accepted is =
         let step-is = is ∙ guard-goes-on (6 when breaks-rule s) [] s (accept s (shown v)) (begun-valid p t begins accepted) in
         promised-does (showing p t bytes 0 (shown v) 0) (begun-long p t begins accepted)
@@ -91,7 +92,7 @@ module _ (call : Call) (p : Parts) (t : Tables) (bytes : Lent) where
     -- what follows 5 and 6 is the definition's step
     pub promised-steps : r ≡ Accepted → {number : ℕ} {given : Answer} {p′ : Parts} {t′ : Tables} → delivered-by given ≡ none
         → Steps call p t number given p′ t′ → Promised call p t bytes (showing p′ t′ bytes number given 0)
-    unfolding do-call perform with-bytes
+    unfolding showing do-call perform with-bytes
     promised-steps accepted {number} {given} {p′} {t′} no-packet steps =
         let left = steps .step (length (bytes .store)) (length (bytes .output)) (length (bytes .list)) in
         promised-does (showing p′ t′ bytes number given 0) (begun-long p t begins accepted)
@@ -124,6 +125,7 @@ module _ (call : Call) (p : Parts) (t : Tables) (bytes : Lent) where
     pub promised-performed : takes call .list ≡ false → r ≡ Accepted
         → {number : ℕ} {given : Answer} {p′ : Parts} {t′ : Tables} {bytes′ : Lent} {used′ : List ℕ}
         → Performs call p t bytes number given p′ t′ bytes′ used′ → Promised call p t bytes (showing p′ t′ bytes′ number given 0)
+    unfolding showing
     promised-performed no-list accepted {number} {given} {p′} {t′} {bytes′} done =
         promised-does (showing p′ t′ bytes′ number given 0) (not-short begins accepted)
         (performs-does call bytes s (showing p′ t′ bytes′ number given 0) (done .code) (done .answer) (done .state) (done .lent)
@@ -144,6 +146,7 @@ promised-answers {call} {p} {t} {bytes} {x} promised same =
 
 module _ (call : Call) (p : Parts) (t : Tables) (row : List ℕ) where
   pub row-refused : length row < row-size → PromisedRow call p t row (showing p t nothing-lent 5 no-answer 0)
+  unfolding showing
   row-refused short =
       record {
         holds =

@@ -1,6 +1,7 @@
 -- `poll_data_bounded` meets its contract: 5 and 6, and then the form for a valid state.
 use borrow.Author.Needs.{needs}
-use Rattle.srt_group_shown.specs.Tables.{parts, tables}
+use Rattle.srt_group_shown.specs.Tables.{tables}
+use Rattle.srt_group.specs.Made.{parts-of}
 use Rattle.srt_group_refusals.specs.laws.Polled.{data-poll-refused, data-poll-performed}
 use Rattle.srt_group_data_poll.proofs.calls.poll_data_bounded.Statement.{statement}
 use Rattle.srt_group_data_poll.proofs.calls.poll_data_bounded.Tie as tie
@@ -25,8 +26,8 @@ same-length-3 c = search needs
 
 returns : tie.Need-returns
 returns c =
-    let a = c .before .before .before .before .before .before .before .before .before .before .before .before .before .before .before .before .args in
-    data-poll-refused (a .time .0) (a .max-events) (parts (a .identity) (a .core) (a .sending) (a .ring))
+    let a = c .before .before .before .before .before .before .before .before .before .before .before .before .before .before .before .before .before .before .before .before .args in
+    data-poll-refused (a .time .0) (a .max-events) (parts-of (a .group))
     (tables (a .members .now) (a .pending .now) (a .waiting .now) (a .history .now) (a .sources .now)) (a .store .now) (a .output .now)
     (c .before .before .before .before .begin-poll .ensures) _ (c .before .begun .given .1)
 
@@ -55,10 +56,10 @@ same-length-7 c = search needs
 
 returns-2 : tie.Need-returns-2
 returns-2 c =
-    let a = c .before .before .before .before .before .before .before .before .before .before .before .before .before .before .before .before .before .before .before .before .before .before .before .before .before .before .before .before .before .before .args in
-    data-poll-performed (a .time .0) (a .max-events) (parts (a .identity) (a .core) (a .sending) (a .ring))
+    let a = c .before .before .before .before .before .before .before .before .before .before .before .before .before .before .before .before .before .before .before .before .before .before .before .before .before .before .before .before .before .before .before .before .before .before .before .args in
+    data-poll-performed (a .time .0) (a .max-events) (parts-of (a .group))
     (tables (a .members .now) (a .pending .now) (a .waiting .now) (a .history .now) (a .sources .now)) (a .store .now) (a .output .now)
-    (c .before .before .before .before .before .before .before .before .before .before .before .before .before .before .before .before .before .before .begin-poll .ensures) (c .before .before .before .before .before .before .before .before .before .before .before .before .before .before .before .enum-told .given .1) (c .before .before .before .before .before .before .before .before .before .poll-data-bounded .ensures)
+    (c .before .before .before .before .before .before .before .before .before .before .before .before .before .before .before .before .before .before .before .begin-poll .ensures) (c .before .before .before .before .before .before .before .before .before .before .before .before .before .before .before .before .enum-told .given .1) (c .before .before .before .before .before .before .before .before .before .before .poll-data-bounded .ensures)
 
 pub poll-data-bounded-spec : {M : Type 1} → statement M
 poll-data-bounded-spec =

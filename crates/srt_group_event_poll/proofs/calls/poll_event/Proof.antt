@@ -1,6 +1,7 @@
 -- `poll_event` meets its contract: 5 and 6, and then the form for a valid state.
 use borrow.Author.Needs.{needs}
-use Rattle.srt_group_shown.specs.Tables.{parts, tables}
+use Rattle.srt_group_shown.specs.Tables.{tables}
+use Rattle.srt_group.specs.Made.{parts-of}
 use Rattle.srt_group_refusals.specs.laws.Polled.{event-poll-refused, event-poll-performed}
 use Rattle.srt_group_event_poll.proofs.calls.poll_event.Statement.{statement}
 use Rattle.srt_group_event_poll.proofs.calls.poll_event.Tie as tie
@@ -25,8 +26,8 @@ same-length-3 c = search needs
 
 returns : tie.Need-returns
 returns c =
-    let a = c .before .before .before .before .before .before .before .before .before .before .before .before .before .before .before .before .args in
-    event-poll-refused (a .time .0) (parts (a .identity) (a .core) (a .sending) (a .ring))
+    let a = c .before .before .before .before .before .before .before .before .before .before .before .before .before .before .before .before .before .before .before .before .args in
+    event-poll-refused (a .time .0) (parts-of (a .group))
     (tables (a .members .now) (a .pending .now) (a .waiting .now) (a .history .now) (a .sources .now)) (a .store .now) (a .output .now)
     (c .before .before .before .before .begin-poll .ensures) _ (c .before .begun .given .1)
 
@@ -55,10 +56,10 @@ same-length-7 c = search needs
 
 returns-2 : tie.Need-returns-2
 returns-2 c =
-    let a = c .before .before .before .before .before .before .before .before .before .before .before .before .before .before .before .before .before .before .before .before .before .before .before .before .before .before .before .before .before .before .args in
-    event-poll-performed (a .time .0) (parts (a .identity) (a .core) (a .sending) (a .ring))
+    let a = c .before .before .before .before .before .before .before .before .before .before .before .before .before .before .before .before .before .before .before .before .before .before .before .before .before .before .before .before .before .before .before .before .before .before .before .args in
+    event-poll-performed (a .time .0) (parts-of (a .group))
     (tables (a .members .now) (a .pending .now) (a .waiting .now) (a .history .now) (a .sources .now)) (a .store .now) (a .output .now)
-    (c .before .before .before .before .before .before .before .before .before .before .before .before .before .before .before .before .before .before .begin-poll .ensures) (c .before .before .before .before .before .before .before .before .before .before .before .before .before .before .before .enum-told .given .1) (c .before .before .before .before .before .before .before .before .before .poll-event .ensures)
+    (c .before .before .before .before .before .before .before .before .before .before .before .before .before .before .before .before .before .before .before .begin-poll .ensures) (c .before .before .before .before .before .before .before .before .before .before .before .before .before .before .before .before .enum-told .given .1) (c .before .before .before .before .before .before .before .before .before .before .poll-event .ensures)
 
 pub poll-event-spec : {M : Type 1} → statement M
 poll-event-spec =

@@ -1,6 +1,7 @@
 -- `queue_data` meets its contract: 5, 6, and then the form for a valid state.
 use borrow.Author.Needs.{needs}
-use Rattle.srt_group_shown.specs.Tables.{parts, tables}
+use Rattle.srt_group_shown.specs.Tables.{tables}
+use Rattle.srt_group.specs.Made.{parts-of}
 use Rattle.srt_group_queueing.specs.laws.Calls.{data-refused-first, data-queued}
 use Rattle.srt_group_queueing.proofs.calls.queue_data.Statement.{statement}
 use Rattle.srt_group_queueing.proofs.calls.queue_data.Tie as tie
@@ -19,8 +20,8 @@ same-length c = search needs
 
 returns : tie.Need-returns
 returns c =
-    let a = c .before .before .before .before .before .before .before .before .before .before .before .before .before .before .args in
-    data-refused-first (a .id) (a .content) (a .payload .now) (parts (a .identity) (a .core) (a .sending) (a .ring))
+    let a = c .before .before .before .before .before .before .before .before .before .before .before .before .before .before .before .before .before .before .args in
+    data-refused-first (a .id) (a .content) (a .payload .now) (parts-of (a .group))
     (tables (a .members .now) (a .pending .now) (a .waiting .now) (a .history .now) (a .sources .now)) (a .store .now)
     (c .before .before .before .before .begin-stored .ensures) _ (c .before .begun .given .1)
 
@@ -41,8 +42,8 @@ same-length-3 c = search needs
 
 returns-2 : tie.Need-returns-2
 returns-2 c =
-    let a = c .before .before .before .before .before .before .before .before .before .before .before .before .before .before .before .before .before .before .before .before .before .before .args in
-    data-queued (a .id) (a .content) (a .payload .now) (parts (a .identity) (a .core) (a .sending) (a .ring))
+    let a = c .before .before .before .before .before .before .before .before .before .before .before .before .before .before .before .before .before .before .before .before .before .before .before .before .before .before .args in
+    data-queued (a .id) (a .content) (a .payload .now) (parts-of (a .group))
     (tables (a .members .now) (a .pending .now) (a .waiting .now) (a .history .now) (a .sources .now)) (a .store .now)
     (c .before .before .before .before .before .before .before .before .before .before .before .before .begin-stored .ensures) (c .before .before .before .before .before .before .before .before .before .enum-told .given .1) (c .before .before .before .before .before .queue-data .ensures)
 

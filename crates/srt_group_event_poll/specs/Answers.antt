@@ -3,8 +3,8 @@ use Prim.Native.Nat.{ℕ}
 use Rattle.srt_protocol.specs.Errors.{error-number}
 use Rattle.srt_group_model.specs.Guards.{Answer, no-answer, polled}
 use Rattle.srt_group_delivery.specs.Poll.{polled-of}
-use Rattle.srt_group.specs.declared.polls.EventAnswer.{EventAnswer}
-use Rattle.srt_group.specs.declared.polls.EventAnswer.the-variants.{Refused, Polled}
+use Rattle.srt_group_event_poll.specs.declared.calls.EventAnswer.{EventAnswer}
+use Rattle.srt_group_event_poll.specs.declared.calls.EventAnswer.the-variants.{Refused, Polled}
 
 abbrev pub event-number : EventAnswer → ℕ
 event-number (Refused e) = error-number e

@@ -4,8 +4,8 @@ use Rattle.srt_protocol.specs.Errors.{error-number}
 use Rattle.srt_group_model.specs.Tools.{is-set}
 use Rattle.srt_group_model.specs.Guards.{Answer, no-answer, data-polled}
 use Rattle.srt_group_polls.specs.DataPoll.{option-of}
-use Rattle.srt_group.specs.declared.polls.DataAnswer.{DataAnswer}
-use Rattle.srt_group.specs.declared.polls.DataAnswer.the-variants.{Refused, Polled}
+use Rattle.srt_group_data_poll.specs.declared.calls.DataAnswer.{DataAnswer}
+use Rattle.srt_group_data_poll.specs.declared.calls.DataAnswer.the-variants.{Refused, Polled}
 
 abbrev pub data-number : DataAnswer → ℕ
 data-number (Refused e) = error-number e
