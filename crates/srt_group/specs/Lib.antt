@@ -1,6 +1,4 @@
 pub mod Made
-pub mod Begins
-pub mod Promised
 pub mod Looks
 pub mod DataPolled
 pub mod EventPolled

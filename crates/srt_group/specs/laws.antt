@@ -1,5 +1,2 @@
 -- What is proved. A reader who trusts the checker need not read it.
-pub mod Begins
-pub mod Promised
-pub mod Looks
-pub mod Polled
+pub mod Answers

@@ -17,7 +17,6 @@ use srt_group_tables::history::HistoryRing;
 use srt_protocol::received_payload;
 
 pub mod polls; // polls.rt: the polls, with what they answer
-mod refusals; // refusals.rt: 5 and 6, which the calls share
 pub mod looks; // looks.rt: the calls that only look
 mod stand_in; // stand_in.rt: the calls of the stand-in leg
 

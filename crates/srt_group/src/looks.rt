@@ -2,10 +2,10 @@
 ghost use Rattle.srt_group_model.specs.Lent.{call-look, look-group-id, look-mode, look-skipped-receive-packets};
 ghost use Rattle.srt_group_shown.specs.Tables.{tables};
 ghost use Rattle.srt_group.specs.Made.{parts-of};
-ghost use Rattle.srt_group.specs.Promised.{nothing-lent, showing, Promised};
+ghost use Rattle.srt_group_refusals.specs.Promised.{nothing-lent, showing, Promised};
 ghost use Rattle.srt_group.specs.Looks.{number-code, number-answer};
 use crate::Group;
-use crate::refusals::begin;
+use srt_group_refusals::refusals::begin;
 use srt_protocol::error::Error;
 use srt_protocol::error::Outcome;
 
@@ -32,11 +32,27 @@ impl Group {
             (tables (now (members .entry)) (now (pending .entry)) (now (waiting .entry)) (now (history .entry)) (now (sources .entry)))
             nothing-lent (number-code r) (number-answer r) 0) ⌝ }
     {
-        let begun = begin(self, members, pending, waiting, history, sources);
+        let Group {
+            identity,
+            core,
+            sending,
+            ring,
+        } = self;
+        let begun = begin(
+            identity,
+            core,
+            sending,
+            ring,
+            members,
+            pending,
+            waiting,
+            history,
+            sources,
+        );
         if let Outcome::Refused(error) = begun {
             return NumberLook::Refused(error);
         }
-        NumberLook::Number(self.identity.id)
+        NumberLook::Number(identity.id)
     }
 
     // 0 for Broadcast, 1 for Backup.
@@ -55,11 +71,27 @@ impl Group {
             (tables (now (members .entry)) (now (pending .entry)) (now (waiting .entry)) (now (history .entry)) (now (sources .entry)))
             nothing-lent (number-code r) (number-answer r) 0) ⌝ }
     {
-        let begun = begin(self, members, pending, waiting, history, sources);
+        let Group {
+            identity,
+            core,
+            sending,
+            ring,
+        } = self;
+        let begun = begin(
+            identity,
+            core,
+            sending,
+            ring,
+            members,
+            pending,
+            waiting,
+            history,
+            sources,
+        );
         if let Outcome::Refused(error) = begun {
             return NumberLook::Refused(error);
         }
-        NumberLook::Number(self.core.mode)
+        NumberLook::Number(core.mode)
     }
 
     // How many packets were skipped for good.
@@ -78,10 +110,26 @@ impl Group {
             (tables (now (members .entry)) (now (pending .entry)) (now (waiting .entry)) (now (history .entry)) (now (sources .entry)))
             nothing-lent (number-code r) (number-answer r) 0) ⌝ }
     {
-        let begun = begin(self, members, pending, waiting, history, sources);
+        let Group {
+            identity,
+            core,
+            sending,
+            ring,
+        } = self;
+        let begun = begin(
+            identity,
+            core,
+            sending,
+            ring,
+            members,
+            pending,
+            waiting,
+            history,
+            sources,
+        );
         if let Outcome::Refused(error) = begun {
             return NumberLook::Refused(error);
         }
-        NumberLook::Number(self.core.receiving.skipped)
+        NumberLook::Number(core.receiving.skipped)
     }
 }

@@ -1,21 +1,24 @@
 // The polls, over the record and the lent tables.
+ghost use Rattle.srt_protocol.specs.Errors.{outcome-number};
 ghost use Rattle.srt_group_model.specs.Lent.{call-poll-data-bounded, call-poll-data, call-poll-event};
 ghost use Rattle.srt_group_shown.specs.Tables.{tables};
 ghost use Rattle.srt_group_shown.specs.Ready.{lending};
+ghost use Rattle.srt_group_refusals.specs.Promised.{answered, showing, Promised, Answers};
+ghost use Rattle.srt_group_data_poll.specs.Polling.{answer-of as data-given};
+ghost use Rattle.srt_group_event_poll.specs.Polling.{answer-of as event-given};
 ghost use Rattle.srt_group.specs.Made.{parts-of};
-ghost use Rattle.srt_group.specs.Promised.{showing, Promised};
 ghost use Rattle.srt_group.specs.DataPolled.{data-number, data-answer};
 ghost use Rattle.srt_group.specs.EventPolled.{event-number, event-answer};
 use crate::Group;
-use crate::refusals::begin_stored;
 use srt_group_collecting::collecting::MAX_VISITS;
-use srt_group_data_poll::polls::poll_data_bounded;
+use srt_group_data_poll::calls;
+use srt_group_delivery::delivery::Poll;
 use srt_group_delivery::delivery::Polled;
-use srt_group_event_poll::polls::poll_event;
+use srt_group_event_poll::calls as event_calls;
+use srt_group_polls::polls::DataPoll;
 use srt_group_polls::polls::OptionalPacket;
 use srt_protocol::error::Error;
 use srt_protocol::error::Outcome;
-use srt_protocol::received_payload::OUTPUT;
 use srt_protocol::time::Timestamp;
 
 // A packet or none, and whether the poll should be called again at once.
@@ -48,6 +51,35 @@ pub struct EventPolled {
     pub answer: EventAnswer,
 }
 
+// What a data poll answers, from its outcome and what it gave.
+fn data_answer(outcome: Outcome, poll: DataPoll) -> DataAnswer
+    ensures { λ r. ⌜ Answers (outcome-number outcome) (answered outcome (data-given poll)) (data-number r) (data-answer r) ⌝ }
+{
+    match outcome {
+        Outcome::Refused(error) => DataAnswer::Refused(error),
+        Outcome::Accepted => {
+            let packet = poll.gave;
+            DataAnswer::Polled(GroupDataPoll {
+                packet,
+                continuation: poll.continuation,
+            })
+        }
+    }
+}
+
+// The same of an event poll.
+fn event_answer(outcome: Outcome, poll: Poll) -> EventAnswer
+    ensures { λ r. ⌜ Answers (outcome-number outcome) (answered outcome (event-given poll)) (event-number r) (event-answer r) ⌝ }
+{
+    match outcome {
+        Outcome::Refused(error) => EventAnswer::Refused(error),
+        Outcome::Accepted => {
+            let gave = poll.gave;
+            EventAnswer::Polled(gave)
+        }
+    }
+}
+
 impl Group {
     // The next packet in order, after at most so many events, which are dropped. Its payload is written from byte 12 of the output on.
     pub fn poll_data_bounded(
@@ -69,36 +101,13 @@ impl Group {
             (tables (now (members .exit)) (now (pending .exit)) (now (waiting .exit)) (now (history .entry)) (now (sources .entry)))
             (lending (now (store .entry)) (now (output .exit))) (data-number (r .answer)) (data-answer (r .answer)) 0) ⌝ }
     {
-        if output.len() < OUTPUT {
-            return DataPolled {
-                group: self,
-                answer: DataAnswer::Refused(Error::InsufficientBuffer),
-            };
-        }
-        let mut used = [0u64; 32];
-        let begun = begin_stored(
-            self,
-            members,
-            pending,
-            waiting,
-            history,
-            sources,
-            store.len(),
-            &mut used,
-        );
-        if let Outcome::Refused(error) = begun {
-            return DataPolled {
-                group: self,
-                answer: DataAnswer::Refused(error),
-            };
-        }
         let Group {
             identity,
             core,
             sending,
             ring,
         } = self;
-        let polled = poll_data_bounded(
+        let called = calls::poll_data_bounded(
             identity,
             core,
             sending,
@@ -110,12 +119,12 @@ impl Group {
             sources,
             store,
             output,
-            &mut used,
             time,
             max_events,
         );
-        let after = polled.core;
-        let packet = polled.gave;
+        let outcome = called.outcome;
+        let poll = called.poll;
+        let after = poll.core;
         DataPolled {
             group: Group {
                 identity,
@@ -123,12 +132,10 @@ impl Group {
                 sending,
                 ring,
             },
-            answer: DataAnswer::Polled(GroupDataPoll {
-                packet,
-                continuation: polled.continuation,
-            }),
+            answer: data_answer(outcome, poll),
         }
     }
+
     // `poll_data_bounded` with as many events as it may pass, 64.
     pub fn poll_data(
         self,
@@ -180,36 +187,13 @@ impl Group {
             (tables (now (members .exit)) (now (pending .exit)) (now (waiting .exit)) (now (history .entry)) (now (sources .entry)))
             (lending (now (store .entry)) (now (output .exit))) (event-number (r .answer)) (event-answer (r .answer)) 0) ⌝ }
     {
-        if output.len() < OUTPUT {
-            return EventPolled {
-                group: self,
-                answer: EventAnswer::Refused(Error::InsufficientBuffer),
-            };
-        }
-        let mut used = [0u64; 32];
-        let begun = begin_stored(
-            self,
-            members,
-            pending,
-            waiting,
-            history,
-            sources,
-            store.len(),
-            &mut used,
-        );
-        if let Outcome::Refused(error) = begun {
-            return EventPolled {
-                group: self,
-                answer: EventAnswer::Refused(error),
-            };
-        }
         let Group {
             identity,
             core,
             sending,
             ring,
         } = self;
-        let given = poll_event(
+        let called = event_calls::poll_event(
             identity,
             core,
             sending,
@@ -221,11 +205,11 @@ impl Group {
             sources,
             store,
             output,
-            &mut used,
             time,
         );
-        let after = given.core;
-        let gave = given.gave;
+        let outcome = called.outcome;
+        let poll = called.poll;
+        let after = poll.core;
         EventPolled {
             group: Group {
                 identity,
@@ -233,7 +217,7 @@ impl Group {
                 sending,
                 ring,
             },
-            answer: EventAnswer::Polled(gave),
+            answer: event_answer(outcome, poll),
         }
     }
 }

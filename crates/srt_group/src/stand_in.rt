@@ -4,15 +4,11 @@ ghost use Rattle.srt_group_model.specs.Guards.{no-answer};
 ghost use Rattle.srt_group_model.specs.Lent.{call-queue-data, call-queue-event, call-read-leg};
 ghost use Rattle.srt_group_shown.specs.Tables.{tables};
 ghost use Rattle.srt_group_shown.specs.Ready.{storing};
+ghost use Rattle.srt_group_refusals.specs.Promised.{nothing-lent, showing, Promised};
 ghost use Rattle.srt_group.specs.Made.{parts-of};
-ghost use Rattle.srt_group.specs.Promised.{nothing-lent, showing, Promised};
 use crate::Group;
-use crate::refusals::begin;
-use crate::refusals::begin_stored;
 use srt_group_model::Data;
-use srt_group_queueing::events;
-use srt_group_queueing::queueing;
-use srt_group_queueing::readings;
+use srt_group_queueing::calls;
 use srt_protocol::error::Outcome;
 
 impl Group {
@@ -36,27 +32,13 @@ impl Group {
             (tables (now (members .exit)) (now (pending .entry)) (now (waiting .entry)) (now (history .entry)) (now (sources .entry)))
             (storing (now (store .exit))) (outcome-number r) no-answer 0) ⌝ }
     {
-        let mut used = [0u64; 32];
-        let begun = begin_stored(
-            self,
-            members,
-            pending,
-            waiting,
-            history,
-            sources,
-            store.len(),
-            &mut used,
-        );
-        if let Outcome::Refused(error) = begun {
-            return Outcome::Refused(error);
-        }
         let Group {
             identity,
             core,
             sending,
             ring,
         } = self;
-        queueing::queue_data(
+        calls::queue_data(
             identity,
             core,
             sending,
@@ -67,7 +49,6 @@ impl Group {
             history,
             sources,
             store,
-            &mut used,
             id,
             content,
             payload,
@@ -93,11 +74,26 @@ impl Group {
             (tables (now (members .exit)) (now (pending .entry)) (now (waiting .entry)) (now (history .entry)) (now (sources .entry)))
             nothing-lent (outcome-number r) no-answer 0) ⌝ }
     {
-        let begun = begin(self, members, pending, waiting, history, sources);
-        if let Outcome::Refused(error) = begun {
-            return Outcome::Refused(error);
-        }
-        events::push_event(self.core, members, id, kind, reason)
+        let Group {
+            identity,
+            core,
+            sending,
+            ring,
+        } = self;
+        calls::queue_event(
+            identity,
+            core,
+            sending,
+            ring,
+            members,
+            pending,
+            waiting,
+            history,
+            sources,
+            id,
+            kind,
+            reason,
+        )
     }
 
     // A number into a field of a leg. The record stays as it was.
@@ -119,10 +115,25 @@ impl Group {
             (tables (now (members .exit)) (now (pending .entry)) (now (waiting .entry)) (now (history .entry)) (now (sources .entry)))
             nothing-lent (outcome-number r) no-answer 0) ⌝ }
     {
-        let begun = begin(self, members, pending, waiting, history, sources);
-        if let Outcome::Refused(error) = begun {
-            return Outcome::Refused(error);
-        }
-        readings::put_reading(self.core, members, id, field, number)
+        let Group {
+            identity,
+            core,
+            sending,
+            ring,
+        } = self;
+        calls::read_leg(
+            identity,
+            core,
+            sending,
+            ring,
+            members,
+            pending,
+            waiting,
+            history,
+            sources,
+            id,
+            field,
+            number,
+        )
     }
 }

@@ -1,4 +1,3 @@
 pub mod Queueing
-pub mod Steps
 -- What is proved.
 pub mod laws

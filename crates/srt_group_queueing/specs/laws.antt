@@ -3,3 +3,4 @@ pub mod OneMember
 pub mod Queueing
 pub mod Events
 pub mod Readings
+pub mod Calls

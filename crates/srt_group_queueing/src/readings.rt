@@ -12,7 +12,7 @@ ghost use Rattle.srt_group_model.specs.Lent.{call-read-leg};
 ghost use Rattle.srt_connection_queue.specs.Rows.{row-size};
 ghost use Rattle.srt_group_shown.specs.Tables.{parts, tables};
 ghost use Rattle.srt_group_shown.specs.Ready.{Ready, storing, Performs};
-ghost use Rattle.srt_group_queueing.specs.Steps.{StepsOver};
+ghost use Rattle.srt_group_shown.specs.Steps.{StepsOver};
 use srt_connection::legs::LARGEST_32;
 use srt_connection::readings::goes_back;
 use srt_connection::readings::read_field;

@@ -1,5 +1,6 @@
 pub mod Shown
 pub mod Tables
 pub mod Ready
+pub mod Steps
 -- What is proved.
 pub mod laws

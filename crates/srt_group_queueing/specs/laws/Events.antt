@@ -26,7 +26,7 @@ use Rattle.srt_connection_members.specs.Members.{member-at, found-of, PushedAt}
 use Rattle.srt_connection_members.specs.laws.Members.{changed-by}
 use Rattle.srt_connection_members.specs.declared.Found.the-variants.{At}
 use Rattle.srt_group_shown.specs.Tables.{Parts, Tables, state-of}
-use Rattle.srt_group_queueing.specs.Steps.{Unbroken}
+use Rattle.srt_group_shown.specs.Steps.{Unbroken}
 use Rattle.srt_group_queueing.specs.laws.OneMember.{OneMember, member-checks, Ends, member-refused, member-changed}
 
 module _ (id kind reason : ℕ) where

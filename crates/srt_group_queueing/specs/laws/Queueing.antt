@@ -44,7 +44,7 @@ use Rattle.srt_group_shown.specs.Tables.{Parts, Tables, state-of, Long}
 use Rattle.srt_group_shown.specs.Ready.{Ready, storing, Performs}
 use Rattle.srt_group_shown.specs.laws.Ready.{one-cell, performs-refused, performs-refused-over, performs-accepted}
 use Rattle.srt_group_queueing.specs.Queueing.{Enqueueable, with-data, Enqueues}
-use Rattle.srt_group_queueing.specs.laws.OneMember.{with-table, long-with, is-nowhere, place, is-known, of-found, change-found, found-row, shown-changed}
+use Rattle.srt_group_shown.specs.laws.Found.{with-table, long-with, is-nowhere, place, is-known, of-found, change-found, found-row, shown-changed}
 
 -- ---- the member at an index, once a cell is found
 

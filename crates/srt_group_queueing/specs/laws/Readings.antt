@@ -19,7 +19,7 @@ use Rattle.srt_connection_members.specs.Members.{member-at, found-of, Changed}
 use Rattle.srt_connection_members.specs.laws.Members.{leg-changed, unchanged}
 use Rattle.srt_connection_members.specs.declared.Found.the-variants.{At}
 use Rattle.srt_group_shown.specs.Tables.{Parts, Tables, state-of}
-use Rattle.srt_group_queueing.specs.Steps.{Unbroken}
+use Rattle.srt_group_shown.specs.Steps.{Unbroken}
 use Rattle.srt_group_queueing.specs.laws.OneMember.{OneMember, member-checks, Ends, member-refused, member-changed}
 
 module _ (id field n : ℕ) where

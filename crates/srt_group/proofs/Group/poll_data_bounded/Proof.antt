@@ -1,27 +1,14 @@
--- `Group::poll_data_bounded` meets its contract: 5 of the output, 5 and 6, and then the form for a valid state.
+-- `Group::poll_data_bounded` meets its contract: the call over the record's parts, its answer as an enum.
 use borrow.Author.Needs.{needs}
-use borrow.Author.Tests.{lt-ltb, le-ltb}
-use Rattle.srt_group_shown.specs.Tables.{tables}
-use Rattle.srt_group.specs.Made.{parts-of}
-use Rattle.srt_group.specs.laws.Polled.{data-poll-no-room, data-poll-refused, data-poll-performed}
+use Rattle.srt_group_refusals.specs.laws.Promised.{promised-answers}
 use Rattle.srt_group.proofs.Group.poll_data_bounded.Statement.{statement}
 use Rattle.srt_group.proofs.Group.poll_data_bounded.Tie as tie
 
-returns : tie.Need-returns
-returns c =
-    let a = c .before .before .before .before .before .before .before .before .args in
-    data-poll-no-room (a .time .0) (a .max-events) (parts-of (a .self))
-    (tables (a .members .now) (a .pending .now) (a .waiting .now) (a .history .now) (a .sources .now)) (a .store .now) (a .output .now)
-    (lt-ltb _ _ (c .if1 .taken))
+poll-data-bounded-requires : tie.Need-poll-data-bounded-requires
+poll-data-bounded-requires c κs = search needs
 
-slice-aggregate-begin-stored : tie.Need-slice-aggregate-begin-stored
-slice-aggregate-begin-stored c = search needs
-
-begin-stored-requires : tie.Need-begin-stored-requires
-begin-stored-requires c κs = search needs
-
-enum-known-begun : tie.Need-enum-known-begun
-enum-known-begun c = search needs
+data-answer-requires : tie.Need-data-answer-requires
+data-answer-requires c κs = search needs
 
 same-length : tie.Need-same-length
 same-length c = search needs
@@ -32,64 +19,20 @@ same-length-2 c = search needs
 same-length-3 : tie.Need-same-length-3
 same-length-3 c = search needs
 
-returns-2 : tie.Need-returns-2
-returns-2 c =
-    let a = c .before .before .before .before .before .before .before .before .before .before .before .before .before .before .before .before .before .args in
-    data-poll-refused (a .time .0) (a .max-events) (parts-of (a .self))
-    (tables (a .members .now) (a .pending .now) (a .waiting .now) (a .history .now) (a .sources .now)) (a .store .now) (a .output .now)
-    (c .before .before .before .before .begin-stored .ensures)
-    (le-ltb _ _ (c .before .before .before .before .before .before .before .before .before .if1 .left))
-    _ (c .before .begun .given .1)
-
-enum-told : tie.Need-enum-told
-enum-told c = search needs
-
-slice-aggregate-poll-data-bounded : tie.Need-slice-aggregate-poll-data-bounded
-slice-aggregate-poll-data-bounded c = search needs
-
-poll-data-bounded-requires : tie.Need-poll-data-bounded-requires
-poll-data-bounded-requires c κs = (
-  c .before .before .before .before .before .before .before .before .before .before .before .before .begin-stored .ensures .ready (c .before .before .before .before .before .before .before .before .before .enum-told .given .1),
-  c .before .before .before .before .before .before .before .before .before .before .before .before .before .before .before .before .before .if1 .left,
-)
-
 same-length-4 : tie.Need-same-length-4
 same-length-4 c = search needs
 
-same-length-5 : tie.Need-same-length-5
-same-length-5 c = search needs
-
-same-length-6 : tie.Need-same-length-6
-same-length-6 c = search needs
-
-same-length-7 : tie.Need-same-length-7
-same-length-7 c = search needs
-
-returns-3 : tie.Need-returns-3
-returns-3 c =
-    let a = c .before .before .before .before .before .before .before .before .before .before .before .before .before .before .before .before .before .before .before .before .before .before .before .before .before .before .before .before .before .before .before .before .before .before .before .before .args in
-    data-poll-performed (a .time .0) (a .max-events) (parts-of (a .self))
-    (tables (a .members .now) (a .pending .now) (a .waiting .now) (a .history .now) (a .sources .now)) (a .store .now) (a .output .now)
-    (c .before .before .before .before .before .before .before .before .before .before .before .before .before .before .before .before .before .before .before .before .before .before .before .begin-stored .ensures) (c .before .before .before .before .before .before .before .before .before .before .before .before .before .before .before .before .before .before .before .before .enum-told .given .1)
-    (c .before .before .before .before .before .before .before .before .before .before .poll-data-bounded .ensures)
+returns : tie.Need-returns
+returns c = promised-answers (c .before .before .before .before .before .before .before .before .before .before .before .poll-data-bounded .ensures) (c .data-answer .ensures)
 
 pub poll-data-bounded-spec : {M : Type 1} → statement M
 poll-data-bounded-spec =
     tie.close
     (tie.spec
-    returns
-    slice-aggregate-begin-stored
-    begin-stored-requires
-    enum-known-begun
+    poll-data-bounded-requires
+    data-answer-requires
     same-length
     same-length-2
     same-length-3
-    returns-2
-    enum-told
-    slice-aggregate-poll-data-bounded
-    poll-data-bounded-requires
     same-length-4
-    same-length-5
-    same-length-6
-    same-length-7
-    returns-3)
+    returns)

@@ -1,7 +1,8 @@
 -- `push_event` meets its contract: 2, 3, and then 31 or the event is queued.
 use mathlib.Core.Path.{sym, _∙_}
 use Rattle.srt_group_shown.specs.Tables.{parts, tables}
-use Rattle.srt_group_queueing.specs.laws.OneMember.{row-there, unfit-refused, unknown-refused}
+use Rattle.srt_group_shown.specs.laws.Found.{row-there}
+use Rattle.srt_group_queueing.specs.laws.OneMember.{unfit-refused, unknown-refused}
 use Rattle.srt_group_queueing.specs.laws.Events.{event-call, event-pushed}
 use borrow.Author.Needs.{needs}
 use Rattle.srt_group_queueing.proofs.events.push_event.Statement.{statement}

@@ -3,7 +3,7 @@ use mathlib.Core.Path.{sym, subst, _∙_}
 use Prim.Native.Nat.{ℕ}
 use native.Mathlib.Omega.{arith}
 use Rattle.cell_set.specs.Sets.{LowestFree}
-use Rattle.srt_group_queueing.specs.laws.OneMember.{rows-there}
+use Rattle.srt_group_shown.specs.laws.Steps.{rows-there}
 use Rattle.srt_group_queueing.specs.laws.Queueing.{data-refused, unknown-refused, long-refused, full-refused, enqueueable, performed}
 use borrow.Author.Needs.{needs}
 use Rattle.srt_group_queueing.proofs.queueing.queue_data.Statement.{statement}

@@ -1,7 +1,8 @@
 -- `put_reading` meets its contract: 2, 3, 32, or the reading is put into the leg.
 use mathlib.Core.Path.{sym, _∙_}
 use Rattle.srt_group_shown.specs.Tables.{parts, tables}
-use Rattle.srt_group_queueing.specs.laws.OneMember.{row-there, unfit-refused, unknown-refused}
+use Rattle.srt_group_shown.specs.laws.Found.{row-there}
+use Rattle.srt_group_queueing.specs.laws.OneMember.{unfit-refused, unknown-refused}
 use Rattle.srt_group_queueing.specs.laws.Readings.{reading-call, reading-refused, reading-put}
 use borrow.Author.Needs.{needs}
 use Rattle.srt_group_queueing.proofs.readings.put_reading.Statement.{statement}

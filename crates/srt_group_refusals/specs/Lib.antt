@@ -1,0 +1,4 @@
+pub mod Begins
+pub mod Promised
+-- What is proved.
+pub mod laws

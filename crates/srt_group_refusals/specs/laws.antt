@@ -1,0 +1,5 @@
+-- What is proved. A reader who trusts the checker need not read it.
+pub mod Begins
+pub mod Promised
+pub mod Looks
+pub mod Polled
