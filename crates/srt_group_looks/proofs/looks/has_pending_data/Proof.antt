@@ -1,7 +1,8 @@
 -- `has_pending_data` meets its contract: 5, 6, or the test.
 use borrow.Author.Needs.{needs}
 use Rattle.srt_group_model.specs.Lent.{look-has-pending-data}
-use Rattle.srt_group_shown.specs.Tables.{parts, tables, receive-tables, rest-of}
+use Rattle.srt_group_shown.specs.Tables.{tables, receive-tables, rest-of}
+use Rattle.srt_group.specs.Made.{parts-of}
 use Rattle.srt_group_looks.specs.laws.Looks.{look-refused, pending-data-shown}
 use Rattle.srt_group_looks.proofs.looks.has_pending_data.Statement.{statement}
 use Rattle.srt_group_looks.proofs.looks.has_pending_data.Tie as tie

@@ -32,7 +32,7 @@ group-time-until-send-requires c κs =
 returns-2 : tie.Need-returns-2
 returns-2 c =
     let a = c .before .before .before .before .before .before .before .before .before .before .before .before .before .args in
-    time-shown (parts-of (a .group)) (tables (a .members .now) (a .pending .now) (a .waiting .now) (a .history .now) (a .sources .now)) (c .before .before .before .begin .ensures) (c .before .enum-told .given .1) (a .time .0) (omega (arith, c .before .before .before .before .before .before .before .before .before .before .before .before .before .good .1 .1 .1 .1 .1 .1 .1 .1 .1)) _ (c .group-time-until-send .ensures)
+    time-shown (parts-of (a .group)) (tables (a .members .now) (a .pending .now) (a .waiting .now) (a .history .now) (a .sources .now)) (c .before .before .before .begin .ensures) (c .before .enum-told .given .1) (a .time .0) (omega (arith, c .before .before .before .before .before .before .before .before .before .before .before .before .before .good .1 .1 .1 .1 .1 .1)) _ (c .group-time-until-send .ensures)
 
 pub time-until-send-spec : {M : Type 1} → statement M
 time-until-send-spec =
