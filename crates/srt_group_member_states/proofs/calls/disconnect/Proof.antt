@@ -43,7 +43,7 @@ returns-2 c =
     let p = (parts-of (a .group)) in
     let t = (tables (a .members .now) (a .pending .now) (a .waiting .now) (a .history .now) (a .sources .now)) in
     promised-steps (call-disconnect (a .time .0)) p t nothing-lent (c .before .before .before .before .before .before .begin .ensures) (c .before .before .before .before .enum-told .given .1) nothing-delivered
-    (disconnected (a .time .0) p t (begun-unbroken p t (c .before .before .before .before .before .before .begin .ensures) (c .before .before .before .before .enum-told .given .1)) (omega (arith, c .before .before .before .before .before .before .before .before .before .before .before .before .before .before .before .before .before .good .1 .1 .1 .1 .1 .1 .1 .1 .1)) _
+    (disconnected (a .time .0) p t (begun-unbroken p t (c .before .before .before .before .before .before .begin .ensures) (c .before .before .before .before .enum-told .given .1)) (omega (arith, c .before .before .before .before .before .before .before .before .before .before .before .before .before .before .before .before .before .good .1 .1 .1 .1 .1 .1)) _
     (c .before .before .disconnect-all .ensures) .steps)
 
 pub disconnect-spec : {M : Type 1} → statement M
