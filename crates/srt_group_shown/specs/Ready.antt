@@ -26,6 +26,10 @@ storing store = record { store = store; output = []; list = [] }
 abbrev pub lending : (store output : List ℕ) → Lent
 lending store output = record { store = store; output = output; list = [] }
 
+-- a store and the list of sends
+abbrev pub sending-into : (store list : List ℕ) → Lent
+sending-into store list = record { store = store; output = []; list = list }
+
 -- The call is its definition, with the bytes, and what it rests on holds again.
 pub record Performs (call : Call) (p : Parts) (t : Tables) (bytes : Lent) (number : ℕ) (given : Answer) (p′ : Parts) (t′ : Tables) (bytes′ : Lent) (used′ : List ℕ) : Type 0 where
   pub code : number ≡ perform call bytes (state-of p t) .code

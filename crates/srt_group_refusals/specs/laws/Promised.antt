@@ -74,21 +74,6 @@ module _ (call : Call) (p : Parts) (t : Tables) (bytes : Lent) where
         (λ short five. promised-short (refused-with (error-number e)) short (ap refused-with five))
         (λ long broken six. refused-by long 6 (is ∙ guard-stops (6 when breaks-rule s) cs s body broken) six)
 
-    -- a look that shows something
-    pub promised-look : (v : Looked) → r ≡ Accepted → step ≡ guard ((6 when breaks-rule s) ∷ []) s (accept s (shown v))
-        → Promised call p t bytes (showing p t bytes 0 (shown v) 0)
-    unfolding showing do-call perform with-bytes stored delivered-by written-out list-rows overwritten guard
-    promised-look v accepted is =
-        let step-is = is ∙ guard-goes-on (6 when breaks-rule s) [] s (accept s (shown v)) (begun-valid p t begins accepted) in
-        promised-does (showing p t bytes 0 (shown v) 0) (begun-long p t begins accepted)
-        record {
-          code = sym (ap (λ (x : Step). x .code) step-is);
-          answer = sym (ap (λ (x : Step). x .answer) step-is);
-          state = sym (ap (λ (x : Step). x .state) step-is);
-          lent = sym (ap (λ (x : Step). with-bytes bytes x .lent) step-is);
-          rows = sym (ap (λ (x : Step). length (x .sends)) step-is);
-        }
-
     -- what follows 5 and 6 is the definition's step
     pub promised-steps : r ≡ Accepted → {number : ℕ} {given : Answer} {p′ : Parts} {t′ : Tables} → delivered-by given ≡ none
         → Steps call p t number given p′ t′ → Promised call p t bytes (showing p′ t′ bytes number given 0)

@@ -53,24 +53,14 @@ module _ (id : ℕ) (p : Parts) (t : Tables) where
 
   dropped : (short : Bool) (p′ : Parts) (t′ : Tables) (o : Outcome) (given : Answer) → Holds short p′ t′ o given
       → Holds short p′ t′ o (answer-dropped id nothing-lent (state-of p t))
-  unfolding do-call
+  unfolding do-call showing
   dropped short p′ t′ (Refused e) given holds = holds
   dropped true p′ t′ Accepted given holds = absurd (omega (arith, ap (λ (x : Shown). x .code) holds))
   dropped false p′ t′ Accepted given does =
       record { code = does .code; answer = refl; state = does .state; lent = does .lent; rows = does .rows }
 
-  module _ (row : List ℕ) (answer : Removal) (ms′ ps′ row′ : List ℕ) where
-    abbrev after : Parts
-    after = parts (p .identity) (answer .core) (p .sending) (p .ring)
-
-    abbrev tables-after : Tables
-    tables-after = tables ms′ ps′ (t .waiting) (t .history) (t .sources)
-
-    pub leg-dropped : row-size ≤ length row
-        → PromisedRow (call-remove-member-connection id) p t row
-        (showing after tables-after nothing-lent (outcome-number (answer .outcome)) (given-back (answer .outcome) row′) 0)
-        → PromisedDropping id p t (answer .outcome) after tables-after
-    leg-dropped long promised =
-        record {
-          holds = dropped (are-short t) after tables-after (answer .outcome) _ (without-row (call-remove-member-connection id) p t row long promised .holds);
-        }
+  pub leg-dropped : (row row′ : List ℕ) (p′ : Parts) (t′ : Tables) (o : Outcome) → row-size ≤ length row
+      → PromisedRow (call-remove-member-connection id) p t row (showing p′ t′ nothing-lent (outcome-number o) (given-back o row′) 0)
+      → PromisedDropping id p t o p′ t′
+  leg-dropped row row′ p′ t′ o long promised =
+      record { holds = dropped (are-short t) p′ t′ o _ (without-row (call-remove-member-connection id) p t row long promised .holds) }

@@ -26,26 +26,26 @@ same-length c = search needs
 
 returns-2 : tie.Need-returns-2
 returns-2 c =
-    let a = c .before .before .before .before .before .before .before .before .before .before .before .before .args in
+    let a = c .before .before .before .before .before .before .before .before .before .before .before .before .before .before .before .before .args in
     addition-refused-6 (a .id) (a .weight) (a .row .now) (parts-of (a .group)) (tables (a .members .now) (a .pending .now) (a .waiting .now) (a .history .now) (a .sources .now))
-    (c .before .before .before .before .before .if1 .left) (c .before .before .before .begin .ensures) _ (c .before .begun .given .1)
+    (c .before .before .before .before .before .before .before .before .before .if1 .left) (c .before .before .before .begin .ensures) _ (c .before .begun .given .1)
 
 enum-told : tie.Need-enum-told
 enum-told c = search needs
 
 add-leg-requires : tie.Need-add-leg-requires
 add-leg-requires c κs =
-    let a = c .before .before .before .before .before .before .before .before .before .before .before .before .args in
-    (begun-unbroken (parts-of (a .group)) (tables (a .members .now) (a .pending .now) (a .waiting .now) (a .history .now) (a .sources .now)) (c .before .before .before .begin .ensures) (c .before .enum-told .given .1) .long .members, omega (arith, c .before .before .before .before .before .if1 .left))
+    let a = c .before .before .before .before .before .before .before .before .before .before .before .before .before .before .before .before .args in
+    (begun-unbroken (parts-of (a .group)) (tables (a .members .now) (a .pending .now) (a .waiting .now) (a .history .now) (a .sources .now)) (c .before .before .before .begin .ensures) (c .before .enum-told .given .1) .long .members, omega (arith, c .before .before .before .before .before .before .before .before .before .if1 .left))
 
 same-length-2 : tie.Need-same-length-2
 same-length-2 c = search needs
 
 returns-3 : tie.Need-returns-3
 returns-3 c =
-    let a = c .before .before .before .before .before .before .before .before .before .before .before .before .before .before .before .args in
+    let a = c .before .before .before .before .before .before .before .before .before .before .before .before .before .before .before .before .before .before .before .before .args in
     addition-promised (a .id) (a .weight) (a .row .now) (parts-of (a .group)) (tables (a .members .now) (a .pending .now) (a .waiting .now) (a .history .now) (a .sources .now))
-    (c .before .before .before .before .before .before .before .before .if1 .left) (c .before .before .before .before .before .before .begin .ensures) (c .before .before .before .before .enum-told .given .1) _ _ (c .before .before .add-leg .ensures)
+    (c .before .before .before .before .before .before .before .before .before .before .before .before .before .if1 .left) (c .before .before .before .before .before .before .before .begin .ensures) (c .before .before .before .before .before .enum-told .given .1) _ _ (c .before .before .before .add-leg .ensures)
 
 pub add-member-spec : {M : Type 1} → statement M
 add-member-spec =

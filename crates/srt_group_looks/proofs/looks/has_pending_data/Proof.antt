@@ -1,7 +1,8 @@
 -- `has_pending_data` meets its contract: 5, 6, or the test.
 use borrow.Author.Needs.{needs}
 use Rattle.srt_group_model.specs.Lent.{look-has-pending-data}
-use Rattle.srt_group_shown.specs.Tables.{parts, tables, receive-tables, rest-of}
+use Rattle.srt_group_shown.specs.Tables.{tables, receive-tables, rest-of}
+use Rattle.srt_group.specs.Made.{parts-of}
 use Rattle.srt_group_looks.specs.laws.Looks.{look-refused, pending-data-shown}
 use Rattle.srt_group_looks.proofs.looks.has_pending_data.Statement.{statement}
 use Rattle.srt_group_looks.proofs.looks.has_pending_data.Tie as tie
@@ -14,7 +15,7 @@ enum-known-begun c = search needs
 
 returns : tie.Need-returns
 returns c =
-    let a = c .before .before .before .before .before .before .before .before .before .args in
+    let a = c .before .before .before .before .before .before .before .before .before .before .before .before .before .args in
     look-refused look-has-pending-data (parts-of (a .group)) (tables (a .members .now) (a .pending .now) (a .waiting .now) (a .history .now) (a .sources .now)) (c .before .before .before .begin .ensures) _ (c .before .begun .given .1)
 
 enum-told : tie.Need-enum-told
@@ -25,7 +26,7 @@ has-pending-data-requires c κs = search needs
 
 returns-2 : tie.Need-returns-2
 returns-2 c =
-    let a = c .before .before .before .before .before .before .before .before .before .args in
+    let a = c .before .before .before .before .before .before .before .before .before .before .before .before .before .args in
     let p = (parts-of (a .group)) in
     let t = (tables (a .members .now) (a .pending .now) (a .waiting .now) (a .history .now) (a .sources .now)) in
     pending-data-shown p t (c .before .before .before .begin .ensures) (c .before .enum-told .given .1) _

@@ -18,7 +18,7 @@ enum-known-begun c = search needs
 
 returns : tie.Need-returns
 returns c =
-    let a = c .before .before .before .before .before .before .before .before .before .args in
+    let a = c .before .before .before .before .before .before .before .before .before .before .before .before .before .args in
     look-refused (look-time-until-send (a .time .0)) (parts-of (a .group)) (tables (a .members .now) (a .pending .now) (a .waiting .now) (a .history .now) (a .sources .now)) (c .before .before .before .begin .ensures) _ (c .before .begun .given .1)
 
 enum-told : tie.Need-enum-told
@@ -26,13 +26,13 @@ enum-told c = search needs
 
 group-time-until-send-requires : tie.Need-group-time-until-send-requires
 group-time-until-send-requires c κs =
-    let a = c .before .before .before .before .before .before .before .before .args in
+    let a = c .before .before .before .before .before .before .before .before .before .before .before .before .args in
     rows-unbroken (begun-unbroken (parts-of (a .group)) (tables (a .members .now) (a .pending .now) (a .waiting .now) (a .history .now) (a .sources .now)) (c .before .before .begin .ensures) (c .enum-told .given .1))
 
 returns-2 : tie.Need-returns-2
 returns-2 c =
-    let a = c .before .before .before .before .before .before .before .before .before .args in
-    time-shown (parts-of (a .group)) (tables (a .members .now) (a .pending .now) (a .waiting .now) (a .history .now) (a .sources .now)) (c .before .before .before .begin .ensures) (c .before .enum-told .given .1) (a .time .0) (omega (arith, c .before .before .before .before .before .before .before .before .before .good .1 .1 .1 .1 .1 .1 .1 .1 .1)) _ (c .group-time-until-send .ensures)
+    let a = c .before .before .before .before .before .before .before .before .before .before .before .before .before .args in
+    time-shown (parts-of (a .group)) (tables (a .members .now) (a .pending .now) (a .waiting .now) (a .history .now) (a .sources .now)) (c .before .before .before .begin .ensures) (c .before .enum-told .given .1) (a .time .0) (omega (arith, c .before .before .before .before .before .before .before .before .before .before .before .before .before .good .1 .1 .1 .1 .1 .1)) _ (c .group-time-until-send .ensures)
 
 pub time-until-send-spec : {M : Type 1} → statement M
 time-until-send-spec =

@@ -12,7 +12,7 @@ use Rattle.srt_group_looks.proofs.members.members.Tie as tie
 
 returns : tie.Need-returns
 returns c =
-    let a = c .before .before .before .before .before .before .before .args in
+    let a = c .before .before .before .before .before .before .before .before .before .before .before .args in
     list-too-short (parts-of (a .group)) (tables (a .members .now) (a .pending .now) (a .waiting .now) (a .history .now) (a .sources .now)) (a .list .now) (lt-ltb _ _ (c .if1 .taken))
 
 begin-requires : tie.Need-begin-requires
@@ -23,7 +23,7 @@ enum-known-begun c = search needs
 
 returns-2 : tie.Need-returns-2
 returns-2 c =
-    let a = c .before .before .before .before .before .before .before .before .before .before .before .args in
+    let a = c .before .before .before .before .before .before .before .before .before .before .before .before .before .before .before .args in
     listing-refused (parts-of (a .group)) (tables (a .members .now) (a .pending .now) (a .waiting .now) (a .history .now) (a .sources .now)) (a .list .now) (le-ltb _ _ (c .before .before .before .before .if1 .left)) (c .before .before .before .begin .ensures) _ (c .before .begun .given .1)
 
 enum-told : tie.Need-enum-told
@@ -31,7 +31,7 @@ enum-told c = search needs
 
 list-members-requires : tie.Need-list-members-requires
 list-members-requires c κs =
-    let a = c .before .before .before .before .before .before .before .before .before .before .before .args in
+    let a = c .before .before .before .before .before .before .before .before .before .before .before .before .before .before .before .args in
     let unbroken = begun-unbroken (parts-of (a .group)) (tables (a .members .now) (a .pending .now) (a .waiting .now) (a .history .now) (a .sources .now)) (c .before .before .before .begin .ensures) (c .before .enum-told .given .1) in
     (rows-unbroken unbroken, room-there (parts-of (a .group)) (tables (a .members .now) (a .pending .now) (a .waiting .now) (a .history .now) (a .sources .now)) unbroken (a .list .now) (c .before .before .before .before .if1 .left))
 
@@ -40,7 +40,7 @@ same-length c = search needs
 
 returns-3 : tie.Need-returns-3
 returns-3 c =
-    let a = c .before .before .before .before .before .before .before .before .before .before .before .before .before .before .args in
+    let a = c .before .before .before .before .before .before .before .before .before .before .before .before .before .before .before .before .before .before .args in
     members-listed (parts-of (a .group)) (tables (a .members .now) (a .pending .now) (a .waiting .now) (a .history .now) (a .sources .now)) (a .list .now) (le-ltb _ _ (c .before .before .before .before .before .before .before .if1 .left)) (c .before .before .before .before .before .before .begin .ensures) (c .before .before .before .before .enum-told .given .1) _ (c .before .before .list-members .ensures)
 
 pub members-spec : {M : Type 1} → statement M

@@ -23,7 +23,7 @@ same-length c = search needs
 
 returns : tie.Need-returns
 returns c =
-    let a = c .before .before .before .before .before .before .before .before .before .before .args in
+    let a = c .before .before .before .before .before .before .before .before .before .before .before .before .before .before .args in
     disconnect-refused (a .time .0) (parts-of (a .group)) (tables (a .members .now) (a .pending .now) (a .waiting .now) (a .history .now) (a .sources .now)) (c .before .before .before .begin .ensures) _ (c .before .begun .given .1)
 
 enum-told : tie.Need-enum-told
@@ -31,7 +31,7 @@ enum-told c = search needs
 
 disconnect-all-requires : tie.Need-disconnect-all-requires
 disconnect-all-requires c κs =
-    let a = c .before .before .before .before .before .before .before .before .before .before .args in
+    let a = c .before .before .before .before .before .before .before .before .before .before .before .before .before .before .args in
     rows-unbroken (begun-unbroken (parts-of (a .group)) (tables (a .members .now) (a .pending .now) (a .waiting .now) (a .history .now) (a .sources .now)) (c .before .before .before .begin .ensures) (c .before .enum-told .given .1))
 
 same-length-2 : tie.Need-same-length-2
@@ -39,11 +39,11 @@ same-length-2 c = search needs
 
 returns-2 : tie.Need-returns-2
 returns-2 c =
-    let a = c .before .before .before .before .before .before .before .before .before .before .before .before .before .args in
+    let a = c .before .before .before .before .before .before .before .before .before .before .before .before .before .before .before .before .before .args in
     let p = (parts-of (a .group)) in
     let t = (tables (a .members .now) (a .pending .now) (a .waiting .now) (a .history .now) (a .sources .now)) in
     promised-steps (call-disconnect (a .time .0)) p t nothing-lent (c .before .before .before .before .before .before .begin .ensures) (c .before .before .before .before .enum-told .given .1) nothing-delivered
-    (disconnected (a .time .0) p t (begun-unbroken p t (c .before .before .before .before .before .before .begin .ensures) (c .before .before .before .before .enum-told .given .1)) (omega (arith, c .before .before .before .before .before .before .before .before .before .before .before .before .before .good .1 .1 .1 .1 .1 .1 .1 .1 .1)) _
+    (disconnected (a .time .0) p t (begun-unbroken p t (c .before .before .before .before .before .before .begin .ensures) (c .before .before .before .before .enum-told .given .1)) (omega (arith, c .before .before .before .before .before .before .before .before .before .before .before .before .before .before .before .before .before .good .1 .1 .1 .1 .1 .1)) _
     (c .before .before .disconnect-all .ensures) .steps)
 
 pub disconnect-spec : {M : Type 1} → statement M

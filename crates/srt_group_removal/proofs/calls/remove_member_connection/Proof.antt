@@ -3,7 +3,8 @@ use mathlib.Core.Path.{refl}
 use native.Mathlib.Omega.{arith}
 use borrow.Author.Needs.{needs}
 use Rattle.srt_group_model.specs.Lent.{call-remove-member-connection}
-use Rattle.srt_group_shown.specs.Tables.{parts, tables}
+use Rattle.srt_group_shown.specs.Tables.{tables}
+use Rattle.srt_group.specs.Made.{parts-of}
 use Rattle.srt_group_refusals.specs.laws.Begins.{begun-unbroken}
 use Rattle.srt_group_refusals.specs.laws.Promised.{row-refused}
 use Rattle.srt_group_removal.specs.laws.Connection.{any-removable}
@@ -14,7 +15,7 @@ use Rattle.srt_group_removal.proofs.calls.remove_member_connection.Tie 
 returns : tie.Need-returns
 returns c =
     let a = c .before .before .before .before .before .before .before .args in (
-      row-refused (call-remove-member-connection (a .id)) (parts (a .identity) (a .core) (a .sending) (a .ring))
+      row-refused (call-remove-member-connection (a .id)) (parts-of (a .group))
           (tables (a .members .now) (a .pending .now) (a .waiting .now) (a .history .now) (a .sources .now)) (a .row .now) (c .if1 .taken),
       refl,
     )
@@ -33,9 +34,9 @@ same-length-2 c = search needs
 
 returns-2 : tie.Need-returns-2
 returns-2 c =
-    let a = c .before .before .before .before .before .before .before .before .before .before .before .before .before .args in (
-      removal-refused (a .id) (parts (a .identity) (a .core) (a .sending) (a .ring))
-          (tables (a .members .now) (a .pending .now) (a .waiting .now) (a .history .now) (a .sources .now)) (a .row .now) (c .before .before .before .before .before .before .if1 .left)
+    let a = c .before .before .before .before .before .before .before .before .before .before .before .before .before .before .before .before .before .args in (
+      removal-refused (a .id) (parts-of (a .group))
+          (tables (a .members .now) (a .pending .now) (a .waiting .now) (a .history .now) (a .sources .now)) (a .row .now) (c .before .before .before .before .before .before .before .before .before .before .if1 .left)
           (c .before .before .before .begin .ensures) _ (c .before .begun .given .1),
       refl,
     )
@@ -48,11 +49,11 @@ slice-aggregate-remove-named c = search needs
 
 remove-named-requires : tie.Need-remove-named-requires
 remove-named-requires c κs =
-    let a = c .before .before .before .before .before .before .before .before .before .before .before .before .before .before .before .before .args in (
+    let a = c .before .before .before .before .before .before .before .before .before .before .before .before .before .before .before .before .before .before .before .before .args in (
       any-removable
-          (begun-unbroken (parts (a .identity) (a .core) (a .sending) (a .ring))
+          (begun-unbroken (parts-of (a .group))
           (tables (a .members .now) (a .pending .now) (a .waiting .now) (a .history .now) (a .sources .now)) (c .before .before .before .before .before .before .begin .ensures) (c .before .before .before .before .enum-told .given .1)),
-      (omega (arith, c .before .before .before .before .before .before .before .before .before .if1 .left), search needs),
+      (omega (arith, c .before .before .before .before .before .before .before .before .before .before .before .before .before .if1 .left), search needs),
     )
 
 same-length-3 : tie.Need-same-length-3
@@ -66,11 +67,11 @@ same-length-5 c = search needs
 
 returns-3 : tie.Need-returns-3
 returns-3 c =
-    let a = c .before .before .before .before .before .before .before .before .before .before .before .before .before .before .before .before .before .before .before .before .before .before .before .before .args in
-    let removes = c .before .before .before .before .before .before .before .remove-named .ensures in (
-      removal-promised (a .id) (parts (a .identity) (a .core) (a .sending) (a .ring))
-          (tables (a .members .now) (a .pending .now) (a .waiting .now) (a .history .now) (a .sources .now)) (a .row .now) (c .before .before .before .before .before .before .before .before .before .before .before .before .before .before .before .before .before .if1 .left)
-          (c .before .before .before .before .before .before .before .before .before .before .before .before .before .before .begin .ensures) (c .before .before .before .before .before .before .before .before .before .before .before .before .enum-told .given .1) _ _ _ _ (removes .0),
+    let a = c .before .before .before .before .before .before .before .before .before .before .before .before .before .before .before .before .before .before .before .before .before .before .before .before .before .before .before .before .before .args in
+    let removes = c .before .before .before .before .before .before .before .before .remove-named .ensures in (
+      removal-promised (a .id) (parts-of (a .group))
+          (tables (a .members .now) (a .pending .now) (a .waiting .now) (a .history .now) (a .sources .now)) (a .row .now) (c .before .before .before .before .before .before .before .before .before .before .before .before .before .before .before .before .before .before .before .before .before .before .if1 .left)
+          (c .before .before .before .before .before .before .before .before .before .before .before .before .before .before .before .begin .ensures) (c .before .before .before .before .before .before .before .before .before .before .before .before .before .enum-told .given .1) (c .before .before .before .before .before .before .before .before .remove-named .result) _ _ _ (removes .0),
       removes .1 .0,
     )
 

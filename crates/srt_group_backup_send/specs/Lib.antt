@@ -1,0 +1,4 @@
+pub mod Freeing
+pub mod BackupSend
+-- What is proved.
+pub mod laws

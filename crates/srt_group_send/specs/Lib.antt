@@ -1,0 +1,3 @@
+pub mod Sends
+-- What is proved.
+pub mod laws
