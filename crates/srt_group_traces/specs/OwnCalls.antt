@@ -36,7 +36,8 @@ brings-packets (call-read-leg id field n) = false
 brings-packets (call-queue-data id d payload) = false
 brings-packets (call-queue-event id kind reason) = false
 
--- a call from the state s; no store's length was given at the start where a cell in use may lie beyond the store that it is lent
+-- why a call from the state s gives 6: its leg is not empty; or no store's length was given at the start, and a cell in use lies beyond the
+-- store that it is lent
 pub data Excepted (asked : Asked) (s : State) : Type 0 where
   leg-not-empty : brings-packets (asked .call) ≡ true → Excepted asked s
   store-too-small : s .making .length ≡ 0 → takes-store (asked .call) ≡ true
