@@ -1,4 +1,5 @@
 pub mod Begins
 pub mod Promised
+pub mod Past
 -- What is proved.
 pub mod laws

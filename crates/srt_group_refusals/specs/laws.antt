@@ -2,3 +2,4 @@
 pub mod Begins
 pub mod Promised
 pub mod Polled
+pub mod Port

@@ -3,5 +3,6 @@ pub mod Statement
 pub mod ShortSchedule
 pub mod Port
 pub mod PortTheorem
+pub mod OwnCalls
 -- What is proved.
 pub mod laws

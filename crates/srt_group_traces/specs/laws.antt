@@ -29,8 +29,10 @@ pub mod Port
 pub mod PortTheorem
 pub mod FailedSends
 pub mod StaysValid
+pub mod OwnCalls
 pub mod Example
 pub mod Counterexamples
 pub mod GatewaysExample
 pub mod ShortExample
 pub mod PortExample
+pub mod OwnCallsExample

@@ -237,7 +237,7 @@ unfolding last-shown all-shown
 performed-goes-on s [] more h = h
 performed-goes-on s (t ∷ steps) more h = performed-goes-on (shown-of t .state) steps more (h .1)
 
-last-of : (s : State) (steps : List Taken) (t : Taken) → last-shown s (all-shown (steps ++ (t ∷ []))) ≡ shown-of t .state
+pub last-of : (s : State) (steps : List Taken) (t : Taken) → last-shown s (all-shown (steps ++ (t ∷ []))) ≡ shown-of t .state
 unfolding last-shown all-shown
 last-of s [] t = refl
 last-of s (x ∷ steps) t = last-of (shown-of x .state) steps t

@@ -122,11 +122,11 @@ first-refuses : (c : Check) (checks : List Check) (s : State) (body : Step) → 
 unfolding guard
 first-refuses c checks s body e = ap (λ (step : Step). step .code) (if-true (c .fails) (refuse (c .code) s) (guard checks s body) e)
 
-unfit-length : (store length : ℕ) (small : Bool) → eqb store length ≡ false → eqb length 0 ≡ false
+pub unfit-length : (store length : ℕ) (small : Bool) → eqb store length ≡ false → eqb length 0 ≡ false
     → ((not (eqb length 0) && not (eqb store length)) || small) ≡ true
 unfit-length store length small e f = rw (f, e)
 
-not-zero : (n : ℕ) → (n ≡ 0 → ⊥) → eqb n 0 ≡ false
+pub not-zero : (n : ℕ) → (n ≡ 0 → ⊥) → eqb n 0 ≡ false
 not-zero n h = by-test (eqb n 0) (λ e. absurd (h (eq-of n 0 e))) (λ e. e)
 
 abbrev Given : ℕ → State → Type 0
@@ -164,11 +164,14 @@ lends-by n store output list s (queueing-data id d payload) given some-length ta
     unfit-refused n _ _ s _ store (λ t. t) given some-length e
 lends-by n store output list s (lent-no-store c lent poll h) given some-length takes e = not-both takes lent
 
-given-length-lends : (n : ℕ) (calls : List Asked) (s : State) → Given n s → (n ≡ 0 → ⊥) → OneLength n calls s
+pub given-length-lent : (n : ℕ) (call : Asked) (s : State) → s .making .length ≡ n → (n ≡ 0 → ⊥) → LentLength n call s
 unfolding do-call perform with-bytes
+given-length-lent n call s given some-length takes e = lends-by n _ _ _ s (kind-of (call .call)) given some-length takes e
+
+given-length-lends : (n : ℕ) (calls : List Asked) (s : State) → Given n s → (n ≡ 0 → ⊥) → OneLength n calls s
 given-length-lends n [] s given some-length = tt
 given-length-lends n (call ∷ more) s given some-length = (
-  (λ takes e. lends-by n _ _ _ s (kind-of (call .call)) given some-length takes e),
+  given-length-lent n call s given some-length,
   given-length-lends n more _ (store-length-stays call s ∙ given) some-length,
 )
 
