@@ -2,3 +2,4 @@
 
 pub mod sending; // sending.rt: refresh, limit, the send of the mode, and the payload in its cell
 pub mod readiness; // readiness.rt: `can_send` and `can_send_with_pacing`
+pub mod valid; // valid.rt: both for a valid state

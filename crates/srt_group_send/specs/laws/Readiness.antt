@@ -21,12 +21,14 @@ use Rattle.srt_group_model.specs.Validity.{above}
 use Rattle.srt_group_model.specs.Backup.{max-history, demote-stale-backup-carrier, trim-by-carrier, backup-send-ready}
 use Rattle.srt_group_model.specs.Guards.{Answer, shown, truth, Step, Check, _when_, guard}
 use Rattle.srt_group_model.specs.Calls.{new, breaks-rule, left-by, can-send-body, can-send-call, can-send-with-pacing-body, can-send-with-pacing-call}
-use Rattle.srt_group_model.specs.Lent.{Call, call-can-send, call-can-send-with-pacing, step-of}
+use Rattle.srt_group_model.specs.Lent.{Call, call-can-send, call-can-send-with-pacing, delivered-by, step-of}
 use Rattle.srt_group_model.specs.laws.Refusals.{guard-goes-on}
 use Rattle.srt_group_model.specs.laws.Frame.{trim-members}
 use Rattle.srt_group_model.specs.laws.Queues.{Relabelled, relabelled-same, All-relabelled}
 use Rattle.srt_group_model.specs.laws.CellsKept.{relabelled-cells}
 use Rattle.srt_group_model.specs.laws.CellsMoved.{refresh-keeps}
+use Rattle.srt_protocol.specs.Cells.{cells-of}
+use Rattle.srt_group_model.specs.laws.Sound.{sound-of-valid}
 use Rattle.srt_group_model.specs.laws.Steps.{refresh-has}
 use Rattle.srt_group_model.specs.laws.RangesCalls.{fit-law}
 use Rattle.srt_group_model.specs.laws.EveryCall.{refresh-mode}
@@ -50,7 +52,9 @@ use Rattle.srt_group_collecting.specs.Leaves.{sends}
 use Rattle.srt_group_polls.specs.Refresh.{Refreshes}
 use Rattle.srt_group_shown.specs.Shown.{rest}
 use Rattle.srt_group_shown.specs.Tables.{Parts, parts, Tables, tables, state-of, Long}
+use Rattle.srt_group_shown.specs.Ready.{Ready, storing, Performs}
 use Rattle.srt_group_shown.specs.Steps.{Unbroken, Left, Steps}
+use Rattle.srt_group_shown.specs.laws.Steps.{rows-there, unbroken-of, performs-steps}
 use Rattle.cell_set.specs.Sets.{ShowsCells}
 use Rattle.cell_set.specs.Shows.{Shows}
 use Rattle.cell_set.specs.laws.Shows.{shows-kept}
@@ -341,3 +345,30 @@ module _ (core : Core) (x : Sending) (r : HistoryRing) (members history used : L
               (sym (ap queued-cells (readied .is) ∙ readied-cells (core .mode) time (members-of (after .counts .members) mid)))
               (shows-refreshed identity pending waiting sources shows));
         }
+
+-- ---- for a valid state
+
+module _ {identity : Identity} {core : Core} {x : Sending} {r : HistoryRing} {members pending waiting history sources used : List ℕ} (store : List ℕ)
+    (ready : Ready (parts identity core x r) (tables members pending waiting history sources) (length store) used) where
+  pub testable-of : Testable core x r members history (length used)
+  testable-of =
+      let fit = sound-of-valid (cells-of (length store)) (state-of (parts identity core x r) (tables members pending waiting history sources)) (omega arith) (ready .valid) .fit in
+      record {
+        rows = rows-there ready;
+        fits = omega (arith, fit .remembered, tab-length (r .length) (entry-at r (arrays history sources)));
+        history-long = ready .long .history;
+        used-long = ready .shows .cells .long;
+        identity = identity;
+        pending = pending;
+        waiting = waiting;
+        sources = sources;
+        fit = fit;
+      }
+
+  pub tests-performed : {call : Call} {answer : Readiness} {members′ used′ : List ℕ} → Tests call core x r members history used answer members′ used′
+      → Performs call (parts identity core x r) (tables members pending waiting history sources) (storing store) 0 (shown (truth (answer .ready)))
+      (parts identity (answer .core) (answer .sending) (answer .ring)) (tables members′ pending waiting history sources) (storing store) used′
+  unfolding delivered-by
+  tests-performed {used′ = used′} tests =
+      performs-steps ready refl used′ (tests .steps identity pending waiting sources (unbroken-of ready))
+      (tests .shows identity pending waiting sources (ready .shows))
