@@ -1,0 +1,159 @@
+// The calls under plain names, for bench/calls to time. A measuring crate: no product links it. Nothing exported has a `requires`: what a
+// host lends is tested.
+pub mod record; // record.rt: the record as a row of words
+pub mod steps; // steps.rt: one step of a run
+
+use crate::record::put_group;
+use crate::record::read_group;
+use crate::steps::call_each;
+use crate::steps::step_each;
+use srt_group::Group;
+use srt_group::NewGroup;
+use srt_group_addition::calls::add_member;
+use srt_group_refusals::refusals::begin_poll;
+use srt_protocol::error::Outcome;
+
+// A new group. Answers its code.
+#[no_mangle]
+pub extern "C" fn calls_new(record: &mut [u64; 20], id: u64, mode: u64, length: usize) -> u32 {
+    let made = Group::new(id, mode, length);
+    match made {
+        NewGroup::Made(group) => {
+            put_group(record, group);
+            0
+        }
+        NewGroup::Refused(error) => error.number(),
+    }
+}
+
+// A leg is added, handed over in a row. Answers the code.
+#[no_mangle]
+pub extern "C" fn calls_add(
+    record: &mut [u64; 20],
+    members: &mut [u64],
+    pending: &[u64],
+    waiting: &[u64],
+    history: &[u64],
+    sources: &[u64],
+    row: &[u64],
+    id: u64,
+    weight: u64,
+) -> u32 {
+    let group = read_group(record);
+    let added = add_member(
+        group,
+        members,
+        pending,
+        waiting,
+        history,
+        sources,
+        row,
+        id,
+        weight,
+    );
+    let after = added.group;
+    let outcome = added.outcome;
+    put_group(record, after);
+    outcome.number()
+}
+
+// The steps in turn by the public calls.
+#[no_mangle]
+pub extern "C" fn calls_run(
+    record: &mut [u64; 20],
+    members: &mut [u64],
+    pending: &mut [u64],
+    waiting: &mut [u64],
+    history: &[u64],
+    sources: &[u64],
+    store: &mut [u8],
+    output: &mut [u8],
+    steps: &mut [u64],
+    payload: &[u8],
+    time: u64,
+) -> u32 {
+    let group = read_group(record);
+    let after = call_each(
+        group,
+        members,
+        pending,
+        waiting,
+        history,
+        sources,
+        store,
+        output,
+        steps,
+        payload,
+        time,
+    );
+    put_group(record, after);
+    0
+}
+
+// The same by the forms for a valid state: 5 and 6 are tested once, before the first step. Answers their code.
+#[no_mangle]
+pub extern "C" fn calls_run_valid(
+    record: &mut [u64; 20],
+    members: &mut [u64],
+    pending: &mut [u64],
+    waiting: &mut [u64],
+    history: &[u64],
+    sources: &[u64],
+    store: &mut [u8],
+    output: &mut [u8],
+    steps: &mut [u64],
+    payload: &[u8],
+    time: u64,
+) -> u32 {
+    let Group {
+        identity,
+        core,
+        sending,
+        ring,
+    } = read_group(record);
+    let mut used = [0u64; 32];
+    let begun = begin_poll(
+        identity,
+        core,
+        sending,
+        ring,
+        members,
+        pending,
+        waiting,
+        history,
+        sources,
+        store.len(),
+        output.len(),
+        &mut used,
+    );
+    if let Outcome::Refused(error) = begun {
+        return error.number();
+    }
+    let after = step_each(
+        identity,
+        core,
+        sending,
+        ring,
+        members,
+        pending,
+        waiting,
+        history,
+        sources,
+        store,
+        output,
+        &mut used,
+        steps,
+        payload,
+        time,
+    );
+    put_group(
+        record,
+        Group {
+            identity,
+            core: after,
+            sending,
+            ring,
+        },
+    );
+    0
+}
