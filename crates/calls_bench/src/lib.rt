@@ -1,12 +1,11 @@
 // The calls under plain names, for bench/calls to time. A measuring crate: no product links it. Nothing exported has a `requires`: what a
 // host lends is tested.
 pub mod record; // record.rt: the record as a row of words
-pub mod steps; // steps.rt: one step of a run
 
 use crate::record::put_group;
 use crate::record::read_group;
-use crate::steps::call_each;
-use crate::steps::step_each;
+use bench_steps::steps::call_each;
+use bench_steps::steps::step_each;
 use srt_group::Group;
 use srt_group::NewGroup;
 use srt_group_addition::calls::add_member;

@@ -5,8 +5,8 @@ use lib.ListN.{length}
 use Rattle.srt_group_shown.specs.Tables.{parts, tables}
 use Rattle.srt_group_shown.specs.Ready.{Ready}
 use borrow.Author.Needs.{needs}
-use Rattle.calls_bench.proofs.steps.step_each.Statement.{statement}
-use Rattle.calls_bench.proofs.steps.step_each.Tie as tie
+use Rattle.bench_steps.proofs.steps.step_each.Statement.{statement}
+use Rattle.bench_steps.proofs.steps.step_each.Tie as tie
 
 abbrev Inv-loop : tie.InvT-loop
 Inv-loop identity core₀ sending ring members₀ pending₀ waiting₀ history sources store₀ output₀ used₀ steps₀ payload time at₀ core members pending waiting store output used steps at =

@@ -3,8 +3,8 @@ use mathlib.Core.Path.{_≡_}
 use Prim.Native.Nat.{_-_}
 use lib.ListN.{length}
 use borrow.Author.Needs.{needs}
-use Rattle.calls_bench.proofs.steps.call_each.Statement.{statement}
-use Rattle.calls_bench.proofs.steps.call_each.Tie as tie
+use Rattle.bench_steps.proofs.steps.call_each.Statement.{statement}
+use Rattle.bench_steps.proofs.steps.call_each.Tie as tie
 
 abbrev Inv-loop : tie.InvT-loop
 Inv-loop group₀ members₀ pending₀ waiting₀ history sources store₀ output₀ steps₀ payload time at₀ group members pending waiting store output steps at =
