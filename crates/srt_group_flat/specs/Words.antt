@@ -2,6 +2,7 @@
 use mathlib.Core.Path.{_≡_}
 use mathlib.Core.Bool.{true, false}
 use mathlib.Core.Option.{none, some}
+use Prim.Native.Nat.{_≤_}
 use Rattle.srt_group_model.specs.Tools.{if_then_else_, is-set}
 use Rattle.srt_group_model.specs.Guards.{Answer, no-answer, data-polled}
 use Rattle.srt_group_model.specs.Calls.{no-data}
@@ -21,8 +22,9 @@ words-answer w =
 abbrev pub no-packet : Packet
 no-packet = record { member = 0; owned = 0; content = no-data }
 
--- words that say nothing are 0: a packet's where none is given, all but the code where the poll is refused
+-- `given` is 0 or 1, and words that say nothing are 0: a packet's where none is given, all but the code where the poll is refused
 pub record Cleared (w : DataWords) : Type 0 where
+  pub flag : w .given ≤ 1
   pub packet : is-set (w .given) ≡ false → w .packet ≡ no-packet
   pub given : is-set (w .code) ≡ true → w .given ≡ 0
   pub continuation : is-set (w .code) ≡ true → w .continuation ≡ 0

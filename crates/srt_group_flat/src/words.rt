@@ -60,12 +60,15 @@ pub fn words_of(answer: DataAnswer) -> DataWords
     ensures { λ r. ⌜ Says answer r ⌝ }
 {
     match answer {
-        DataAnswer::Refused(error) => DataWords {
-            code: error.number() as u64,
-            given: 0,
-            packet: NO_PACKET,
-            continuation: 0,
-        },
+        DataAnswer::Refused(error) => {
+            let code = error.number() as u64;
+            DataWords {
+                code,
+                given: 0,
+                packet: NO_PACKET,
+                continuation: 0,
+            }
+        }
         DataAnswer::Polled(poll) => words_of_poll(poll),
     }
 }

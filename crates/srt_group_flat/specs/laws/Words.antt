@@ -4,11 +4,12 @@ use mathlib.Core.Bool.{Bool, true, false, true≢false}
 use mathlib.Core.List.{List}
 use mathlib.Core.Option.{none}
 use Prim.Native.Nat.{ℕ}
+use native.Mathlib.Omega.{arith}
 use Rattle.srt_protocol.specs.declared.error.Error.{Error}
 use Rattle.srt_protocol.specs.declared.error.Error.the-variants.{MissingGroupMask, OutOfRange, UnknownMember, PayloadTooLong, InsufficientBuffer, InvalidState, MemberLimit, DuplicateMember, AlignmentFailed, PayloadAboveLimit, NoActiveMember, SequenceMismatch, AllBroadcastFailed, AllBackupFailed, ReplayRefused, PromotionSendFailed, NoFreeCell, QueueFull, OutOfTurn}
 use Rattle.srt_protocol.specs.Errors.{error-number}
 use Rattle.srt_group_model.specs.Tools.{if_then_else_, is-set}
-use Rattle.srt_group_model.specs.Guards.{no-answer, data-polled}
+use Rattle.srt_group_model.specs.Guards.{Answer, no-answer, data-polled}
 use Rattle.srt_group_model.specs.Lent.{Lent, Call}
 use Rattle.srt_group_model.specs.declared.Packet.{Packet}
 use Rattle.srt_group_shown.specs.Tables.{Parts, Tables}
@@ -61,27 +62,42 @@ says-refused e is {n} same =
             same-code = same;
             same-answer = ap (λ (b : Bool). if b then no-answer else data-polled none false) (ap is-set same ∙ refused-set e);
           };
-      cleared = record { packet = λ none. refl; given = λ refused. refl; continuation = λ refused. refl };
+      cleared = record { flag = omega arith; packet = λ none. refl; given = λ refused. refl; continuation = λ refused. refl };
     }
 
 pub says-polled : {answer : DataAnswer} (poll : GroupDataPoll) → answer ≡ Polled poll → {w : DataWords} → Says (Polled poll) w → Says answer w
 says-polled poll is {w} says = subst (λ (a : DataAnswer). Says a w) (sym is) says
+
+abbrev answer-with : (continuation : ℕ) → OptionalPacket → Answer
+answer-with continuation packet = data-polled (option-of packet) (is-set continuation)
 
 module _ {poll : GroupDataPoll} where
   pub says-none : poll .packet ≡ None → Says (Polled poll) (in-words 0 0 no-packet (poll .continuation))
   unfolding words-answer if_then_else_
   says-none is =
       record {
-        answers = record { same-code = refl; same-answer = ap (λ (o : OptionalPacket). data-polled (option-of o) (is-set (poll .continuation))) (sym is) };
-        cleared = record { packet = λ none. refl; given = λ refused. refl; continuation = λ refused. absurd (true≢false (sym refused)) };
+        answers = record { same-code = refl; same-answer = ap (answer-with (poll .continuation)) (sym is) };
+        cleared =
+            record {
+              flag = omega arith;
+              packet = λ none. refl;
+              given = λ refused. refl;
+              continuation = λ refused. absurd (true≢false (sym refused));
+            };
       }
 
   pub says-some : (p : Packet) → poll .packet ≡ Some p → Says (Polled poll) (in-words 0 1 p (poll .continuation))
   unfolding words-answer if_then_else_
   says-some p is =
       record {
-        answers = record { same-code = refl; same-answer = ap (λ (o : OptionalPacket). data-polled (option-of o) (is-set (poll .continuation))) (sym is) };
-        cleared = record { packet = λ none. absurd (true≢false none); given = λ refused. absurd (true≢false (sym refused)); continuation = λ refused. absurd (true≢false (sym refused)) };
+        answers = record { same-code = refl; same-answer = ap (answer-with (poll .continuation)) (sym is) };
+        cleared =
+            record {
+              flag = omega arith;
+              packet = λ none. absurd (true≢false none);
+              given = λ refused. absurd (true≢false (sym refused));
+              continuation = λ refused. absurd (true≢false (sym refused));
+            };
       }
 
 -- ---- a promise over an answer in words

@@ -10,8 +10,8 @@ enum-known-answer c = search needs
 number-requires : tie.Need-number-requires
 number-requires c κs = search needs
 
-cast-t6 : tie.Need-cast-t6
-cast-t6 c = search needs
+cast-code : tie.Need-cast-code
+cast-code c = search needs
 
 enum-known-answer-2 : tie.Need-enum-known-answer-2
 enum-known-answer-2 c = search needs
@@ -31,7 +31,7 @@ words-of-spec =
     (tie.spec
     enum-known-answer
     number-requires
-    cast-t6
+    cast-code
     enum-known-answer-2
     words-of-poll-requires
     returns
