@@ -1,0 +1,3 @@
+pub mod Words
+-- What is proved.
+pub mod laws
