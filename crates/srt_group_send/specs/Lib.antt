@@ -1,3 +1,4 @@
 pub mod Sends
+pub mod Answers
 -- What is proved.
 pub mod laws
