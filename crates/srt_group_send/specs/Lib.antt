@@ -1,4 +1,4 @@
 pub mod Sends
-pub mod Answers
+pub mod Readiness
 -- What is proved.
 pub mod laws

@@ -5,8 +5,6 @@ use Prim.Native.Nat.{ℕ, _≤_, _<_}
 use lib.Dec.{eqb}
 use lib.ListN.{length}
 use Rattle.srt_protocol.specs.Cells.{cell-size, cells-of}
-use Rattle.srt_protocol.specs.declared.error.Outcome.{Outcome}
-use Rattle.srt_protocol.specs.Errors.{outcome-number}
 use Rattle.srt_group_model.specs.Tools.{if_then_else_}
 use Rattle.srt_group_model.specs.State.{State, is-backup}
 use Rattle.srt_group_model.specs.Run.{start, refresh-states}
@@ -44,11 +42,6 @@ pub record FitShown (core : Core) (x : Sending) (r : HistoryRing) (t : BackupTab
   pub waiting : List ℕ
   pub fit : Fit (sending-state core x r t identity pending waiting)
 
--- a code that document 01 has: the number of an outcome
-pub record OutcomeCode (code : ℕ) : Type 0 where
-  pub outcome : Outcome
-  pub is : code ≡ outcome-number outcome
-
 -- what a send answers: on how many legs, if it succeeded
 abbrev pub sent-answer : GroupSend → Answer
 sent-answer r = if eqb (r .code) 0 then shown (number (r .legs)) else no-answer
@@ -58,7 +51,6 @@ pub record FlowMade (cell time size : ℕ) (core : Core) (x : Sending) (r : Hist
   pub members-long : length (after .members) ≡ length (before .members)
   pub arrays-long : Long (arrays-in after)
   pub few : answer .rows ≤ max-sent
-  pub coded : OutcomeCode (answer .code)
   pub sends : List Sent
   pub written : Wrote 0 sends (before .list) (answer .rows) (after .list)
   pub legs : answer .legs ≡ (if eqb (answer .code) 0 then (if is-backup (core .mode) then 1 else length sends) else 0)
@@ -84,4 +76,3 @@ pub record Storable (cell size store : ℕ) : Type 0 where
 pub record Sends (time : ℕ) (payload : List ℕ) (p : Parts) (t : Tables) (bytes : Lent) (r : GroupSend) (t′ : Tables) (bytes′ : Lent) (used′ : List ℕ) : Type 0 where
   pub performs : Performs (call-send time payload) p t bytes (r .code) (sent-answer r) (parts (p .identity) (r .core) (r .sending) (r .ring)) t′ bytes′ used′
   pub rows : r .rows ≡ perform (call-send time payload) bytes (state-of p t) .rows
-  pub coded : OutcomeCode (r .code)

@@ -1,4 +1,4 @@
 -- What is proved. A reader who trusts the checker need not read it.
 pub mod Sends
 pub mod Performed
-pub mod Promised
+pub mod Readiness

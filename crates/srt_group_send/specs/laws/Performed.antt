@@ -9,9 +9,7 @@ use borrow.Author.Tests.{eqb-true, eq-eqb, ne-eqb, lt-ltb, le-ltb}
 use lib.Dec.{eqb}
 use lib.ListN.{length}
 use Rattle.srt_protocol.specs.Cells.{cell-size, cells-of, max-cells, overwritten}
-use Rattle.srt_protocol.specs.declared.error.Error.the-variants.{PayloadTooLong, NoFreeCell}
 use Rattle.srt_protocol.specs.declared.error.Outcome.{Outcome}
-use Rattle.srt_protocol.specs.declared.error.Outcome.the-variants.{Refused}
 use Rattle.srt_protocol.specs.Errors.{if-accepted}
 use Rattle.srt_protocol.specs.Cells.{Put}
 use Rattle.srt_protocol.specs.laws.CellLaws.{cell-accepted}
@@ -53,7 +51,7 @@ use Rattle.srt_group_shown.specs.laws.Steps.{rows-there}
 use Rattle.srt_group_backup_send.specs.Freeing.{SendFollows}
 use Rattle.srt_group_backup_send.specs.BackupSend.{BackupTables, backup-tables, arrays-in, Lendable}
 use Rattle.srt_group_send.specs.declared.sending.GroupSend.{GroupSend}
-use Rattle.srt_group_send.specs.Sends.{FitShown, OutcomeCode, FlowMade, sent-answer, Storable, Sends}
+use Rattle.srt_group_send.specs.Sends.{FitShown, FlowMade, sent-answer, Storable, Sends}
 
 -- ---- the cells
 
@@ -157,25 +155,24 @@ module _ (time : ℕ) (payload : List ℕ) (p : Parts) (t : Tables) (store list 
       ∙ guard-goes-on (2 when above largest-64 time) 4-on s body (le-ltb largest-64 time small)
 
   -- refused: what is left is what was there
-  refused-with : (code : ℕ) → OutcomeCode code → eqb code 0 ≡ false → step ≡ refuse code s
+  refused-with : (code : ℕ) → eqb code 0 ≡ false → step ≡ refuse code s
       → Sends time payload p t (sending-into store list) record { code = code; legs = 0; rows = 0; core = p .core; sending = p .sending; ring = p .ring } t
       (sending-into store list) used
   unfolding perform with-bytes
-  refused-with code coded above-0 is =
+  refused-with code above-0 is =
       record {
         performs =
             subst (λ (a : Answer). Performs call p t (sending-into store list) code a p t (sending-into store list) used)
             (sym (if-false (eqb code 0) (shown (number 0)) no-answer above-0))
             (performs-refused call p t (sending-into store list) used ready code is);
         rows = sym (ap (λ (x : Step). length (x .sends)) is);
-        coded = coded;
       }
 
   pub long-refused : cell-size < length payload
       → Sends time payload p t (sending-into store list) record { code = 4; legs = 0; rows = 0; core = p .core; sending = p .sending; ring = p .ring } t
       (sending-into store list) used
   long-refused long =
-      refused-with 4 record { outcome = Refused PayloadTooLong; is = refl } refl
+      refused-with 4 refl
       (starts ∙ guard-stops (4 when above cell-size (length payload)) 30-on s body (lt-ltb cell-size (length payload) long))
 
   module _ (short : length payload ≤ cell-size) where
@@ -187,7 +184,7 @@ module _ (time : ℕ) (payload : List ℕ) (p : Parts) (t : Tables) (store list 
         (sending-into store list) used
     unfolding if-some_give_otherwise_
     full-refused in-backup lowest is =
-        refused-with 30 record { outcome = Refused NoFreeCell; is = refl } refl
+        refused-with 30 refl
         (after-4
         ∙ guard-stops (30 when (is-backup (p .core .mode) && no-free-cell room s)) [] s body
         (ap₂ _&&_ in-backup
@@ -263,7 +260,6 @@ module _ (time : ℕ) (payload : List ℕ) (p : Parts) (t : Tables) (store list 
           rows =
               let filled : answer .rows ≡ length (made .sends) = omega (arith, made .written .count) in
               filled ∙ sym (ap (λ (x : Step). length (x .sends)) step-is);
-          coded = made .coded;
         }
 
     run : Run

@@ -6,8 +6,6 @@ use Prim.Native.Nat.{ℕ, _≤_}
 use native.Mathlib.Omega.{arith}
 use lib.Dec.{eqb}
 use lib.ListN.{length}
-use Rattle.srt_protocol.specs.declared.error.Error.the-variants.{PayloadAboveLimit}
-use Rattle.srt_protocol.specs.declared.error.Outcome.the-variants.{Refused}
 use Rattle.srt_protocol.specs.Errors.{outcome-number}
 use Rattle.srt_group_model.specs.Tools.{if_then_else_}
 use Rattle.srt_group_model.specs.laws.Reason.{if-true, if-false}
@@ -137,7 +135,6 @@ module _ (core : Core) (x : Sending) (r : HistoryRing) (before : BackupTables) (
           members-long = refreshes .members-long;
           arrays-long = lent .arrays-long;
           few = omega arith;
-          coded = record { outcome = Refused PayloadAboveLimit; is = refl };
           sends = [];
           written = wrote-nothing 0 (before .list);
           legs = sym (if-false (eqb 23 0) (if is-backup (core .mode) then 1 else 0) 0 refl);
@@ -158,7 +155,6 @@ module _ (core : Core) (x : Sending) (r : HistoryRing) (before : BackupTables) (
           members-long = flows .members-long ∙ refreshes .members-long;
           arrays-long = flows .arrays-long;
           few = flows .few;
-          coded = record { outcome = sent .outcome; is = is-code };
           sends = flows .sends;
           written = flows .written;
           legs =

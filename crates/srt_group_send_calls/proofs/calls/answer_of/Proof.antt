@@ -1,8 +1,8 @@
 -- `answer_of` meets its contract.
 use borrow.Author.Needs.{needs}
-use Rattle.srt_group_send.specs.laws.Promised.{answers-sent, answers-refused}
-use Rattle.srt_group_send.proofs.calls.answer_of.Statement.{statement}
-use Rattle.srt_group_send.proofs.calls.answer_of.Tie as tie
+use Rattle.srt_group_send_calls.specs.laws.Promised.{answers-sent, answers-refused}
+use Rattle.srt_group_send_calls.proofs.calls.answer_of.Statement.{statement}
+use Rattle.srt_group_send_calls.proofs.calls.answer_of.Tie as tie
 
 returns : tie.Need-returns
 returns c = answers-sent (c .before .args .code) (c .before .args .legs) (c .if1 .taken)

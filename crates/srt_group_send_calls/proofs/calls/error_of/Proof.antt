@@ -1,8 +1,8 @@
 -- `error_of` meets its contract: each arm is a number of document 01, and there are no others.
 use borrow.Author.Needs.{needs}
-use Rattle.srt_group_send.specs.laws.Promised.{last-refusal}
-use Rattle.srt_group_send.proofs.calls.error_of.Statement.{statement}
-use Rattle.srt_group_send.proofs.calls.error_of.Tie as tie
+use Rattle.srt_group_send_calls.specs.laws.Promised.{last-refusal}
+use Rattle.srt_group_send_calls.proofs.calls.error_of.Statement.{statement}
+use Rattle.srt_group_send_calls.proofs.calls.error_of.Tie as tie
 
 returns : tie.Need-returns
 returns c = search needs

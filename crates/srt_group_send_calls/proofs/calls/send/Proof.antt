@@ -5,9 +5,9 @@ use lib.ListN.{length}
 use Rattle.srt_group_model.specs.Sending.{list-size}
 use Rattle.srt_group_shown.specs.Tables.{tables}
 use Rattle.srt_group.specs.Made.{parts-of}
-use Rattle.srt_group_send.specs.laws.Promised.{list-refused, send-refused, send-performed}
-use Rattle.srt_group_send.proofs.calls.send.Statement.{statement}
-use Rattle.srt_group_send.proofs.calls.send.Tie as tie
+use Rattle.srt_group_send_calls.specs.laws.Promised.{sent-coded, list-refused, send-refused, send-performed}
+use Rattle.srt_group_send_calls.proofs.calls.send.Statement.{statement}
+use Rattle.srt_group_send_calls.proofs.calls.send.Tie as tie
 
 returns : tie.Need-returns
 returns c =
@@ -53,7 +53,7 @@ send-requires c κs =
     (c .before .before .before .before .before .before .before .before .before .begin-stored .ensures .ready accepted, c .before .before .before .before .before .before .before .before .before .before .before .before .before .before .if1 .left)
 
 answer-of-requires : tie.Need-answer-of-requires
-answer-of-requires c κs = search needs
+answer-of-requires c κs = sent-coded (c .before .before .before .before .before .before .before .before .before .before .before .before .before .before .send .ensures)
 
 same-length-4 : tie.Need-same-length-4
 same-length-4 c = search needs

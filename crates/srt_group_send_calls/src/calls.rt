@@ -1,20 +1,23 @@
-// `send` with its refusals, over the record and the lent tables: 5 and 6, and then the form for a valid state.
+// `send` and the readiness tests with their refusals, over the record and the lent tables: 5 and 6, and then what follows them.
 ghost use mathlib.Core.Path.{_≡_};
 ghost use Prim.Native.Nat.{_<_};
 ghost use lib.Dec.{eqb};
 ghost use Rattle.srt_protocol.specs.Errors.{error-number};
 ghost use Rattle.srt_group_model.specs.Tools.{if_then_else_};
 ghost use Rattle.srt_group_model.specs.Guards.{no-answer, shown, number};
-ghost use Rattle.srt_group_model.specs.Lent.{call-send};
+ghost use Rattle.srt_group_model.specs.Lent.{call-send, call-can-send, call-can-send-with-pacing};
+ghost use Rattle.srt_group_looks.specs.Looks.{truth-code, truth-answer};
 ghost use Rattle.srt_group_shown.specs.Tables.{tables};
 ghost use Rattle.srt_group_shown.specs.Ready.{sending-into};
 ghost use Rattle.srt_group.specs.Made.{parts-of};
-ghost use Rattle.srt_group_refusals.specs.Promised.{showing, Answers, Promised};
-ghost use Rattle.srt_group_send.specs.Sends.{OutcomeCode};
-ghost use Rattle.srt_group_send.specs.Answers.{send-number, send-answer};
-use crate::sending;
+ghost use Rattle.srt_group_refusals.specs.Promised.{nothing-lent, showing, Answers, Promised};
+ghost use Rattle.srt_group_send_calls.specs.Answers.{OutcomeCode, send-number, send-answer};
 use srt_group::Group;
+use srt_group_looks::looks::TruthLook;
+use srt_group_refusals::refusals::begin;
 use srt_group_refusals::refusals::begin_stored;
+use srt_group_send::readiness;
+use srt_group_send::sending;
 use srt_group_sending::list::SENT_LENGTH;
 use srt_protocol::error::Error;
 use srt_protocol::error::Outcome;
@@ -190,4 +193,131 @@ pub fn send_shared(
         time,
         payload,
     )
+}
+
+// ---- readiness
+
+// Whether a send could go, or why the question is refused; and the record after it, since the test refreshes and trims.
+pub struct GroupReady {
+    pub group: Group,
+    pub answer: TruthLook,
+}
+
+// Whether the group could send now.
+pub fn can_send(
+    group: Group,
+    members: &mut [u64],
+    pending: &[u64],
+    waiting: &[u64],
+    history: &[u64],
+    sources: &[u64],
+) -> GroupReady
+    ensures { λ r. ⌜ Promised call-can-send (parts-of group)
+        (tables (now (members .entry)) (now (pending .entry)) (now (waiting .entry)) (now (history .entry)) (now (sources .entry)))
+        nothing-lent
+        (showing (parts-of (r .group))
+        (tables (now (members .exit)) (now (pending .entry)) (now (waiting .entry)) (now (history .entry)) (now (sources .entry)))
+        nothing-lent (truth-code (r .answer)) (truth-answer (r .answer)) 0) ⌝ }
+{
+    let Group {
+        identity,
+        core,
+        sending,
+        ring,
+    } = group;
+    let begun = begin(
+        identity,
+        core,
+        sending,
+        ring,
+        members,
+        pending,
+        waiting,
+        history,
+        sources,
+    );
+    if let Outcome::Refused(error) = begun {
+        return GroupReady {
+            group,
+            answer: TruthLook::Refused(error),
+        };
+    }
+    let mut used = [0u64; 32];
+    let tested = readiness::can_send(core, sending, ring, members, history, &mut used);
+    let after = tested.core;
+    let numbers = tested.sending;
+    let left = tested.ring;
+    GroupReady {
+        group: Group {
+            identity,
+            core: after,
+            sending: numbers,
+            ring: left,
+        },
+        answer: TruthLook::Truth(tested.ready),
+    }
+}
+
+// The same, where a leg counts that may send by its pace at this time.
+pub fn can_send_with_pacing(
+    group: Group,
+    members: &mut [u64],
+    pending: &[u64],
+    waiting: &[u64],
+    history: &[u64],
+    sources: &[u64],
+    time: Timestamp,
+) -> GroupReady
+    ensures { λ r. ⌜ Promised (call-can-send-with-pacing (time .0)) (parts-of group)
+        (tables (now (members .entry)) (now (pending .entry)) (now (waiting .entry)) (now (history .entry)) (now (sources .entry)))
+        nothing-lent
+        (showing (parts-of (r .group))
+        (tables (now (members .exit)) (now (pending .entry)) (now (waiting .entry)) (now (history .entry)) (now (sources .entry)))
+        nothing-lent (truth-code (r .answer)) (truth-answer (r .answer)) 0) ⌝ }
+{
+    let Group {
+        identity,
+        core,
+        sending,
+        ring,
+    } = group;
+    let begun = begin(
+        identity,
+        core,
+        sending,
+        ring,
+        members,
+        pending,
+        waiting,
+        history,
+        sources,
+    );
+    if let Outcome::Refused(error) = begun {
+        return GroupReady {
+            group,
+            answer: TruthLook::Refused(error),
+        };
+    }
+    let mut used = [0u64; 32];
+    let told = readiness::can_send_with_pacing(
+        core,
+        sending,
+        ring,
+        members,
+        history,
+        &mut used,
+        time,
+    );
+    let after = told.core;
+    let numbers = told.sending;
+    let left = told.ring;
+    GroupReady {
+        group: Group {
+            identity,
+            core: after,
+            sending: numbers,
+            ring: left,
+        },
+        answer: TruthLook::Truth(told.ready),
+    }
 }

@@ -1,10 +1,10 @@
 -- What is proved of the public send: its 5 of the list beside 5 of the store, and then the form for a valid state.
-use mathlib.Core.Path.{_≡_, refl, sym, ap, _∙_}
+use mathlib.Core.Path.{_≡_, refl, sym, ap, subst, _∙_}
 use mathlib.Core.Bool.{Bool, true, false, _&&_, _||_}
 use mathlib.Core.List.{List, [], _∷_}
 use Prim.Native.Nat.{ℕ, _<_}
 use native.Mathlib.Omega.{arith}
-use borrow.Author.Tests.{eq-eqb, ne-eqb}
+use borrow.Author.Tests.{eqb-true, eq-eqb, ne-eqb}
 use lib.Dec.{eqb}
 use lib.ListN.{length}
 use Rattle.srt_protocol.specs.declared.error.Error.{Error}
@@ -13,14 +13,17 @@ use Rattle.srt_protocol.specs.declared.error.Outcome.{Outcome}
 use Rattle.srt_protocol.specs.declared.error.Outcome.the-variants.{Accepted, Refused}
 use Rattle.srt_protocol.specs.Errors.{error-number, outcome-number}
 use Rattle.srt_protocol.specs.Cells.{cell-size, cells-of}
-use Rattle.srt_group_model.specs.Tools.{if_then_else_}
+use Rattle.srt_group_model.specs.Tools.{if_then_else_, any, All}
 use Rattle.srt_group_model.specs.State.{State, is-backup}
 use Rattle.srt_group_model.specs.Legs.{largest-64}
 use Rattle.srt_group_model.specs.Validity.{above, is-invalid}
 use Rattle.srt_group_model.specs.Guards.{Answer, no-answer, shown, number, Step, Check, _when_, guard}
 use Rattle.srt_group_model.specs.Calls.{store-unfit, list-unfit, no-free-cell, taken-cell, send-body, send}
-use Rattle.srt_group_model.specs.Lent.{Lent, Call, call-send, step-of}
-use Rattle.srt_group_model.specs.laws.Reason.{if-true, if-false, by-test, or-no, or-yes-right}
+use Rattle.srt_group_model.specs.Cells.{is-among}
+use Rattle.srt_group_model.specs.Codes.{broadcast-codes, backup-codes, codes-of}
+use Rattle.srt_group_model.specs.Lent.{Lent, Call, call-send, step-of, perform}
+use Rattle.srt_group_model.specs.laws.Codes.{call-code}
+use Rattle.srt_group_model.specs.laws.Reason.{if-true, if-false, if-elim, by-test, or-no, or-cases, or-yes-right, not-both}
 use Rattle.srt_group_model.specs.laws.Refusals.{guard-stops}
 use Rattle.srt_group_traces.specs.laws.Port.{performs-does}
 use Rattle.srt_group_shown.specs.Tables.{Parts, parts, Tables, state-of}
@@ -29,8 +32,63 @@ use Rattle.srt_group_refusals.specs.Begins.{are-short, BeginsStored}
 use Rattle.srt_group_refusals.specs.laws.Begins.{not-short}
 use Rattle.srt_group_refusals.specs.Promised.{showing, Answers, Promised}
 use Rattle.srt_group_refusals.specs.laws.Promised.{does-refused, promised-short, promised-does, promised-refused, promised-answers}
 use Rattle.srt_group_send.specs.declared.sending.GroupSend.{GroupSend}
-use Rattle.srt_group_send.specs.Sends.{OutcomeCode, sent-answer, Sends}
+use Rattle.srt_group_send.specs.Sends.{sent-answer, Sends}
+use Rattle.srt_group_send_calls.specs.Answers.{OutcomeCode}
+
+-- ---- the codes of a send are document 01's
+
+among : (n : ℕ) (l : List ℕ) → All OutcomeCode l → is-among n l ≡ true → OutcomeCode n
+unfolding any
+among n [] all is = not-both {t = false} is refl
+among n (m ∷ l) all is =
+    or-cases (eqb m n) (is-among n l) is (λ same. subst OutcomeCode (eqb-true m n same) (all .0)) (λ more. among n l (all .1) more)
+
+abbrev refusal : (e : Error) → OutcomeCode (error-number e)
+refusal e = record { outcome = Refused e; is = refl }
+
+send-codes : (mode time : ℕ) (payload : List ℕ) → All OutcomeCode (0 ∷ codes-of mode (call-send time payload))
+unfolding codes-of
+send-codes mode time payload = (
+  record { outcome = Accepted; is = refl },
+  (
+    refusal InsufficientBuffer,
+    (
+      refusal InvalidState,
+      (
+        refusal OutOfRange,
+        (
+          refusal PayloadTooLong,
+          if-elim (All OutcomeCode) (is-backup mode) (30 ∷ 23 ∷ backup-codes) (23 ∷ broadcast-codes)
+              (λ b. (
+                refusal NoFreeCell,
+                (
+                  refusal PayloadAboveLimit,
+                  (
+                    refusal NoActiveMember,
+                    (
+                      refusal ReplayRefused,
+                      (
+                        refusal AlignmentFailed,
+                        (refusal SequenceMismatch, (refusal AllBackupFailed, (refusal PromotionSendFailed, tt))),
+                      ),
+                    ),
+                  ),
+                ),
+              ))
+              (λ b. (refusal PayloadAboveLimit, (refusal NoActiveMember, (refusal SequenceMismatch, (refusal AllBroadcastFailed, tt))))),
+        ),
+      ),
+    ),
+  ),
+)
+
+pub sent-coded : {time : ℕ} {payload : List ℕ} {p : Parts} {t : Tables} {bytes : Lent} {sent : GroupSend} {t′ : Tables} {bytes′ : Lent} {used′ : List ℕ}
+    → Sends time payload p t bytes sent t′ bytes′ used′ → OutcomeCode (sent .code)
+sent-coded {time} {payload} {p} {t} {bytes} {sent} done =
+    subst OutcomeCode (sym (done .performs .code))
+    (among (perform (call-send time payload) bytes (state-of p t) .code) (0 ∷ codes-of (p .core .mode) (call-send time payload))
+    (send-codes (p .core .mode) time payload) (call-code (call-send time payload) bytes (state-of p t)))
 
 -- ---- the answer
 
