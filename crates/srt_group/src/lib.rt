@@ -1,6 +1,6 @@
 // `SrtGroup` of srt_group/mod.rs: the group's record, by value, with `new` and its limits. All that is large is lent: the members with
 // their legs and queues, the held packets, the waiting events, the history's two arrays, the store. The public calls over it stand in the
-// crates of their subjects, each in a module `calls`, in which nothing has a `requires`.
+// crates of their subjects, in modules `calls`; no public function there has a `requires`.
 ghost use mathlib.Core.Path.{_≡_};
 ghost use mathlib.Core.Bool.{_||_};
 ghost use lib.ListN.{length};
