@@ -10,11 +10,11 @@ use srt_connection::legs::handed_over;
 use srt_connection_members::append_member;
 use srt_connection_members::membership_at;
 use srt_group_delivery::delivery::set_base;
+use srt_group_members::accounts::NO_PACKETS;
 use srt_group_members::admission::Admission;
 use srt_group_members::admission::admit_peer_group;
 use srt_group_members::alignment::align_member_sequence;
 use srt_group_members::states::state_at_addition;
-use srt_group_model::Account;
 use srt_group_model::Collision;
 use srt_group_model::Core;
 use srt_group_model::Leg;
@@ -38,7 +38,7 @@ fn membership_at_addition(id: u64, weight: u64, state: u64) -> Membership
         weight,
         state,
         admitted: 0,
-        account: Account { reserved: 0 },
+        account: NO_PACKETS,
         collision: Collision {
             expected: 0,
             actual: 0,
