@@ -1,0 +1,3 @@
+pub mod Telling
+-- What is proved.
+pub mod laws
