@@ -11,8 +11,8 @@ use lib.ListN.{length, take, drop, getD, length-drop, drop-of-length-le}
 use borrow.Author.Tests.{ltb-true, ltb-false, le-leb, ne-eqb, leb-false}
 use Rattle.listing.specs.Line.{well-formed, line-numbers, line-answer}
 use Rattle.listing.specs.Text.{line-text}
-use Rattle.listing.specs.Stream.{has-feed, first-line, after-feed, ended, open-line, last-line}
-use Rattle.listing.specs.laws.Stream.{lines, joined, lines-of-blocks}
+use Rattle.listing.specs.Stream.{lines, joined, has-feed, first-line, after-feed, ended, open-line, last-line}
+use Rattle.listing.specs.laws.Stream.{lines-of-blocks}
 use Rattle.listing.specs.Placed.{Placed, PlacedOrRefused}
 use Rattle.listing.specs.Held.{Held, HeldRead, TakenFrom, WholeRead, whole-here, well-formed-within}
 use Rattle.listing.specs.declared.Line.{Line}

@@ -12,8 +12,8 @@ use Rattle.listing.proofs.Cases.{by-cases}
 use Rattle.listing.proofs.ColumnLaws.{drop-at-byte, drop-at-end}
 use Rattle.listing.proofs.PlacedLaws.{append-nil, upto-placed, length-placed}
 use Rattle.listing.specs.Placed.{placed}
-use Rattle.listing.specs.Stream.{has-feed, first-line, after-feed, ended, open-line, last-line}
-use Rattle.listing.specs.laws.Stream.{lines, in-front, joined, lines-of-blocks}
+use Rattle.listing.specs.Stream.{lines, in-front, joined, has-feed, first-line, after-feed, ended, open-line, last-line}
+use Rattle.listing.specs.laws.Stream.{lines-of-blocks}
 use Rattle.listing.specs.Held.{Held}
 
 -- the byte at a place of a block, where it is a line feed and where not

@@ -80,7 +80,7 @@ columns-no-feed (suc count) width bytes e h =
     (columns-no-feed count width (drop width bytes) left (parts .1)))
 
 -- the columns of bytes are those of what follows them too
-cut-append : (count width : ℕ) (bytes more : List ℕ) → count * width ≤ length bytes → cut count width (bytes ++ more) ≡ cut count width bytes
+pub cut-append : (count width : ℕ) (bytes more : List ℕ) → count * width ≤ length bytes → cut count width (bytes ++ more) ≡ cut count width bytes
 unfolding cut
 cut-append zero width bytes more h = refl
 cut-append (suc count) width bytes more h =

@@ -10,6 +10,21 @@ use lib.Dec.{eqb}
 abbrev pub is-feed : ℕ → Bool
 is-feed byte = eqb byte 10
 
+-- a byte in front of the first of some lines, which is a line of its own where there is none
+unfoldable pub in-front : ℕ → List (List ℕ) → List (List ℕ)
+in-front byte [] = (byte ∷ []) ∷ []
+in-front byte (line ∷ lines) = (byte ∷ line) ∷ lines
+
+-- the lines of a stream
+unfoldable pub lines : List ℕ → List (List ℕ)
+lines [] = []
+lines (byte ∷ stream) = cond (is-feed byte) ([] ∷ lines stream) (in-front byte (lines stream))
+
+-- a stream that came in blocks, put together
+unfoldable pub joined : List (List ℕ) → List ℕ
+joined [] = []
+joined (block ∷ blocks) = block ++ joined blocks
+
 -- whether a stream has a line feed
 unfoldable pub has-feed : List ℕ → Bool
 has-feed [] = false
