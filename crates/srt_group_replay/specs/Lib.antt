@@ -1,0 +1,3 @@
+pub mod Lines
+-- What is proved.
+pub mod laws
