@@ -1,0 +1,3 @@
+pub mod Blocks
+-- What is proved.
+pub mod laws

@@ -1,0 +1,3 @@
+pub mod Rows
+-- What is proved.
+pub mod laws
