@@ -9,6 +9,7 @@ use replay_blocks::blocks::answer_last_line;
 use srt_group::Group;
 use srt_group::NewGroup;
 use srt_group_replay::telling::STORE;
+ghost use mathlib.Core.Path.{_≡_};
 ghost use lib.ListN.{length};
 ghost use Rattle.srt_group_shown.specs.Tables.{tables};
 ghost use Rattle.srt_group_replay.specs.Lines.{room, Standing};
@@ -238,6 +239,13 @@ fn usage() {
     );
 }
 
+// Room for the text of as many lines as a block has bytes: 121 bytes a line.
+fn text_room() -> [u8; 991232]
+    ensures { λ r. ⌜ length r ≡ 991232 ⌝ }
+{
+    [0; 991232]
+}
+
 fn main() {
     if 1 < os::arg_count() {
         usage();
@@ -260,7 +268,7 @@ fn main() {
     let mut buffer = [0u8; 88];
     let mut rows = [0u64; 65536];
     let mut answers = [0u64; 49152];
-    let mut out = [0u8; 991232];
+    let mut out = text_room();
     run(
         group,
         &mut members,
