@@ -25,7 +25,21 @@ use srt_group_removal::connection::remove_member;
 use srt_protocol::error::Outcome;
 use srt_protocol::time::Timestamp;
 
-// The line of a verb that answers its code alone.
+// The line of a verb that is refused, or accepted without columns of its own (0).
+pub fn code_line(verb: u64, code: u64) -> Printed
+    ensures { λ r. ⌜ numbers-of r ≡ refused-line verb code ⌝ }
+{
+    Printed {
+        verb,
+        code,
+        leg: 0,
+        sequence: 0,
+        count: 0,
+        skipped: 0,
+    }
+}
+
+// The line of a verb that answers its outcome alone.
 pub fn outcome_line(verb: u64, outcome: Outcome) -> Printed
     ensures { λ r. ⌜ numbers-of r ≡ refused-line verb (outcome-number outcome) ⌝ }
 {

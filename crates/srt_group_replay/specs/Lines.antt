@@ -3,7 +3,7 @@
 use mathlib.Core.Path.{_≡_}
 use mathlib.Core.List.{List}
 use mathlib.Core.Option.{Option, none, some}
-use Prim.Native.Nat.{ℕ, _≤_}
+use Prim.Native.Nat.{ℕ}
 use lib.Dec.{eqb}
 use lib.ListN.{length}
 use Rattle.srt_protocol.specs.Cells.{output-size}
@@ -17,18 +17,8 @@ use Rattle.srt_group_shown.specs.Tables.{Tables, state-of, Long}
 use Rattle.srt_group_shown.specs.Ready.{Ready}
 use Rattle.srt_group.specs.Made.{parts-of}
 use Rattle.srt_group.specs.declared.Group.{Group}
-use Rattle.srt_group_listing.specs.declared.Told.{Told}
 use Rattle.srt_group_replay.specs.declared.Replayed.{Replayed}
-use Rattle.srt_group_listing.specs.Telling.{Eight, numbers-of}
-
--- ---- the verbs
-
--- a line of eight numbers whose verb is one of these, and a store of 40 cells
-pub record Asks (first last : ℕ) (line : Line) (store : ℕ) : Type 0 where
-  pub eight : Eight line
-  pub from : first ≤ column 0 line
-  pub to : column 0 line ≤ last
-  pub cells : store ≡ store-length
+use Rattle.srt_group_listing.specs.Telling.{numbers-of}
 
 -- ---- what stands between two lines
 
@@ -49,13 +39,6 @@ pub record Standing (made : ℕ) (g : Group) (t : Tables) (lent : Lent) (used : 
   pub ready : (made ≡ 0 → ⊥) → Ready (parts-of g) t store-length used
 
 -- ---- what the code promises
-
--- a verb over a group that was made: the group after it and what it prints are the model's
-pub record TellsVerb (line : Line) (g : Group) (t : Tables) (r : Told) (t′ : Tables) (used′ : List ℕ) : Type 0 where
-  pub told :
-      tell (column 0 line) line (some (state-of (parts-of g) t))
-      ≡ record { group = some (state-of (parts-of (r .group)) t′); line = numbers-of (r .line) }
-  pub ready : Ready (parts-of (r .group)) t′ store-length used′
 
 -- verb 1, over any tables
 pub record TellsNew (line : Line) (made : ℕ) (g : Group) (used : List ℕ) (r : Replayed) (used′ : List ℕ) : Type 0 where

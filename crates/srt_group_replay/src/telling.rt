@@ -1,41 +1,27 @@
 // A line of a replay listing: its verb, over the group that stands, if one was made.
 ghost use mathlib.Core.Path.{_≡_};
-ghost use Prim.Native.Nat.{_≤_};
 ghost use lib.ListN.{length};
 ghost use Rattle.srt_protocol.specs.Cells.{output-size};
 ghost use Rattle.srt_group_model.specs.Sending.{list-size};
-ghost use Rattle.srt_group_model.specs.Listing.{column, store-length, refused-line};
 ghost use Rattle.srt_group_shown.specs.Tables.{tables};
 ghost use Rattle.srt_group_shown.specs.Ready.{Ready};
 ghost use Rattle.cell_set.specs.Bits.{set-size};
 ghost use Rattle.srt_group.specs.Made.{parts-of};
-ghost use Rattle.srt_group_listing.specs.Telling.{Eight, numbers-of};
-ghost use Rattle.srt_group_replay.specs.Lines.{Asks, room, Standing, TellsVerb, TellsNew, TellsLine};
+ghost use Rattle.srt_group_listing.specs.Telling.{Eight};
+ghost use Rattle.srt_group_listing.specs.Verbs.{Asks, TellsVerb};
+ghost use Rattle.srt_group_replay.specs.Lines.{room, Standing, TellsNew, TellsLine};
 use crate::Replayed;
 use cell_set::clear;
 use srt_group::Group;
 use srt_group::NewGroup;
-use srt_group_listing::Printed;
 use srt_group_listing::Told;
-use srt_group_listing::members;
-use srt_group_listing::packets;
+use srt_group_listing::members::code_line;
+use srt_group_listing::telling::tell_legs;
+use srt_group_listing::telling::tell_members;
+use srt_group_listing_packets::telling::tell_packets;
 
 // The bytes of the store: 40 cells.
 pub const STORE: usize = 40 * Group::CELL;
-
-// The line of a verb that is refused, or accepted without columns of its own (0).
-fn code_line(verb: u64, code: u64) -> Printed
-    ensures { λ r. ⌜ numbers-of r ≡ refused-line verb code ⌝ }
-{
-    Printed {
-        verb,
-        code,
-        leg: 0,
-        sequence: 0,
-        count: 0,
-        skipped: 0,
-    }
-}
 
 // Verb 1: a new group in place of the old, which stays if the line is refused. No cell of the new one is in use.
 fn tell_new(made: u64, group: Group, used: &mut [u64], line: &[u64]) -> Replayed
@@ -58,192 +44,6 @@ fn tell_new(made: u64, group: Group, used: &mut [u64], line: &[u64]) -> Replayed
             line: code_line(1, error.number() as u64),
         },
     }
-}
-
-// Verbs 2 and 3 over a group that was made.
-fn tell_legs(
-    group: Group,
-    members: &mut [u64],
-    pending: &[u64],
-    waiting: &[u64],
-    history: &[u64],
-    sources: &[u64],
-    store: &[u8],
-    used: &[u64],
-    line: &[u64],
-) -> Told
-    requires { ⌜ Ready (parts-of group)
-        (tables (now members) (now pending) (now waiting) (now history) (now sources)) (length (now store)) (now used) ⌝ }
-    requires { ⌜ Asks 2 3 (now line) (length (now store)) ⌝ }
-    ensures { λ r. ⌜ TellsVerb (now (line .entry)) group
-        (tables (now (members .entry)) (now (pending .entry)) (now (waiting .entry)) (now (history .entry)) (now (sources .entry)))
-        r
-        (tables (now (members .exit)) (now (pending .entry)) (now (waiting .entry)) (now (history .entry)) (now (sources .entry)))
-        (now (used .entry)) ⌝ }
-{
-    if line[0] == 2 {
-        return members::add(
-            group,
-            members,
-            pending,
-            waiting,
-            history,
-            sources,
-            store,
-            used,
-            line,
-        );
-    }
-    members::read(
-        group,
-        members,
-        pending,
-        waiting,
-        history,
-        sources,
-        store,
-        used,
-        line,
-    )
-}
-
-// Verbs 7, 8 and 9 over a group that was made.
-fn tell_members(
-    group: Group,
-    members: &mut [u64],
-    pending: &mut [u64],
-    waiting: &[u64],
-    history: &[u64],
-    sources: &[u64],
-    store: &[u8],
-    used: &mut [u64],
-    line: &[u64],
-) -> Told
-    requires { ⌜ Ready (parts-of group)
-        (tables (now members) (now pending) (now waiting) (now history) (now sources)) (length (now store)) (now used) ⌝ }
-    requires { ⌜ Asks 7 9 (now line) (length (now store)) ⌝ }
-    ensures { λ r. ⌜ TellsVerb (now (line .entry)) group
-        (tables (now (members .entry)) (now (pending .entry)) (now (waiting .entry)) (now (history .entry)) (now (sources .entry)))
-        r
-        (tables (now (members .exit)) (now (pending .exit)) (now (waiting .entry)) (now (history .entry)) (now (sources .entry)))
-        (now (used .exit)) ⌝ }
-{
-    let verb = line[0];
-    if verb == 7 {
-        return members::remove(
-            group,
-            members,
-            pending,
-            waiting,
-            history,
-            sources,
-            store,
-            used,
-            line,
-        );
-    }
-    if verb == 8 {
-        return members::mark_broken(
-            group,
-            members,
-            pending,
-            waiting,
-            history,
-            sources,
-            store,
-            used,
-            line,
-        );
-    }
-    members::queue(
-        group,
-        members,
-        pending,
-        waiting,
-        history,
-        sources,
-        store,
-        used,
-        line,
-    )
-}
-
-// Verbs 4, 5 and 6 over a group that was made. A byte above 255 is refused.
-fn tell_packets(
-    group: Group,
-    members: &mut [u64],
-    pending: &mut [u64],
-    waiting: &mut [u64],
-    history: &mut [u64],
-    sources: &mut [u64],
-    store: &mut [u8],
-    output: &mut [u8],
-    list: &mut [u64],
-    used: &mut [u64],
-    line: &[u64],
-) -> Told
-    requires { ⌜ Ready (parts-of group)
-        (tables (now members) (now pending) (now waiting) (now history) (now sources)) (length (now store)) (now used) ⌝ }
-    requires { ⌜ Asks 4 6 (now line) (length (now store)) ⌝ }
-    requires { ⌜ (length (now output) ≡ output-size) × (length (now list) ≡ list-size) ⌝ }
-    ensures { λ r. ⌜ TellsVerb (now (line .entry)) group
-        (tables (now (members .entry)) (now (pending .entry)) (now (waiting .entry)) (now (history .entry)) (now (sources .entry)))
-        r
-        (tables (now (members .exit)) (now (pending .exit)) (now (waiting .exit)) (now (history .exit)) (now (sources .exit)))
-        (now (used .exit)) ⌝ }
-{
-    let verb = line[0];
-    if verb == 5 {
-        return packets::poll(
-            group,
-            members,
-            pending,
-            waiting,
-            history,
-            sources,
-            store,
-            output,
-            used,
-            line,
-        );
-    }
-    if verb == 4 {
-        if 255 < line[5] {
-            return Told {
-                group,
-                line: code_line(4, 2),
-            };
-        }
-        return packets::queue(
-            group,
-            members,
-            pending,
-            waiting,
-            history,
-            sources,
-            store,
-            used,
-            line,
-        );
-    }
-    if 255 < line[1] {
-        return Told {
-            group,
-            line: code_line(6, 2),
-        };
-    }
-    packets::send(
-        group,
-        members,
-        pending,
-        waiting,
-        history,
-        sources,
-        store,
-        list,
-        used,
-        line,
-    )
 }
 
 // Any verb over a group that was made, 2 to 9.

@@ -1,5 +1,5 @@
 -- `main` lends tables of the lengths that are asked for.
-use Rattle.replay.specs.laws.Start.{none-stands}
+use Rattle.replay_io.specs.laws.Room.{none-stands}
 use native.Mathlib.Omega.{arith}
 use borrow.Author.Needs.{needs}
 use Rattle.replay.proofs.main.Statement.{statement}

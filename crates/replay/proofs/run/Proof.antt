@@ -4,7 +4,7 @@ use mathlib.Core.Path.{_≡_, refl, _∙_}
 use lib.ListN.{length}
 use Rattle.srt_group_shown.specs.Tables.{tables}
 use Rattle.srt_group_replay.specs.Lines.{room, Standing}
-use Rattle.replay.specs.laws.Start.{roomy-same}
+use Rattle.replay_io.specs.laws.Room.{roomy-same}
 use borrow.Author.Needs.{needs}
 use Rattle.replay.proofs.run.Statement.{statement}
 use Rattle.replay.proofs.run.Tie as tie
