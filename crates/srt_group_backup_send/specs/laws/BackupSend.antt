@@ -13,8 +13,8 @@ use Rattle.srt_group_model.specs.Tools.{if_then_else_, if-some_give_otherwise_,
 use Rattle.srt_group_model.specs.State.{Member, Send, State, with-send, with-members}
 use Rattle.srt_group_model.specs.Legs.{largest-sequence}
 use Rattle.srt_group_model.specs.Members.{first-active, promote-if-none}
-use Rattle.srt_group_model.specs.Sending.{max-sent, ends-with, _and-then_, sequence-for-send, sequence-mismatch}
-use Rattle.srt_group_model.specs.Backup.{demote-stale-backup-carrier, take-over-backup-flight, send-own, send-after-promotion, send-at-place, send-backup}
+use Rattle.srt_group_model.specs.Sending.{max-sent, ends-with, sequence-for-send, sequence-mismatch}
+use Rattle.srt_group_model.specs.Backup.{demote-stale-backup-carrier, send-own, send-after-promotion, send-at-place, send-backup}
 use Rattle.srt_group_model.specs.Sound.{Member-fit}
 use Rattle.srt_group_model.specs.laws.Reason.{if-elim, all-at, or-no}
 use Rattle.srt_group_model.specs.declared.Sender.{Sender}
@@ -111,10 +111,7 @@ module _ (time size cell i n : ℕ) (x : Sending) (r : HistoryRing) (sent : ℕ)
 
 pub backup-shape : (time size cell : ℕ) (s : State) → send-backup time size cell s
     ≡ (if-some first-active (promote-if-none (s .making .mode) (demote-stale-backup-carrier time (s .members)))
-    give
-    (λ j.
-    take-over-backup-flight time j (with-members (promote-if-none (s .making .mode) (demote-stale-backup-carrier time (s .members))) s)
-    and-then send-at-place time size cell j)
+    give (λ j. on-carrier time size cell j (with-members (promote-if-none (s .making .mode) (demote-stale-backup-carrier time (s .members))) s))
     otherwise
     ends-with (error-number NoActiveMember)
     (with-members (promote-if-none (s .making .mode) (demote-stale-backup-carrier time (s .members))) s))

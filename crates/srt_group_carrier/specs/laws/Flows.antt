@@ -5,11 +5,13 @@ use mathlib.Core.List.{List, [], _∷_, _++_}
 use mathlib.Core.Option.{Option, none, some}
 use Prim.Native.Nat.{ℕ, _-_, _≤_, _<_}
 use native.Mathlib.Omega.{arith}
+use borrow.Author.Tests.{ne-eqb}
 use lib.Dec.{eqb}
 use lib.ListN.{length}
 use Rattle.srt_protocol.specs.Errors.{error-number, outcome-number}
+use Rattle.srt_protocol.specs.laws.Errors.{refused-not-0}
 use Rattle.srt_protocol.specs.declared.error.Error.{Error}
-use Rattle.srt_protocol.specs.declared.error.Error.the-variants.{MissingGroupMask, OutOfRange, UnknownMember, PayloadTooLong, InsufficientBuffer, InvalidState, MemberLimit, DuplicateMember, AlignmentFailed, PayloadAboveLimit, NoActiveMember, SequenceMismatch, AllBroadcastFailed, AllBackupFailed, ReplayRefused, PromotionSendFailed, NoFreeCell, QueueFull, OutOfTurn}
+use Rattle.srt_protocol.specs.declared.error.Error.the-variants.{AllBackupFailed}
 use Rattle.srt_protocol.specs.declared.error.Outcome.{Outcome}
 use Rattle.srt_protocol.specs.declared.error.Outcome.the-variants.{Accepted, Refused}
 use Rattle.srt_group_model.specs.Tools.{if_then_else_, if-some_give_otherwise_, change}
@@ -17,7 +19,7 @@ use Rattle.srt_group_model.specs.State.{Member, Send, State, with-send, with-me
 use Rattle.srt_group_model.specs.Legs.{send-shared-with-sequence}
 use Rattle.srt_group_model.specs.Members.{id-of, first-active, promote-backup-member}
 use Rattle.srt_group_model.specs.Sending.{max-sent, list-size, Sent, own-send, Flow, ends-with, _and-then_, mark-send-failure}
-use Rattle.srt_group_model.specs.Backup.{max-history, take-over-backup-flight, send-own, send-after-promotion}
+use Rattle.srt_group_model.specs.Backup.{max-history, send-own, send-after-promotion}
 use Rattle.srt_group_model.specs.laws.Reason.{if-some-elim}
 use Rattle.srt_group_model.specs.laws.Places.{change-nothing}
 use Rattle.srt_group_model.specs.declared.Leg.{Leg}
@@ -42,28 +44,7 @@ use Rattle.srt_group_carrier.specs.laws.Freeing.{trim-same, trim-then-se
 use Rattle.srt_group_carrier.specs.laws.Recording.{recorded-long}
 use Rattle.srt_group_carrier.specs.Flows.{on-promoted, every, BackupFlows}
 
--- ---- refused or not
-
-refused-number : (e : Error) → eqb (error-number e) 0 ≡ false
-refused-number MissingGroupMask = refl
-refused-number OutOfRange = refl
-refused-number UnknownMember = refl
-refused-number PayloadTooLong = refl
-refused-number InsufficientBuffer = refl
-refused-number InvalidState = refl
-refused-number MemberLimit = refl
-refused-number DuplicateMember = refl
-refused-number AlignmentFailed = refl
-refused-number PayloadAboveLimit = refl
-refused-number NoActiveMember = refl
-refused-number SequenceMismatch = refl
-refused-number AllBroadcastFailed = refl
-refused-number AllBackupFailed = refl
-refused-number ReplayRefused = refl
-refused-number PromotionSendFailed = refl
-refused-number NoFreeCell = refl
-refused-number QueueFull = refl
-refused-number OutOfTurn = refl
+-- ---- one flow after another
 
 flow-of : State → List Sent → ℕ → Flow
 flow-of s sends code = record { state = s; sends = sends; code = code }
@@ -106,7 +87,7 @@ module _ (f : State → Flow) (cell n : ℕ) (x : Sending) (r : HistoryRing) (se
             λ s among ms sends.
             ap (λ (y : Flow). y and-then g) (took .flow s ms sends)
             ∙ and-stops (flow-of (left-taken s) (took .sends) (outcome-number (taken .outcome))) g
-            (ap (λ (o : Outcome). eqb (outcome-number o) 0) is ∙ refused-number e)
+            (ap (λ (o : Outcome). eqb (outcome-number o) 0) is ∙ ne-eqb (error-number e) 0 (refused-not-0 e))
             ∙ ap (λ (o : Outcome). flow-of (left-taken s) (took .sends) (outcome-number o)) is;
       }
 
@@ -351,10 +332,7 @@ lendable-unsent few lent on =
 module _ (time size cell sequence i n : ℕ) (failed : Member) where
   pub promotion-shape : (s : State) → send-after-promotion time size cell sequence i failed s
       ≡ (if-some first-active (promote-backup-member (change i mark-send-failure (s .members)))
-      give
-      (λ j.
-      take-over-backup-flight time j (with-members (promote-backup-member (change i mark-send-failure (s .members))) s)
-      and-then send-own time size cell sequence j (λ m. ends-with (error-number PromotionSendFailed)))
+      give (λ j. on-promoted time size cell sequence j (with-members (promote-backup-member (change i mark-send-failure (s .members))) s))
       otherwise
       ends-with (error-number AllBackupFailed) (with-members (promote-backup-member (change i mark-send-failure (s .members))) s))
   unfolding send-after-promotion
