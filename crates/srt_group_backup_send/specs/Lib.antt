@@ -1,4 +1,3 @@
-pub mod Freeing
 pub mod BackupSend
 -- What is proved.
 pub mod laws

@@ -17,7 +17,7 @@ use Rattle.srt_connection_queue.specs.Rows.{row-size}
 use Rattle.srt_connection_members.specs.Members.{members-of}
 use Rattle.srt_group_tables.specs.declared.history.HistoryRing.{HistoryRing}
 use Rattle.srt_group_tables.specs.Ring.{Arrays, arrays, entries-of, send-of}
-use Rattle.srt_group_backup_send.specs.Freeing.{TrimFollows}
+use Rattle.srt_group_carrier.specs.Freeing.{TrimFollows}
 use Rattle.cell_set.specs.Bits.{set-size}
 use Rattle.cell_set.specs.Shows.{Shows}
 use Rattle.srt_group_shown.specs.Tables.{parts, tables, state-of}

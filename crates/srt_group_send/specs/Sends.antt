@@ -19,8 +19,8 @@ use Rattle.srt_group_model.specs.declared.Sending.{Sending}
 use Rattle.srt_group_tables.specs.declared.history.HistoryRing.{HistoryRing}
 use Rattle.srt_group_tables.specs.Ring.{Long, entries-of}
 use Rattle.srt_group_sending.specs.SentList.{Wrote}
-use Rattle.srt_group_backup_send.specs.Freeing.{SendFollows}
-use Rattle.srt_group_backup_send.specs.BackupSend.{BackupTables, arrays-in}
+use Rattle.srt_group_carrier.specs.Freeing.{SendFollows}
+use Rattle.srt_group_carrier.specs.Lendable.{BackupTables, arrays-in}
 use Rattle.srt_group_model.specs.Lent.{Lent, call-send, perform}
 use Rattle.srt_group_shown.specs.Tables.{Parts, parts, Tables, tables, state-of}
 use Rattle.srt_group_shown.specs.Ready.{Performs}

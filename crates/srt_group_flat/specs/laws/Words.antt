@@ -1,14 +1,15 @@
 -- What is proved of the definitions in specs/Words.antt, and that a promise is the same over an answer in words.
 use mathlib.Core.Path.{_≡_, refl, sym, ap, subst, _∙_}
-use mathlib.Core.Bool.{Bool, true, false, true≢false}
+use mathlib.Core.Bool.{Bool, false, true≢false}
 use mathlib.Core.List.{List}
 use mathlib.Core.Option.{none}
 use Prim.Native.Nat.{ℕ}
 use native.Mathlib.Omega.{arith}
 use Rattle.srt_protocol.specs.declared.error.Error.{Error}
-use Rattle.srt_protocol.specs.declared.error.Error.the-variants.{MissingGroupMask, OutOfRange, UnknownMember, PayloadTooLong, InsufficientBuffer, InvalidState, MemberLimit, DuplicateMember, AlignmentFailed, PayloadAboveLimit, NoActiveMember, SequenceMismatch, AllBroadcastFailed, AllBackupFailed, ReplayRefused, PromotionSendFailed, NoFreeCell, QueueFull, OutOfTurn}
 use Rattle.srt_protocol.specs.Errors.{error-number}
+use Rattle.srt_protocol.specs.laws.Errors.{refused-not-0}
 use Rattle.srt_group_model.specs.Tools.{if_then_else_, is-set}
+use Rattle.srt_group_model.specs.laws.Flag.{other-set}
 use Rattle.srt_group_model.specs.Guards.{Answer, no-answer, data-polled}
 use Rattle.srt_group_model.specs.Lent.{Lent, Call}
 use Rattle.srt_group_model.specs.declared.Packet.{Packet}
@@ -30,27 +31,6 @@ use Rattle.srt_group_flat.specs.Words.{words-answer, no-packet, Says}
 abbrev in-words : (code given : ℕ) → Packet → (continuation : ℕ) → DataWords
 in-words code given packet continuation = record { code = code; given = given; packet = packet; continuation = continuation }
 
-refused-set : (e : Error) → is-set (error-number e) ≡ true
-refused-set MissingGroupMask = refl
-refused-set OutOfRange = refl
-refused-set UnknownMember = refl
-refused-set PayloadTooLong = refl
-refused-set InsufficientBuffer = refl
-refused-set InvalidState = refl
-refused-set MemberLimit = refl
-refused-set DuplicateMember = refl
-refused-set AlignmentFailed = refl
-refused-set PayloadAboveLimit = refl
-refused-set NoActiveMember = refl
-refused-set SequenceMismatch = refl
-refused-set AllBroadcastFailed = refl
-refused-set AllBackupFailed = refl
-refused-set ReplayRefused = refl
-refused-set PromotionSendFailed = refl
-refused-set NoFreeCell = refl
-refused-set QueueFull = refl
-refused-set OutOfTurn = refl
-
 pub says-refused : {answer : DataAnswer} (e : Error) → answer ≡ Refused e → {n : ℕ} → n ≡ error-number e
     → Says answer (in-words n 0 no-packet 0)
 unfolding words-answer if_then_else_
@@ -60,7 +40,7 @@ says-refused e is {n} same =
       answers =
           record {
             same-code = same;
-            same-answer = ap (λ (b : Bool). if b then no-answer else data-polled none false) (ap is-set same ∙ refused-set e);
+            same-answer = ap (λ (b : Bool). if b then no-answer else data-polled none false) (ap is-set same ∙ other-set (error-number e) (refused-not-0 e));
           };
       cleared = record { flag = omega arith; packet = λ none. refl; given = λ refused. refl; continuation = λ refused. refl };
     }

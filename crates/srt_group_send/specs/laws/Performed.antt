@@ -48,8 +48,8 @@ use Rattle.srt_group_shown.specs.Tables.{Parts, parts, Tables, tables, state-of
 use Rattle.srt_group_shown.specs.Ready.{Ready, sending-into, Performs}
 use Rattle.srt_group_shown.specs.laws.Ready.{one-cell, performs-refused, performs-accepted}
 use Rattle.srt_group_shown.specs.laws.Steps.{rows-there}
-use Rattle.srt_group_backup_send.specs.Freeing.{SendFollows}
-use Rattle.srt_group_backup_send.specs.BackupSend.{BackupTables, backup-tables, arrays-in, Lendable}
+use Rattle.srt_group_carrier.specs.Freeing.{SendFollows}
+use Rattle.srt_group_carrier.specs.Lendable.{BackupTables, backup-tables, arrays-in, Lendable}
 use Rattle.srt_group_send.specs.declared.sending.GroupSend.{GroupSend}
 use Rattle.srt_group_send.specs.Sends.{FitShown, FlowMade, sent-answer, Storable, Sends}
 

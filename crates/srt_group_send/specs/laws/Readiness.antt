@@ -1,39 +1,34 @@
 -- The readiness tests are document 01's.
-use mathlib.Core.Path.{_≡_, refl, ap, ap₂, sym, subst, _∙_}
-use mathlib.Core.Bool.{Bool, true, false, _&&_}
+use mathlib.Core.Path.{_≡_, refl, ap, sym, subst, _∙_}
+use mathlib.Core.Bool.{Bool, true, false}
 use mathlib.Core.List.{List, [], _∷_, _++_, append-assoc}
 use mathlib.Core.Option.{Option, none, some}
 use Prim.Native.Nat.{ℕ, zero, suc, _-_, _≤_}
 use native.Mathlib.Omega.{arith}
 use borrow.Author.Tests.{le-ltb}
-use lib.Dec.{eqb}
 use lib.ListN.{length, drop}
 use Rattle.word_rows.specs.laws.Tab.{tab-length}
-use Rattle.srt_group_model.specs.Tools.{if_then_else_, any, such-that, each, change}
-use Rattle.srt_group_model.specs.laws.Reason.{if-elim, if-some-elim, if-true, if-false, not-both}
-use Rattle.srt_group_model.specs.State.{Member, Send, State, is-backup, with-send, with-members, turned, active-state, unstable-state}
-use Rattle.srt_group_model.specs.Legs.{largest-64, can-send, can-send-with-pacing}
-use Rattle.srt_group_model.specs.Members.{is-active, first-active, promote-backup-member, promote-if-none}
+use Rattle.srt_group_model.specs.Tools.{any, such-that, each, change}
+use Rattle.srt_group_model.specs.laws.Reason.{if-elim, if-some-elim, if-true, if-false}
+use Rattle.srt_group_model.specs.State.{Member, State, is-backup, with-send, with-members, turned, active-state}
+use Rattle.srt_group_model.specs.Legs.{largest-64}
+use Rattle.srt_group_model.specs.Members.{promote-backup-member, promote-if-none}
 use Rattle.srt_group_model.specs.Cells.{is-data, queue-cells, queued-cells, used-cells}
 use Rattle.srt_group_model.specs.Sound.{Fit, All-fit, pending-cells, history-cells}
 use Rattle.srt_group_model.specs.Run.{Mark, Run, start, refresh-states}
 use Rattle.srt_group_model.specs.Validity.{above}
-use Rattle.srt_group_model.specs.Backup.{max-history, demote-stale-backup-carrier, trim-by-carrier, backup-send-ready}
-use Rattle.srt_group_model.specs.Guards.{Answer, shown, truth, Step, Check, _when_, guard}
-use Rattle.srt_group_model.specs.Calls.{new, breaks-rule, left-by, can-send-body, can-send-call, can-send-with-pacing-body, can-send-with-pacing-call}
+use Rattle.srt_group_model.specs.Backup.{demote-stale-backup-carrier, trim-by-carrier, backup-send-ready}
+use Rattle.srt_group_model.specs.Guards.{Answer, shown, truth, Step, _when_, guard}
+use Rattle.srt_group_model.specs.Calls.{breaks-rule, can-send-body, can-send-call, can-send-with-pacing-body, can-send-with-pacing-call}
 use Rattle.srt_group_model.specs.Lent.{Call, call-can-send, call-can-send-with-pacing, delivered-by, step-of}
 use Rattle.srt_group_model.specs.laws.Refusals.{guard-goes-on}
 use Rattle.srt_group_model.specs.laws.Frame.{trim-members}
-use Rattle.srt_group_model.specs.laws.Queues.{Relabelled, relabelled-same, All-relabelled}
-use Rattle.srt_group_model.specs.laws.CellsKept.{relabelled-cells}
 use Rattle.srt_group_model.specs.laws.CellsMoved.{refresh-keeps}
 use Rattle.srt_protocol.specs.Cells.{cells-of}
 use Rattle.srt_group_model.specs.laws.Sound.{sound-of-valid}
 use Rattle.srt_group_model.specs.laws.Steps.{refresh-has}
 use Rattle.srt_group_model.specs.laws.RangesCalls.{fit-law}
-use Rattle.srt_group_model.specs.laws.EveryCall.{refresh-mode}
 use Rattle.srt_group_model.specs.declared.Core.{Core}
-use Rattle.srt_group_model.specs.declared.Counts.{Counts}
 use Rattle.srt_group_model.specs.declared.Event.{Event}
 use Rattle.srt_group_model.specs.declared.Identity.{Identity}
 use Rattle.srt_group_model.specs.declared.Sending.{Sending}
@@ -45,15 +40,16 @@ use Rattle.srt_group_sending.specs.Readiness.{sends-now}
 use Rattle.srt_group_sending.specs.BackupReadiness.{BackupReady}
 use Rattle.srt_group_backup.specs.declared.trimming.SendHistory.{SendHistory}
 use Rattle.srt_group_backup.specs.Trimming.{TrimmedByCarrier}
-use Rattle.srt_group_backup_send.specs.Freeing.{TrimFollows, FrontFreed}
-use Rattle.srt_group_backup_send.specs.laws.Freeing.{trim-as}
-use Rattle.srt_group_backup_send.specs.laws.Prepared.{trimmed-by-carrier}
+use Rattle.srt_group_carrier.specs.Freeing.{TrimFollows, FrontFreed}
+use Rattle.srt_group_carrier.specs.laws.Freeing.{trim-as}
+use Rattle.srt_group_carrier.specs.laws.Recording.{Suffix, ring-suffix}
+use Rattle.srt_group_carrier.specs.laws.Prepared.{showing, trimmed-by-carrier}
 use Rattle.srt_group_collecting.specs.Leaves.{sends}
 use Rattle.srt_group_polls.specs.Refresh.{Refreshes}
 use Rattle.srt_group_shown.specs.Shown.{rest}
-use Rattle.srt_group_shown.specs.Tables.{Parts, parts, Tables, tables, state-of, Long}
+use Rattle.srt_group_shown.specs.Tables.{parts, tables, state-of, Long}
 use Rattle.srt_group_shown.specs.Ready.{Ready, storing, Performs}
-use Rattle.srt_group_shown.specs.Steps.{Unbroken, Left, Steps}
+use Rattle.srt_group_shown.specs.Steps.{Unbroken, Left}
 use Rattle.srt_group_shown.specs.laws.Steps.{rows-there, unbroken-of, performs-steps}
 use Rattle.cell_set.specs.Sets.{ShowsCells}
 use Rattle.cell_set.specs.Shows.{Shows}
@@ -67,10 +63,6 @@ left-by-step {number = number} {given} {s} is left = subst (λ (z : Step). Left 
 
 -- ---- the trim and the test
 
--- a state with these members and this sending side
-showing : List Member → Send → State
-showing ms x = with-send x (with-members ms (new record { id = 0; mode = 0; length = 0 }))
-
 module _ (time : Option ℕ) (core : Core) (x : Sending) (r : HistoryRing) (members history used used′ : List ℕ) {trimmed : SendHistory}
     (by-carrier : TrimmedByCarrier (members-of (core .counts .members) members) history x r trimmed) where
   suffix : (a : Arrays) → a .history ≡ history
@@ -79,11 +71,8 @@ module _ (time : Option ℕ) (core : Core) (x : Sending) (r : HistoryRing) (memb
   suffix a is =
       let s : State = showing (members-of (core .counts .members) members) (send-of x r a) in
       let left : trim-by-carrier s ≡ with-send (send-of (trimmed .sending) (trimmed .ring) a) s = by-carrier .is s a refl is refl in
-      sym
-      (subst (λ (t : State). t .send .history ≡ drop (length (entries-of r a) - length (t .send .history)) (entries-of r a)) left
-      (trimmed-by-carrier s .suffix)
-      ∙ ap₂ (λ (k l : ℕ). drop (k - l) (entries-of r a)) (tab-length (r .length) (entry-at r a))
-      (tab-length (trimmed .ring .length) (entry-at (trimmed .ring) a)))
+      ring-suffix r (trimmed .ring) a
+      (subst (λ (t : State). Suffix (entries-of r a) (t .send .history)) left (trimmed-by-carrier s .suffix))
 
   pub trimmed-ready : {ready : Bool} → FrontFreed r (trimmed .ring .length) history used used′
       → BackupReady (core .counts .members) time (trimmed .sending) (trimmed .ring) history members ready

@@ -34,10 +34,11 @@ use Rattle.srt_group_collecting.specs.Leaves.{sends, At}
 use Rattle.srt_group_polls.specs.Refresh.{Refreshes}
 use Rattle.srt_group_shown.specs.Shown.{rest}
 use Rattle.srt_group_shown.specs.Tables.{receive-tables}
-use Rattle.srt_group_backup_send.specs.declared.sends.BackupSend.{BackupSend}
-use Rattle.srt_group_backup_send.specs.Freeing.{SendFollows}
-use Rattle.srt_group_backup_send.specs.BackupSend.{BackupTables, backup-tables, arrays-in, Lendable, NumbersFit, in-mode, BackupFlows}
-use Rattle.srt_group_backup_send.specs.laws.Freeing.{trim-same, trim-sends}
+use Rattle.srt_group_carrier.specs.declared.recording.BackupSend.{BackupSend}
+use Rattle.srt_group_carrier.specs.Freeing.{SendFollows}
+use Rattle.srt_group_carrier.specs.Lendable.{BackupTables, backup-tables, arrays-in, Lendable, NumbersFit}
+use Rattle.srt_group_carrier.specs.Flows.{in-mode, BackupFlows}
+use Rattle.srt_group_carrier.specs.laws.Freeing.{trim-same, trim-sends}
 use Rattle.srt_group_send.specs.declared.sending.GroupSend.{GroupSend}
 use Rattle.srt_group_send.specs.Sends.{by-mode, sending-state, FitShown, FlowMade}
 

@@ -4,6 +4,7 @@ use mathlib.Core.Bool.{Bool, true, false}
 use mathlib.Core.List.{List, [], _∷_}
 use mathlib.Core.Option.{Option, none, some}
 use Prim.Native.Nat.{ℕ}
+use native.Mathlib.Omega.{arith}
 use lib.Dec.{eqb}
 use Rattle.srt_protocol.specs.declared.error.Error.{Error}
 use Rattle.srt_protocol.specs.declared.error.Error.the-variants.{MissingGroupMask, OutOfRange, UnknownMember, PayloadTooLong, InsufficientBuffer, InvalidState, MemberLimit, DuplicateMember, AlignmentFailed, PayloadAboveLimit, NoActiveMember, SequenceMismatch, AllBroadcastFailed, AllBackupFailed, ReplayRefused, PromotionSendFailed, NoFreeCell, QueueFull, OutOfTurn}
@@ -51,3 +52,9 @@ number-found OutOfTurn = refl
 
 pub error-number-injective : (a b : Error) → error-number a ≡ error-number b → a ≡ b
 error-number-injective a b same = cc (number-found a, number-found b, ap (λ (n : ℕ). numbered n refusals) same)
+
+-- no refusal has the number of an accepted call
+pub refused-not-0 : (e : Error) → error-number e ≡ 0 → ⊥
+refused-not-0 e is =
+    let never : _≡_ {A = ℕ} 0 1 = cc (number-found e, ap (λ (n : ℕ). numbered n refusals) is) in
+    omega arith

@@ -1,9 +1,10 @@
 -- `send_at_place` meets its contract: 25, or the payload is sent and kept, or another member is tried.
-use mathlib.Core.Path.{sym, subst, _∙_}
+use mathlib.Core.Path.{sym, subst}
 use Prim.Native.Nat.{ℕ}
 use native.Mathlib.Omega.{arith}
 use Rattle.srt_group_tables.specs.Ring.{Packs}
-use Rattle.srt_group_backup_send.specs.laws.BackupSend.{sent-as, own-sent, own-failed, place-mismatched, place-flows, lendable-unsent, promoted-whoever}
+use Rattle.srt_group_carrier.specs.laws.Flows.{sent-as, own-sent, own-failed, lendable-unsent, promoted-whoever}
+use Rattle.srt_group_backup_send.specs.laws.BackupSend.{place-mismatched, place-flows}
 use borrow.Author.Needs.{needs}
 use Rattle.srt_group_backup_send.proofs.sends.send_at_place.Statement.{statement}
 use Rattle.srt_group_backup_send.proofs.sends.send_at_place.Tie as tie
