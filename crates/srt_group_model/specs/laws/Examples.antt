@@ -9,22 +9,22 @@ use Rattle.srt_group_model.specs.laws.Computed.{definitions}
 
 -- ---- lines and what they print
 
-abbrev line : (verb a b c d e f g : ℕ) → Line
+abbrev pub line : (verb a b c d e f g : ℕ) → Line
 line verb a b c d e f g = verb ∷ a ∷ b ∷ c ∷ d ∷ e ∷ f ∷ g ∷ []
 
-abbrev new : (id mode : ℕ) → Line
+abbrev pub new : (id mode : ℕ) → Line
 new id mode = line 1 id mode 0 0 0 0 0
 
-abbrev add : (leg weight state next first window latency : ℕ) → Line
+abbrev pub add : (leg weight state next first window latency : ℕ) → Line
 add = line 2
 
-abbrev read : (leg field n : ℕ) → Line
+abbrev pub read : (leg field n : ℕ) → Line
 read leg field n = line 3 leg field n 0 0 0 0
 
-abbrev packet-in : (leg sequence count source byte : ℕ) → Line
+abbrev pub packet-in : (leg sequence count source byte : ℕ) → Line
 packet-in leg sequence count source byte = line 4 leg sequence count source byte 0 0
 
-abbrev poll : (time : ℕ) → Line
+abbrev pub poll : (time : ℕ) → Line
 poll time = line 5 time 0 0 0 0 0 0
 
 abbrev send-byte : (byte time : ℕ) → Line
@@ -40,16 +40,16 @@ abbrev event : (leg kind reason : ℕ) → Line
 event leg kind reason = line 9 leg kind reason 0 0 0 0
 
 -- what is printed after the verb
-abbrev done : List ℕ
+abbrev pub done : List ℕ
 done = 0 ∷ 0 ∷ 0 ∷ 0 ∷ 0 ∷ []
 
-abbrev refused : (code : ℕ) → List ℕ
+abbrev pub refused : (code : ℕ) → List ℕ
 refused code = code ∷ 0 ∷ 0 ∷ 0 ∷ 0 ∷ []
 
-abbrev packet : (leg sequence count skipped : ℕ) → List ℕ
+abbrev pub packet : (leg sequence count skipped : ℕ) → List ℕ
 packet leg sequence count skipped = 0 ∷ leg ∷ sequence ∷ count ∷ skipped ∷ []
 
-abbrev no-packet : (skipped : ℕ) → List ℕ
+abbrev pub no-packet : (skipped : ℕ) → List ℕ
 no-packet = packet 0 0 0
 
 abbrev on-legs : (n : ℕ) → List ℕ
