@@ -1,5 +1,6 @@
 -- The premises on the columns are met, and demand 3 on a listing is applied: a listing with two groups, the schedule of Example with one
--- byte a packet, two legs, one gap, and lines that are refused. The first group's printed packets are the clerk's.
+-- byte a packet, two legs, one gap, and lines that are refused. The first group's printed packets are the clerk's. The Rust prints the
+-- same (`two_groups_read_by_the_clerk` in oracle/listings).
 use mathlib.Core.Path.{_≡_, refl, sym, _∙_}
 use mathlib.Core.Logic.{inr}
 use mathlib.Core.Bool.{true, false}
