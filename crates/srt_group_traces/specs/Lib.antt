@@ -4,5 +4,6 @@ pub mod ShortSchedule
 pub mod Port
 pub mod PortTheorem
 pub mod OwnCalls
+pub mod Listings
 -- What is proved.
 pub mod laws

@@ -30,9 +30,15 @@ pub mod PortTheorem
 pub mod FailedSends
 pub mod StaysValid
 pub mod OwnCalls
+pub mod StoreKept
+pub mod LineCalls
+pub mod FirstSequence
+pub mod ListingRows
+pub mod Listings
 pub mod Example
 pub mod Counterexamples
 pub mod GatewaysExample
 pub mod ShortExample
 pub mod PortExample
 pub mod OwnCallsExample
+pub mod ListingsExample

@@ -9,6 +9,7 @@ use borrow.Author.Tests.{eq-eqb, ne-eqb}
 use lib.Dec.{eqb}
 use lib.ListN.{length}
 use Rattle.srt_protocol.specs.Errors.{error-number}
+use Rattle.srt_protocol.specs.laws.Errors.{refused-not-0}
 use Rattle.srt_protocol.specs.Cells.{output-size}
 use Rattle.srt_group_model.specs.Sending.{list-size}
 use Rattle.srt_group_model.specs.Tools.{if-some_give_otherwise_, at-place}
@@ -27,7 +28,6 @@ use Rattle.srt_group.specs.declared.Group.{Group}
 use Rattle.srt_group.specs.declared.NewGroup.{NewGroup}
 use Rattle.srt_group.specs.declared.NewGroup.the-variants.{Made, Refused}
 use Rattle.srt_protocol.specs.declared.error.Error.{Error}
-use Rattle.srt_protocol.specs.declared.error.Error.the-variants.{MissingGroupMask, OutOfRange, UnknownMember, PayloadTooLong, InsufficientBuffer, InvalidState, MemberLimit, DuplicateMember, AlignmentFailed, PayloadAboveLimit, NoActiveMember, SequenceMismatch, AllBroadcastFailed, AllBackupFailed, ReplayRefused, PromotionSendFailed, NoFreeCell, QueueFull, OutOfTurn}
 use Rattle.srt_group_listing.specs.declared.Printed.{Printed}
 use Rattle.srt_group_listing.specs.declared.Told as told
 use Rattle.srt_group_listing.specs.Telling.{numbers-of}
@@ -71,28 +71,6 @@ module _ (g : Group) (t : Tables) (made : ℕ) where
 
   standing-none : made ≡ 0 → standing made g t ≡ none
   standing-none is = if-true (eqb made 0) none (some (state-of (parts-of g) t)) (eq-eqb made 0 is)
-
--- no refusal has the number 0
-refused-number : (e : Error) → eqb (error-number e) 0 ≡ false
-refused-number MissingGroupMask = refl
-refused-number OutOfRange = refl
-refused-number UnknownMember = refl
-refused-number PayloadTooLong = refl
-refused-number InsufficientBuffer = refl
-refused-number InvalidState = refl
-refused-number MemberLimit = refl
-refused-number DuplicateMember = refl
-refused-number AlignmentFailed = refl
-refused-number PayloadAboveLimit = refl
-refused-number NoActiveMember = refl
-refused-number SequenceMismatch = refl
-refused-number AllBroadcastFailed = refl
-refused-number AllBackupFailed = refl
-refused-number ReplayRefused = refl
-refused-number PromotionSendFailed = refl
-refused-number NoFreeCell = refl
-refused-number QueueFull = refl
-refused-number OutOfTurn = refl
 
 -- ---- verb 1
 
@@ -149,7 +127,7 @@ module _ (line : Line) where
           over =
               λ t lent stands. (
                 if-false (eqb (new-code making-of) 0) _ _
-                    (ap (λ (n : ℕ). eqb n 0) (sym (code t lent)) ∙ refused-number e)
+                    (ap (λ (n : ℕ). eqb n 0) (sym (code t lent)) ∙ ne-eqb (error-number e) 0 (refused-not-0 e))
                     ∙ ap (λ (l : List ℕ). record { group = standing made g t; line = l })
                     (ap (λ (n : ℕ). refused-line 1 n) (sym (number ∙ code t lent)) ∙ sym says),
                 stands,

@@ -103,7 +103,7 @@ abbrev pub Live : (Data → Type 0) → State → Type 0
 Live P = LiveAt (λ (leg : ℕ). P)
 
 -- the store with the payloads that the marks put
-unfoldable stored-by : List Mark → List ℕ → List ℕ
+unfoldable pub stored-by : List Mark → List ℕ → List ℕ
 stored-by [] store = store
 stored-by (put cell payload ∷ m) store = overwritten (cell * cell-size) payload (stored-by m store)
 stored-by (base-set base ∷ m) store = stored-by m store
@@ -197,7 +197,7 @@ unput-marks store output list c s none-taken = all-map _ (Only ⊥ (Unit {0})) u
     unput-mark (delivered p) h = tt
 
 module _ (bytes : List ℕ) where
-  abbrev PutsAsMarked : Step → Type 0
+  abbrev pub PutsAsMarked : Step → Type 0
   PutsAsMarked x = stored (x .put) bytes ≡ stored-by (x .log) bytes
 
   puts-nothing : (store output list : ℕ) (c : Call) (s : State) → ((payload : List ℕ) → Takes-cell c payload → ⊥) → step-of store output list c s .put ≡ none → PutsAsMarked (step-of store output list c s)
@@ -211,7 +211,7 @@ module _ (bytes : List ℕ) where
   sent-as-marked true cell payload m h = ap (overwritten (cell * cell-size) payload) (sym (unput m bytes h))
   sent-as-marked false cell payload m h = sym (unput m bytes h)
 
-  marked-by : {c : Call} (store output list : ℕ) (s : State) → Kind c → PutsAsMarked (step-of store output list c s)
+  pub marked-by : {c : Call} (store output list : ℕ) (s : State) → Kind c → PutsAsMarked (step-of store output list c s)
   unfolding step-of takes-store is-poll poll-event-call event-poll-body poll-data-call data-poll-body send send-body left-by-send queue-data queue-data-body stored stored-by
   marked-by store output list s (event-poll time) =
       puts-nothing store output list (call-poll-event time) s (λ payload takes. not-both {t = true} refl (takes-cell-lent takes .1)) (guard-elim (λ (x : Step). x .put ≡ none) _ s _ (λ code. refl) refl)
@@ -228,12 +228,12 @@ module _ (bytes : List ℕ) where
 
 -- ---- what is refused puts and gives nothing
 
-refused-puts-nothing : (s : State) (x : Step) → Ends s x → eqb (x .code) 0 ≡ false → x .put ≡ none
+pub refused-puts-nothing : (s : State) (x : Step) → Ends s x → eqb (x .code) 0 ≡ false → x .put ≡ none
 refused-puts-nothing s x (untouched code e) refused = ap (λ (y : Step). y .put) e
 refused-puts-nothing s x (accepted e) refused = not-both (ap (λ (n : ℕ). eqb n 0) e ∙ eqb-yes 0) refused
 refused-puts-nothing s x (midway e a p) refused = p
 
-giving-is-accepted : (s : State) (x : Step) (p : Packet) → Ends s x → delivered-by (x .answer) ≡ some p → x .code ≡ 0
+pub giving-is-accepted : (s : State) (x : Step) (p : Packet) → Ends s x → delivered-by (x .answer) ≡ some p → x .code ≡ 0
 unfolding delivered-by
 giving-is-accepted s x p (untouched code e) gives = none-some (sym (ap (λ (y : Step). delivered-by (y .answer)) e) ∙ gives)
 giving-is-accepted s x p (accepted e) gives = e

@@ -1,4 +1,0 @@
-pub mod Answer
-pub mod Advanced
--- What is proved.
-pub mod laws

@@ -1,2 +1,0 @@
--- What is proved. A reader who trusts the checker need not read it.
-pub mod Advanced
