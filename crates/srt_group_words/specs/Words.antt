@@ -1,10 +1,10 @@
 -- THE PROMISE of a public call that is lent its record as a row of words and puts its answer into another, and that of its form for a
 -- valid state. The words of an answer are document 01's values (srt_group_model Answers, `values-of`).
 use mathlib.Core.Path.{_≡_}
-use mathlib.Core.Bool.{Bool, true, false, _||_}
+use mathlib.Core.Bool.{Bool, true, false, not, _||_}
 use mathlib.Core.List.{List, [], _∷_, _++_}
 use Prim.Native.Nat.{ℕ, zero, suc, _-_, _≤_}
-use lib.Dec.{ltb}
+use lib.Dec.{eqb, ltb}
 use lib.ListN.{length, drop}
 use Rattle.srt_protocol.specs.declared.error.Outcome.{Outcome}
 use Rattle.srt_protocol.specs.Errors.{outcome-number}
@@ -14,12 +14,13 @@ use Rattle.srt_group_model.specs.State.{State, Making}
 use Rattle.srt_group_model.specs.Guards.{Answer, no-answer}
 use Rattle.srt_group_model.specs.Lent.{Lent, Call, perform}
 use Rattle.srt_group_model.specs.Answers.{values-of}
+use Rattle.cell_set.specs.Bits.{set-size}
 use Rattle.srt_group_traces.specs.Port.{Promise, shows-new}
 use Rattle.srt_group_shown.specs.Tables.{Parts, Tables, state-of}
 use Rattle.srt_group_shown.specs.Ready.{Ready, Performs}
 use Rattle.srt_group.specs.Made.{parts-of}
 use Rattle.srt_group.specs.declared.Group.{Group}
-use Rattle.srt_group_refusals.specs.Begins.{are-short, BeginsStored, BeginsPoll}
+use Rattle.srt_group_refusals.specs.Begins.{are-short, begun-stored, BeginsStored, BeginsPoll}
 use Rattle.srt_group_refusals.specs.Promised.{asking, showing}
 use Rattle.srt_group_words.specs.Record.{record-size, group-of, group-words}
 
@@ -145,3 +146,12 @@ pub record BegunPoll (group : List ℕ) (t : Tables) (store output : ℕ) (code 
   pub outcome : Outcome
   pub begins : BeginsPoll (parts-of (group-of group)) t store output outcome used
   pub same : code ≡ outcome-number outcome
+
+-- How a host that is the only writer begins: 5 and 6 are tested once, and the set of used cells is filled. A record too short or a set of
+-- another length than 32 words is 5.
+abbrev pub set-unfit : (group used : List ℕ) → Bool
+set-unfit group used = ltb (length group) record-size || not (eqb (length used) set-size)
+
+pub record BeginsValid (group : List ℕ) (t : Tables) (store : ℕ) (used : List ℕ) (code : ℕ) (used′ : List ℕ) : Type 0 where
+  pub is : code ≡ (if set-unfit group used then 5 else outcome-number (begun-stored (parts-of (group-of group)) t store))
+  pub ready : code ≡ 0 → ReadyWords group t store used′

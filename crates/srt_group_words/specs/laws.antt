@@ -2,3 +2,5 @@
 pub mod Record
 pub mod Words
 pub mod Begin
+pub mod New
+pub mod Past

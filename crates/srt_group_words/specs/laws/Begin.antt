@@ -1,34 +1,35 @@
 -- A call in words that begins with 5 and 6 and then does what its form for a valid state does.
 use mathlib.Core.Path.{_≡_, refl, sym, ap, subst, _∙_}
-use mathlib.Core.Bool.{Bool, false, _||_}
+use mathlib.Core.Bool.{Bool, true, false, not, _||_}
 use mathlib.Core.List.{List, []}
-use Prim.Native.Nat.{ℕ, _≤_}
+use Prim.Native.Nat.{ℕ, _≤_, _<_}
 use native.Mathlib.Omega.{arith}
+use borrow.Author.Tests.{lt-ltb, le-ltb, eq-eqb, ne-eqb}
+use lib.Dec.{eqb, ltb}
 use lib.ListN.{length}
 use Rattle.srt_protocol.specs.declared.error.Error.{Error}
 use Rattle.srt_protocol.specs.declared.error.Error.the-variants.{MissingGroupMask, OutOfRange, UnknownMember, PayloadTooLong, InsufficientBuffer, InvalidState, MemberLimit, DuplicateMember, AlignmentFailed, PayloadAboveLimit, NoActiveMember, SequenceMismatch, AllBroadcastFailed, AllBackupFailed, ReplayRefused, PromotionSendFailed, NoFreeCell, QueueFull, OutOfTurn}
 use Rattle.srt_protocol.specs.declared.error.Outcome.{Outcome}
 use Rattle.srt_protocol.specs.declared.error.Outcome.the-variants.{Accepted, Refused}
 use Rattle.srt_protocol.specs.Errors.{error-number, outcome-number}
-use Rattle.srt_protocol.specs.Cells.{overwritten}
-use Rattle.srt_group_model.specs.Guards.{Answer, no-answer}
+use Rattle.srt_group_model.specs.laws.Reason.{if-true, if-false, or-yes-right}
+use Rattle.srt_group_model.specs.Guards.{no-answer}
 use Rattle.srt_group_model.specs.Lent.{Lent, Call}
 use Rattle.srt_group_model.specs.declared.Core.{Core}
 use Rattle.srt_group_model.specs.declared.Identity.{Identity}
 use Rattle.srt_group_model.specs.declared.Sending.{Sending}
 use Rattle.srt_group_tables.specs.declared.history.HistoryRing.{HistoryRing}
-use Rattle.srt_group_traces.specs.Port.{Promise}
+use Rattle.cell_set.specs.Bits.{set-size}
 use Rattle.srt_group_traces.specs.laws.Port.{performs-does}
 use Rattle.srt_group_shown.specs.Tables.{Parts, parts, Tables, state-of}
-use Rattle.srt_group_shown.specs.Ready.{Ready}
 use Rattle.srt_group.specs.Made.{parts-of}
 use Rattle.srt_group_refusals.specs.Begins.{are-short, BeginsStored, BeginsPoll}
 use Rattle.srt_group_refusals.specs.laws.Begins.{not-short, begins-as-stored, has-room}
-use Rattle.srt_group_refusals.specs.Promised.{asking, showing, Promised}
+use Rattle.srt_group_refusals.specs.Promised.{showing, Promised}
 use Rattle.srt_group_refusals.specs.laws.Promised.{promised-does}
 use Rattle.srt_group_words.specs.Record.{record-size, identity-of, core-of, sending-of, ring-of, group-of}
-use Rattle.srt_group_words.specs.Words.{Says, in-words, Words, words, parts-in, are-few, PromisedWords, Said, ReadyWords, PerformsWords, BegunStored, BegunPoll}
-use Rattle.srt_group_words.specs.laws.Words.{parts-read, room-in-words, in-words-of}
+use Rattle.srt_group_words.specs.Words.{Says, silent, in-words, sent-words, Words, words, parts-in, are-few, PromisedWords, ReadyWords, PerformsWords, BegunStored, BegunPoll, set-unfit, BeginsValid}
+use Rattle.srt_group_words.specs.laws.Words.{parts-read, silent-enough, sent-enough, room-in-words, in-words-of}
 
 -- ---- the number of an outcome
 
@@ -114,6 +115,16 @@ performed-in-words {call} {says} {w} {t} {bytes} {answer} {code} {after} long en
     (done .said) (done .behind)
 
 module _ {call : Call} {w : List ℕ} {t : Tables} {bytes : Lent} {after : Words} {number : ℕ} {used′ : List ℕ} (long : record-size ≤ length w) where
+  pub stored-silent : {store code : ℕ} {used : List ℕ} → BegunStored w t store code used → code ≡ 0
+      → PerformsWords call silent (words w t bytes []) number after used′ → PromisedWords call silent false (words w t bytes []) number after
+  stored-silent begun on done = performed-in-words (not-short (begun .begins) (stored-on begun on)) (silent-enough w t bytes long) done
+
+  pub stored-sent : {answer : List ℕ} → 2 ≤ length answer → {store code : ℕ} {used : List ℕ} → BegunStored w t store code used → code ≡ 0
+      → PerformsWords call sent-words (words w t bytes answer) number after used′
+      → PromisedWords call sent-words false (words w t bytes answer) number after
+  stored-sent {answer} room begun on done =
+      performed-in-words (not-short (begun .begins) (stored-on begun on)) (sent-enough w t bytes answer long room) done
+
   pub poll-performed : {size : ℕ} {answer : List ℕ} → size ≤ length answer → {store output code : ℕ} {used : List ℕ} → BegunPoll w t store output code used → code ≡ 0
       → PerformsWords call (in-words size) (words w t bytes answer) number after used′
       → PromisedWords call (in-words size) false (words w t bytes answer) number after
@@ -131,3 +142,28 @@ module _ (call : Call) (w : List ℕ) (t : Tables) (bytes : Lent) where
       → refused-with code
   refused-in-words {o} same other refused =
       subst refused-with (sym same) (by-refusal refused-with o (λ zero. other (same ∙ zero)) refused)
+
+-- ---- a host that is the only writer begins
+
+module _ (w : List ℕ) (t : Tables) (store : ℕ) (used : List ℕ) where
+  unfit-refused : set-unfit w used ≡ true → BeginsValid w t store used 5 used
+  unfit-refused unfit = record { is = sym (if-true (set-unfit w used) 5 _ unfit); ready = λ zero. absurd (omega (arith, zero)) }
+
+  pub record-unfit : length w < record-size → BeginsValid w t store used 5 used
+  record-unfit short = unfit-refused (ap (λ (b : Bool). b || not (eqb (length used) set-size)) (lt-ltb (length w) record-size short))
+
+  pub set-refused : (length used ≡ set-size → ⊥) → BeginsValid w t store used 5 used
+  set-refused other =
+      unfit-refused (or-yes-right (ltb (length w) record-size) _ (ap not (ne-eqb (length used) set-size other)))
+
+  pub begins-valid : record-size ≤ length w → length used ≡ set-size → {code : ℕ} {used′ : List ℕ} → BegunStored w t store code used′
+      → BeginsValid w t store used code used′
+  begins-valid long size begun =
+      let fits : set-unfit w used ≡ false =
+      ap (λ (b : Bool). b || not (eqb (length used) set-size)) (le-ltb (length w) record-size long)
+      ∙ ap not (eq-eqb (length used) set-size size)
+      in
+      record {
+        is = begun .same ∙ ap outcome-number (begun .begins .is) ∙ sym (if-false (set-unfit w used) 5 _ fits);
+        ready = λ on. stored-ready begun on long;
+      }

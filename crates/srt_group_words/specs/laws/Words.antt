@@ -26,7 +26,7 @@ use Rattle.srt_group.specs.Made.{parts-of}
 use Rattle.srt_group.specs.declared.Group.{Group}
 use Rattle.srt_group_refusals.specs.Begins.{are-short}
 use Rattle.srt_group_refusals.specs.Promised.{asking, showing, Promised, PromisedRow, row-short, nothing-lent}
-use Rattle.srt_group_words.specs.Record.{record-size, identity-of, core-of, sending-of, ring-of, group-of, group-words, with-core}
+use Rattle.srt_group_words.specs.Record.{record-size, identity-of, core-of, sending-of, ring-of, group-of, group-words, with-core, with-sent}
 use Rattle.srt_group_words.specs.laws.Record.{group-read, group-put, put-length, put-behind}
 use Rattle.srt_group_words.specs.Words.{zeros, Says, silent, in-words, sent-words, Words, words, parts-in, state-in, are-few, PromisedWords, Said, PutSaid, PutBack, ReadyWords, PerformsWords}
 
@@ -150,6 +150,15 @@ module _ (call : Call) (w : List ℕ) (t : Tables) (bytes : Lent) (long : record
   silent-kept t′ bytes′ given rows promised same =
       over-kept call silent false w t bytes [] (not-few silent w t bytes [] long (omega arith)) read same given rows refl (promised .holds)
 
+  -- the same of a call that is lent a row of the members' table too
+  pub row-moved : (row : List ℕ) (g′ : Group) (t′ : Tables) (given : Answer) (rows : ℕ) {w′ : List ℕ} {number code : ℕ}
+      → PromisedRow call (parts-of g) t row (showing (parts-of g′) t′ nothing-lent number given rows) → PutBack g′ number w code w′
+      → PromisedWords call silent (row-short row) (words w t nothing-lent []) code (words w′ t′ nothing-lent [])
+  unfolding overwritten
+  row-moved row g′ t′ given rows promised back =
+      over-moved call silent (row-short row) w t nothing-lent [] (not-few silent w t nothing-lent [] long (omega arith)) read (back .same) given rows
+      refl g′ (back .put) (promised .holds)
+
   -- a call that says its answer in words
   module _ (size : ℕ) (answer : List ℕ) (room : size ≤ length answer) where
     pub said-moved : (g′ : Group) (t′ : Tables) (bytes′ : Lent) (given : Answer) {w′ answer′ : List ℕ} {number code : ℕ}
@@ -168,6 +177,18 @@ module _ (call : Call) (w : List ℕ) (t : Tables) (bytes : Lent) (long : record
     said-kept t′ bytes′ given promised said =
         over-kept call (in-words size) false w t bytes answer
         (not-few (in-words size) w t bytes answer long (omega (arith, no-words size))) read (said .same) given 0 (said .said) (promised .holds)
+
+pub silent-enough : (w : List ℕ) (t : Tables) (bytes : Lent) → record-size ≤ length w → are-few silent (words w t bytes []) ≡ false
+silent-enough w t bytes long = not-few silent w t bytes [] long (omega arith)
+
+pub sent-enough : (w : List ℕ) (t : Tables) (bytes : Lent) (answer : List ℕ) → record-size ≤ length w → 2 ≤ length answer
+    → are-few sent-words (words w t bytes answer) ≡ false
+sent-enough w t bytes answer long room = not-few sent-words w t bytes answer long (omega (arith, two-words))
+
+pub sent-refused : {call : Call} {other : Bool} {w : List ℕ} {t : Tables} {bytes : Lent} {answer : List ℕ} → length answer < 2
+    → PromisedWords call sent-words other (words w t bytes answer) 5 (words w t bytes answer)
+sent-refused {w = w} {t = t} {bytes = bytes} {answer = answer} short =
+    few-refused (few-answer sent-words w t bytes answer (omega (arith, two-words)))
 
 pub room-in-words : (w : List ℕ) (t : Tables) (bytes : Lent) (answer : List ℕ) {size : ℕ} → record-size ≤ length w → size ≤ length answer
     → are-few (in-words size) (words w t bytes answer) ≡ false
@@ -254,3 +275,24 @@ module _ (w : List ℕ) {identity : Identity} {core : Core} {sending : Sending} 
         performs-over (in-words size) answer (parts identity core′ sending ring) w′ answer′ number code given 0
         (ap length (back .put) ∙ put-length _ w long) (shown-core core′ w′ (back .put)) done (back .same) (no-rows none) (back .said)
         (ap (drop record-size) (back .put) ∙ put-behind _ w)
+
+    -- all that a send moves is put back
+    pub performs-sent : (says : Says) (answer : List ℕ) (core′ : Core) (sending′ : Sending) (ring′ : HistoryRing) (given : Answer) (rows : ℕ)
+        {w′ answer′ : List ℕ} {number code : ℕ} → rows ≡ perform call bytes (state-of (parts identity core sending ring) t) .rows
+        → Performs call (parts identity core sending ring) t bytes number given (parts identity core′ sending′ ring′) t′ bytes′ used′
+        → PutSaid (with-sent core′ sending′ ring′ (group-of w)) number (says given rows) w answer code w′ answer′
+        → PerformsWords call says (words w t bytes answer) code (words w′ t′ bytes′ answer′) used′
+    performs-sent says answer core′ sending′ ring′ given rows {w′} {answer′} {number} {code} filled done back =
+        performs-over says answer (parts identity core′ sending′ ring′) w′ answer′ number code given rows
+        (ap length (back .put) ∙ put-length _ w long)
+        ((λ i. parts (one i) core′ sending′ ring′)
+        ∙ ap parts-of (sym (group-put (with-sent core′ sending′ ring′ (group-of w)) w) ∙ ap group-of (sym (back .put))))
+        done (back .same) filled (back .said) (ap (drop record-size) (back .put) ∙ put-behind _ w)
+
+    pub performs-ready : (size : ℕ) (answer : List ℕ) (core′ : Core) (sending′ : Sending) (ring′ : HistoryRing) (given : Answer)
+        {w′ answer′ : List ℕ} {number code : ℕ} → takes call .list ≡ false
+        → Performs call (parts identity core sending ring) t bytes number given (parts identity core′ sending′ ring′) t′ bytes′ used′
+        → PutSaid (with-sent core′ sending′ ring′ (group-of w)) number (in-words size given 0) w answer code w′ answer′
+        → PerformsWords call (in-words size) (words w t bytes answer) code (words w′ t′ bytes′ answer′) used′
+    performs-ready size answer core′ sending′ ring′ given none done back =
+        performs-sent (in-words size) answer core′ sending′ ring′ given 0 (no-rows none) done back
