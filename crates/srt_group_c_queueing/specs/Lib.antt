@@ -1,0 +1,3 @@
+pub mod Queued
+-- What is proved.
+pub mod laws
