@@ -80,6 +80,11 @@ pub record PromisedWords (call : Call) (says : Says) (other : Bool) (before : Wo
   pub said : after .answer ≡ (if are-few says before then before .answer else overwritten 0 (says given rows) (before .answer))
   pub behind : drop record-size (after .group) ≡ drop record-size (before .group)
 
+-- the same with the answer, of a call whose answer stands in a lent row
+pub record Gives (call : Call) (says : Says) (other : Bool) (before : Words) (code : ℕ) (after : Words) (given : Answer) : Type 0 where
+  pub promised : PromisedWords call says other before code after
+  pub is : promised .given ≡ given
+
 -- the code of an answer, and its words over the first ones of the row
 pub record Said (number : ℕ) (values : List ℕ) (code : ℕ) (answer answer′ : List ℕ) : Type 0 where
   pub same : code ≡ number
@@ -112,6 +117,10 @@ pub record PerformsWords (call : Call) (says : Says) (before : Words) (code : �
   pub said : after .answer ≡ overwritten 0 (says given rows) (before .answer)
   pub behind : drop record-size (after .group) ≡ drop record-size (before .group)
   pub ready : ReadyWords (after .group) (after .tables) (length (after .bytes .store)) used′
+
+pub record PerformsGives (call : Call) (says : Says) (before : Words) (code : ℕ) (after : Words) (used′ : List ℕ) (given : Answer) : Type 0 where
+  pub performs : PerformsWords call says before code after used′
+  pub is : performs .given ≡ given
 
 -- ---- `new`
 

@@ -28,7 +28,7 @@ use Rattle.srt_group_refusals.specs.Begins.{are-short}
 use Rattle.srt_group_refusals.specs.Promised.{asking, showing, Promised, PromisedRow, row-short, nothing-lent}
 use Rattle.srt_group_words.specs.Record.{record-size, identity-of, core-of, sending-of, ring-of, group-of, group-words, with-core, with-sent}
 use Rattle.srt_group_words.specs.laws.Record.{group-read, group-put, put-length, put-behind}
-use Rattle.srt_group_words.specs.Words.{zeros, Says, silent, in-words, sent-words, Words, words, parts-in, state-in, are-few, PromisedWords, Said, PutSaid, PutBack, ReadyWords, PerformsWords}
+use Rattle.srt_group_words.specs.Words.{zeros, Says, silent, in-words, sent-words, Words, words, parts-in, state-in, are-few, PromisedWords, Gives, Said, PutSaid, PutBack, ReadyWords, PerformsWords, PerformsGives}
 
 -- ---- how many words an answer has
 
@@ -128,6 +128,11 @@ pub record-refused : {call : Call} {says : Says} {other : Bool} {w : List ℕ} {
     → PromisedWords call says other (words w t bytes answer) 5 (words w t bytes answer)
 record-refused {says = says} {w = w} {t = t} {bytes = bytes} {answer = answer} short = few-refused (few-record says w t bytes answer short)
 
+pub record-gives : {call : Call} {says : Says} {other : Bool} {w : List ℕ} {t : Tables} {bytes : Lent} {answer : List ℕ} → length w < record-size
+    → Gives call says other (words w t bytes answer) 5 (words w t bytes answer) no-answer
+unfolding record-refused few-refused
+record-gives short = record { promised = record-refused short; is = refl }
+
 pub answer-refused : {call : Call} {size : ℕ} {other : Bool} {w : List ℕ} {t : Tables} {bytes : Lent} {answer : List ℕ} → length answer < size
     → PromisedWords call (in-words size) other (words w t bytes answer) 5 (words w t bytes answer)
 answer-refused {size = size} {w = w} {t = t} {bytes = bytes} {answer = answer} short =
@@ -158,6 +163,13 @@ module _ (call : Call) (w : List ℕ) (t : Tables) (bytes : Lent) (long : record
   row-moved row g′ t′ given rows promised back =
       over-moved call silent (row-short row) w t nothing-lent [] (not-few silent w t nothing-lent [] long (omega arith)) read (back .same) given rows
       refl g′ (back .put) (promised .holds)
+
+  -- with the answer that is given
+  pub row-gives : (row : List ℕ) (g′ : Group) (t′ : Tables) (given : Answer) (rows : ℕ) {w′ : List ℕ} {number code : ℕ}
+      → PromisedRow call (parts-of g) t row (showing (parts-of g′) t′ nothing-lent number given rows) → PutBack g′ number w code w′
+      → Gives call silent (row-short row) (words w t nothing-lent []) code (words w′ t′ nothing-lent []) given
+  unfolding row-moved over-moved in-words-over
+  row-gives row g′ t′ given rows promised back = record { promised = row-moved row g′ t′ given rows promised back; is = refl }
 
   -- a call that says its answer in words
   module _ (size : ℕ) (answer : List ℕ) (room : size ≤ length answer) where
@@ -265,6 +277,13 @@ module _ (w : List ℕ) {identity : Identity} {core : Core} {sending : Sending} 
     performs-silent core′ given {w′} {number} {code} none done back =
         performs-over silent [] (parts identity core′ sending ring) w′ [] number code given 0 (ap length (back .put) ∙ put-length _ w long)
         (shown-core core′ w′ (back .put)) done (back .same) (no-rows none) refl (ap (drop record-size) (back .put) ∙ put-behind _ w)
+
+    pub silent-gives : (core′ : Core) (given : Answer) {w′ : List ℕ} {number code : ℕ} → takes call .list ≡ false
+        → Performs call (parts identity core sending ring) t bytes number given (parts identity core′ sending ring) t′ bytes′ used′
+        → PutBack (with-core core′ (group-of w)) number w code w′
+        → PerformsGives call silent (words w t bytes []) code (words w′ t′ bytes′ []) used′ given
+    unfolding performs-silent performs-over
+    silent-gives core′ given none done back = record { performs = performs-silent core′ given none done back; is = refl }
 
     pub performs-said : (size : ℕ) (answer : List ℕ) (core′ : Core) (given : Answer) {w′ answer′ : List ℕ} {number code : ℕ}
         → takes call .list ≡ false

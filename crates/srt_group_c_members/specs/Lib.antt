@@ -1,0 +1,3 @@
+pub mod LegBack
+-- What is proved.
+pub mod laws
