@@ -1,5 +1,5 @@
-// Runs of sends. A step is one word: 0 is a send of the payload; otherwise a leg times 2^32, and the sequence up to which that leg is
-// acknowledged. The step's answer, one number, takes its place.
+// Runs of sends. A step is one word: a leg times 2^32, and the sequence up to which that leg is acknowledged; with leg 0 it is a send of the
+// payload, at the time that the word says. The step's answer, one number, takes its place.
 ghost use Prim.Native.Nat.{_≤_};
 ghost use lib.ListN.{length};
 ghost use Rattle.srt_group_model.specs.Sending.{list-size};
@@ -72,7 +72,6 @@ fn call(
     list: &mut [u64],
     word: u64,
     payload: &[u8],
-    time: u64,
 ) -> Called {
     let leg = word / LEG;
     if leg == 0 {
@@ -85,7 +84,7 @@ fn call(
             sources,
             store,
             list,
-            Timestamp(time),
+            Timestamp(word),
             payload,
         );
         let after = sent.group;
@@ -124,7 +123,6 @@ pub fn call_each(
     list: &mut [u64],
     steps: &mut [u64],
     payload: &[u8],
-    time: u64,
 ) -> Group {
     let mut at: usize = 0;
     while at < steps.len() {
@@ -140,7 +138,6 @@ pub fn call_each(
             list,
             word,
             payload,
-            time,
         );
         group = called.group;
         steps[at] = called.answer;
@@ -165,7 +162,6 @@ fn step(
     used: &mut [u64],
     word: u64,
     payload: &[u8],
-    time: u64,
 ) -> Stepped
     requires { ⌜ Ready (parts identity core sending ring)
         (tables (now members) (now pending) (now waiting) (now history) (now sources)) (length (now store)) (now used) ⌝ }
@@ -189,7 +185,7 @@ fn step(
             store,
             list,
             used,
-            Timestamp(time),
+            Timestamp(word),
             payload,
         );
         let after = sent.core;
@@ -246,7 +242,6 @@ pub fn step_each(
     used: &mut [u64],
     steps: &mut [u64],
     payload: &[u8],
-    time: u64,
 ) -> Moved
     requires { ⌜ Ready (parts identity core sending ring)
         (tables (now members) (now pending) (now waiting) (now history) (now sources)) (length (now store)) (now used) ⌝ }
@@ -270,7 +265,6 @@ pub fn step_each(
             used,
             word,
             payload,
-            time,
         );
         let moved = stepped.moved;
         core = moved.core;

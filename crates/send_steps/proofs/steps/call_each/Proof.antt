@@ -7,11 +7,11 @@ use Rattle.send_steps.proofs.steps.call_each.Statement.{statement}
 use Rattle.send_steps.proofs.steps.call_each.Tie as tie
 
 abbrev Inv-loop : tie.InvT-loop
-Inv-loop group₀ members₀ pending waiting history₀ sources₀ store₀ list₀ steps₀ payload time at₀ group members history sources store list steps at =
+Inv-loop group₀ members₀ pending waiting history₀ sources₀ store₀ list₀ steps₀ payload at₀ group members history sources store list steps at =
     (length steps ≡ length steps₀) × ((length members ≡ length members₀) × ((length history ≡ length history₀) × ((length sources ≡ length sources₀) × ((length store ≡ length store₀) × ((length list ≡ length list₀))))))
 
 abbrev μ-loop : tie.MeasureT-loop
-μ-loop group₀ members₀ pending waiting history₀ sources₀ store₀ list₀ steps₀ payload time at₀ group members history sources store list steps at =
+μ-loop group₀ members₀ pending waiting history₀ sources₀ store₀ list₀ steps₀ payload at₀ group members history sources store list steps at =
     length steps₀ - at
 
 loop-holds : tie.Need-loop-holds Inv-loop μ-loop

@@ -9,11 +9,11 @@ use Rattle.send_steps.proofs.steps.step_each.Statement.{statement}
 use Rattle.send_steps.proofs.steps.step_each.Tie as tie
 
 abbrev Inv-loop : tie.InvT-loop
-Inv-loop identity core₀ sending₀ ring₀ members₀ pending waiting history₀ sources₀ store₀ list₀ used₀ steps₀ payload time at₀ core sending ring members history sources store list used steps at =
+Inv-loop identity core₀ sending₀ ring₀ members₀ pending waiting history₀ sources₀ store₀ list₀ used₀ steps₀ payload at₀ core sending ring members history sources store list used steps at =
     Ready (parts identity core sending ring) (tables members pending waiting history sources) (length store) used × ((length steps ≡ length steps₀) × ((length members ≡ length members₀) × ((length history ≡ length history₀) × ((length sources ≡ length sources₀) × ((length store ≡ length store₀) × ((length list ≡ length list₀) × ((length used ≡ length used₀))))))))
 
 abbrev μ-loop : tie.MeasureT-loop
-μ-loop identity core₀ sending₀ ring₀ members₀ pending waiting history₀ sources₀ store₀ list₀ used₀ steps₀ payload time at₀ core sending ring members history sources store list used steps at =
+μ-loop identity core₀ sending₀ ring₀ members₀ pending waiting history₀ sources₀ store₀ list₀ used₀ steps₀ payload at₀ core sending ring members history sources store list used steps at =
     length steps₀ - at
 
 loop-holds : tie.Need-loop-holds Inv-loop μ-loop
