@@ -1,6 +1,8 @@
 //! Times queueing, polls and delivery of the port, linked as libcalls_bench.a, beside the published Rust over the stand-in leg, in one
 //! process. Both run the same list of steps on states made alike, and their answers are compared step by step. A payload is copied twice on
-//! both sides: into a cell or into new bytes when it is queued, and to the output when it is given.
+//! both sides: into a cell or into new bytes when it is queued, and to the output when it is given. Then the sends (sends.rs).
+mod sends;
+
 use std::hint::black_box;
 use std::rc::Rc;
 use std::time::Instant;
@@ -123,10 +125,11 @@ struct Port {
     sources: Vec<u64>,
     store: Vec<u8>,
     output: Vec<u8>,
+    list: Vec<u64>,
 }
 
 impl Port {
-    fn new(legs: u64) -> Self {
+    fn new(mode: GroupMode, legs: u64) -> Self {
         let mut port = Self {
             record: [0; 20],
             members: vec![0; 64 * ROW_WORDS],
@@ -136,9 +139,11 @@ impl Port {
             sources: vec![0; 512],
             store: vec![0; 2_048 * 1_456],
             output: vec![0; 1_468],
+            list: vec![0; 1_100 * 5],
         };
         let length = port.store.len();
-        assert_eq!(unsafe { calls_new(port.record.as_mut_ptr(), GROUP.into(), 0, length) }, 0);
+        let mode = (mode == GroupMode::Backup).into();
+        assert_eq!(unsafe { calls_new(port.record.as_mut_ptr(), GROUP.into(), mode, length) }, 0);
         for leg in 0..legs {
             assert_eq!(port.add(leg + 1), 0);
         }
@@ -176,11 +181,12 @@ impl Port {
 struct Rust {
     group: SrtGroup,
     output: Vec<u8>,
+    list: SendList,
 }
 
 impl Rust {
-    fn new(legs: u64) -> Self {
-        let mut group = SrtGroup::new(GROUP, GroupMode::Broadcast).expect("a group's id");
+    fn new(mode: GroupMode, legs: u64) -> Self {
+        let mut group = SrtGroup::new(GROUP, mode).expect("a group's id");
         let list = SendList::default();
         for leg in 1..=legs as u32 {
             let start = LegStart {
@@ -194,7 +200,7 @@ impl Rust {
             };
             group.add_member(leg, 0, SrtConnection::new(start, Rc::clone(&list))).expect("an addition");
         }
-        Self { group, output: vec![0; 1_468] }
+        Self { group, output: vec![0; 1_468], list }
     }
 
     fn run(&mut self, steps: &mut Steps, payload: &[u8]) {
@@ -237,7 +243,8 @@ fn nanoseconds(work: impl FnOnce()) -> f64 {
 /// The best of the runs of the Rust, the forms for a valid state and the public calls, in nanoseconds a queued packet.
 fn timed(order: Order, legs: u64, held: u64) -> [f64; 3] {
     let payload: Vec<u8> = (0..PAYLOAD).map(|i| i as u8).collect();
-    let (mut rust, mut valid, mut public) = (Rust::new(legs), Port::new(legs), Port::new(legs));
+    let mode = GroupMode::Broadcast;
+    let (mut rust, mut valid, mut public) = (Rust::new(mode, legs), Port::new(mode, legs), Port::new(mode, legs));
     let mut answers = [(); 3].map(|()| Steps::holding(legs, held));
     rust.run(&mut answers[0], &payload);
     valid.run(calls_run_valid, &mut answers[1], &payload);
@@ -284,4 +291,5 @@ fn main() {
             }
         }
     }
+    sends::main();
 }
