@@ -1,6 +1,7 @@
 //! Times queueing, polls and delivery of the port, linked as libcalls_bench.a, beside the published Rust over the stand-in leg, in one
 //! process. Both run the same list of steps on states made alike, and their answers are compared step by step. A payload is copied twice on
-//! both sides: into a cell or into new bytes when it is queued, and to the output when it is given. Then the sends (sends.rs).
+//! both sides: into a cell or into new bytes when it is queued, and to the output when it is given. Then the sends (sends.rs), linked as
+//! libsends_bench.a.
 mod sends;
 
 use std::hint::black_box;

@@ -1,7 +1,7 @@
 -- `calls_sends_valid`: where 5 and 6 are not answered, what the forms rest on holds.
 use borrow.Author.Needs.{needs}
-use Rattle.calls_bench.proofs.calls_sends_valid.Statement.{statement}
-use Rattle.calls_bench.proofs.calls_sends_valid.Tie as tie
+use Rattle.sends_bench.proofs.calls_sends_valid.Statement.{statement}
+use Rattle.sends_bench.proofs.calls_sends_valid.Tie as tie
 
 number-requires : tie.Need-number-requires
 number-requires c κs = search needs
