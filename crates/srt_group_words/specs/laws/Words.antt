@@ -206,6 +206,26 @@ pub room-in-words : (w : List ℕ) (t : Tables) (bytes : Lent) (answer : List �
     → are-few (in-words size) (words w t bytes answer) ≡ false
 room-in-words w t bytes answer {size} long room = not-few (in-words size) w t bytes answer long (omega (arith, no-words size))
 
+-- the same with the answer that is given, of a call that leaves the record, the tables and the bytes as they were
+pub kept-gives : (call : Call) (says : Says) (other : Bool) (w : List ℕ) (t : Tables) (bytes : Lent) (answer : List ℕ) → record-size ≤ length w
+    → length (says no-answer 0) ≤ length answer → {g : Group} → g ≡ group-of w → {answer′ : List ℕ} {number code : ℕ} (given : Answer) (rows : ℕ)
+    → Promise (other || are-short t) (asking call bytes) (state-of (parts-of g) t) (showing (parts-of g) t bytes number given rows)
+    → code ≡ number → answer′ ≡ overwritten 0 (says given rows) answer
+    → Gives call says other (words w t bytes answer) code (words w t bytes answer′) given
+unfolding over-kept in-words-over
+kept-gives call says other w t bytes answer long room read given rows made same said =
+    record {
+      promised =
+          over-kept call says other w t bytes answer (not-few says w t bytes answer long room) read {t′ = t} {bytes′ = bytes} same given rows said made;
+      is = refl;
+    }
+
+pub answer-gives : {call : Call} {says : Says} {other : Bool} {w : List ℕ} {t : Tables} {bytes : Lent} {answer : List ℕ}
+    → length answer < length (says no-answer 0) → Gives call says other (words w t bytes answer) 5 (words w t bytes answer) no-answer
+unfolding few-refused
+answer-gives {says = says} {w = w} {t = t} {bytes = bytes} {answer = answer} short =
+    record { promised = few-refused (few-answer says w t bytes answer short); is = refl }
+
 pub in-words-of : (call : Call) (says : Says) (w : List ℕ) (t : Tables) (bytes : Lent) (answer : List ℕ)
     → are-few says (words w t bytes answer) ≡ false
     → (w′ : List ℕ) (t′ : Tables) (bytes′ : Lent) (answer′ : List ℕ) (code : ℕ) (given : Answer) (rows : ℕ)

@@ -1,0 +1,3 @@
+pub mod Listed
+-- What is proved.
+pub mod laws
