@@ -69,7 +69,7 @@ pub extern "C" fn srt_group_valid_poll_data_bounded(
 
 // The same with 5 and 6.
 #[no_mangle]
-pub extern "C" fn srt_group_poll_data_bounded(
+pub extern "C" fn srt_group_raw_poll_data_bounded(
     record: &mut [u64],
     members: &mut [u64],
     pending: &mut [u64],
@@ -130,7 +130,7 @@ pub extern "C" fn srt_group_poll_data_bounded(
 
 // `poll_data_bounded` with as many events as it may pass, 64.
 #[no_mangle]
-pub extern "C" fn srt_group_poll_data(
+pub extern "C" fn srt_group_raw_poll_data(
     record: &mut [u64],
     members: &mut [u64],
     pending: &mut [u64],
@@ -150,7 +150,7 @@ pub extern "C" fn srt_group_poll_data(
         (tables (now (members .exit)) (now (pending .exit)) (now (waiting .exit)) (now (history .entry)) (now (sources .entry)))
         (lending (now (store .entry)) (now (output .exit))) (now (answer .exit))) ⌝ }
 {
-    srt_group_poll_data_bounded(
+    srt_group_raw_poll_data_bounded(
         record,
         members,
         pending,

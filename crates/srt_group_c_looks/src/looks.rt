@@ -16,7 +16,7 @@ use srt_protocol::time::Timestamp;
 
 // The group's id.
 #[no_mangle]
-pub extern "C" fn srt_group_group_id(
+pub extern "C" fn srt_group_raw_group_id(
     record: &[u64],
     members: &[u64],
     pending: &[u64],
@@ -52,7 +52,7 @@ pub extern "C" fn srt_group_group_id(
 
 // 0 for Broadcast, 1 for Backup.
 #[no_mangle]
-pub extern "C" fn srt_group_mode(
+pub extern "C" fn srt_group_raw_mode(
     record: &[u64],
     members: &[u64],
     pending: &[u64],
@@ -88,7 +88,7 @@ pub extern "C" fn srt_group_mode(
 
 // The peer group that the group is bound to, or 0.
 #[no_mangle]
-pub extern "C" fn srt_group_peer_group_id(
+pub extern "C" fn srt_group_raw_peer_group_id(
     record: &[u64],
     members: &[u64],
     pending: &[u64],
@@ -124,7 +124,7 @@ pub extern "C" fn srt_group_peer_group_id(
 
 // How many packets were skipped for good.
 #[no_mangle]
-pub extern "C" fn srt_group_skipped_receive_packets(
+pub extern "C" fn srt_group_raw_skipped_receive_packets(
     record: &[u64],
     members: &[u64],
     pending: &[u64],
@@ -160,7 +160,7 @@ pub extern "C" fn srt_group_skipped_receive_packets(
 
 // Whether a packet is held, an event waits, or the continuation is asked for.
 #[no_mangle]
-pub extern "C" fn srt_group_has_pending_data(
+pub extern "C" fn srt_group_raw_has_pending_data(
     record: &[u64],
     members: &[u64],
     pending: &[u64],
@@ -196,7 +196,7 @@ pub extern "C" fn srt_group_has_pending_data(
 
 // Whether the last poll stopped with work left.
 #[no_mangle]
-pub extern "C" fn srt_group_has_receive_continuation(
+pub extern "C" fn srt_group_raw_has_receive_continuation(
     record: &[u64],
     members: &[u64],
     pending: &[u64],
@@ -232,7 +232,7 @@ pub extern "C" fn srt_group_has_receive_continuation(
 
 // How long until pacing lets a member send, in microseconds.
 #[no_mangle]
-pub extern "C" fn srt_group_time_until_send(
+pub extern "C" fn srt_group_raw_time_until_send(
     record: &[u64],
     members: &[u64],
     pending: &[u64],

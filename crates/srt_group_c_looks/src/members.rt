@@ -17,7 +17,7 @@ use srt_group_words::record::read_group;
 
 // A member: its membership, with its label and its collision, and its leg's state.
 #[no_mangle]
-pub extern "C" fn srt_group_member(
+pub extern "C" fn srt_group_raw_member(
     record: &[u64],
     members: &[u64],
     pending: &[u64],
@@ -55,7 +55,7 @@ pub extern "C" fn srt_group_member(
 
 // How long the member may be silent as the carrier of a Backup group, in microseconds; 0 for a leg without a sender.
 #[no_mangle]
-pub extern "C" fn srt_group_backup_stability_timeout_micros(
+pub extern "C" fn srt_group_raw_backup_stability_timeout_micros(
     record: &[u64],
     members: &[u64],
     pending: &[u64],
@@ -93,7 +93,7 @@ pub extern "C" fn srt_group_backup_stability_timeout_micros(
 
 // All members as rows of a lent list, in the order of their addition. The answer is how many rows were filled.
 #[no_mangle]
-pub extern "C" fn srt_group_members(
+pub extern "C" fn srt_group_raw_members(
     record: &[u64],
     members: &[u64],
     pending: &[u64],

@@ -47,7 +47,7 @@ fn put_refreshed_core(record: &mut [u64], core: Core) -> u32
 
 // A member turns Broken.
 #[no_mangle]
-pub extern "C" fn srt_group_mark_member_broken(
+pub extern "C" fn srt_group_raw_mark_member_broken(
     record: &[u64],
     members: &mut [u64],
     pending: &[u64],
@@ -121,7 +121,7 @@ pub extern "C" fn srt_group_valid_mark_member_broken(
 
 // The members' states follow their legs; a member that arrives may set the base and bind the group.
 #[no_mangle]
-pub extern "C" fn srt_group_refresh_member_states(
+pub extern "C" fn srt_group_raw_refresh_member_states(
     record: &mut [u64],
     members: &mut [u64],
     pending: &[u64],
@@ -191,7 +191,7 @@ pub extern "C" fn srt_group_valid_refresh_member_states(
 
 // Every leg is disconnected; nothing is queued. The stand-in's legs need no time.
 #[no_mangle]
-pub extern "C" fn srt_group_disconnect(
+pub extern "C" fn srt_group_raw_disconnect(
     record: &[u64],
     members: &mut [u64],
     pending: &[u64],

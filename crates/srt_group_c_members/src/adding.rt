@@ -20,7 +20,7 @@ use srt_group_words::record::read_sending;
 
 // A leg is added, handed over in a row of the members' table, of which the membership part is not read. 22 leaves it added.
 #[no_mangle]
-pub extern "C" fn srt_group_add_member(
+pub extern "C" fn srt_group_raw_add_member(
     record: &mut [u64],
     members: &mut [u64],
     pending: &[u64],

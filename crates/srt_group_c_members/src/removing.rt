@@ -22,7 +22,7 @@ use srt_group_words::record::read_sending;
 
 // A member is removed, and its leg dropped.
 #[no_mangle]
-pub extern "C" fn srt_group_remove_member(
+pub extern "C" fn srt_group_raw_remove_member(
     record: &mut [u64],
     members: &mut [u64],
     pending: &mut [u64],
@@ -96,7 +96,7 @@ pub extern "C" fn srt_group_valid_remove_member(
 
 // A member is removed, and its leg given back in a row of the members' table.
 #[no_mangle]
-pub extern "C" fn srt_group_remove_member_connection(
+pub extern "C" fn srt_group_raw_remove_member_connection(
     record: &mut [u64],
     members: &mut [u64],
     pending: &mut [u64],

@@ -11,7 +11,7 @@ use srt_group_words::record::put_group;
 // A fresh group over tables of which no row is in use: its id, its mode (0 Broadcast, 1 Backup), and the length of the store that every call
 // is then to be lent, or 0.
 #[no_mangle]
-pub extern "C" fn srt_group_new(record: &mut [u64], id: u64, mode: u64, length: usize) -> u32
+pub extern "C" fn srt_group_raw_new(record: &mut [u64], id: u64, mode: u64, length: usize) -> u32
     ensures { λ r. ⌜ PromisedNewWords record { id = id; mode = mode; length = length }
         (now («record» .entry)) r (now («record» .exit)) ⌝ }
 {
@@ -31,7 +31,7 @@ pub extern "C" fn srt_group_new(record: &mut [u64], id: u64, mode: u64, length: 
 // A host that is the only writer begins with this: 5 and 6 of a call that is lent a store of so many bytes, tested once. 0 fills `used`, 32
 // words, with the cells in use, and the forms for a valid state may be called.
 #[no_mangle]
-pub extern "C" fn srt_group_begin_valid(
+pub extern "C" fn srt_group_valid_begin(
     record: &[u64],
     members: &[u64],
     pending: &[u64],

@@ -76,7 +76,7 @@ pub extern "C" fn srt_group_valid_queue_data(
 
 // The same with 5 and 6.
 #[no_mangle]
-pub extern "C" fn srt_group_queue_data(
+pub extern "C" fn srt_group_raw_queue_data(
     record: &[u64],
     members: &mut [u64],
     pending: &[u64],

@@ -19,7 +19,7 @@ use srt_group_words::record::read_sending;
 
 // A lifecycle event at the end of a leg's queue.
 #[no_mangle]
-pub extern "C" fn srt_group_queue_event(
+pub extern "C" fn srt_group_raw_queue_event(
     record: &[u64],
     members: &mut [u64],
     pending: &[u64],
@@ -101,7 +101,7 @@ pub extern "C" fn srt_group_valid_queue_event(
 
 // A number into a field of a leg.
 #[no_mangle]
-pub extern "C" fn srt_group_read_leg(
+pub extern "C" fn srt_group_raw_read_leg(
     record: &[u64],
     members: &mut [u64],
     pending: &[u64],

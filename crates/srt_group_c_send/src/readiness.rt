@@ -22,7 +22,7 @@ use srt_protocol::time::Timestamp;
 
 // Whether the group could send now. The test refreshes and trims.
 #[no_mangle]
-pub extern "C" fn srt_group_can_send(
+pub extern "C" fn srt_group_raw_can_send(
     record: &mut [u64],
     members: &mut [u64],
     pending: &[u64],
@@ -98,7 +98,7 @@ pub extern "C" fn srt_group_valid_can_send(
 
 // The same, where a leg counts that may send by its pace at this time.
 #[no_mangle]
-pub extern "C" fn srt_group_can_send_with_pacing(
+pub extern "C" fn srt_group_raw_can_send_with_pacing(
     record: &mut [u64],
     members: &mut [u64],
     pending: &[u64],

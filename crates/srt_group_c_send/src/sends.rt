@@ -69,7 +69,7 @@ pub extern "C" fn srt_group_valid_send(
 
 // The same with 5 and 6.
 #[no_mangle]
-pub extern "C" fn srt_group_send(
+pub extern "C" fn srt_group_raw_send(
     record: &mut [u64],
     members: &mut [u64],
     pending: &[u64],
@@ -133,7 +133,7 @@ pub extern "C" fn srt_group_send(
 
 // The same: a lent payload is shared by all legs as it is, so the Rust's form for counted bytes is no other call.
 #[no_mangle]
-pub extern "C" fn srt_group_send_shared(
+pub extern "C" fn srt_group_raw_send_shared(
     record: &mut [u64],
     members: &mut [u64],
     pending: &[u64],
@@ -154,7 +154,7 @@ pub extern "C" fn srt_group_send_shared(
         (tables (now (members .exit)) (now (pending .entry)) (now (waiting .entry)) (now (history .exit)) (now (sources .exit)))
         (sending-into (now (store .exit)) (now (list .exit))) (now (answer .exit))) ⌝ }
 {
-    srt_group_send(
+    srt_group_raw_send(
         record,
         members,
         pending,

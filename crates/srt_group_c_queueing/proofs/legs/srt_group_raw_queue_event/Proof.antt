@@ -1,0 +1,34 @@
+-- `srt_group_raw_queue_event` meets its contract: 5 for the record, or the promise of the call by value.
+use Rattle.srt_group_words.specs.laws.Words.{record-refused, silent-kept}
+use borrow.Author.Needs.{needs}
+use Rattle.srt_group_c_queueing.proofs.legs.srt_group_raw_queue_event.Statement.{statement}
+use Rattle.srt_group_c_queueing.proofs.legs.srt_group_raw_queue_event.Tie as tie
+
+returns : tie.Need-returns
+returns c = search record-refused
+
+read-group-requires : tie.Need-read-group-requires
+read-group-requires c κs = search needs
+
+queue-event-requires : tie.Need-queue-event-requires
+queue-event-requires c κs = search needs
+
+number-requires : tie.Need-number-requires
+number-requires c κs = search needs
+
+same-length : tie.Need-same-length
+same-length c = search needs
+
+returns-2 : tie.Need-returns-2
+returns-2 c = search silent-kept
+
+pub srt-group-queue-event-spec : {M : Type 1} → statement M
+srt-group-queue-event-spec =
+    tie.close
+    (tie.spec
+    returns
+    read-group-requires
+    queue-event-requires
+    number-requires
+    same-length
+    returns-2)

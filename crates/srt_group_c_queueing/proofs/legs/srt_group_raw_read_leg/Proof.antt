@@ -1,0 +1,28 @@
+-- `srt_group_raw_read_leg` meets its contract: 5 for the record, or the promise of the call by value.
+use Rattle.srt_group_words.specs.laws.Words.{record-refused, silent-kept}
+use borrow.Author.Needs.{needs}
+use Rattle.srt_group_c_queueing.proofs.legs.srt_group_raw_read_leg.Statement.{statement}
+use Rattle.srt_group_c_queueing.proofs.legs.srt_group_raw_read_leg.Tie as tie
+
+returns : tie.Need-returns
+returns c = search record-refused
+
+read-group-requires : tie.Need-read-group-requires
+read-group-requires c κs = search needs
+
+read-leg-requires : tie.Need-read-leg-requires
+read-leg-requires c κs = search needs
+
+number-requires : tie.Need-number-requires
+number-requires c κs = search needs
+
+same-length : tie.Need-same-length
+same-length c = search needs
+
+returns-2 : tie.Need-returns-2
+returns-2 c = search silent-kept
+
+pub srt-group-read-leg-spec : {M : Type 1} → statement M
+srt-group-read-leg-spec =
+    tie.close
+    (tie.spec returns read-group-requires read-leg-requires number-requires same-length returns-2)
