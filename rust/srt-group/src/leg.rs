@@ -204,18 +204,18 @@ impl Reading {
     /// The field's number, and what is read into it.
     pub(crate) fn words(self) -> (u64, u64) {
         match self {
-            Self::State(state) => (1, state.word()),
-            Self::Window(window) => (2, window.into()),
-            Self::ReceiveWindow(window) => (3, window.into()),
-            Self::Latency(micros) => (4, micros),
-            Self::AcknowledgedUpTo(sequence) => (5, sequence.into()),
-            Self::Srtt(micros) => (6, micros.into()),
-            Self::Rttvar(micros) => (7, micros.into()),
-            Self::LastHeard(time) => (8, time.0),
-            Self::PaceTime(time) => (9, time.0),
-            Self::PeerGroupId(peer) => (10, peer_word(peer)),
-            Self::PayloadLimit(limit) => (11, limit.into()),
-            Self::OldestSendTime(time) => (12, time.0),
+            Self::State(reached) => (state::FIELD_STATE, reached.word()),
+            Self::Window(window) => (state::FIELD_WINDOW, window.into()),
+            Self::ReceiveWindow(window) => (state::FIELD_RECEIVE_WINDOW, window.into()),
+            Self::Latency(micros) => (state::FIELD_LATENCY, micros),
+            Self::AcknowledgedUpTo(sequence) => (state::FIELD_ACKNOWLEDGE, sequence.into()),
+            Self::Srtt(micros) => (state::FIELD_SRTT, micros.into()),
+            Self::Rttvar(micros) => (state::FIELD_RTTVAR, micros.into()),
+            Self::LastHeard(time) => (state::FIELD_HEARD, time.0),
+            Self::PaceTime(time) => (state::FIELD_PACE, time.0),
+            Self::PeerGroupId(peer) => (state::FIELD_PEER, peer_word(peer)),
+            Self::PayloadLimit(limit) => (state::FIELD_LIMIT, limit.into()),
+            Self::OldestSendTime(time) => (state::FIELD_OLDEST, time.0),
         }
     }
 }

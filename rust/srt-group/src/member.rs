@@ -23,11 +23,11 @@ pub enum GroupMemberState {
 impl GroupMemberState {
     fn of(word: u64) -> Self {
         match word {
-            state::MEMBER_PENDING => Self::Pending,
-            state::MEMBER_ACTIVE => Self::Active,
-            state::MEMBER_STANDBY => Self::Standby,
-            state::MEMBER_UNSTABLE => Self::Unstable,
-            state::MEMBER_BROKEN => Self::Broken,
+            state::LABEL_PENDING => Self::Pending,
+            state::LABEL_ACTIVE => Self::Active,
+            state::LABEL_STANDBY => Self::Standby,
+            state::LABEL_UNSTABLE => Self::Unstable,
+            state::LABEL_BROKEN => Self::Broken,
             _ => unreachable!("a valid state has no member in state {word}"),
         }
     }

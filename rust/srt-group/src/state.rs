@@ -17,7 +17,7 @@
 //!   can be passed. The store is boxed, and keeps the length of which `srt_group_valid_begin` was told.
 //! - **The slices are sound.** Each is a field, an argument or a local of its own: it is alive and aligned, its elements are written, its
 //!   pointer is not null, and what is lent to be written overlaps nothing else. The library keeps no pointer beyond a call and has no memory of
-//!   its own.
+//!   its own (`tools/library-test` looks into the archive).
 //! - **Nothing unwinds.** Rattle has no panic: what would be one in Rust, as an overflow or an index out of range, the proof excludes. And the
 //!   library calls nothing of the host's.
 //!
@@ -33,8 +33,10 @@ use crate::Sent;
 use crate::error::outcome;
 
 pub use raw::{CELL, Error, HEAD, MAX_CELLS, MAX_MEMBERS, OUTPUT};
+pub(crate) use raw::{FIELD_ACKNOWLEDGE, FIELD_HEARD, FIELD_LATENCY, FIELD_LIMIT, FIELD_OLDEST, FIELD_PACE};
+pub(crate) use raw::{FIELD_PEER, FIELD_RECEIVE_WINDOW, FIELD_RTTVAR, FIELD_SRTT, FIELD_STATE, FIELD_WINDOW};
 pub(crate) use raw::{HISTORY_WORDS, MAX_EVENTS, MAX_SENT, NO_SEQUENCE, OWN_PAYLOAD, RECORD_WORDS, SENT_ROW_WORDS};
-pub(crate) use raw::{MEMBER_ACTIVE, MEMBER_BROKEN, MEMBER_PENDING, MEMBER_STANDBY, MEMBER_UNSTABLE};
+pub(crate) use raw::{LABEL_ACTIVE, LABEL_BROKEN, LABEL_PENDING, LABEL_STANDBY, LABEL_UNSTABLE};
 pub(crate) use raw::{ROW_LINK_LIMIT, ROW_LINK_PEER, ROW_LINK_STATE, ROW_TRIP_HEARD, ROW_TRIP_RTTVAR, ROW_TRIP_SRTT};
 pub(crate) use raw::{ROW_RECEIVER_ADVANCED, ROW_RECEIVER_FIRST, ROW_RECEIVER_LATENCY, ROW_RECEIVER_WINDOW};
 pub(crate) use raw::{ROW_SENDER_FLIGHT, ROW_SENDER_NEXT, ROW_SENDER_OLDEST, ROW_SENDER_PACE, ROW_SENDER_STARTED, ROW_SENDER_WINDOW};
