@@ -1,5 +1,6 @@
 //! The crate as a host uses it: a loss and a skip, a take-over in Backup, removals, events, and each refusal.
-use srt_group::{ConnectionState, Error, Group, GroupMemberState, GroupMode, GroupPacket, Leg, Reading, ReceivedData, Timestamp};
+use srt_group::{ConnectionEvent, ConnectionState, Error, Group, GroupDataPoll, GroupMemberState, GroupMode, GroupPacket};
+use srt_group::{Leg, Reading, ReceivedData, Timestamp};
 
 const ID: u32 = 0x4000_0001;
 
@@ -83,6 +84,45 @@ fn a_payload_is_written_from_byte_12_of_the_hosts_buffer() {
 }
 
 #[test]
+fn a_packet_comes_out_as_it_was_queued() {
+    let mut group = group(GroupMode::Broadcast);
+    group.add_member(7, 0, connected()).unwrap();
+    let queued = ReceivedData {
+        sequence_number: 100,
+        packet_count: 2,
+        message_number: 3,
+        timestamp: u32::MAX,
+        source_time: Timestamp(u64::MAX),
+        payload: &[0xab; Group::CELL],
+    };
+    group.queue_data(7, queued).unwrap();
+    let expected = GroupPacket {
+        member_id: 7,
+        sequence_number: 100,
+        message_number: 3,
+        timestamp: u32::MAX,
+        source_time: Timestamp(u64::MAX),
+        packet_count: 2,
+        payload: vec![0xab; Group::CELL],
+    };
+    assert_eq!(group.poll_data(Timestamp(0)), Some(expected));
+    assert_eq!(group.remove_member_connection(7).unwrap().advanced, 102);
+}
+
+#[test]
+fn a_data_poll_passes_events() {
+    let mut group = group(GroupMode::Broadcast);
+    group.add_member(7, 0, connected()).unwrap();
+    for _ in 0..3 {
+        group.queue_event(7, ConnectionEvent::Connected).unwrap();
+    }
+    group.queue_data(7, data(100, b"payload")).unwrap();
+    let mut other = group.clone();
+    assert_eq!(other.poll_data_bounded(Timestamp(0), 2), GroupDataPoll { packet: None, continuation: true });
+    assert_eq!(group.poll_data(Timestamp(0)).map(|packet| packet.sequence_number), Some(100));
+}
+
+#[test]
 fn a_bounded_poll_gives_nothing_with_no_visit() {
     let mut group = group(GroupMode::Broadcast);
     group.add_member(7, 0, connected()).unwrap();
@@ -155,7 +195,8 @@ fn a_removed_leg_is_given_back_and_added_again() {
     assert_eq!(group.peer_group_id().map(u32::from), Some(0x4000_0009));
     group.queue_data(7, data(101, b"held")).unwrap();
     assert_eq!(group.poll_data(Timestamp(0)), None);
-    assert_eq!(group.member(7).unwrap().reserved_packets, 1);
+    let member = group.member(7).unwrap();
+    assert_eq!((member.weight, member.reserved_packets, member.peer_group_admitted), (3, 1, true));
     group.queue_data(7, data(102, b"dropped with the queue")).unwrap();
 
     let given = group.remove_member_connection(7).unwrap();
