@@ -19,14 +19,14 @@ static const uint64_t LEG_A = 7, LEG_B = 9;
 
 static void say(uint64_t now, const char *call, enum srt_group_code code)
 {
-    printf("%7" PRIu64 "  %s: code %d, %s\n", now, call, (int)code, srt_group_strerror((uint32_t)code));
+    printf("%7" PRIu64 "  %s: code %d, %s\n", now, call, (int)code, srt_group_strerror(code));
 }
 
 /* For calls that this program never makes wrong. */
 static void must(enum srt_group_code code)
 {
     if (code != SRT_GROUP_ACCEPTED) {
-        fprintf(stderr, "refused: %s\n", srt_group_strerror((uint32_t)code));
+        fprintf(stderr, "refused: %s\n", srt_group_strerror(code));
         exit(1);
     }
 }

@@ -81,7 +81,7 @@
 /** The words of the list of members that are shown. */
 #define SRT_GROUP_MEMBER_LIST_WORDS 512
 
-/** The words of a data poll's answer. */
+/** The words of a poll's answer. */
 #define SRT_GROUP_POLL_ANSWER_WORDS 8
 
 /** The words of a send's answer. */

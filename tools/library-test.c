@@ -44,6 +44,13 @@ static void add(uint64_t id, const struct srt_group_leg *leg)
     same("add_member", srt_group_add_member(&group, id, 3, leg), 0);
 }
 
+static uint64_t label_of(uint64_t id)
+{
+    struct srt_group_member_shown member;
+    same("member", srt_group_member(&group, id, &member), 0);
+    return member.label;
+}
+
 /* ---- the lengths: each as the header has it is taken, each that is one less is 5 */
 
 struct lengths {
@@ -209,8 +216,27 @@ static void packet_fields(void)
     same("the byte behind it", output[SRT_GROUP_HEAD + 7], 0xaa);
     same("no more", srt_group_poll_data(&group, 60, output, sizeof output, &packet), 0);
     same("no packet", packet.count + packet.sequence + packet.member + packet.length, 0);
-    same("queue_event", srt_group_queue_event(&group, 7, SRT_GROUP_EVENT_ERROR, 9), 0);
-    same("no event is passed", srt_group_poll_data_bounded(&group, 60, 0, output, sizeof output, &packet), 0);
+}
+
+/* A leg's event is passed by a data poll; what becomes of the member. */
+static void event_passed(uint64_t kind, uint64_t label)
+{
+    struct srt_group_leg leg = connected(0);
+    struct srt_group_packet packet;
+    init(SRT_GROUP_BROADCAST);
+    add(7, &leg);
+    same("queue_event", srt_group_queue_event(&group, 7, kind, 9), 0);
+    same("a poll that passes none", srt_group_poll_data_bounded(&group, 60, 0, output, sizeof output, &packet), 0);
+    same("as it was", label_of(7), SRT_GROUP_LABEL_ACTIVE);
+    same("a poll that passes one", srt_group_poll_data_bounded(&group, 60, 1, output, sizeof output, &packet), 0);
+    same("its label", label_of(7), label);
+}
+
+static void events(void)
+{
+    event_passed(SRT_GROUP_EVENT_CONNECTED, SRT_GROUP_LABEL_ACTIVE);
+    event_passed(SRT_GROUP_EVENT_ERROR, SRT_GROUP_LABEL_BROKEN);
+    event_passed(SRT_GROUP_EVENT_DISCONNECTED, SRT_GROUP_LABEL_BROKEN);
 }
 
 static void send_fields(void)
@@ -228,7 +254,6 @@ static void send_fields(void)
     add(9, &leg);
     same("can_send", srt_group_can_send(&group, &ready), 0);
     same("ready", ready, 1);
-    same("can_send_with_pacing", srt_group_can_send_with_pacing(&group, 70, &ready), 0);
     same("send", srt_group_send(&group, 70, payload, 3, &sends), 0);
     same("sends.legs", sends.legs, 2);
     same("sends.rows", sends.rows, 2);
@@ -241,6 +266,17 @@ static void send_fields(void)
     same("its payload", srt_group_sent_payload(&group, &sends.row[1], payload) == payload, 1);
 }
 
+static void paced(void)
+{
+    struct srt_group_leg leg = connected(300);
+    bool ready;
+    init(SRT_GROUP_BROADCAST);
+    leg.pace_time = 90;
+    add(7, &leg);
+    same("before its pace time", srt_group_can_send_with_pacing(&group, 89, &ready), 0), same("not yet", ready, 0);
+    same("at its pace time", srt_group_can_send_with_pacing(&group, 90, &ready), 0), same("now", ready, 1);
+}
+
 /* A silent carrier: the other leg takes over, and the history is replayed from its cells. */
 static void replayed(void)
 {
@@ -250,6 +286,7 @@ static void replayed(void)
     init(SRT_GROUP_BACKUP);
     add(7, &leg);
     add(9, &leg);
+    same("the second leg", label_of(9), SRT_GROUP_LABEL_STANDBY);
     same("a send on the carrier", srt_group_send(&group, 70, first, 3, &sends), 0);
     same("on one leg", sends.rows, 1);
     same("stability timeout", srt_group_backup_stability_timeout_micros(&group, 7, &timeout), 0);
@@ -263,6 +300,8 @@ static void replayed(void)
     same("a cell", sends.row[0].cell, 0);
     same("its bytes", (uint64_t)memcmp(srt_group_sent_payload(&group, &sends.row[0], second), first, 3), 0);
     same("the call's own", sends.row[1].cell, SRT_GROUP_OWN_PAYLOAD);
+    same("the silent carrier", label_of(7), SRT_GROUP_LABEL_UNSTABLE);
+    same("the new one", label_of(9), SRT_GROUP_LABEL_ACTIVE);
 }
 
 static void looks(void)
@@ -305,7 +344,10 @@ static void states(void)
     init(SRT_GROUP_BROADCAST);
     add(7, &leg);
     same("mark_member_broken", srt_group_mark_member_broken(&group, 7), 0);
-    same("member", srt_group_member(&group, 7, &member), 0), same("broken", member.label, SRT_GROUP_LABEL_BROKEN);
+    same("broken", label_of(7), SRT_GROUP_LABEL_BROKEN);
+    leg.state = SRT_GROUP_HANDSHAKING;
+    add(8, &leg);
+    same("pending", label_of(8), SRT_GROUP_LABEL_PENDING);
     same("refresh_member_states", srt_group_refresh_member_states(&group), 0);
     same("disconnect", srt_group_disconnect(&group, 5), 0);
     same("member again", srt_group_member(&group, 7, &member), 0), same("disconnected", member.state, SRT_GROUP_DISCONNECTED);
@@ -366,7 +408,9 @@ int main(void)
     fields_read();
     leg_back();
     packet_fields();
+    events();
     send_fields();
+    paced();
     replayed();
     looks();
     states();

@@ -67,7 +67,7 @@ pub const MEMBER_ANSWER_WORDS: usize = 8;
 /// The words of the list of members that are shown.
 pub const MEMBER_LIST_WORDS: usize = 512;
 
-/// The words of a data poll's answer.
+/// The words of a poll's answer.
 pub const POLL_ANSWER_WORDS: usize = 8;
 
 /// The words of a send's answer.
