@@ -250,8 +250,9 @@ impl Group {
 /// A poll collects what is queued on the legs and gives the next packet in order. Each is there twice: one gives the payload as new bytes, and
 /// one, `…_into`, writes it to the host's own buffer, from byte 12 on; bytes 0 to 11, for the host's RTP head, and those after the payload stay.
 ///
-/// A packet that is missing is passed over for good once the leg that brought the next one has given up on it: at its source time and the
-/// leg's latency. docs/WHY_A_SKIP_IS_RIGHT.md has what is proved of that.
+/// While a packet is held a poll collects one event, so poll at least once for each that is queued; and again when a waiting time is over, since
+/// only a poll passes over a gap. A packet that is missing is passed over for good once the leg that brought the next one has given up on it:
+/// at that one's source time and the leg's latency. docs/WHY_A_SKIP_IS_RIGHT.md has what is proved of it.
 impl Group {
     /// The next packet, in order and without duplicates. Events of members on the way are dropped.
     ///
