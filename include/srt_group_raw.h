@@ -331,6 +331,21 @@ uint32_t srt_group_raw_poll_data(
     uint64_t time,
     uint64_t *answer, size_t answer_length) SRT_GROUP_NOT_NULL;
 
+/** The next event, or the next packet in order, with 5 and 6 tested. The answer's words: of an event its kind (1 connected, 2 error, 3
+ *  disconnected), its leg, its reason, and zeros; of a packet 0, its leg, sequence, count, message number, timestamp, source time and
+ *  length; of neither zeros. A packet's count is never 0. */
+uint32_t srt_group_raw_poll_event(
+    uint64_t *record, size_t record_length,
+    uint64_t *members, size_t members_length,
+    uint64_t *pending, size_t pending_length,
+    uint64_t *waiting, size_t waiting_length,
+    const uint64_t *history, size_t history_length,
+    const uint64_t *sources, size_t sources_length,
+    const uint8_t *store, size_t store_length,
+    uint8_t *output, size_t output_length,
+    uint64_t time,
+    uint64_t *answer, size_t answer_length) SRT_GROUP_NOT_NULL;
+
 /** One payload through the group, on every active leg or on the carrier; each send that a leg takes fills a row of the list: leg, sequence,
  *  history cell (4294967295 for this payload), source time, time. The answer: on how many legs, and how many rows were filled. */
 uint32_t srt_group_raw_send(

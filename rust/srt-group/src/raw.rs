@@ -601,6 +601,59 @@ unsafe extern "C" {
         answer_length: usize,
     ) -> u32;
 
+    /// The next event, or the next packet in order, its payload written from byte 12 of the output on. The answer's words: of an event its
+    /// kind (1 connected, 2 error, 3 disconnected), its leg, its reason, and zeros; of a packet 0, its leg, sequence, count, message
+    /// number, timestamp, source time and length; of neither zeros. A packet's count is never 0. For a valid state, of which `used` shows
+    /// the cells in use.
+    pub fn srt_group_valid_poll_event(
+        record: *mut u64,
+        record_length: usize,
+        members: *mut u64,
+        members_length: usize,
+        pending: *mut u64,
+        pending_length: usize,
+        waiting: *mut u64,
+        waiting_length: usize,
+        history: *const u64,
+        history_length: usize,
+        sources: *const u64,
+        sources_length: usize,
+        store: *const u8,
+        store_length: usize,
+        output: *mut u8,
+        output_length: usize,
+        used: *mut u64,
+        used_length: usize,
+        time: u64,
+        answer: *mut u64,
+        answer_length: usize,
+    ) -> u32;
+
+    /// The next event, or the next packet in order, with 5 and 6 tested. The answer's words: of an event its kind (1 connected, 2 error, 3
+    /// disconnected), its leg, its reason, and zeros; of a packet 0, its leg, sequence, count, message number, timestamp, source time and
+    /// length; of neither zeros. A packet's count is never 0.
+    pub fn srt_group_raw_poll_event(
+        record: *mut u64,
+        record_length: usize,
+        members: *mut u64,
+        members_length: usize,
+        pending: *mut u64,
+        pending_length: usize,
+        waiting: *mut u64,
+        waiting_length: usize,
+        history: *const u64,
+        history_length: usize,
+        sources: *const u64,
+        sources_length: usize,
+        store: *const u8,
+        store_length: usize,
+        output: *mut u8,
+        output_length: usize,
+        time: u64,
+        answer: *mut u64,
+        answer_length: usize,
+    ) -> u32;
+
     /// `srt_group_raw_send` for a valid state, of which `used` shows the cells in use.
     pub fn srt_group_valid_send(
         record: *mut u64,
