@@ -7,7 +7,7 @@ use std::ops::Range;
 
 use crate::leg::{ConnectionEvent, Leg, Reading, ReceivedData, narrow};
 use crate::member::{GroupMember, GroupMembers};
-use crate::packet::{GroupDataPoll, GroupPacket};
+use crate::packet::{GroupDataPoll, GroupEvent, GroupPacket};
 use crate::state::{self, OUTPUT, SendList, State};
 use crate::{Error, Sent, Timestamp};
 
@@ -33,8 +33,9 @@ const RING_LENGTH: usize = 19;
 
 /// A bonded group: up to 64 legs, driven as one stream.
 ///
-/// It owns its memory, about 300 KB and the store, which [`Group::new`] allocates once; but for the payload that [`poll_data`](Group::poll_data)
-/// gives, no call allocates. Each call is the library's, which is proved equal to its definition in `crates/srt_group_model/specs`.
+/// It owns its memory, about 300 KB and the store, which [`Group::new`] allocates; but for the payload that [`poll_data`](Group::poll_data) or
+/// [`poll_event`](Group::poll_event) gives, no other call allocates. Each call is the library's, which is proved equal to its definition in
+/// `crates/srt_group_model/specs`.
 ///
 /// A call that is refused with [`Error`] has changed nothing, unless [`Error::changes_nothing`] denies it.
 ///
@@ -316,6 +317,31 @@ impl Group {
     ) -> Result<GroupDataPoll<Range<usize>>, Error> {
         let output = lent(output)?;
         Ok(data_polled(self.change(), output, now, max_events))
+    }
+
+    /// What next happened to a member, or the next packet.
+    ///
+    /// ```
+    /// # use srt_group::{ConnectionEvent, ConnectionState, Error, Group, GroupEvent, GroupMode, Leg, Timestamp};
+    /// # let mut group = Group::new(0x4000_0001, GroupMode::Broadcast, 40)?;
+    /// # group.add_member(7, 0, Leg { state: ConnectionState::Connected, ..Leg::default() })?;
+    /// group.queue_event(7, ConnectionEvent::Disconnected { reason: 3 })?;
+    /// assert_eq!(group.poll_event(Timestamp(0)), Some(GroupEvent::MemberDisconnected { member_id: 7, reason: 3 }));
+    /// # Ok::<(), Error>(())
+    /// ```
+    pub fn poll_event(&mut self, now: Timestamp) -> Option<GroupEvent> {
+        self.filled = 0;
+        let answer = self.state.poll_event(&mut self.output, now.0);
+        GroupEvent::of(&answer).map(|event| event.with_bytes_of(&*self.output))
+    }
+
+    /// The same with a packet's payload in the host's own buffer, as [`poll_data_into`](Group::poll_data_into) does.
+    ///
+    /// # Errors
+    /// [`InsufficientBuffer`](Error::InsufficientBuffer) if it has fewer than [`Group::OUTPUT`] bytes, 1,468.
+    pub fn poll_event_into(&mut self, now: Timestamp, output: &mut [u8]) -> Result<Option<GroupEvent<Range<usize>>>, Error> {
+        let output = lent(output)?;
+        Ok(GroupEvent::of(&self.change().poll_event(output, now.0)))
     }
 
     /// The packets that were passed over for good: lost on every leg.

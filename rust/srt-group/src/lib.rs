@@ -44,6 +44,6 @@ pub use error::Error;
 pub use group::{Group, GroupMode};
 pub use leg::{ConnectionEvent, ConnectionState, Leg, Reading, ReceivedData};
 pub use member::{GroupMember, GroupMemberState, GroupMembers, PeerGroupCollision};
-pub use packet::{GroupDataPoll, GroupPacket};
+pub use packet::{GroupDataPoll, GroupEvent, GroupPacket};
 pub use sent::Sent;
 pub use time::Timestamp;

@@ -66,3 +66,54 @@ pub struct GroupDataPoll<P = Vec<u8>> {
     /// The visit stopped with work left: poll again at once, before waiting for input.
     pub continuation: bool,
 }
+
+/// What an event poll gives: what happened to a member, or the next packet. A reason is the number that was queued with the event.
+#[derive(Clone, Debug, PartialEq, Eq, Hash)]
+pub enum GroupEvent<P = Vec<u8>> {
+    /// A member's leg connected.
+    MemberConnected {
+        /// The member.
+        member_id: u32,
+    },
+    /// The next packet.
+    DataReceived(GroupPacket<P>),
+    /// A member's leg failed, and the member is broken.
+    MemberError {
+        /// The member.
+        member_id: u32,
+        /// Why.
+        reason: u32,
+    },
+    /// A member's leg disconnected, and the member is broken.
+    MemberDisconnected {
+        /// The member.
+        member_id: u32,
+        /// Why.
+        reason: u32,
+    },
+}
+
+impl GroupEvent<Range<usize>> {
+    /// The event of an answer, if there is one.
+    pub(crate) fn of(answer: &Polled) -> Option<Self> {
+        let [kind, member, reason, ..] = *answer;
+        let member_id = narrow(member);
+        match kind {
+            0 => GroupPacket::of(answer).map(Self::DataReceived),
+            1 => Some(Self::MemberConnected { member_id }),
+            2 => Some(Self::MemberError { member_id, reason: narrow(reason) }),
+            3 => Some(Self::MemberDisconnected { member_id, reason: narrow(reason) }),
+            _ => unreachable!("no event is of kind {kind}"),
+        }
+    }
+
+    /// The same with a packet's payload out of the output.
+    pub(crate) fn with_bytes_of(self, output: &[u8]) -> GroupEvent {
+        match self {
+            Self::MemberConnected { member_id } => GroupEvent::MemberConnected { member_id },
+            Self::DataReceived(packet) => GroupEvent::DataReceived(packet.with_bytes_of(output)),
+            Self::MemberError { member_id, reason } => GroupEvent::MemberError { member_id, reason },
+            Self::MemberDisconnected { member_id, reason } => GroupEvent::MemberDisconnected { member_id, reason },
+        }
+    }
+}

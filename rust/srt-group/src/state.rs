@@ -247,6 +247,19 @@ impl State {
 
     // ---- receiving
 
+    pub(crate) fn poll_event(&mut self, output: &mut [u8; OUTPUT], time: u64) -> Polled {
+        let mut answer = Polled::default();
+        // SAFETY: the state is ready, and output and answer have their lengths.
+        let code = unsafe {
+            call!(srt_group_valid_poll_event(
+                &mut self.record, &mut self.members, &mut self.pending, &mut self.waiting, &self.history, &self.sources,
+                &self.store, &mut output, &mut self.used, time, &mut answer
+            ))
+        };
+        debug_assert_eq!(code, 0);
+        answer
+    }
+
     pub(crate) fn poll_data_bounded(&mut self, output: &mut [u8; OUTPUT], time: u64, max_events: usize) -> Polled {
         let mut answer = Polled::default();
         // SAFETY: the state is ready, and output and answer have their lengths.

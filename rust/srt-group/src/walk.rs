@@ -87,7 +87,8 @@ fn step(group: &mut Group, random: &mut Random, often: (u64, u32)) -> Result<(),
             let next = group.state().record()[14] as u32;
             group.read_leg(id, random.reading(next))?;
         }
-        16..=19 => drop(group.poll_data_bounded(random.time(), random.below(4) as usize)),
+        16..=18 => drop(group.poll_data_bounded(random.time(), random.below(4) as usize)),
+        19 => drop(group.poll_event(random.time())),
         20..=22 => drop(group.send(payload, random.time())?),
         _ => drop((group.can_send(), group.can_send_with_pacing(random.time()))),
     }

@@ -1,5 +1,5 @@
 //! The crate as a host uses it: a loss and a skip, a take-over in Backup, removals, events, and each refusal.
-use srt_group::{ConnectionEvent, ConnectionState, Error, Group, GroupDataPoll, GroupMemberState, GroupMode, GroupPacket};
+use srt_group::{ConnectionEvent, ConnectionState, Error, Group, GroupDataPoll, GroupEvent, GroupMemberState, GroupMode, GroupPacket};
 use srt_group::{Leg, Reading, ReceivedData, Timestamp};
 
 const ID: u32 = 0x4000_0001;
@@ -131,6 +131,29 @@ fn a_bounded_poll_gives_nothing_with_no_visit() {
     let polled = group.poll_data_bounded(Timestamp(0), 1);
     assert_eq!(polled.packet.map(|packet| packet.sequence_number), Some(100));
     assert!(!polled.continuation);
+}
+
+#[test]
+fn events_and_packets_are_polled_in_turn() {
+    let mut group = group(GroupMode::Broadcast);
+    group.add_member(7, 0, connected()).unwrap();
+    group.add_member(8, 0, Leg { state: ConnectionState::Handshaking, ..connected() }).unwrap();
+    group.queue_event(8, ConnectionEvent::Connected).unwrap();
+    group.queue_event(8, ConnectionEvent::Disconnected { reason: 5 }).unwrap();
+    group.queue_event(7, ConnectionEvent::Error { reason: u32::MAX }).unwrap();
+    group.queue_data(7, data(100, b"payload")).unwrap();
+    let events: Vec<_> = std::iter::from_fn(|| group.poll_event(Timestamp(0))).collect();
+    // The legs take turns.
+    assert_eq!(events[..2], [GroupEvent::MemberError { member_id: 7, reason: u32::MAX }, GroupEvent::MemberConnected { member_id: 8 }]);
+    assert!(matches!(&events[2], GroupEvent::DataReceived(packet) if packet.member_id == 7 && packet.payload == b"payload"));
+    assert_eq!(events[3..], [GroupEvent::MemberDisconnected { member_id: 8, reason: 5 }]);
+    assert_eq!(states(&group), [(7, GroupMemberState::Broken), (8, GroupMemberState::Broken)]);
+
+    group.queue_data(7, data(101, b"more")).unwrap();
+    let mut output = [0; Group::OUTPUT];
+    assert_eq!(group.poll_event_into(Timestamp(0), &mut output[1..]), Err(Error::InsufficientBuffer));
+    let Ok(Some(GroupEvent::DataReceived(packet))) = group.poll_event_into(Timestamp(0), &mut output) else { panic!("a packet") };
+    assert_eq!(&output[packet.payload], b"more");
 }
 
 #[test]

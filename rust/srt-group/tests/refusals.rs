@@ -103,6 +103,7 @@ fn code_5_insufficient_buffer() {
     let mut short = [0; Group::OUTPUT - 1];
     assert_eq!(group.poll_data_into(NOW, &mut short), Err(Error::InsufficientBuffer));
     assert_eq!(group.poll_data_bounded_into(NOW, 64, &mut short), Err(Error::InsufficientBuffer));
+    assert_eq!(group.poll_event_into(NOW, &mut short), Err(Error::InsufficientBuffer));
 }
 
 #[test]
