@@ -1,7 +1,7 @@
 //! Times queueing, polls and delivery of the port, linked as libcalls_bench.a, beside the published Rust over the stand-in leg, in one
-//! process. Both run the same list of steps on states made alike, and their answers are compared step by step. A payload is copied twice on
-//! both sides: into a cell or into new bytes when it is queued, and to the output when it is given. Then the sends (sends.rs), linked as
-//! libsends_bench.a.
+//! process; and the same calls by the Rust crate rust/srt-group, over the library. All run the same list of steps on states made alike, and
+//! their answers are compared step by step. A payload is copied twice on each side: into a cell or into new bytes when it is queued, and to the
+//! output when it is given. Then the sends (sends.rs), linked as libsends_bench.a.
 mod sends;
 
 use std::hint::black_box;
@@ -235,39 +235,85 @@ impl Rust {
     }
 }
 
+/// The Rust crate over the library.
+struct Linked {
+    group: srt_group::Group,
+    output: [u8; srt_group::Group::OUTPUT],
+}
+
+impl Linked {
+    fn new(mode: GroupMode, legs: u64) -> Self {
+        let mode = match mode {
+            GroupMode::Broadcast => srt_group::GroupMode::Broadcast,
+            GroupMode::Backup => srt_group::GroupMode::Backup,
+        };
+        let mut group = srt_group::Group::new(GROUP, mode, srt_group::Group::MAX_CELLS).expect("a group's id");
+        let leg = srt_group::Leg {
+            state: srt_group::ConnectionState::Connected,
+            window: 8_192,
+            peer_initial_sequence: Some(0),
+            latency: LATENCY,
+            ..srt_group::Leg::default()
+        };
+        (1..=legs as u32).for_each(|id| group.add_member(id, 0, leg).expect("an addition"));
+        Self { group, output: [0; srt_group::Group::OUTPUT] }
+    }
+
+    fn run(&mut self, steps: &mut Steps, payload: &[u8]) {
+        for step in &mut steps.0 {
+            let leg = (*step >> 32) as u32;
+            *step = if leg == 0 { self.poll() } else { self.queue(leg, *step as u32, payload) };
+        }
+    }
+
+    fn queue(&mut self, leg: u32, sequence: u32, payload: &[u8]) -> u64 {
+        let source_time = srt_group::Timestamp(sequence.into());
+        let data = srt_group::ReceivedData { source_time, ..srt_group::ReceivedData::new(sequence, payload) };
+        self.group.queue_data(leg, data).map_or_else(|error| error.number().into(), |()| 0)
+    }
+
+    fn poll(&mut self) -> u64 {
+        let polled = self.group.poll_data_into(srt_group::Timestamp(NOW), &mut self.output).expect("an output of its length");
+        polled.map_or(NO_PACKET, |packet| packet.sequence_number.into())
+    }
+}
+
 fn nanoseconds(work: impl FnOnce()) -> f64 {
     let start = Instant::now();
     work();
     start.elapsed().as_nanos() as f64 / QUEUED as f64
 }
 
-/// The best of the runs of the Rust, the forms for a valid state and the public calls, in nanoseconds a queued packet.
-fn timed(order: Order, legs: u64, held: u64) -> [f64; 3] {
+/// The best of the runs of the Rust, the forms for a valid state, the public calls and the crate, in nanoseconds a queued packet.
+fn timed(order: Order, legs: u64, held: u64) -> [f64; 4] {
     let payload: Vec<u8> = (0..PAYLOAD).map(|i| i as u8).collect();
     let mode = GroupMode::Broadcast;
     let (mut rust, mut valid, mut public) = (Rust::new(mode, legs), Port::new(mode, legs), Port::new(mode, legs));
-    let mut answers = [(); 3].map(|()| Steps::holding(legs, held));
+    let mut linked = Linked::new(mode, legs);
+    let mut answers = [(); 4].map(|()| Steps::holding(legs, held));
     rust.run(&mut answers[0], &payload);
     valid.run(calls_run_valid, &mut answers[1], &payload);
     public.run(calls_run, &mut answers[2], &payload);
-    assert!(answers[0] == answers[1] && answers[0] == answers[2]);
+    linked.run(&mut answers[3], &payload);
+    assert!(answers[1..].iter().all(|other| *other == answers[0]));
     assert_eq!(rust.group.pending().len() as u64, held);
-    let mut least = [f64::MAX; 3];
+    let mut least = [f64::MAX; 4];
     let mut first = 0;
     for _ in 0..RUNS {
         let (steps, base) = Steps::of(order, legs, first);
         first = base;
-        let mut answers = [steps.clone(), steps.clone(), steps];
-        let [a, b, c] = &mut answers;
+        let mut answers = [steps.clone(), steps.clone(), steps.clone(), steps];
+        let [a, b, c, d] = &mut answers;
         let payload = black_box(&payload);
         let times = [
             nanoseconds(|| rust.run(a, payload)),
             nanoseconds(|| valid.run(calls_run_valid, b, payload)),
             nanoseconds(|| public.run(calls_run, c, payload)),
+            nanoseconds(|| linked.run(d, payload)),
         ];
-        assert!(answers[0] == answers[1] && answers[0] == answers[2]);
+        assert!(answers[1..].iter().all(|other| *other == answers[0]));
         assert_eq!(rust.group.next_receive_sequence(), Some(base as u32));
-        assert!(rust.output == valid.output && rust.output == public.output);
+        assert!(rust.output == valid.output && rust.output == public.output && rust.output == linked.output);
         for (least, time) in least.iter_mut().zip(times) {
             *least = least.min(time);
         }
@@ -279,15 +325,19 @@ fn timed(order: Order, legs: u64, held: u64) -> [f64; 3] {
 
 fn main() {
     println!("ns a queued packet of {PAYLOAD} bytes, the best of {RUNS} runs of {QUEUED}; a ratio above 1 means slower than the Rust");
-    println!("{:>4} {:>5}  {:<10} {:>9} {:>11} {:>6} {:>11} {:>6}", "legs", "held", "order", "Rust", "valid state", "ratio", "public call", "ratio");
+    println!(
+        "{:>4} {:>5}  {:<10} {:>9} {:>11} {:>6} {:>11} {:>6} {:>10} {:>6}",
+        "legs", "held", "order", "Rust", "valid state", "ratio", "public call", "ratio", "Rust crate", "ratio"
+    );
     for (order, name) in [(Order::InOrder, "in order"), (Order::Behind, "behind"), (Order::Duplicated, "duplicated")] {
         for legs in [4, 64] {
             for held in [0, 20, 200, 2_000] {
-                let [rust, valid, public] = timed(order, legs, held);
+                let [rust, valid, public, linked] = timed(order, legs, held);
                 println!(
-                    "{legs:>4} {held:>5}  {name:<10} {rust:>9.0} {valid:>11.0} {:>6.2} {public:>11.0} {:>6.2}",
+                    "{legs:>4} {held:>5}  {name:<10} {rust:>9.0} {valid:>11.0} {:>6.2} {public:>11.0} {:>6.2} {linked:>10.0} {:>6.2}",
                     valid / rust,
-                    public / rust
+                    public / rust,
+                    linked / rust
                 );
             }
         }

@@ -5,7 +5,7 @@ use std::time::Instant;
 
 use srt_protocol::{GroupMode, Timestamp};
 
-use super::{NOW, PAYLOAD, Port, RUNS, Rust};
+use super::{Linked, NOW, PAYLOAD, Port, RUNS, Rust};
 
 /// The record, the five tables, the store, the list of sends, the steps and the payload, each slice with its length.
 type Run = unsafe extern "C" fn(
@@ -184,35 +184,56 @@ impl Rust {
     }
 }
 
+impl Linked {
+    fn send_each(&mut self, steps: &mut [u64], payload: &[u8]) {
+        for step in steps {
+            let leg = (*step >> 32) as u32;
+            *step = if leg == 0 { self.send(*step, payload) } else { self.acknowledge(leg, *step as u32) };
+        }
+    }
+
+    fn send(&mut self, now: u64, payload: &[u8]) -> u64 {
+        self.group.send(payload, srt_group::Timestamp(now)).map_or(NOT_SENT, |legs| legs as u64)
+    }
+
+    fn acknowledge(&mut self, leg: u32, up_to: u32) -> u64 {
+        let reading = srt_group::Reading::AcknowledgedUpTo(up_to);
+        self.group.read_leg(leg, reading).map_or_else(|error| error.number().into(), |()| 0)
+    }
+}
+
 fn nanoseconds(sends: u64, work: impl FnOnce()) -> f64 {
     let start = Instant::now();
     work();
     start.elapsed().as_nanos() as f64 / sends as f64
 }
 
-/// The best of the runs of the Rust, the forms for a valid state and the public calls, in nanoseconds a send.
-fn timed(kind: Kind) -> [f64; 3] {
+/// The best of the runs of the Rust, the forms for a valid state, the public calls and the crate, in nanoseconds a send.
+fn timed(kind: Kind) -> [f64; 4] {
     let payload: Vec<u8> = (0..PAYLOAD).map(|i| i as u8).collect();
     let (mode, legs) = kind.group();
     let (mut rust, mut valid, mut public) = (Rust::new(mode, legs), Port::new(mode, legs), Port::new(mode, legs));
+    let mut linked = Linked::new(mode, legs);
     let mut script = Script::new(kind);
     let before = script.take();
     rust.send_each(&mut before.clone(), &payload);
     valid.send_each(calls_sends_valid, &mut before.clone(), &payload);
     public.send_each(calls_sends, &mut before.clone(), &payload);
+    linked.send_each(&mut before.clone(), &payload);
     assert_eq!(rust.group.backup_history().len() as u64, kind.flight());
-    let mut least = [f64::MAX; 3];
+    let mut least = [f64::MAX; 4];
     for _ in 0..RUNS {
         let steps = script.run();
-        let mut answers = [steps.clone(), steps.clone(), steps.clone()];
-        let [a, b, c] = &mut answers;
+        let mut answers = [steps.clone(), steps.clone(), steps.clone(), steps.clone()];
+        let [a, b, c, d] = &mut answers;
         let payload = black_box(&payload);
         let times = [
             nanoseconds(kind.sends(), || rust.send_each(a, payload)),
             nanoseconds(kind.sends(), || valid.send_each(calls_sends_valid, b, payload)),
             nanoseconds(kind.sends(), || public.send_each(calls_sends, c, payload)),
+            nanoseconds(kind.sends(), || linked.send_each(d, payload)),
         ];
-        assert!(answers[0] == answers[1] && answers[0] == answers[2]);
+        assert!(answers[1..].iter().all(|other| *other == answers[0]));
         let expected = if mode == GroupMode::Broadcast { legs } else { 1 };
         assert!(steps.iter().zip(&answers[0]).all(|(step, &answer)| answer == if *step >> 32 == 0 { expected } else { 0 }));
         assert!(rust.equals(&valid) && valid.equals(&public));
@@ -228,7 +249,10 @@ fn timed(kind: Kind) -> [f64; 3] {
 
 pub fn main() {
     println!("ns a send of {PAYLOAD} bytes, the best of {RUNS} runs of {SENDS} sends or {TAKE_OVERS} take-overs, with the acknowledgements");
-    println!("{:<34} {:>9} {:>11} {:>6} {:>11} {:>6}", "send", "Rust", "valid state", "ratio", "public call", "ratio");
+    println!(
+        "{:<34} {:>9} {:>11} {:>6} {:>11} {:>6} {:>10} {:>6}",
+        "send", "Rust", "valid state", "ratio", "public call", "ratio", "Rust crate", "ratio"
+    );
     let rows = [
         ("Broadcast, 4 legs", Kind::Broadcast { legs: 4 }),
         ("Broadcast, 64 legs", Kind::Broadcast { legs: 64 }),
@@ -238,7 +262,12 @@ pub fn main() {
         ("Backup, take-over that replays 100", Kind::TakeOver { replayed: 100 }),
     ];
     for (name, kind) in rows {
-        let [rust, valid, public] = timed(kind);
-        println!("{name:<34} {rust:>9.0} {valid:>11.0} {:>6.2} {public:>11.0} {:>6.2}", valid / rust, public / rust);
+        let [rust, valid, public, linked] = timed(kind);
+        println!(
+            "{name:<34} {rust:>9.0} {valid:>11.0} {:>6.2} {public:>11.0} {:>6.2} {linked:>10.0} {:>6.2}",
+            valid / rust,
+            public / rust,
+            linked / rust
+        );
     }
 }
