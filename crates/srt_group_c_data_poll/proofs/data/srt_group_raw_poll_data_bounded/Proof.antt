@@ -67,8 +67,8 @@ same-length-11 c = search needs
 returns-4 : tie.Need-returns-4
 returns-4 c = poll-performed (c .before .before .before .before .before .before .before .before .before .before .before .before .before .before .before .before .before .before .before .before .before .before .before .before .before .before .before .before .before .before .if1 .left) (c .before .before .before .before .before .before .before .before .before .before .before .before .before .before .before .before .before .before .before .before .before .before .before .before .before .before .before .before .before .if2 .left) (c .before .before .before .before .before .before .before .before .before .before .before .before .before .before .before .before .before .before .before .before .before .before .before .begin-poll .ensures) (c .before .before .before .before .before .before .before .before .before .before .before .before .before .before .before .before .before .before .before .before .before .if3 .left) (c .before .before .before .before .before .before .before .before .before .before .before .before .before .srt-group-valid-poll-data-bounded .ensures)
 
-pub srt-group-poll-data-bounded-spec : {M : Type 1} → statement M
-srt-group-poll-data-bounded-spec =
+pub srt-group-raw-poll-data-bounded-spec : {M : Type 1} → statement M
+srt-group-raw-poll-data-bounded-spec =
     tie.close
     (tie.spec
     returns

@@ -27,8 +27,8 @@ same-length c = search needs
 returns-3 : tie.Need-returns-3
 returns-3 c = search said-kept
 
-pub srt-group-has-receive-continuation-spec : {M : Type 1} → statement M
-srt-group-has-receive-continuation-spec =
+pub srt-group-raw-has-receive-continuation-spec : {M : Type 1} → statement M
+srt-group-raw-has-receive-continuation-spec =
     tie.close
     (tie.spec
     returns

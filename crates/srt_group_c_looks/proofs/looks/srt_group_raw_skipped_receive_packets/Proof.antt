@@ -27,8 +27,8 @@ same-length c = search needs
 returns-3 : tie.Need-returns-3
 returns-3 c = search said-kept
 
-pub srt-group-skipped-receive-packets-spec : {M : Type 1} → statement M
-srt-group-skipped-receive-packets-spec =
+pub srt-group-raw-skipped-receive-packets-spec : {M : Type 1} → statement M
+srt-group-raw-skipped-receive-packets-spec =
     tie.close
     (tie.spec
     returns

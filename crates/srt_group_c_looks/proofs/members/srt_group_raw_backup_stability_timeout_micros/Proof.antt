@@ -27,8 +27,8 @@ same-length c = search needs
 returns-3 : tie.Need-returns-3
 returns-3 c = search said-kept
 
-pub srt-group-backup-stability-timeout-micros-spec : {M : Type 1} → statement M
-srt-group-backup-stability-timeout-micros-spec =
+pub srt-group-raw-backup-stability-timeout-micros-spec : {M : Type 1} → statement M
+srt-group-raw-backup-stability-timeout-micros-spec =
     tie.close
     (tie.spec
     returns

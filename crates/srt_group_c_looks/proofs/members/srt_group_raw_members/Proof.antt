@@ -28,8 +28,8 @@ same-length-2 c = search needs
 returns-3 : tie.Need-returns-3
 returns-3 c = lists-words _ _ _ _ (c .before .before .before .before .before .before .before .before .before .before .if1 .left) (c .before .before .before .before .before .before .before .before .before .if2 .left) (c .before .before .before .before .before .before .before .before .read-group .ensures) (c .before .before .before .before .before .before .members .result) (c .before .before .put-listed .ensures) (c .before .before .before .before .before .before .members .ensures)
 
-pub srt-group-members-spec : {M : Type 1} → statement M
-srt-group-members-spec =
+pub srt-group-raw-members-spec : {M : Type 1} → statement M
+srt-group-raw-members-spec =
     tie.close
     (tie.spec
     returns

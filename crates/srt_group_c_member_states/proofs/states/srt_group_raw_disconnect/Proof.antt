@@ -24,8 +24,8 @@ same-length c = search needs
 returns-2 : tie.Need-returns-2
 returns-2 c = search silent-kept
 
-pub srt-group-disconnect-spec : {M : Type 1} → statement M
-srt-group-disconnect-spec =
+pub srt-group-raw-disconnect-spec : {M : Type 1} → statement M
+srt-group-raw-disconnect-spec =
     tie.close
     (tie.spec
     returns

@@ -24,8 +24,8 @@ same-length c = search needs
 returns-2 : tie.Need-returns-2
 returns-2 c = search silent-kept
 
-pub srt-group-mark-member-broken-spec : {M : Type 1} → statement M
-srt-group-mark-member-broken-spec =
+pub srt-group-raw-mark-member-broken-spec : {M : Type 1} → statement M
+srt-group-raw-mark-member-broken-spec =
     tie.close
     (tie.spec
     returns

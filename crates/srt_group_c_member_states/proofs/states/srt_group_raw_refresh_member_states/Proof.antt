@@ -27,8 +27,8 @@ same-length-2 c = search needs
 returns-2 : tie.Need-returns-2
 returns-2 c = search silent-moved
 
-pub srt-group-refresh-member-states-spec : {M : Type 1} → statement M
-srt-group-refresh-member-states-spec =
+pub srt-group-raw-refresh-member-states-spec : {M : Type 1} → statement M
+srt-group-raw-refresh-member-states-spec =
     tie.close
     (tie.spec
     returns

@@ -25,8 +25,8 @@ same-length-2 c = search needs
 returns-2 : tie.Need-returns-2
 returns-2 c = search row-moved
 
-pub srt-group-add-member-spec : {M : Type 1} → statement M
-srt-group-add-member-spec =
+pub srt-group-raw-add-member-spec : {M : Type 1} → statement M
+srt-group-raw-add-member-spec =
     tie.close
     (tie.spec
     returns

@@ -30,8 +30,8 @@ same-length-3 c = search needs
 returns-2 : tie.Need-returns-2
 returns-2 c = search silent-moved
 
-pub srt-group-remove-member-spec : {M : Type 1} → statement M
-srt-group-remove-member-spec =
+pub srt-group-raw-remove-member-spec : {M : Type 1} → statement M
+srt-group-raw-remove-member-spec =
     tie.close
     (tie.spec
     returns

@@ -35,8 +35,8 @@ same-length-4 c = search needs
 returns-2 : tie.Need-returns-2
 returns-2 c = promised-leg-back (c .before .before .before .before .before .before .before .before .before .before .remove-member-connection .result .outcome) _ _ (c .before .before .put-removed .ensures .same) (c .before .before .before .before .before .before .before .before .before .before .remove-member-connection .ensures .1) (row-gives _ _ _ nothing-lent (c .before .before .before .before .before .before .before .before .before .before .before .before .before .before .before .before .if1 .left) (c .before .before .before .before .before .before .before .before .before .before .before .before .before .before .read-group .ensures) _ _ _ _ _ (c .before .before .before .before .before .before .before .before .before .before .remove-member-connection .ensures .0) (c .before .before .put-removed .ensures))
 
-pub srt-group-remove-member-connection-spec : {M : Type 1} → statement M
-srt-group-remove-member-connection-spec =
+pub srt-group-raw-remove-member-connection-spec : {M : Type 1} → statement M
+srt-group-raw-remove-member-connection-spec =
     tie.close
     (tie.spec
     returns

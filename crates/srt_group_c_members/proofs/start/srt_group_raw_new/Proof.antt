@@ -31,8 +31,8 @@ returns-2 c = new-in-words _ _ (c .before .before .before .before .before .befor
 returns-3 : tie.Need-returns-3
 returns-3 c = new-refused _ (c .before .before .before .before .before .before .before .args .«record» .now) (c .before .before .before .before .before .if1 .left) (c .before .before .before .before .new .ensures) _ (c .before .before .made2 .given .1) (c .number .ensures)
 
-pub srt-group-new-spec : {M : Type 1} → statement M
-srt-group-new-spec =
+pub srt-group-raw-new-spec : {M : Type 1} → statement M
+srt-group-raw-new-spec =
     tie.close
     (tie.spec
     returns

@@ -19,6 +19,6 @@ same-length c = search needs
 returns-3 : tie.Need-returns-3
 returns-3 c = search begins-valid
 
-pub srt-group-begin-valid-spec : {M : Type 1} → statement M
-srt-group-begin-valid-spec =
+pub srt-group-valid-begin-spec : {M : Type 1} → statement M
+srt-group-valid-begin-spec =
     tie.close (tie.spec returns returns-2 begin-stored-requires same-length returns-3)

@@ -36,8 +36,8 @@ same-length-3 c = search needs
 returns-3 : tie.Need-returns-3
 returns-3 c = stored-silent (c .before .before .before .before .before .before .before .before .before .before .before .before .before .before .if1 .left) (c .before .before .before .before .before .before .before .before .before .before .before .begin-stored .ensures) (c .before .before .before .before .before .before .before .before .before .if2 .left) (c .before .before .before .before .before .srt-group-valid-queue-data .ensures)
 
-pub srt-group-queue-data-spec : {M : Type 1} → statement M
-srt-group-queue-data-spec =
+pub srt-group-raw-queue-data-spec : {M : Type 1} → statement M
+srt-group-raw-queue-data-spec =
     tie.close
     (tie.spec
     returns

@@ -22,8 +22,8 @@ same-length c = search needs
 returns-2 : tie.Need-returns-2
 returns-2 c = search silent-kept
 
-pub srt-group-queue-event-spec : {M : Type 1} → statement M
-srt-group-queue-event-spec =
+pub srt-group-raw-queue-event-spec : {M : Type 1} → statement M
+srt-group-raw-queue-event-spec =
     tie.close
     (tie.spec
     returns

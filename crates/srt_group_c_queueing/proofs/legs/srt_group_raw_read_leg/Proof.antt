@@ -22,7 +22,7 @@ same-length c = search needs
 returns-2 : tie.Need-returns-2
 returns-2 c = search silent-kept
 
-pub srt-group-read-leg-spec : {M : Type 1} → statement M
-srt-group-read-leg-spec =
+pub srt-group-raw-read-leg-spec : {M : Type 1} → statement M
+srt-group-raw-read-leg-spec =
     tie.close
     (tie.spec returns read-group-requires read-leg-requires number-requires same-length returns-2)

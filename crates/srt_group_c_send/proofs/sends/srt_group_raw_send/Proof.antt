@@ -78,8 +78,8 @@ same-length-13 c = search needs
 returns-5 : tie.Need-returns-5
 returns-5 c = stored-sent (c .before .before .before .before .before .before .before .before .before .before .before .before .before .before .before .before .before .before .before .before .before .before .before .before .before .before .before .before .before .before .before .before .before .before .if1 .left) (c .before .before .before .before .before .before .before .before .before .before .before .before .before .before .before .before .before .before .before .before .before .before .before .before .before .before .before .before .before .before .before .before .before .if2 .left) (c .before .before .before .before .before .before .before .before .before .before .before .before .before .before .before .before .before .before .before .before .before .before .before .before .before .before .begin-stored .ensures) (c .before .before .before .before .before .before .before .before .before .before .before .before .before .before .before .before .before .before .before .before .before .before .before .before .if4 .left) (c .before .before .before .before .before .before .before .before .before .before .before .before .before .before .before .srt-group-valid-send .ensures)
 
-pub srt-group-send-spec : {M : Type 1} → statement M
-srt-group-send-spec =
+pub srt-group-raw-send-spec : {M : Type 1} → statement M
+srt-group-raw-send-spec =
     tie.close
     (tie.spec
     returns
