@@ -15,6 +15,8 @@ pub struct Figures {
     /// States with one word changed that break no rule, and those that break one.
     unbroken: u64,
     broken: BTreeMap<Rule, u64>,
+    /// Legs handed over with one word changed, by the code that says so, or 0.
+    handed: BTreeMap<u32, u64>,
 }
 
 impl Figures {
@@ -34,6 +36,10 @@ impl Figures {
         }
     }
 
+    pub fn handed(&mut self, code: u32) {
+        *self.handed.entry(code).or_default() += 1;
+    }
+
     pub fn print(&self) {
         for ((name, code), times) in &self.codes {
             println!("{times:>9}  {name} {code}");
@@ -42,6 +48,9 @@ impl Figures {
             println!("{times:>9}  one word changed: 6, {rule:?}");
         }
         println!("{:>9}  one word changed: no rule broken", self.unbroken);
+        for (code, times) in &self.handed {
+            println!("{times:>9}  one word changed of a leg that is handed over: {code}");
+        }
         println!("{:>9}  a slice short by one: 5", self.short);
         println!("{:>9}  all looks", self.looks);
         println!("{} seeds, {} calls: no difference", self.seeds, self.calls);

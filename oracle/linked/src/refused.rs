@@ -79,6 +79,23 @@ pub fn changed(
     Ok(rule)
 }
 
+/// An addition that is handed a leg with one word of its row changed, for most one that is read: 6 or 2 as the independent test says, and then
+/// no byte changes. It answers the code.
+pub fn handed(memory: &Memory, call: &Call<'_>, prng: &mut Prng) -> Result<u32, String> {
+    let mut memory = memory.clone();
+    let words = prng.pick(&[36, 36, 36, raw::ROW_WORDS as u64]);
+    let [at, other] = [(); 2].map(|()| prng.below(words) as usize);
+    let what = put_word(&mut memory, Part::Row, at, other, prng);
+    let cells = rules::cells_given(&memory.record);
+    let code = rules::handed(&memory.row);
+    let done = match code {
+        0 => goes_on(&mut memory, call, cells),
+        code => refused(&mut memory, call, code, true),
+    };
+    done.map_err(|why| format!("{what}: {why}"))?;
+    Ok(code)
+}
+
 fn goes_on(memory: &mut Memory, call: &Call<'_>, cells: u64) -> Result<(), String> {
     let code = library::public(memory, call).ok_or("the library has no such call")?;
     if code == TOO_SHORT || code == BROKEN {
@@ -100,6 +117,10 @@ fn store_differs(memory: &Memory) -> bool {
 /// Change one word of the record or a table, for most in a row that is in use; say which.
 fn change_word(memory: &mut Memory, prng: &mut Prng) -> String {
     let (part, at, other) = place(memory, prng);
+    put_word(memory, part, at, other, prng)
+}
+
+fn put_word(memory: &mut Memory, part: Part, at: usize, other: usize, prng: &mut Prng) -> String {
     let words = memory.words_mut(part).expect("words");
     let (old, other) = (words[at], words[other]);
     let new = match new_word(old, other, prng) {

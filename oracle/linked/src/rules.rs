@@ -163,7 +163,11 @@ fn member(row: &[u64], seen: &mut Seen) -> Result<u64, Rule> {
     let [expected, actual] = [row[5], row[6]];
     within(expected, BITS_32)?;
     within(actual, BITS_32)?;
-    leg(row)?;
+    // A sender exists from the first connect on.
+    let started = row[18];
+    within(started, 1)?;
+    holds(started == 1 || row[9] != 1, OutOfRange)?;
+    leg(row, started == 1)?;
     let [start, length] = [row[32], row[33]];
     holds(length <= MAX_QUEUE, CountAboveLimit)?;
     let mut queued = 0;
@@ -174,18 +178,26 @@ fn member(row: &[u64], seen: &mut Seen) -> Result<u64, Rule> {
     Ok(queued)
 }
 
-fn leg(row: &[u64]) -> Result<(), Rule> {
+/// What an addition says of the leg that it is handed, or 0: 6 for a queue or a reservation, 2 for a field out of range (reading 35).
+pub fn handed(row: &[u64]) -> u32 {
+    let [reservation, queued] = [row[30], row[33]];
+    if reservation != 0 || queued != 0 {
+        return 6;
+    }
+    // It has a sender exactly if it is not handshaking (reading 23).
+    leg(row, row[9] != 0).map_or(2, |()| 0)
+}
+
+/// A leg, and whether it has a sender: without one nothing is in flight.
+fn leg(row: &[u64], has_sender: bool) -> Result<(), Rule> {
     let [state, peer, limit, srtt, rttvar] = [row[9], row[10], row[11], row[12], row[13]];
     within(state, 2)?;
     within(peer, BITS_32)?;
     within(limit, BITS_16)?;
     within(srtt, BITS_32)?;
     within(rttvar, BITS_32)?;
-    let [started, next, flight, window] = [row[18], row[19], row[20], row[21]];
-    within(started, 1)?;
-    // A sender exists from the first connect on, and without one nothing is in flight.
-    holds(started == 1 || state != 1, OutOfRange)?;
-    within(flight, if started == 1 { BITS_16 } else { 0 })?;
+    let [next, flight, window] = [row[19], row[20], row[21]];
+    within(flight, if has_sender { BITS_16 } else { 0 })?;
     is_sequence(next)?;
     within(window, BITS_16)?;
     let [first, receive_window, advanced] = [row[27], row[28], row[31]];

@@ -160,7 +160,7 @@ impl Run<'_> {
     }
 
     fn call(&mut self, call: &Call<'_>, answer: &str, had_group: bool) -> Result<(), String> {
-        self.refusals(call)?;
+        self.refusals(call, had_group)?;
         let list = call
             .name
             .starts_with("send")
@@ -199,7 +199,7 @@ impl Run<'_> {
     }
 
     /// The call with a short slice, and over states that break a rule, on copies.
-    fn refusals(&mut self, call: &Call<'_>) -> Result<(), String> {
+    fn refusals(&mut self, call: &Call<'_>, had_group: bool) -> Result<(), String> {
         let seldom = 1 + self.public.store.length() as u64 / (200 * raw::CELL as u64);
         if self.prng.chance(1, 4 * seldom)
             && let Some(done) = refused::short(&self.public, call, &mut self.prng)
@@ -210,6 +210,10 @@ impl Run<'_> {
         if self.prng.chance(1, seldom) {
             let changed = refused::changed(&self.public, call, &mut self.prng)?;
             self.figures.changed(changed);
+        }
+        if matches!(call.name, "add" | "readd") && had_group {
+            let code = refused::handed(&self.public, call, &mut self.prng)?;
+            self.figures.handed(code);
         }
         Ok(())
     }
