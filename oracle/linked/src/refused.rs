@@ -45,6 +45,23 @@ pub fn short(memory: &Memory, call: &Call<'_>, prng: &mut Prng) -> Option<Result
     Some(done.map_err(|what| format!("{part:?} of {length}: {what}")))
 }
 
+/// `new` with a record short by one, and the beginning of the forms for a valid state with a set of 31 or 33 words: 5, and nothing has changed.
+pub fn short_start(memory: &Memory, id: u64, mode: u64) -> Result<(), String> {
+    let mut short = memory.clone();
+    short.record.lend(raw::RECORD_WORDS - 1);
+    let made = library::new(&mut short, id, mode, 0);
+    short.record.lend(raw::RECORD_WORDS);
+    let begun = [raw::USED_WORDS - 1, raw::USED_WORDS + 1].map(|words| {
+        short.used.lend(words);
+        library::begin(&mut short)
+    });
+    let difference = short.difference(memory);
+    match (made, begun, &difference) {
+        (TOO_SHORT, [TOO_SHORT, TOO_SHORT], None) => Ok(()),
+        _ => Err(format!("a short start: {made}, {begun:?}, {difference:?}")),
+    }
+}
+
 /// The call over a copy of the memory with one word changed. It gives 6 exactly if the independent test says so, and so does the beginning of
 /// the forms for a valid state. A call that goes on leaves a state that keeps the rules. It answers which rule the change breaks.
 pub fn changed(

@@ -144,58 +144,59 @@ impl Run<'_> {
     fn new_group(&mut self, call: &Call<'_>, answer: &str) -> Result<(), String> {
         let (id, mode) = (call.numbers[0], call.numbers[1]);
         let length = self.prng.pick(&[0, self.public.store.length()]);
+        refused::short_start(&self.public, id, mode)?;
         for memory in [&mut self.public, &mut self.valid] {
             let code = library::new(memory, id, mode, length);
             equal("answer", answer, &format!("new {code}"))?;
         }
         self.compare_state(0)?;
         let begun = library::begin(&mut self.valid);
-        let expected = if self.judge.gateway.group().is_some() {
-            0
-        } else {
-            6
-        };
-        holds(begun == expected, || format!("begun with code {begun}"))?;
+        let has_group = self.judge.gateway.group().is_some();
+        let right = begun == if has_group { 0 } else { 6 };
+        holds(right, || format!("begun with code {begun}"))?;
         self.compare_forms(begun == 0)
     }
 
     fn call(&mut self, call: &Call<'_>, answer: &str, had_group: bool) -> Result<(), String> {
         self.refusals(call, had_group)?;
-        let list = call
-            .name
-            .starts_with("send")
-            .then(|| self.public.list.to_vec());
-        let (said, behind) = (self.public.answer.to_vec(), self.public.behind());
         let removed = if had_group { self.removed(call) } else { None };
+        let code = self.public_call(call, answer)?;
+        self.valid_form(call, code, had_group)?;
+        self.compare_removed(removed, code)?;
+        self.keep_leg(call, code);
+        self.looks()
+    }
+
+    /// The public call beside the Rust's answer; its code.
+    fn public_call(&mut self, call: &Call<'_>, answer: &str) -> Result<u32, String> {
+        let is_send = call.name.starts_with("send");
+        let list = is_send.then(|| self.public.list.to_vec());
+        let (said, behind) = (self.public.answer.to_vec(), self.public.behind());
         let code = library::public(&mut self.public, call).ok_or("the library has no such call")?;
-        equal(
-            "answer",
-            &comparable(answer),
-            &words(&self.public, call, code),
-        )?;
+        let library = words(&self.public, call, code);
+        equal("answer", &comparable(answer), &library)?;
         self.compare_answer(call, code, &said)?;
-        let sent = list.as_ref().map_or(0, |_| self.public.answer[1] as usize);
+        let sent = if is_send { self.public.answer[1] } else { 0 } as usize;
         if let Some(list) = list {
             let from = sent * raw::SENT_ROW_WORDS;
-            holds(self.public.list[from..] == list[from..], || {
-                "a row behind the sends changed".to_string()
-            })?;
+            let same = self.public.list[from..] == list[from..];
+            holds(same, || "a row behind the sends changed".to_string())?;
         }
-        holds(self.public.behind() == behind, || {
-            "what is not lent changed".to_string()
-        })?;
+        let same = self.public.behind() == behind;
+        holds(same, || "what is not lent changed".to_string())?;
         self.compare_state(sent)?;
-        let form = had_group
-            .then(|| library::valid(&mut self.valid, call))
-            .flatten();
+        Ok(code)
+    }
+
+    /// The form for a valid state over its own memory; the public call where there is none, or no group.
+    fn valid_form(&mut self, call: &Call<'_>, code: u32, had_group: bool) -> Result<(), String> {
+        let form = had_group.then(|| library::valid(&mut self.valid, call));
+        let form = form.flatten();
         let form = form.or_else(|| library::public(&mut self.valid, call));
         holds(form == Some(code), || {
             format!("public {code}, for a valid state {form:?}")
         })?;
-        self.compare_forms(had_group)?;
-        self.compare_removed(removed, code)?;
-        self.keep_leg(call, code);
-        self.looks()
+        self.compare_forms(had_group)
     }
 
     /// The call with a short slice, and over states that break a rule, on copies.
