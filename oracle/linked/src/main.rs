@@ -11,6 +11,7 @@ mod raw;
 mod refused;
 mod rules;
 mod run;
+mod script;
 mod shown;
 
 use std::process::ExitCode;

@@ -4,14 +4,14 @@
 use std::collections::BTreeMap;
 
 use oracle::calls::Calls;
-use oracle::generate::{self, prng::Prng};
+use oracle::generate::prng::Prng;
 use oracle::trace;
 
 use crate::figures::Figures;
 use crate::library::{self, Call};
 use crate::memory::Memory;
 use crate::raw;
-use crate::{looks, refused, shown};
+use crate::{looks, refused, script, shown};
 
 pub struct Run<'a> {
     judge: Calls,
@@ -31,6 +31,7 @@ const CELLS: usize = 40;
 /// Run the calls of a seed; the first difference, with the call and the state before it.
 pub fn seed(seed: u64, figures: &mut Figures) -> Result<(), String> {
     let mut prng = Prng::new(!seed);
+    let lines = script::of(seed, &mut prng);
     let public = Memory::new(CELLS, &mut prng);
     let mut run = Run {
         judge: Calls::new(),
@@ -41,12 +42,8 @@ pub fn seed(seed: u64, figures: &mut Figures) -> Result<(), String> {
         trace: String::new(),
         figures,
     };
-    for (number, line) in generate::calls::listing(seed).into_iter().enumerate() {
+    for (number, line) in lines.into_iter().enumerate() {
         let line = exported(line);
-        let line = match seed / 16 % 2 {
-            0 => line,
-            _ => other_length(line, &mut run.prng),
-        };
         run.step(&line).map_err(|what| {
             format!(
                 "seed {seed}, call {number}: {line}\n{what}\nstate before:\n{}",
@@ -64,18 +61,6 @@ fn exported(line: String) -> String {
         Some(now) => format!("poll_data_bounded {now} 1"),
         None => line,
     }
-}
-
-/// A payload of any length up to one too many.
-fn other_length(line: String, prng: &mut Prng) -> String {
-    let mut words: Vec<&str> = line.split(' ').collect();
-    if !matches!(words[0], "data" | "send" | "send_shared") {
-        return line;
-    }
-    let length = prng.below(raw::CELL as u64 + 2).to_string();
-    let at = words.len() - 2;
-    words[at] = &length;
-    words.join(" ")
 }
 
 fn equal(what: &str, rust: &str, library: &str) -> Result<(), String> {
