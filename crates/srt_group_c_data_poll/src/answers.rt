@@ -13,10 +13,8 @@ use srt_group_polls::polls::DataPoll;
 use srt_group_polls::polls::OptionalPacket;
 use srt_group_words::answers::flag_of;
 use srt_group_words::answers::put_eight;
+use srt_group_words::answers::put_packet;
 use srt_group_words::record::put_core;
-
-// The words of a poll's answer.
-pub const POLLED: usize = 8;
 
 // Whether to poll again at once, and the packet: its leg, sequence, count (0: none), message number, timestamp, source time and length.
 fn put_data(answer: &mut [u64], gave: OptionalPacket, continuation: u64)
@@ -27,21 +25,7 @@ fn put_data(answer: &mut [u64], gave: OptionalPacket, continuation: u64)
     let again = flag_of(continuation);
     match gave {
         OptionalPacket::None => put_eight(answer, again, 0, 0, 0, 0, 0, 0, 0),
-        OptionalPacket::Some(packet) => {
-            let content = packet.content;
-            let source = content.source;
-            put_eight(
-                answer,
-                again,
-                packet.member,
-                content.sequence,
-                content.count,
-                content.message,
-                content.timestamp,
-                source.0,
-                content.length,
-            )
-        }
+        OptionalPacket::Some(packet) => put_packet(answer, again, packet),
     }
 }
 

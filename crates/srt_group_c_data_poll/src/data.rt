@@ -7,10 +7,10 @@ ghost use Rattle.srt_group_model.specs.Lent.{call-poll-data, call-poll-data-bou
 ghost use Rattle.srt_group_shown.specs.Tables.{tables};
 ghost use Rattle.srt_group_shown.specs.Ready.{lending};
 ghost use Rattle.srt_group_words.specs.Words.{in-words, words, PromisedWords, ReadyWords, PerformsWords};
-use crate::answers::POLLED;
 use crate::answers::put_poll;
 use srt_group_collecting::collecting::MAX_VISITS;
 use srt_group_data_poll::polls;
+use srt_group_words::answers::POLLED;
 use srt_group_words::answers::put_eight;
 use srt_group_words::begin::begin_poll;
 use srt_group_words::record::RECORD;

@@ -1,7 +1,7 @@
 -- A call in words that begins with 5 and 6 and then does what its form for a valid state does.
 use mathlib.Core.Path.{_≡_, refl, sym, ap, subst, _∙_}
 use mathlib.Core.Bool.{Bool, true, false, not, _||_}
-use mathlib.Core.List.{List, []}
+use mathlib.Core.List.{List, [], _∷_}
 use Prim.Native.Nat.{ℕ, _≤_, _<_}
 use native.Mathlib.Omega.{arith}
 use borrow.Author.Tests.{lt-ltb, le-ltb, eq-eqb, ne-eqb}
@@ -12,9 +12,11 @@ use Rattle.srt_protocol.specs.declared.error.Error.the-variants.{MissingGroupMa
 use Rattle.srt_protocol.specs.declared.error.Outcome.{Outcome}
 use Rattle.srt_protocol.specs.declared.error.Outcome.the-variants.{Accepted, Refused}
 use Rattle.srt_protocol.specs.Errors.{error-number, outcome-number}
+use Rattle.srt_protocol.specs.Cells.{overwritten}
 use Rattle.srt_group_model.specs.laws.Reason.{if-true, if-false, or-yes-right}
 use Rattle.srt_group_model.specs.Guards.{no-answer}
 use Rattle.srt_group_model.specs.Lent.{Lent, Call}
+use Rattle.srt_group_model.specs.Answers.{values-of}
 use Rattle.srt_group_model.specs.declared.Core.{Core}
 use Rattle.srt_group_model.specs.declared.Identity.{Identity}
 use Rattle.srt_group_model.specs.declared.Sending.{Sending}
@@ -22,13 +24,14 @@ use Rattle.srt_group_tables.specs.declared.history.HistoryRing.{HistoryRing}
 use Rattle.cell_set.specs.Bits.{set-size}
 use Rattle.srt_group_traces.specs.laws.Port.{performs-does}
 use Rattle.srt_group_shown.specs.Tables.{Parts, parts, Tables, state-of}
+use Rattle.srt_group_shown.specs.Ready.{lending}
 use Rattle.srt_group.specs.Made.{parts-of}
 use Rattle.srt_group_refusals.specs.Begins.{are-short, BeginsStored, BeginsPoll}
 use Rattle.srt_group_refusals.specs.laws.Begins.{not-short, begins-as-stored, has-room}
 use Rattle.srt_group_refusals.specs.Promised.{showing, Promised}
 use Rattle.srt_group_refusals.specs.laws.Promised.{promised-does}
 use Rattle.srt_group_words.specs.Record.{record-size, identity-of, core-of, sending-of, ring-of, group-of}
-use Rattle.srt_group_words.specs.Words.{Says, silent, in-words, sent-words, Words, words, parts-in, are-few, PromisedWords, ReadyWords, PerformsWords, BegunStored, BegunPoll, set-unfit, BeginsValid}
+use Rattle.srt_group_words.specs.Words.{zeros, Says, silent, in-words, sent-words, Words, words, parts-in, are-few, PromisedWords, ReadyWords, PerformsWords, BegunStored, BegunPoll, set-unfit, BeginsValid}
 use Rattle.srt_group_words.specs.laws.Words.{parts-read, silent-enough, sent-enough, room-in-words, in-words-of}
 
 -- ---- the number of an outcome
@@ -142,6 +145,18 @@ module _ (call : Call) (w : List ℕ) (t : Tables) (bytes : Lent) where
       → refused-with code
   refused-in-words {o} same other refused =
       subst refused-with (sym same) (by-refusal refused-with o (λ zero. other (same ∙ zero)) refused)
+
+-- a poll by 5 of the output, of the tables or of the store, or by 6: the words of its answer are 0
+pub poll-refused : (call : Call) (w : List ℕ) (t : Tables) (store output answer : List ℕ) → record-size ≤ length w → 8 ≤ length answer
+    → {code : ℕ} {used : List ℕ} (begun : BegunPoll w t (length store) (length output) code used) → (code ≡ 0 → ⊥)
+    → {answer′ : List ℕ} → answer′ ≡ overwritten 0 (0 ∷ 0 ∷ 0 ∷ 0 ∷ 0 ∷ 0 ∷ 0 ∷ 0 ∷ []) answer
+    → ((e : Error) → begun .outcome ≡ Refused e → refused-with call w t (lending store output) (error-number e))
+    → PromisedWords call (in-words 8) false (words w t (lending store output) answer) code (words w t (lending store output) answer′)
+unfolding in-words values-of zeros
+poll-refused call w t store output answer long room {code} begun other {answer′} put refused =
+    in-words-of call (in-words 8) w t (lending store output) answer (room-in-words w t (lending store output) answer long room) w t
+    (lending store output) answer′ code no-answer 0
+    (refused-in-words call w t (lending store output) (begun .same) other refused) put refl
 
 -- ---- a host that is the only writer begins
 

@@ -16,8 +16,8 @@ put-eight-requires c κs = search needs
 enum-known-gave : tie.Need-enum-known-gave
 enum-known-gave c = search needs
 
-put-eight-requires-2 : tie.Need-put-eight-requires-2
-put-eight-requires-2 c κs = search needs
+put-packet-requires : tie.Need-put-packet-requires
+put-packet-requires c κs = search needs
 
 same-length : tie.Need-same-length
 same-length c = search needs
@@ -39,7 +39,7 @@ put-data-spec =
     enum-told
     put-eight-requires
     enum-known-gave
-    put-eight-requires-2
+    put-packet-requires
     same-length
     returns
     same-length-2

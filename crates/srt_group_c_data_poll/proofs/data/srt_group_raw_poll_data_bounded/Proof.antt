@@ -1,7 +1,7 @@
 -- `srt_group_raw_poll_data_bounded` meets its contract: 5 for the rows of words, 5 and 6 of the poll, and then its form for a valid state.
 use Rattle.srt_group_words.specs.laws.Words.{record-refused, answer-refused}
-use Rattle.srt_group_words.specs.laws.Begin.{poll-ready, poll-on, poll-performed}
-use Rattle.srt_group_c_data_poll.specs.laws.Answers.{data-refused}
+use Rattle.srt_group_words.specs.laws.Begin.{poll-ready, poll-on, poll-performed, poll-refused}
+use Rattle.srt_group_refusals.specs.laws.Polled.{data-poll-refused}
 use borrow.Author.Needs.{needs}
 use Rattle.srt_group_c_data_poll.proofs.data.srt_group_raw_poll_data_bounded.Statement.{statement}
 use Rattle.srt_group_c_data_poll.proofs.data.srt_group_raw_poll_data_bounded.Tie as tie
@@ -37,7 +37,7 @@ same-length-5 : tie.Need-same-length-5
 same-length-5 c = search needs
 
 returns-3 : tie.Need-returns-3
-returns-3 c = data-refused _ _ _ _ _ _ _ (c .before .before .before .before .before .before .before .before .before .before .before .before .before .if1 .left) (c .before .before .before .before .before .before .before .before .before .before .before .before .if2 .left) (c .before .before .before .before .before .before .begin-poll .ensures) (c .before .before .before .before .if3 .taken) (c .before .before .put-eight .ensures)
+returns-3 c = poll-refused _ _ _ _ _ _ (c .before .before .before .before .before .before .before .before .before .before .before .before .before .if1 .left) (c .before .before .before .before .before .before .before .before .before .before .before .before .if2 .left) (c .before .before .before .before .before .before .begin-poll .ensures) (c .before .before .before .before .if3 .taken) (c .before .before .put-eight .ensures) (data-poll-refused _ _ _ _ _ _ (c .before .before .before .before .before .before .begin-poll .ensures .begins))
 
 slice-aggregate-srt-group-valid-poll-data-bounded :
     tie.Need-slice-aggregate-srt-group-valid-poll-data-bounded
