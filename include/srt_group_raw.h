@@ -81,7 +81,7 @@
 /** The words of the list of members that are shown. */
 #define SRT_GROUP_MEMBER_LIST_WORDS 512
 
-/** The words of a data poll's answer. */
+/** The words of a poll's answer. */
 #define SRT_GROUP_POLL_ANSWER_WORDS 8
 
 /** The words of a send's answer. */
@@ -93,20 +93,20 @@
 /** The words of the answer of a look at a number or a flag. */
 #define SRT_GROUP_LOOK_ANSWER_WORDS 1
 
-/** A member's state: its leg is not connected yet. */
-#define SRT_GROUP_MEMBER_PENDING UINT64_C(0)
+/** A member's label: its leg is not connected yet. */
+#define SRT_GROUP_LABEL_PENDING UINT64_C(0)
 
-/** A member's state: it carries. */
-#define SRT_GROUP_MEMBER_ACTIVE UINT64_C(1)
+/** A member's label: it carries. */
+#define SRT_GROUP_LABEL_ACTIVE UINT64_C(1)
 
-/** A member's state: it waits to be promoted, in Backup. */
-#define SRT_GROUP_MEMBER_STANDBY UINT64_C(2)
+/** A member's label: it waits to be promoted, in Backup. */
+#define SRT_GROUP_LABEL_STANDBY UINT64_C(2)
 
-/** A member's state: it was silent, or its window was full. */
-#define SRT_GROUP_MEMBER_UNSTABLE UINT64_C(3)
+/** A member's label: it was silent, or its window was full. */
+#define SRT_GROUP_LABEL_UNSTABLE UINT64_C(3)
 
-/** A member's state: it is out. */
-#define SRT_GROUP_MEMBER_BROKEN UINT64_C(4)
+/** A member's label: it is out until its removal. */
+#define SRT_GROUP_LABEL_BROKEN UINT64_C(4)
 
 /** The words of a member's row that hold its leg. */
 #define SRT_GROUP_ROW_LINK_STATE 9
@@ -126,6 +126,20 @@
 #define SRT_GROUP_ROW_RECEIVER_LATENCY 29
 #define SRT_GROUP_ROW_RECEIVER_RESERVED 30
 #define SRT_GROUP_ROW_RECEIVER_ADVANCED 31
+
+/** The fields of a reading. */
+#define SRT_GROUP_FIELD_STATE UINT64_C(1)
+#define SRT_GROUP_FIELD_WINDOW UINT64_C(2)
+#define SRT_GROUP_FIELD_RECEIVE_WINDOW UINT64_C(3)
+#define SRT_GROUP_FIELD_LATENCY UINT64_C(4)
+#define SRT_GROUP_FIELD_ACKNOWLEDGE UINT64_C(5)
+#define SRT_GROUP_FIELD_SRTT UINT64_C(6)
+#define SRT_GROUP_FIELD_RTTVAR UINT64_C(7)
+#define SRT_GROUP_FIELD_HEARD UINT64_C(8)
+#define SRT_GROUP_FIELD_PACE UINT64_C(9)
+#define SRT_GROUP_FIELD_PEER UINT64_C(10)
+#define SRT_GROUP_FIELD_LIMIT UINT64_C(11)
+#define SRT_GROUP_FIELD_OLDEST UINT64_C(12)
 
 /* ---- codes */
 
@@ -247,7 +261,7 @@ uint32_t srt_group_raw_remove_member_connection(
     uint64_t *row, size_t row_length,
     uint64_t id) SRT_GROUP_NOT_NULL;
 
-/** The same with 5 and 6. */
+/** A packet at the end of a leg's queue, its payload in the lowest free cell of the store. */
 uint32_t srt_group_raw_queue_data(
     const uint64_t *record, size_t record_length,
     uint64_t *members, size_t members_length,
@@ -288,7 +302,9 @@ uint32_t srt_group_raw_read_leg(
     uint64_t field,
     uint64_t number) SRT_GROUP_NOT_NULL;
 
-/** The same with 5 and 6. */
+/** The next packet in order, after at most so many events, which are dropped. Its payload is written from byte 12 of the output on. The
+ *  answer: whether to poll again at once, and of the packet its leg, sequence, count (0: none), message number, timestamp, source time and
+ *  length. */
 uint32_t srt_group_raw_poll_data_bounded(
     uint64_t *record, size_t record_length,
     uint64_t *members, size_t members_length,
@@ -315,7 +331,23 @@ uint32_t srt_group_raw_poll_data(
     uint64_t time,
     uint64_t *answer, size_t answer_length) SRT_GROUP_NOT_NULL;
 
-/** The same with 5 and 6. */
+/** The next event, or the next packet in order, with 5 and 6 tested. The answer's words: of an event its kind (1 connected, 2 error, 3
+ *  disconnected), its leg, its reason, and zeros; of a packet 0, its leg, sequence, count, message number, timestamp, source time and
+ *  length; of neither zeros. A packet's count is never 0. */
+uint32_t srt_group_raw_poll_event(
+    uint64_t *record, size_t record_length,
+    uint64_t *members, size_t members_length,
+    uint64_t *pending, size_t pending_length,
+    uint64_t *waiting, size_t waiting_length,
+    const uint64_t *history, size_t history_length,
+    const uint64_t *sources, size_t sources_length,
+    const uint8_t *store, size_t store_length,
+    uint8_t *output, size_t output_length,
+    uint64_t time,
+    uint64_t *answer, size_t answer_length) SRT_GROUP_NOT_NULL;
+
+/** One payload through the group, on every active leg or on the carrier; each send that a leg takes fills a row of the list: leg, sequence,
+ *  history cell (4294967295 for this payload), source time, time. The answer: on how many legs, and how many rows were filled. */
 uint32_t srt_group_raw_send(
     uint64_t *record, size_t record_length,
     uint64_t *members, size_t members_length,
@@ -464,7 +496,8 @@ uint32_t srt_group_raw_time_until_send(
     uint64_t time,
     uint64_t *answer, size_t answer_length) SRT_GROUP_NOT_NULL;
 
-/** A member: its membership, with its label and its collision, and its leg's state. */
+/** A member: its id, weight, label, its leg's state, whether it was admitted, its reserved sum, and its collision's expected and actual
+ *  peer group. */
 uint32_t srt_group_raw_member(
     const uint64_t *record, size_t record_length,
     const uint64_t *members, size_t members_length,

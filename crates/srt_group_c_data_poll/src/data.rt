@@ -20,8 +20,7 @@ use srt_group_words::record::read_ring;
 use srt_group_words::record::read_sending;
 use srt_protocol::time::Timestamp;
 
-// The next packet in order, after at most so many events, which are dropped. Its payload is written from byte 12 of the output on. For a
-// valid state, of which `used` shows the cells in use.
+// `srt_group_raw_poll_data_bounded` for a valid state, of which `used` shows the cells in use.
 #[no_mangle]
 pub extern "C" fn srt_group_valid_poll_data_bounded(
     record: &mut [u64],
@@ -67,7 +66,8 @@ pub extern "C" fn srt_group_valid_poll_data_bounded(
     put_poll(record, answer, poll)
 }
 
-// The same with 5 and 6.
+// The next packet in order, after at most so many events, which are dropped. Its payload is written from byte 12 of the output on. The answer:
+// whether to poll again at once, and of the packet its leg, sequence, count (0: none), message number, timestamp, source time and length.
 #[no_mangle]
 pub extern "C" fn srt_group_raw_poll_data_bounded(
     record: &mut [u64],

@@ -15,7 +15,7 @@ use srt_group_looks::members;
 use srt_group_words::record::RECORD;
 use srt_group_words::record::read_group;
 
-// A member: its membership, with its label and its collision, and its leg's state.
+// A member: its id, weight, label, its leg's state, whether it was admitted, its reserved sum, and its collision's expected and actual peer group.
 #[no_mangle]
 pub extern "C" fn srt_group_raw_member(
     record: &[u64],

@@ -17,8 +17,7 @@ use srt_group_words::record::read_ring;
 use srt_group_words::record::read_sending;
 use srt_protocol::time::Timestamp;
 
-// A packet at the end of a leg's queue, its payload in the lowest free cell of the store. For a valid state, of which `used` shows the
-// cells in use.
+// `srt_group_raw_queue_data` for a valid state, of which `used` shows the cells in use.
 #[no_mangle]
 pub extern "C" fn srt_group_valid_queue_data(
     record: &[u64],
@@ -74,7 +73,7 @@ pub extern "C" fn srt_group_valid_queue_data(
     queued.number()
 }
 
-// The same with 5 and 6.
+// A packet at the end of a leg's queue, its payload in the lowest free cell of the store.
 #[no_mangle]
 pub extern "C" fn srt_group_raw_queue_data(
     record: &[u64],

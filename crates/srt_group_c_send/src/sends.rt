@@ -20,8 +20,7 @@ use srt_group_words::record::read_ring;
 use srt_group_words::record::read_sending;
 use srt_protocol::time::Timestamp;
 
-// One payload through the group, on every active leg or on the carrier; each send that a leg takes fills a row of the list. For a valid state,
-// of which `used` shows the cells in use.
+// `srt_group_raw_send` for a valid state, of which `used` shows the cells in use.
 #[no_mangle]
 pub extern "C" fn srt_group_valid_send(
     record: &mut [u64],
@@ -67,7 +66,8 @@ pub extern "C" fn srt_group_valid_send(
     put_send(record, answer, sent)
 }
 
-// The same with 5 and 6.
+// One payload through the group, on every active leg or on the carrier; each send that a leg takes fills a row of the list: leg, sequence,
+// history cell (4294967295 for this payload), source time, time. The answer: on how many legs, and how many rows were filled.
 #[no_mangle]
 pub extern "C" fn srt_group_raw_send(
     record: &mut [u64],

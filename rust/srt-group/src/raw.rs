@@ -67,7 +67,7 @@ pub const MEMBER_ANSWER_WORDS: usize = 8;
 /// The words of the list of members that are shown.
 pub const MEMBER_LIST_WORDS: usize = 512;
 
-/// The words of a data poll's answer.
+/// The words of a poll's answer.
 pub const POLL_ANSWER_WORDS: usize = 8;
 
 /// The words of a send's answer.
@@ -79,20 +79,20 @@ pub const READY_ANSWER_WORDS: usize = 1;
 /// The words of the answer of a look at a number or a flag.
 pub const LOOK_ANSWER_WORDS: usize = 1;
 
-/// A member's state: its leg is not connected yet.
-pub const MEMBER_PENDING: u64 = 0;
+/// A member's label: its leg is not connected yet.
+pub const LABEL_PENDING: u64 = 0;
 
-/// A member's state: it carries.
-pub const MEMBER_ACTIVE: u64 = 1;
+/// A member's label: it carries.
+pub const LABEL_ACTIVE: u64 = 1;
 
-/// A member's state: it waits to be promoted, in Backup.
-pub const MEMBER_STANDBY: u64 = 2;
+/// A member's label: it waits to be promoted, in Backup.
+pub const LABEL_STANDBY: u64 = 2;
 
-/// A member's state: it was silent, or its window was full.
-pub const MEMBER_UNSTABLE: u64 = 3;
+/// A member's label: it was silent, or its window was full.
+pub const LABEL_UNSTABLE: u64 = 3;
 
-/// A member's state: it is out.
-pub const MEMBER_BROKEN: u64 = 4;
+/// A member's label: it is out until its removal.
+pub const LABEL_BROKEN: u64 = 4;
 
 /// The words of the set of cells in use, a bit a cell.
 pub const USED_WORDS: usize = 32;
@@ -115,6 +115,20 @@ pub const ROW_RECEIVER_WINDOW: usize = 28;
 pub const ROW_RECEIVER_LATENCY: usize = 29;
 pub const ROW_RECEIVER_RESERVED: usize = 30;
 pub const ROW_RECEIVER_ADVANCED: usize = 31;
+
+/// The fields of a reading.
+pub const FIELD_STATE: u64 = 1;
+pub const FIELD_WINDOW: u64 = 2;
+pub const FIELD_RECEIVE_WINDOW: u64 = 3;
+pub const FIELD_LATENCY: u64 = 4;
+pub const FIELD_ACKNOWLEDGE: u64 = 5;
+pub const FIELD_SRTT: u64 = 6;
+pub const FIELD_RTTVAR: u64 = 7;
+pub const FIELD_HEARD: u64 = 8;
+pub const FIELD_PACE: u64 = 9;
+pub const FIELD_PEER: u64 = 10;
+pub const FIELD_LIMIT: u64 = 11;
+pub const FIELD_OLDEST: u64 = 12;
 
 const _: () = assert!(MEMBERS_WORDS == MAX_MEMBERS * ROW_WORDS);
 const _: () = assert!(MEMBER_LIST_WORDS == MAX_MEMBERS * MEMBER_ANSWER_WORDS);
@@ -374,8 +388,7 @@ unsafe extern "C" {
         id: u64,
     ) -> u32;
 
-    /// A packet at the end of a leg's queue, its payload in the lowest free cell of the store. For a valid state, of which `used` shows the
-    /// cells in use.
+    /// `srt_group_raw_queue_data` for a valid state, of which `used` shows the cells in use.
     pub fn srt_group_valid_queue_data(
         record: *const u64,
         record_length: usize,
@@ -403,7 +416,7 @@ unsafe extern "C" {
         payload_length: usize,
     ) -> u32;
 
-    /// The same with 5 and 6.
+    /// A packet at the end of a leg's queue, its payload in the lowest free cell of the store.
     pub fn srt_group_raw_queue_data(
         record: *const u64,
         record_length: usize,
@@ -513,8 +526,7 @@ unsafe extern "C" {
         number: u64,
     ) -> u32;
 
-    /// The next packet in order, after at most so many events, which are dropped. Its payload is written from byte 12 of the output on. For
-    /// a valid state, of which `used` shows the cells in use.
+    /// `srt_group_raw_poll_data_bounded` for a valid state, of which `used` shows the cells in use.
     pub fn srt_group_valid_poll_data_bounded(
         record: *mut u64,
         record_length: usize,
@@ -540,7 +552,9 @@ unsafe extern "C" {
         answer_length: usize,
     ) -> u32;
 
-    /// The same with 5 and 6.
+    /// The next packet in order, after at most so many events, which are dropped. Its payload is written from byte 12 of the output on. The
+    /// answer: whether to poll again at once, and of the packet its leg, sequence, count (0: none), message number, timestamp, source time
+    /// and length.
     pub fn srt_group_raw_poll_data_bounded(
         record: *mut u64,
         record_length: usize,
@@ -587,8 +601,60 @@ unsafe extern "C" {
         answer_length: usize,
     ) -> u32;
 
-    /// One payload through the group, on every active leg or on the carrier; each send that a leg takes fills a row of the list. For a
-    /// valid state, of which `used` shows the cells in use.
+    /// The next event, or the next packet in order, its payload written from byte 12 of the output on. The answer's words: of an event its
+    /// kind (1 connected, 2 error, 3 disconnected), its leg, its reason, and zeros; of a packet 0, its leg, sequence, count, message
+    /// number, timestamp, source time and length; of neither zeros. A packet's count is never 0. For a valid state, of which `used` shows
+    /// the cells in use.
+    pub fn srt_group_valid_poll_event(
+        record: *mut u64,
+        record_length: usize,
+        members: *mut u64,
+        members_length: usize,
+        pending: *mut u64,
+        pending_length: usize,
+        waiting: *mut u64,
+        waiting_length: usize,
+        history: *const u64,
+        history_length: usize,
+        sources: *const u64,
+        sources_length: usize,
+        store: *const u8,
+        store_length: usize,
+        output: *mut u8,
+        output_length: usize,
+        used: *mut u64,
+        used_length: usize,
+        time: u64,
+        answer: *mut u64,
+        answer_length: usize,
+    ) -> u32;
+
+    /// The next event, or the next packet in order, with 5 and 6 tested. The answer's words: of an event its kind (1 connected, 2 error, 3
+    /// disconnected), its leg, its reason, and zeros; of a packet 0, its leg, sequence, count, message number, timestamp, source time and
+    /// length; of neither zeros. A packet's count is never 0.
+    pub fn srt_group_raw_poll_event(
+        record: *mut u64,
+        record_length: usize,
+        members: *mut u64,
+        members_length: usize,
+        pending: *mut u64,
+        pending_length: usize,
+        waiting: *mut u64,
+        waiting_length: usize,
+        history: *const u64,
+        history_length: usize,
+        sources: *const u64,
+        sources_length: usize,
+        store: *const u8,
+        store_length: usize,
+        output: *mut u8,
+        output_length: usize,
+        time: u64,
+        answer: *mut u64,
+        answer_length: usize,
+    ) -> u32;
+
+    /// `srt_group_raw_send` for a valid state, of which `used` shows the cells in use.
     pub fn srt_group_valid_send(
         record: *mut u64,
         record_length: usize,
@@ -615,7 +681,9 @@ unsafe extern "C" {
         answer_length: usize,
     ) -> u32;
 
-    /// The same with 5 and 6.
+    /// One payload through the group, on every active leg or on the carrier; each send that a leg takes fills a row of the list: leg,
+    /// sequence, history cell (4294967295 for this payload), source time, time. The answer: on how many legs, and how many rows were
+    /// filled.
     pub fn srt_group_raw_send(
         record: *mut u64,
         record_length: usize,
@@ -986,7 +1054,8 @@ unsafe extern "C" {
         answer_length: usize,
     ) -> u32;
 
-    /// A member: its membership, with its label and its collision, and its leg's state.
+    /// A member: its id, weight, label, its leg's state, whether it was admitted, its reserved sum, and its collision's expected and actual
+    /// peer group.
     pub fn srt_group_raw_member(
         record: *const u64,
         record_length: usize,
