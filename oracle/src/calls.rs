@@ -226,7 +226,7 @@ fn leg(numbers: &[u64]) -> Option<Leg> {
 }
 
 /// A payload is told by its length and a seed: byte i is seed + 7i modulo 256.
-fn payload(length: u64, seed: u64) -> Vec<u8> {
+pub fn payload(length: u64, seed: u64) -> Vec<u8> {
     // Longer than any limit is refused by its length alone.
     let length = length.min(100_000);
     (0..length)

@@ -1,19 +1,8 @@
-//! The Rust's `SrtGroup` beside the port: see README.md.
-
-mod calls;
-mod cases;
-mod codes;
-mod commands;
-mod cover;
-mod faults;
-mod fields;
-mod gateway;
-mod generate;
-mod listing;
-mod replay;
-mod trace;
+//! The judge's commands: see README.md.
 
 use std::process::ExitCode;
+
+use oracle::commands;
 
 fn main() -> ExitCode {
     let arguments: Vec<String> = std::env::args().skip(1).collect();

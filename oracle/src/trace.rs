@@ -223,7 +223,7 @@ fn payload_bytes(payload: &ReceivedPayload) -> String {
 }
 
 /// Up to eight bytes in hexadecimal; of more, their number and hash.
-fn shown(bytes: &[u8]) -> String {
+pub fn shown(bytes: &[u8]) -> String {
     if bytes.len() > 8 {
         return format!("{}:{:016x}", bytes.len(), hash(bytes));
     }
