@@ -8,7 +8,8 @@ use lib.ListN.{length}
 use Rattle.srt_group_model.specs.declared.Core.{Core}
 use Rattle.srt_group_model.specs.declared.Leg.{Leg}
 use Rattle.srt_group_model.specs.declared.Packet.{Packet}
-use Rattle.srt_group_model.specs.Tools.{if-some_give_otherwise_}
+use Rattle.srt_group_model.specs.Tools.{if-some_give_otherwise_, All}
+use Rattle.srt_group_model.specs.Sound.{Packet-fit}
 use Rattle.srt_group_model.specs.State.{Member, on-leg, on-account}
 use Rattle.srt_group_model.specs.Accounts.{release}
 use Rattle.srt_group_model.specs.Core.{with-own-account}
@@ -16,7 +17,8 @@ use Rattle.srt_group_model.specs.Legs.{gives-up-at, release-data-reservation}
 use Rattle.srt_group_model.specs.Validity.{max-pending, max-members, ascends}
 use Rattle.srt_group_model.specs.Delivery.{release-all, deliver-packet}
 use Rattle.srt_connection_members.specs.Members.{members-size}
-use Rattle.srt_group_tables.specs.Packets.{pending-size, packets}
+use Rattle.srt_group_tables.specs.Packets.{pending-size, packets, Placed}
+use Rattle.srt_group_tables.specs.Covered.{Small}
 use Rattle.srt_group_shown.specs.Shown.{Rest, shown}
 use Rattle.srt_group_shown.specs.Tables.{receive-tables}
 use Rattle.srt_group_collecting.specs.Leaves.{Leaves}
@@ -30,6 +32,12 @@ pub record Deliverable (core : Core) (members pending : List ℕ) : Type 0 where
   pub members-few : core .counts .members ≤ max-members
   pub held-few : core .counts .pending ≤ max-pending
   pub ascending : ascends (packets (core .counts .pending) pending) ≡ true
+  pub fitting : All Packet-fit (packets (core .counts .pending) pending)
+
+-- the packet at a place has the sequence: it is one of the circle, and no other place has it
+pub record HeldAt (pending : List ℕ) (held sequence at : ℕ) : Type 0 where
+  pub placed : Placed pending held sequence at
+  pub small : Small pending held sequence
 
 -- ---- the give-up test
 

@@ -7,11 +7,11 @@ ghost use lib.ListN.{length};
 ghost use Rattle.srt_protocol.specs.Sequence.{sequence-distance};
 ghost use Rattle.srt_group_model.specs.Legs.{largest-64};
 ghost use Rattle.srt_group_model.specs.Delivery.{leg-gives-up, gap-given-up, deliver, give-waiting};
-ghost use Rattle.srt_group_model.specs.Nearest.{covered};
 ghost use Rattle.srt_group_model.specs.Tools.{is-set, flagged};
 ghost use Rattle.srt_connection_members.specs.Members.{members-of, has-row, Changed};
 ghost use Rattle.srt_connection_queue.specs.Rows.{row-size};
-ghost use Rattle.srt_group_tables.specs.Packets.{pending-size, packet-at, packets};
+ghost use Rattle.srt_group_tables.specs.Packets.{pending-size, packet-at, packets-between};
+ghost use Rattle.srt_group_tables.specs.Covered.{Within, packets-at};
 ghost use Rattle.srt_group_tables.specs.Waitings.{waiting-size};
 ghost use Rattle.srt_group_shown.specs.Shown.{Rest, shown};
 ghost use Rattle.srt_group_shown.specs.Tables.{receive-tables};
@@ -20,7 +20,7 @@ ghost use Rattle.cell_set.specs.Bits.{set-size};
 ghost use Rattle.srt_group_model.specs.Sound.{pending-cells};
 ghost use Rattle.srt_group_model.specs.Validity.{max-waiting, max-pending};
 ghost use Rattle.srt_group_collecting.specs.Follows.{Follows};
-ghost use Rattle.srt_group_delivery.specs.Delivery.{Deliverable, leg-given-up, release-member, Released, Delivered};
+ghost use Rattle.srt_group_delivery.specs.Delivery.{Deliverable, HeldAt, leg-given-up, release-member, Released, Delivered};
 ghost use Rattle.srt_group_delivery.specs.Poll.{Polls, Skips, Bases};
 use cell_set::free;
 use srt_connection::legs;
@@ -32,6 +32,7 @@ use srt_group_model::Leg;
 use srt_group_model::Packet;
 use srt_group_model::Waiting;
 use srt_group_tables::pending;
+use srt_group_tables::pending::Covered;
 use srt_group_tables::waiting;
 use srt_protocol::srt_packet::word_distance;
 use srt_protocol::srt_packet::word_further;
@@ -132,73 +133,85 @@ fn release_pending_reservation(mut core: Core, members: &mut [u64], packet: Pack
     core
 }
 
-// The packet at a place is released, and its cell with it, if it starts inside a run of so many sequences from `base` on. Of one that does not, only the
-// index word is read.
-fn release_if_covered(
+// The packet at a place is released, and its cell with it.
+fn release_held(
     core: Core,
     members: &mut [u64],
     pending: &[u64],
     used: &mut [u64],
     at: usize,
-    base: u64,
-    run: u64,
 ) -> Core
     requires { ⌜ core .counts .members * row-size ≤ length (now members) ⌝ }
     requires { ⌜ (pending-size ≤ length (now pending)) × (at < max-pending) ⌝ }
     requires { ⌜ length (now used) ≡ set-size ⌝ }
-    ensures { λ r. ⌜ Released (covered base run (packet-at (now (pending .entry)) at ∷ []))
-        core (now (members .entry)) r (now (members .exit)) ⌝ }
-    ensures { λ _. ⌜ Freed (pending-cells (covered base run (packet-at (now (pending .entry)) at ∷ [])))
-        (now (used .entry)) (now (used .exit)) ⌝ }
+    ensures { λ r. ⌜ Released (packet-at (now (pending .entry)) at ∷ []) core (now (members .entry)) r (now (members .exit)) ⌝ }
+    ensures { λ _. ⌜ Freed (pending-cells (packet-at (now (pending .entry)) at ∷ [])) (now (used .entry)) (now (used .exit)) ⌝ }
 {
-    let sequence = pending::sequence_at(pending, at);
-    let distance = word_distance(base, sequence);
-    if run <= distance {
-        return core;
-    }
     let packet = pending::packet(pending, at);
     let content = packet.content;
     free(used, content.cell as usize);
     release_pending_reservation(core, members, packet)
 }
 
-// The held packets that start inside a run are released, in their order.
-fn release_covered(
+// The held packets from a place up to another are released, in their order.
+fn release_range(
     mut core: Core,
     members: &mut [u64],
     pending: &[u64],
     used: &mut [u64],
-    base: u64,
-    run: u64,
+    from: usize,
+    end: usize,
 ) -> Core
-    requires { ⌜ Deliverable core (now members) (now pending) ⌝ }
+    requires { ⌜ core .counts .members * row-size ≤ length (now members) ⌝ }
+    requires { ⌜ (pending-size ≤ length (now pending)) × (from ≤ end) × (end ≤ max-pending) ⌝ }
     requires { ⌜ length (now used) ≡ set-size ⌝ }
-    ensures { λ r. ⌜ Released (covered base run (packets (core .counts .pending) (now (pending .entry))))
-        core (now (members .entry)) r (now (members .exit)) ⌝ }
-    ensures { λ _. ⌜ Freed (pending-cells (covered base run (packets (core .counts .pending) (now (pending .entry)))))
-        (now (used .entry)) (now (used .exit)) ⌝ }
+    ensures { λ r. ⌜ Released (packets-between from end (now (pending .entry))) core (now (members .entry)) r (now (members .exit)) ⌝ }
+    ensures { λ _. ⌜ Freed (pending-cells (packets-between from end (now (pending .entry)))) (now (used .entry)) (now (used .exit)) ⌝ }
 {
-    let held = core.counts.pending;
-    let mut at: usize = 0;
-    while at < held {
-        core = release_if_covered(core, members, pending, used, at, base, run);
+    let mut at = from;
+    while at < end {
+        core = release_held(core, members, pending, used, at);
         at += 1;
     }
     core
 }
 
+// The held packets that a run covers are released, in their order.
+fn release_covered(
+    core: Core,
+    members: &mut [u64],
+    pending: &[u64],
+    used: &mut [u64],
+    covered: Covered,
+) -> Core
+    requires { ⌜ Deliverable core (now members) (now pending) ⌝ }
+    requires { ⌜ Within (core .counts .pending) covered ⌝ }
+    requires { ⌜ length (now used) ≡ set-size ⌝ }
+    ensures { λ r. ⌜ Released (packets-at covered (now (pending .entry))) core (now (members .entry)) r (now (members .exit)) ⌝ }
+    ensures { λ _. ⌜ Freed (pending-cells (packets-at covered (now (pending .entry)))) (now (used .entry)) (now (used .exit)) ⌝ }
+{
+    let low = covered.low;
+    let from = covered.from;
+    let end = covered.end;
+    let begun = release_range(core, members, pending, used, 0, low);
+    release_range(begun, members, pending, used, from, end)
+}
+
 // ---- delivery
 
-// The base passes the whole run; held packets that start inside it vanish, and every leg records how far the group has come.
+// The base passes the whole run of the packet there; held packets that start inside it vanish, and every leg records how far the
+// group has come.
 fn deliver_packet(
     core: Core,
     members: &mut [u64],
     pending: &mut [u64],
     used: &mut [u64],
     base: u64,
+    at: usize,
     packet: Packet,
 ) -> Core
     requires { ⌜ Deliverable core (now members) (now pending) ⌝ }
+    requires { ⌜ HeldAt (now pending) (core .counts .pending) base at ⌝ }
     requires { ⌜ length (now used) ≡ set-size ⌝ }
     ensures { λ r. ⌜ Delivered base packet core (now (members .entry)) (now (pending .entry))
         r (now (members .exit)) (now (pending .exit)) ⌝ }
@@ -206,12 +219,13 @@ fn deliver_packet(
         r (now (members .exit)) (now (pending .exit)) (now (used .exit)) ⌝ }
 {
     let run = packet.content.count;
-    let mut after = release_covered(core, members, pending, used, base, run);
+    let held = core.counts.pending;
+    let covered = pending::covered_places(pending, held, at, base, run);
+    let mut after = release_covered(core, members, pending, used, covered);
     let next = word_further(base, run);
     let count = after.counts.members;
     srt_connection_members::advance_receive_sequence_of_all(members, count, next);
-    let held = after.counts.pending;
-    let left = pending::remove_covered(pending, held, base, run);
+    let left = pending::remove_covered(pending, held, covered);
     after.counts.pending = left;
     after.receiving.based = 1;
     after.receiving.base = next;
@@ -243,7 +257,7 @@ pub fn deliver(
         };
     };
     let packet = pending::packet(pending, at);
-    let after = deliver_packet(core, members, pending, used, base, packet);
+    let after = deliver_packet(core, members, pending, used, base, at, packet);
     Poll {
         gave: Polled::Packet(packet),
         core: after,

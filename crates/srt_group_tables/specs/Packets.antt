@@ -3,7 +3,7 @@
 use mathlib.Core.Path.{_≡_}
 use mathlib.Core.List.{List, [], _∷_}
 use mathlib.Core.Option.{Option, none, some}
-use Prim.Native.Nat.{ℕ, _+_, _*_, _/_, _%_, _≤_, _<_}
+use Prim.Native.Nat.{ℕ, _+_, _-_, _*_, _/_, _%_, _≤_, _<_}
 use lib.ListN.{length, getD}
 use Rattle.word_rows.specs.Tab.{tab}
 use Rattle.word_rows.specs.Rows.{row-at}
@@ -67,6 +67,10 @@ packet-at words i = packet-of (getD words i 0) (row-at packet-row-size words (in
 abbrev pub packets : ℕ → List ℕ → List Packet
 packets count words = tab count (packet-at words)
 
+-- the packets from a place up to another
+abbrev pub packets-between : (from end : ℕ) → List ℕ → List Packet
+packets-between from end words = tab (end - from) (λ i. packet-at words (from + i))
+
 -- a place among the first `count`: what is before it is below the sequence, and what is from there on is not
 pub record Placed (words : List ℕ) (count sequence place : ℕ) : Type 0 where
   pub within : place ≤ count
@@ -77,6 +81,12 @@ pub record Placed (words : List ℕ) (count sequence place : ℕ) : Type 0 where
 pub record Holds (long : ℕ) (after : List ℕ) (count : ℕ) (ps : List Packet) : Type 0 where
   pub length-kept : length after ≡ long
   pub is : packets count after ≡ ps
+
+-- the packets from a place up to another are gone, and those behind them moved up
+pub record Without (words : List ℕ) (count from end : ℕ) (after : List ℕ) : Type 0 where
+  pub long : length after ≡ length words
+  pub low : (k : ℕ) → k < from → packet-at after k ≡ packet-at words k
+  pub high : (k : ℕ) → from ≤ k → k + (end - from) < count → packet-at after k ≡ packet-at words (k + (end - from))
 
 -- the place of the packet with a sequence
 abbrev pub found : Option ℕ → Found

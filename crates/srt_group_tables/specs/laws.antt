@@ -2,4 +2,5 @@
 pub mod Ring
 pub mod PacketIndex
 pub mod PacketLaws
+pub mod Covered
 pub mod Waitings

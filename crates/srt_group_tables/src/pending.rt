@@ -12,12 +12,13 @@ ghost use Rattle.srt_protocol.specs.Sequence.{sequence-distance};
 ghost use Rattle.srt_protocol.specs.Cells.{max-cells, overwritten};
 ghost use Rattle.srt_group_model.specs.Cells.{is-among};
 ghost use Rattle.srt_group_model.specs.Sound.{pending-cells};
-ghost use Rattle.srt_group_model.specs.Nearest.{sequence-of, insert, is-held, nearest, not-covered, farthest};
+ghost use Rattle.srt_group_model.specs.Nearest.{sequence-of, insert, is-held, nearest, farthest};
 ghost use Rattle.srt_group_model.specs.Tools.{each, such-that};
 ghost use Rattle.srt_group_model.specs.Removal.{own-packet, is-owned};
 ghost use Rattle.srt_group_model.specs.Validity.{max-pending, ascends};
 ghost use Rattle.srt_group_model.specs.Legs.{largest-sequence};
-ghost use Rattle.srt_group_tables.specs.Packets.{pending-size, packet-row-size, index-rows, packet-of, row-words, packet-at, packets, Placed, Holds, place-found, packet-found, in-use, FoundPacket, with-owned-packet};
+ghost use Rattle.srt_group_tables.specs.Packets.{pending-size, packet-row-size, index-rows, packet-of, row-words, packet-at, packets, Placed, Holds, Without, place-found, packet-found, in-use, FoundPacket, with-owned-packet};
+ghost use Rattle.srt_group_tables.specs.Covered.{Small, CoveredUntil, Covers, Within, packets-elsewhere};
 use srt_group_model::Data;
 use srt_group_model::Packet;
 use srt_protocol::received_payload::MAX_CELLS;
@@ -52,6 +53,13 @@ const HALF_SPACE: u64 = 0x4000_0000;
 pub enum Found {
     At(usize),
     Nothing,
+}
+
+// Where the packets stand that a run covers: the first `low`, which lie beyond the wrap, and those from `from` up to `end`.
+pub struct Covered {
+    pub low: usize,
+    pub from: usize,
+    pub end: usize,
 }
 
 // Where the row of a cell starts.
@@ -182,12 +190,24 @@ pub fn insert(pending: &mut [u64], count: usize, packet: Packet)
     put_row(pending, packet);
 }
 
+// The packets from a place up to another are taken out.
+fn remove_range(pending: &mut [u64], count: usize, from: usize, end: usize)
+    requires { ⌜ (pending-size ≤ length (now pending)) × (count ≤ max-pending) ⌝ }
+    requires { ⌜ (from ≤ end) × (end ≤ count) ⌝ }
+    ensures { λ _. ⌜ Without (now (pending .entry)) count from end (now (pending .exit)) ⌝ }
+{
+    if from == end {
+        return;
+    }
+    word_rows::close_gap(&mut pending[0..INDEX_WORDS], from, count, end - from);
+}
+
 // The packet at a place is taken out.
 pub fn remove(pending: &mut [u64], count: usize, at: usize)
     requires { ⌜ (pending-size ≤ length (now pending)) × (at < count) × (count ≤ max-pending) ⌝ }
     ensures { λ _. ⌜ Holds (length (now (pending .entry))) (now (pending .exit)) (count - 1) (removed at (packets count (now (pending .entry)))) ⌝ }
 {
-    word_rows::close_gap(&mut pending[0..INDEX_WORDS], at, count, 1);
+    remove_range(pending, count, at, at + 1);
 }
 
 // The nearest packet in wrapping order. Either none lies half a space above the lowest, and that one is nearest, or the first of
@@ -216,24 +236,47 @@ fn is_covered(first: u64, run: u64, sequence: u64) -> bool
     word_distance(first, sequence) < run
 }
 
-// The packets that start inside a run are taken out, in one pass. Answers how many are left.
-pub fn remove_covered(pending: &mut [u64], count: usize, first: u64, run: u64) -> usize
-    requires { ⌜ (pending-size ≤ length (now pending)) × (count ≤ max-pending) ⌝ }
-    ensures { λ r. ⌜ (r ≤ count) × Holds (length (now (pending .entry))) (now (pending .exit)) r
-        (not-covered first run (packets count (now (pending .entry)))) ⌝ }
+// The first place from `from` on whose packet starts outside a run, or `end`.
+fn covered_until(pending: &[u64], from: usize, end: usize, first: u64, run: u64) -> usize
+    requires { ⌜ (pending-size ≤ length (now pending)) × (from ≤ end) × (end ≤ max-pending) ⌝ }
+    ensures { λ r. ⌜ CoveredUntil first run (now (pending .entry)) from end r ⌝ }
 {
-    let mut kept: usize = 0;
-    let mut at: usize = 0;
-    while at < count {
-        if is_covered(first, run, sequence_at(pending, at)) {
-            at += 1;
-        } else {
-            pending[kept] = pending[at];
-            kept += 1;
-            at += 1;
+    let mut at = from;
+    while at < end {
+        if !is_covered(first, run, sequence_at(pending, at)) {
+            return at;
         }
+        at += 1;
     }
-    kept
+    at
+}
+
+// Where the packets stand that start inside a run, by the place of the run's first sequence. Only these and the two that end the search are read.
+pub fn covered_places(pending: &[u64], count: usize, at: usize, first: u64, run: u64) -> Covered
+    requires { ⌜ (pending-size ≤ length (now pending)) × (count ≤ max-pending) ⌝ }
+    requires { ⌜ ascends (packets count (now pending)) ≡ true ⌝ }
+    requires { ⌜ Small (now pending) count first ⌝ }
+    requires { ⌜ Placed (now pending) count first at ⌝ }
+    ensures { λ r. ⌜ Covers first run (now (pending .entry)) count r ⌝ }
+{
+    let low = covered_until(pending, 0, at, first, run);
+    let end = covered_until(pending, at, count, first, run);
+    Covered { low, from: at, end }
+}
+
+// The packets at these places are taken out. Answers how many are left.
+pub fn remove_covered(pending: &mut [u64], count: usize, covered: Covered) -> usize
+    requires { ⌜ (pending-size ≤ length (now pending)) × (count ≤ max-pending) ⌝ }
+    requires { ⌜ Within count covered ⌝ }
+    ensures { λ r. ⌜ (r ≤ count) × Holds (length (now (pending .entry))) (now (pending .exit)) r (packets-elsewhere count covered (now (pending .entry))) ⌝ }
+{
+    let from = covered.from;
+    let end = covered.end;
+    let low = covered.low;
+    remove_range(pending, count, from, end);
+    let rest = count - (end - from);
+    remove_range(pending, rest, 0, low);
+    rest - low
 }
 
 // Whether the packets ascend by sequence.

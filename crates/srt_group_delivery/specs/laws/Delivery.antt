@@ -1,7 +1,7 @@
 -- What is proved of the definitions in specs/Delivery.antt, with what the proofs need.
 use mathlib.Core.Path.{_≡_, refl, ap, ap₂, sym, subst, _∙_}
 use mathlib.Core.Bool.{Bool, true, false}
-use mathlib.Core.List.{List, [], _∷_}
+use mathlib.Core.List.{List, [], _∷_, _++_}
 use mathlib.Core.Option.{Option, none, some}
 use native.Mathlib.Numerals.{add-one}
 use Prim.Native.Nat.{ℕ, suc, _+_, _-_, _≤_, _<_, _*_}
@@ -31,8 +31,11 @@ use Rattle.srt_connection.specs.Answers.{deadline-of}
 use Rattle.srt_connection.specs.declared.legs.Deadline.the-variants.{At as AtMoment, Never}
 use Rattle.srt_group_members.specs.laws.Scan.{tab-next, tab-ended}
 use Rattle.srt_connection_members.specs.declared.Found.the-variants.{At, Nothing}
-use Rattle.srt_group_tables.specs.Packets.{packet-at, packets, Holds, FoundPacket}
-use Rattle.srt_group_tables.specs.laws.PacketLaws.{drop-zero, at-in-use}
+use Rattle.srt_group_tables.specs.Packets.{packet-at, packets, packets-between, Holds, FoundPacket}
+use Rattle.srt_group_tables.specs.Covered.{Covers, packets-at, packets-elsewhere}
+use Rattle.srt_group_tables.specs.declared.pending.Covered.{Covered}
+use Rattle.srt_group_tables.specs.laws.PacketLaws.{at-in-use}
+use Rattle.srt_group_tables.specs.laws.Covered.{between-none, between-push, covered-are, not-covered-are}
 use Rattle.srt_group_tables.specs.declared.pending.Found.{Found}
 use Rattle.srt_group_tables.specs.declared.pending.Found.the-variants.{At as PendingAt, Nothing as NothingPending}
 use Rattle.srt_group_shown.specs.Shown.{Rest, shown, blank}
@@ -55,6 +58,7 @@ deliverable core ms ps ws h =
       members-few = h .members-few;
       held-few = held-few core blank ms ps ws (h .sound);
       ascending = h .sound .ascending;
+      fitting = h .sound .fit .pending;
     }
 
 -- ---- the give-up test
@@ -189,94 +193,47 @@ member-released {m} i count t u v is less put released =
     (ap (λ (a : Account). with-account a m) less ∙ ap (λ (x : Membership). with-account (release count (x .account)) x) is))
     released
 
--- ---- what a run covers is released, packet by packet
+-- ---- packets are released one after the other
 
-one-more-released : (b : Bool) (p : Packet) (l : List Packet) (s : State)
-    → release-all (if b then p ∷ l else l) s ≡ release-all l (release-all (if b then p ∷ [] else []) s)
-unfolding release-all if_then_else_
-one-more-released true p l s = refl
-one-more-released false p l s = refl
+release-append : (l m : List Packet) (s : State) → release-all (l ++ m) s ≡ release-all m (release-all l s)
+unfolding release-all
+release-append [] m s = refl
+release-append (p ∷ l) m s = release-append l m (release-pending-reservation p s)
 
--- the packets before `at` are released, and releasing what is left gives what releasing all gives
-pub record Releasing (test : Packet → Bool) (count at : ℕ) (pending : List ℕ) (core : Core) (ms : List ℕ) (after : Core) (ms′ : List ℕ) : Type 0 where
-  pub rest : after ≡ with-own-account (after .own) core
-  pub long : length ms′ ≡ length ms
-  pub state : (others : Rest) (ps ws : List ℕ)
-      → release-all (such-that test (drop at (packets count pending))) (shown after others ms′ ps ws)
-      ≡ release-all (such-that test (packets count pending)) (shown core others ms ps ws)
+pub released-then : {l m : List Packet} {core here after : Core} {ms ms₁ ms₂ : List ℕ} → Released l core ms here ms₁ → Released m here ms₁ after ms₂
+    → Released (l ++ m) core ms after ms₂
+released-then {l} {m} {core} {here} {after} {ms} first second =
+    record {
+      rest = second .rest ∙ ap (with-own-account (after .own)) (first .rest);
+      long = second .long ∙ first .long;
+      state =
+          λ others ps ws.
+          release-append l m (shown core others ms ps ws) ∙ ap (release-all m) (first .state others ps ws) ∙ second .state others ps ws;
+    }
 
-module _ (test : Packet → Bool) (count : ℕ) (pending : List ℕ) (core : Core) (ms : List ℕ) where
-  pub releasing-start : Releasing test count 0 pending core ms core ms
-  releasing-start =
-      record {
-        rest = refl;
-        long = refl;
-        state =
-            λ others ps ws.
-            ap (λ (l : List Packet). release-all (such-that test l) (shown core others ms ps ws)) (drop-zero (packets count pending));
-      }
+pub that-released : {p q : Packet} {core after : Core} {ms ms′ : List ℕ} → q ≡ p → Released (q ∷ []) core ms after ms′ → Released (p ∷ []) core ms after ms′
+that-released {core = core} {after = after} {ms = ms} {ms′ = ms′} same released =
+    subst (λ (x : Packet). Released (x ∷ []) core ms after ms′) same released
 
-  pub releasing-on : (at : ℕ) (here next : Core) (ms₁ ms₂ : List ℕ) → at < count → Releasing test count at pending core ms here ms₁
-      → Released (such-that test (packet-at pending at ∷ [])) here ms₁ next ms₂ → Releasing test count (at + 1) pending core ms next ms₂
-  unfolding such-that
-  releasing-on at here next ms₁ ms₂ below so-far one =
-      record {
-        rest = one .rest ∙ ap (with-own-account (next .own)) (so-far .rest);
-        long = one .long ∙ so-far .long;
-        state =
-            λ others ps ws.
-            sym (ap (release-all (such-that test (drop (at + 1) (packets count pending)))) (one .state others ps ws))
-            ∙ sym
-            (one-more-released (test (packet-at pending at)) (packet-at pending at) (such-that test (drop (at + 1) (packets count pending)))
-            (shown here others ms₁ ps ws))
-            ∙ sym (ap (λ (l : List Packet). release-all (such-that test l) (shown here others ms₁ ps ws)) (left-next at below))
-            ∙ so-far .state others ps ws;
-      }
-    where
-      left-next : (k : ℕ) → k < count → drop k (packets count pending) ≡ packet-at pending k ∷ drop (k + 1) (packets count pending)
-      left-next k h =
-          tab-next k count (packet-at pending) h
-          ∙ ap (λ (j : ℕ). packet-at pending k ∷ drop j (packets count pending)) (sym (add-one k))
+-- those from `from` up to `at` are released, and then the one there
+pub released-start : (words : List ℕ) (from : ℕ) (core : Core) (ms : List ℕ) → Released (packets-between from from words) core ms core ms
+released-start words from core ms =
+    subst (λ (l : List Packet). Released l core ms core ms) (sym (between-none (packet-at words) from from (omega arith))) (released-none core ms)
 
-  pub releasing-done : (at : ℕ) (after : Core) (ms′ : List ℕ) → count ≤ at → Releasing test count at pending core ms after ms′
-      → Released (such-that test (packets count pending)) core ms after ms′
-  unfolding release-all such-that
-  releasing-done at after ms′ past all-done =
-      record {
-        rest = all-done .rest;
-        long = all-done .long;
-        state =
-            λ others ps ws.
-            sym (all-done .state others ps ws)
-            ∙ ap (λ (l : List Packet). release-all (such-that test l) (shown after others ms′ ps ws))
-            (tab-ended at count (packet-at pending) past);
-      }
+pub released-on : (words : List ℕ) (from at : ℕ) {core here next : Core} {ms ms₁ ms₂ : List ℕ} → from ≤ at
+    → Released (packets-between from at words) core ms here ms₁ → Released (packet-at words at ∷ []) here ms₁ next ms₂
+    → Released (packets-between from (at + 1) words) core ms next ms₂
+released-on words from at {core} {here} {next} {ms} {ms₁} {ms₂} ordered so-far one =
+    subst (λ (l : List Packet). Released l core ms next ms₂) (sym (between-push (packet-at words) from at ordered)) (released-then so-far one)
 
 -- the members' table is as long as before, and has a row for each member
+pub rows-still : (core after : Core) (ms ms′ : List ℕ) → core .counts .members * row-size ≤ length ms → after ≡ with-own-account (after .own) core
+    → length ms′ ≡ length ms → after .counts .members * row-size ≤ length ms′
+rows-still core after ms ms′ enough rest long = omega (arith, ap (λ (x : Core). x .counts .members) rest)
+
 pub rows-kept : (core after : Core) (ms ps ms′ : List ℕ) → Deliverable core ms ps → after ≡ with-own-account (after .own) core
     → length ms′ ≡ length ms → after .counts .members * row-size ≤ length ms′
 rows-kept core after ms ps ms′ h rest long = omega (arith, h .members-long, h .members-few, ap (λ (x : Core). x .counts .members) rest)
-
-pub held-kept : (core after : Core) (ms ps : List ℕ) → Deliverable core ms ps → after ≡ with-own-account (after .own) core
-    → after .counts .pending ≤ max-pending
-held-kept core after ms ps h rest = omega (arith, h .held-few, ap (λ (x : Core). x .counts .pending) rest)
-
--- the packet at a place is covered, or not
-module _ (core : Core) (ms : List ℕ) (p : Packet) (base run : ℕ) where
-  pub covered-released : {distance sequence : ℕ} {q : Packet} (after : Core) (ms′ : List ℕ) → sequence ≡ sequence-of p
-      → distance ≡ sequence-distance base sequence → distance < run → q ≡ p → Released (q ∷ []) core ms after ms′
-      → Released (covered base run (p ∷ [])) core ms after ms′
-  unfolding such-that if_then_else_
-  covered-released after ms′ is far inside same released =
-      rw (lt-ltb (sequence-distance base (sequence-of p)) run (subst (λ (d : ℕ). d < run) (far ∙ ap (sequence-distance base) is) inside))
-      (subst (λ (x : Packet). Released (x ∷ []) core ms after ms′) same released)
-
-  pub not-covered-kept : {distance sequence : ℕ} → sequence ≡ sequence-of p → distance ≡ sequence-distance base sequence → run ≤ distance
-      → Released (covered base run (p ∷ [])) core ms core ms
-  unfolding such-that if_then_else_
-  not-covered-kept is far outside =
-      rw (le-ltb (sequence-distance base (sequence-of p)) run (subst (λ (d : ℕ). run ≤ d) (far ∙ ap (sequence-distance base) is) outside))
-      (released-none core ms)
 
 -- ---- a packet is delivered
 
@@ -292,7 +249,7 @@ module _ (base : ℕ) (p : Packet) (core : Core) (ms ps : List ℕ) where
   pub record Parts (next : ℕ) (between : Core) (ms₁ ms₂ : List ℕ) (left : ℕ) (ps′ : List ℕ) : Type 0 where
     pub released : Released (covered base run (packets (core .counts .pending) ps)) core ms between ms₁
     pub advanced : ChangedAll (between .counts .members) (on-leg (advance-receive-sequence next)) ms₁ ms₂
-    pub removed : Holds (length ps) ps′ left (not-covered base run (packets (between .counts .pending) ps))
+    pub removed : Holds (length ps) ps′ left (not-covered base run (packets (core .counts .pending) ps))
 
   delivered-by : (own : Account) (ms₁ ms₂ : List ℕ) (left : ℕ) (ps′ : List ℕ)
       → Parts (sequence-further base run) (with-own-account own core) ms₁ ms₂ left ps′
@@ -322,15 +279,19 @@ module _ (base : ℕ) (p : Packet) (core : Core) (ms ps : List ℕ) where
             };
       }
 
-  pub delivered-all : (next : ℕ) (between : Core) (ms₁ ms₂ : List ℕ) (left : ℕ) (after : Core) (ps′ : List ℕ)
-      → Released (covered base run (packets (core .counts .pending) ps)) core ms between ms₁ → next ≡ sequence-further base run
-      → ChangedAll (between .counts .members) (on-leg (advance-receive-sequence next)) ms₁ ms₂
-      → Holds (length ps) ps′ left (not-covered base run (packets (between .counts .pending) ps)) → after ≡ passed left next between
+  pub delivered-all : (next : ℕ) (between : Core) (ms₁ ms₂ : List ℕ) (left : ℕ) (after : Core) (ps′ : List ℕ) (places : Covered)
+      → Covers base run ps (core .counts .pending) places → Released (packets-at places ps) core ms between ms₁
+      → next ≡ sequence-further base run → ChangedAll (between .counts .members) (on-leg (advance-receive-sequence next)) ms₁ ms₂
+      → Holds (length ps) ps′ left (packets-elsewhere (core .counts .pending) places ps) → after ≡ passed left next between
       → Delivered base p core ms ps after ms₂ ps′
-  delivered-all next between ms₁ ms₂ left after ps′ released is advanced removed ends =
+  delivered-all next between ms₁ ms₂ left after ps′ places covers released is advanced removed ends =
       rw ends
       (subst (λ (n : ℕ). Parts n between ms₁ ms₂ left ps′ → Delivered base p core ms ps (passed left n between) ms₂ ps′) (sym is)
       (subst
       (λ (c : Core). Parts (sequence-further base run) c ms₁ ms₂ left ps′ → Delivered base p core ms ps (passed left (sequence-further base run) c) ms₂ ps′)
       (sym (released .rest)) (delivered-by (between .own) ms₁ ms₂ left ps′))
-      record { released = released; advanced = advanced; removed = removed })
+      record {
+        released = rw (covered-are covers) released;
+        advanced = advanced;
+        removed = rw (not-covered-are covers) removed;
+      })

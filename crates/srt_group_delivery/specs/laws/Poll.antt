@@ -1,27 +1,31 @@
 -- What is proved of the definitions in specs/Poll.antt, with what the proofs need.
 use mathlib.Core.Path.{_≡_, refl, ap, sym, _∙_}
+use mathlib.Core.Bool.{true}
 use mathlib.Core.List.{List}
 use mathlib.Core.Option.{Option, none, some}
 use Prim.Native.Nat.{ℕ, _+_, _-_, _≤_, _<_, min}
 use native.Mathlib.Omega.{arith}
 use lib.ListN.{length, drop}
+use borrow.Author.Tests.{eqb-true}
 use Rattle.srt_protocol.specs.Sequence.{sequence-distance}
 use Rattle.word_rows.specs.Tab.{tab}
 use Rattle.word_rows.specs.laws.Tab.{tab-length}
-use Rattle.srt_group_model.specs.Legs.{largest-64}
+use Rattle.srt_group_model.specs.Legs.{largest-64, largest-sequence}
+use Rattle.srt_group_model.specs.Sound.{Packet-fit}
 use Rattle.srt_group_model.specs.declared.Core.{Core}
 use Rattle.srt_group_model.specs.declared.Packet.{Packet}
 use Rattle.srt_group_model.specs.declared.Waiting.{Waiting}
-use Rattle.srt_group_model.specs.Tools.{if-some_give_otherwise_, is-set, flagged, place-of, at-place}
+use Rattle.srt_group_model.specs.Tools.{All, if-some_give_otherwise_, is-set, flagged, place-of, at-place}
 use Rattle.srt_group_model.specs.laws.Flag.{other-set}
 use Rattle.srt_group_model.specs.State.{with-waiting, based-at}
 use Rattle.srt_group_model.specs.Core.{with-receiving, with-waiting-count}
-use Rattle.srt_group_model.specs.Nearest.{has-sequence, held-at}
+use Rattle.srt_group_model.specs.Nearest.{sequence-of, has-sequence, held-at}
 use Rattle.srt_group_model.specs.Run.{Mark, Run, set-base}
-use Rattle.srt_group_model.specs.Validity.{max-pending}
+use Rattle.srt_group_model.specs.Validity.{max-pending, ascends}
 use Rattle.srt_group_model.specs.Delivery.{nothing, deliver, skip-to, give-waiting}
-use Rattle.srt_connection_queue.specs.laws.Tab.{tab-place, place-below}
+use Rattle.srt_connection_queue.specs.laws.Tab.{tab-place, place-below, tab-passes, all-tab}
 use Rattle.srt_group_tables.specs.Packets.{packet-at, packets, found, place-found}
+use Rattle.srt_group_tables.specs.laws.PacketLaws.{ascends-up, ascends-le}
 use Rattle.srt_group_tables.specs.Waitings.{waiting-at, waitings, HoldsWaiting}
 use Rattle.srt_group_tables.specs.declared.pending.Found.{Found}
 use Rattle.srt_group_tables.specs.declared.pending.Found.the-variants.{At as PendingAt, Nothing as NothingPending}
@@ -30,7 +34,7 @@ use Rattle.srt_group_shown.specs.Tables.{receive-tables, shown-by}
 use Rattle.srt_group_delivery.specs.declared.delivery.Poll.{Poll}
 use Rattle.srt_group_delivery.specs.declared.delivery.Polled.the-variants.{Nothing, Event as AnEvent, Packet as APacket}
 use Rattle.srt_group_collecting.specs.Leaves.{under-way}
-use Rattle.srt_group_delivery.specs.Delivery.{Delivered}
+use Rattle.srt_group_delivery.specs.Delivery.{HeldAt, Delivered}
 use Rattle.srt_group_delivery.specs.laws.Delivery.{first-place}
 use Rattle.srt_group_delivery.specs.Poll.{Polls, Skips, Bases}
 use Rattle.srt_group_model.specs.Delivery as model
@@ -85,6 +89,31 @@ module _ (n sequence : ℕ) (words : List ℕ) where
 
   pub found-in-table : {r : Found} (i : ℕ) → r ≡ PendingAt i → r ≡ place-found sequence (packets n words) → n ≤ max-pending → i < max-pending
   found-in-table i there is few = omega (arith, held-below i (sym there ∙ is))
+
+  -- it stands at the sequence's place, and the sequence is one of the circle, as the packet's is
+  pub found-held : {r : Found} (i : ℕ) → r ≡ PendingAt i → r ≡ place-found sequence (packets n words) → ascends (packets n words) ≡ true
+      → All Packet-fit (packets n words) → HeldAt words n sequence i
+  found-held i there is up fit =
+      record {
+        placed =
+            record {
+              within = omega (arith, inside);
+              below = λ k lower. omega (arith, same, ascends-up n (packet-at words) up k i lower inside);
+              above = λ k higher below. omega (arith, same, ascends-le n (packet-at words) up i k higher below);
+            };
+        small = record { run = omega (arith, same, fits i inside); held = fits };
+      }
+    where
+      inside : i < n
+      inside = held-below i (sym there ∙ is)
+
+      same : sequence-of (packet-at words i) ≡ sequence
+      same =
+          eqb-true (sequence-of (packet-at words i)) sequence
+          (tab-passes (has-sequence sequence) n (packet-at words) i (found-some (place-of (has-sequence sequence) (packets n words)) i (sym there ∙ is)))
+
+      fits : (k : ℕ) → k < n → sequence-of (packet-at words k) ≤ largest-sequence
+      fits k below = all-tab Packet-fit n (packet-at words) fit k below .sequence
 
   held-there : (i : ℕ) → PendingAt i ≡ place-found sequence (packets n words) → held-at sequence (packets n words) ≡ some (packet-at words i)
   unfolding if-some_give_otherwise_

@@ -14,6 +14,7 @@ use Rattle.srt_protocol.specs.Cells.{overwritten}
 use Rattle.srt_protocol.specs.Sequence.{sequence-further}
 use Rattle.srt_protocol.specs.declared.error.Outcome.the-variants.{Accepted, Refused}
 use Rattle.srt_protocol.specs.declared.error.Error.the-variants.{NoActiveMember, SequenceMismatch, AllBroadcastFailed}
+use Rattle.srt_group_tables.specs.laws.PacketLaws.{each-append}
 use Rattle.srt_group_model.specs.Tools.{if_then_else_, if-some_give_otherwise_, is-set, flagged, is-empty, any, such-that, place-of, at-place, each}
 use Rattle.srt_group_model.specs.State.{Member, Send, State, with-leg, turned, unstable-state, broken-state, with-number}
 use Rattle.srt_group_model.specs.laws.Flag.{zero-unset, other-set}
@@ -109,11 +110,6 @@ module _ {A : Type 0} (test : A → Bool) where
           → length (if b then x ∷ such-that test xs else such-that test xs) ≤ suc (length xs)
       go true h = omega arith
       go false h = omega arith
-
-each-append : {A B : Type 0} (f : A → B) (l k : List A) → each f (l ++ k) ≡ each f l ++ each f k
-unfolding each
-each-append f [] k = refl
-each-append {A} {B} f (x ∷ xs) k = ap (λ (r : List B). f x ∷ r) (each-append f xs k)
 
 each-length : {A B : Type 0} (f : A → B) (l : List A) → length (each f l) ≡ length l
 unfolding each

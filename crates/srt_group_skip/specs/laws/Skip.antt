@@ -52,6 +52,7 @@ as-many core after ms ps same-members same-pending d =
       members-few = omega (arith, d .members-few, same-members);
       held-few = omega (arith, d .held-few, same-pending);
       ascending = rw same-pending (d .ascending);
+      fitting = rw same-pending (d .fitting);
     }
 
 pub deliverable-skipped : (base next : ℕ) (core after : Core) (ms ps : List ℕ) → Skips base next core after → Deliverable core ms ps

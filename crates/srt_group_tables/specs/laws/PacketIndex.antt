@@ -175,19 +175,19 @@ module _ (words : List ℕ) (enough : pending-size ≤ length words) where
 
 -- the packets whose index words moved
 module _ (words index : List ℕ) (count place : ℕ) (enough : pending-size ≤ length words) where
-  pub closed-low : count ≤ max-pending → Closed 1 (index-lent words) place count index → (i : ℕ) → i < place → i < count
+  pub closed-low : (width : ℕ) → count ≤ max-pending → Closed width (index-lent words) place count index → (i : ℕ) → i < place → i < count
       → packet-at (index-back words index) i ≡ packet-at words i
-  closed-low most gap i lower inside =
+  closed-low width most gap i lower inside =
       shown-same words (index-back words index) i i
       (back-index words enough index (gap .long) i (omega arith) ∙ gap .low i lower ∙ lent-word words enough i (omega arith))
       (λ k below. back-rows words enough index (gap .long) ((index-rows + cell-of (packet-at words i)) * packet-row-size + k) (omega arith))
 
-  pub closed-high : count ≤ max-pending → Closed 1 (index-lent words) place count index → (i : ℕ) → place ≤ i → i + 1 < count
-      → packet-at (index-back words index) i ≡ packet-at words (i + 1)
-  closed-high most gap i higher inside =
-      shown-same words (index-back words index) (i + 1) i
-      (back-index words enough index (gap .long) i (omega arith) ∙ gap .high i higher inside ∙ lent-word words enough (i + 1) (omega arith))
-      (λ k below. back-rows words enough index (gap .long) ((index-rows + cell-of (packet-at words (i + 1))) * packet-row-size + k) (omega arith))
+  pub closed-high : (width : ℕ) → count ≤ max-pending → Closed width (index-lent words) place count index → (i : ℕ) → place ≤ i
+      → i + width < count → packet-at (index-back words index) i ≡ packet-at words (i + width)
+  closed-high width most gap i higher inside =
+      shown-same words (index-back words index) (i + width) i
+      (back-index words enough index (gap .long) i (omega arith) ∙ gap .high i higher inside ∙ lent-word words enough (i + width) (omega arith))
+      (λ k below. back-rows words enough index (gap .long) ((index-rows + cell-of (packet-at words (i + width))) * packet-row-size + k) (omega arith))
 
   pub opened-enough : Opened 1 (index-lent words) place count index → (to word : ℕ)
       → pending-size ≤ length (set (index-back words index) to word)

@@ -29,12 +29,17 @@ use Rattle.srt_group_model.specs.Removal.{own-packet, is-owned, by-group}
 use Rattle.srt_group_model.specs.Validity.{max-pending, ascends}
 use Rattle.srt_group_tables.specs.declared.pending.Found.{Found}
 use Rattle.srt_group_tables.specs.declared.pending.Found.the-variants.{At, Nothing}
-use Rattle.srt_group_tables.specs.Packets.{pending-size, packet-row-size, index-rows, packet-at, packets, Placed, Holds, found, place-found, packet-found, in-use, FoundPacket, with-owned-packet}
+use Rattle.srt_group_tables.specs.Packets.{pending-size, packet-row-size, index-rows, packet-at, packets, Placed, Holds, Without, found, place-found, packet-found, in-use, FoundPacket, with-owned-packet}
 use Rattle.srt_group_tables.specs.laws.PacketIndex.{cell-of, indexed-there, indexed-elsewhere, index-lent, index-back, back-length, closed-low, closed-high, opened-low, opened-high, put-in, put-length, put-there, put-elsewhere, member-word, same-member, owned-same-cell, owned-other-cell}
 
 pub drop-zero : (l : List Packet) → drop 0 l ≡ l
 drop-zero [] = refl
 drop-zero (p ∷ l) = refl
+
+pub each-append : {A B : Type 0} (f : A → B) (l k : List A) → each f (l ++ k) ≡ each f l ++ each f k
+unfolding each
+each-append f [] k = refl
+each-append {A} {B} f (x ∷ xs) k = ap (λ (r : List B). f x ∷ r) (each-append f xs k)
 
 pub each-tab : {A B : Type 0} (f : A → B) (n : ℕ) (g : ℕ → A) → each f (tab n g) ≡ tab n (λ i. f (g i))
 unfolding each tab
@@ -244,19 +249,29 @@ packet-inserted words index count place p enough room at gap up absent small unu
         ⊎-elim (λ same. absurd (never-held count (packet-at words) (sequence-of p) absent place inside (sym same)))
         (λ more. more) (eq-or-lt-of-le (at .above place (omega arith) inside))
 
--- ---- a packet taken out of its place
+-- ---- packets taken out of their places
 
-pub packet-removed : (words index : List ℕ) (count place : ℕ) → pending-size ≤ length words → place < count → count ≤ max-pending
-    → Closed 1 (index-lent words) place count index
-    → Holds (length words) (index-back words index) (count - 1) (removed place (packets count words))
-packet-removed words index count place enough inside most gap =
+pub range-removed : (words index : List ℕ) (count from end : ℕ) → pending-size ≤ length words → from ≤ end → end ≤ count → count ≤ max-pending
+    → Closed (end - from) (index-lent words) from count index → Without words count from end (index-back words index)
+range-removed words index count from end enough ordered within most gap =
     record {
-      length-kept = back-length words enough index (gap .long);
+      long = back-length words enough index (gap .long);
+      low = λ k lower. closed-low words index count from enough (end - from) most gap k lower (omega arith);
+      high = λ k higher inside. closed-high words index count from enough (end - from) most gap k higher inside;
+    }
+
+pub none-removed : (words : List ℕ) (count from end : ℕ) → from ≡ end → Without words count from end words
+none-removed words count from end same =
+    record { long = refl; low = λ k lower. refl; high = λ k higher inside. ap (packet-at words) (omega arith) }
+
+pub packet-removed : (words after : List ℕ) (count place : ℕ) → place < count → Without words count place (place + 1) after
+    → Holds (length words) after (count - 1) (removed place (packets count words))
+packet-removed words after count place inside gone =
+    record {
+      length-kept = gone .long;
       is =
-          tab-remove (count - 1) place (packet-at words) (packet-at (index-back words index)) (omega arith)
-          (λ i lower. closed-low words index count place enough most gap i lower (omega arith))
-          (λ i higher below.
-          closed-high words index count place enough most gap i higher (omega arith) ∙ ap (packet-at words) (add-one i))
+          tab-remove (count - 1) place (packet-at words) (packet-at after) (omega arith) (gone .low)
+          (λ i higher below. gone .high i higher (omega arith) ∙ ap (packet-at words) (omega arith))
           ∙ ap (λ (n : ℕ). removed place (packets n words)) one-less;
     }
   where
@@ -329,116 +344,6 @@ module _ (words : List ℕ) (count from place : ℕ) (some-held : 0 < count) (up
 pub nearest-none : (words : List ℕ) (count : ℕ) → count ≡ 0 → nearest (packets count words) ≡ none
 unfolding nearest lowest if-some_give_otherwise_
 nearest-none words count nothing = ap nearest (tab-none count (packet-at words) nothing)
-
--- ---- those that pass a test are kept: the packets before `at` were looked at, and `kept` of them passed
-
-pub record Keeping (test : Packet → Bool) (count : ℕ) (before words : List ℕ) (kept at : ℕ) : Type 0 where
-  pub ordered : kept ≤ at
-  pub within : at ≤ count
-  pub long : length words ≡ length before
-  pub is : packets kept words ++ such-that test (drop at (packets count before)) ≡ such-that test (packets count before)
-  pub rest : (k : ℕ) → at ≤ k → k < count → packet-at words k ≡ packet-at before k
-
-module _ (test : Packet → Bool) where
-  such-that-yes : (p : Packet) (ps : List Packet) → test p ≡ true → such-that test (p ∷ ps) ≡ p ∷ such-that test ps
-  unfolding such-that if_then_else_
-  such-that-yes p ps passes = rw passes
-
-  such-that-no : (p : Packet) (ps : List Packet) → test p ≡ false → such-that test (p ∷ ps) ≡ such-that test ps
-  unfolding such-that if_then_else_
-  such-that-no p ps fails = rw fails
-
-  pub keeping-start : (count : ℕ) (before : List ℕ) → Keeping test count before before 0 0
-  unfolding tab
-  keeping-start count before =
-      record {
-        ordered = omega arith;
-        within = omega arith;
-        long = refl;
-        is = ap (such-that test) (drop-zero (packets count before));
-        rest = λ k above inside. refl;
-      }
-
-  module _ (count : ℕ) (before words : List ℕ) (kept at : ℕ) (here : Keeping test count before words kept at) where
-    next : at < count → drop at (packets count before) ≡ packet-at before at ∷ drop (at + 1) (packets count before)
-    next inside =
-        drop-cons (packets count before) at (packet-at before at) (omega (arith, tab-length count (packet-at before)))
-        ∙ ap (λ (p : Packet). p ∷ drop (suc at) (packets count before))
-        (tab-at count (packet-at before) at (packet-at before at) inside)
-        ∙ ap (λ (n : ℕ). packet-at before at ∷ drop n (packets count before)) (sym (add-one at))
-
-    pub kept-not : at < count → test (packet-at words at) ≡ false → Keeping test count before words kept (at + 1)
-    kept-not inside fails =
-        record {
-          ordered = omega (arith, here .ordered);
-          within = omega arith;
-          long = here .long;
-          is =
-              sym
-              (ap (λ (l : List Packet). packets kept words ++ such-that test l) (next inside)
-              ∙ ap (λ (l : List Packet). packets kept words ++ l)
-              (such-that-no (packet-at before at) (drop (at + 1) (packets count before))
-              (ap test (sym (here .rest at (omega arith) inside)) ∙ fails)))
-              ∙ here .is;
-          rest = λ k above below. here .rest k (omega arith) below;
-        }
-
-    pub kept-one : at < count → count ≤ max-pending → pending-size ≤ length before → test (packet-at words at) ≡ true
-        → Keeping test count before (set words kept (getD words at 0)) (kept + 1) (at + 1)
-    kept-one inside most enough passes =
-        record {
-          ordered = omega (arith, here .ordered);
-          within = omega arith;
-          long = length-set words kept (getD words at 0) ∙ here .long;
-          is =
-              ap (λ (l : List Packet). l ++ such-that test (drop (at + 1) (packets count before))) one-more
-              ∙ append-assoc (packets kept words) (packet-at words at ∷ []) (such-that test (drop (at + 1) (packets count before)))
-              ∙ ap (λ (l : List Packet). packets kept words ++ l) (sym this)
-              ∙ here .is;
-          rest =
-              λ k above below.
-              indexed-elsewhere words kept (getD words at 0) low k (λ same. omega (arith, here .ordered))
-              ∙ here .rest k (omega arith) below;
-        }
-      where
-        low : kept < max-pending
-        low = omega (arith, here .ordered)
-
-        one-more : packets (kept + 1) (set words kept (getD words at 0)) ≡ packets kept words ++ (packet-at words at ∷ [])
-        one-more =
-            ap (λ (n : ℕ). packets n (set words kept (getD words at 0))) (add-one kept)
-            ∙ tab-push kept (packet-at words) (packet-at (set words kept (getD words at 0))) (packet-at words at)
-            (λ i below. indexed-elsewhere words kept (getD words at 0) low i (λ same. omega arith))
-            (indexed-there words kept (getD words at 0) low at (omega (arith, low, here .long)) refl)
-
-        same-packet : packet-at words at ≡ packet-at before at
-        same-packet = here .rest at (omega arith) inside
-
-        this : such-that test (drop at (packets count before))
-            ≡ packet-at words at ∷ such-that test (drop (at + 1) (packets count before))
-        this =
-            ap (such-that test) (next inside)
-            ∙ such-that-yes (packet-at before at) (drop (at + 1) (packets count before)) (ap test (sym same-packet) ∙ passes)
-            ∙ ap (λ (p : Packet). p ∷ such-that test (drop (at + 1) (packets count before))) (sym same-packet)
-
-    pub kept-all : count ≤ at → Holds (length before) words kept (such-that test (packets count before))
-    unfolding such-that
-    kept-all past =
-        record {
-          length-kept = here .long;
-          is =
-              sym (append-nil (packets kept words))
-              ∙ ap (λ (l : List Packet). packets kept words ++ such-that test l)
-              (sym (drop-of-length-le (packets count before) {i = at} (omega (arith, tab-length count (packet-at before)))))
-              ∙ here .is;
-        }
-
--- the test of a packet's sequence is the test of the packet
-pub covered-packet : (words : List ℕ) (at first run sequence : ℕ) (tested answer : Bool) → sequence ≡ sequence-of (packet-at words at)
-    → tested ≡ ltb (sequence-distance first sequence) run → tested ≡ answer
-    → not (is-covered first run (packet-at words at)) ≡ not answer
-covered-packet words at first run sequence tested answer sequence-is is answered =
-    ap not (ap (λ (n : ℕ). ltb (sequence-distance first n) run) (sym sequence-is) ∙ sym is ∙ answered)
 
 -- ---- whether packets ascend: each of the first `next` sequences is below the one after it
 

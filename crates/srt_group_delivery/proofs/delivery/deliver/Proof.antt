@@ -1,5 +1,5 @@
 -- `deliver` meets its contract: the base is not held, or its packet is delivered.
-use Rattle.srt_group_delivery.specs.laws.Poll.{found-in-table, base-not-held, base-delivered}
+use Rattle.srt_group_delivery.specs.laws.Poll.{found-in-table, found-held, base-not-held, base-delivered}
 use borrow.Author.Needs.{needs}
 use Rattle.srt_group_collecting.specs.laws.Follows.{follows-same}
 use Rattle.srt_group_delivery.proofs.delivery.deliver.Statement.{statement}
@@ -24,7 +24,7 @@ packet-requires : tie.Need-packet-requires
 packet-requires c κs = search found-in-table
 
 deliver-packet-requires : tie.Need-deliver-packet-requires
-deliver-packet-requires c κs = search needs
+deliver-packet-requires c κs = search (needs, found-held)
 
 same-length-2 : tie.Need-same-length-2
 same-length-2 c = search needs
