@@ -3,15 +3,15 @@
 ghost use mathlib.Core.Path.{_≡_};
 ghost use Prim.Native.Nat.{_*_, _≤_, _<_};
 ghost use lib.ListN.{length};
-ghost use Rattle.srt_group_model.specs.State.{with-leg, on-leg};
+ghost use Rattle.srt_group_model.specs.State.{with-leg, on-leg, on-membership, with-account};
 ghost use Rattle.srt_group_model.specs.Tools.{at-place, is-empty};
 ghost use Rattle.srt_group_model.specs.Members.{find};
-ghost use Rattle.srt_connection_queue.specs.Rows.{row-size, Kept, with-membership, with-sender, with-receiver};
+ghost use Rattle.srt_connection_queue.specs.Rows.{row-size, Kept, with-membership, with-sender};
 ghost use Rattle.srt_connection_queue.specs.Queue.{optional-event, popped, cleared};
 ghost use Rattle.srt_connection_members.specs.Members.{member-at, members-of, has-row, new-member, found-of, Changed, PushedAt, PolledAt, Appended, Removed, ChangedAll};
-ghost use Rattle.srt_group_model.specs.Legs.{advance-receive-sequence, release-data-reservation, disconnect-leg};
+ghost use Rattle.srt_group_model.specs.Legs.{with-reservation, advance-receive-sequence, release-data-reservation, disconnect-leg};
 use srt_connection::legs::disconnect;
-use srt_connection::legs::release_data_reservation;
+use srt_connection::legs::less;
 use srt_connection_queue::queue::LegPoll;
 use srt_connection_queue::queue::OptionalEvent;
 use srt_connection_queue::queue::clear;
@@ -22,14 +22,22 @@ use srt_connection_queue::queue::push;
 use srt_connection_queue::queue::queue_is_empty;
 use srt_connection_queue::queue::queue_length;
 use srt_connection_queue::rows::ROW;
+use srt_connection_queue::rows::account;
+use srt_connection_queue::rows::admitted;
+use srt_connection_queue::rows::advance_receive_sequence;
 use srt_connection_queue::rows::leg;
+use srt_connection_queue::rows::link_state;
+use srt_connection_queue::rows::member_state;
 use srt_connection_queue::rows::membership;
+use srt_connection_queue::rows::put_account;
 use srt_connection_queue::rows::put_leg;
 use srt_connection_queue::rows::put_membership;
-use srt_connection_queue::rows::put_receiver;
+use srt_connection_queue::rows::put_reservation;
 use srt_connection_queue::rows::put_sender;
 use srt_connection_queue::rows::receiver;
+use srt_connection_queue::rows::reservation;
 use srt_connection_queue::rows::sender;
+use srt_group_model::Account;
 use srt_group_model::Event;
 use srt_group_model::Leg;
 use srt_group_model::Membership;
@@ -83,6 +91,46 @@ pub fn receiver_at(members: &[u64], index: usize) -> Receiver
     receiver(&members[start..start + ROW])
 }
 
+pub fn member_state_at(members: &[u64], index: usize) -> u64
+    requires { ⌜ has-row index (now members) ⌝ }
+    ensures { λ r. ⌜ r ≡ member-at (now (members .entry)) index .membership .state ⌝ }
+{
+    let start = index * ROW;
+    member_state(&members[start..start + ROW])
+}
+
+pub fn admitted_at(members: &[u64], index: usize) -> u64
+    requires { ⌜ has-row index (now members) ⌝ }
+    ensures { λ r. ⌜ r ≡ member-at (now (members .entry)) index .membership .admitted ⌝ }
+{
+    let start = index * ROW;
+    admitted(&members[start..start + ROW])
+}
+
+pub fn link_state_at(members: &[u64], index: usize) -> u64
+    requires { ⌜ has-row index (now members) ⌝ }
+    ensures { λ r. ⌜ r ≡ member-at (now (members .entry)) index .leg .link .state ⌝ }
+{
+    let start = index * ROW;
+    link_state(&members[start..start + ROW])
+}
+
+pub fn account_at(members: &[u64], index: usize) -> Account
+    requires { ⌜ has-row index (now members) ⌝ }
+    ensures { λ r. ⌜ r ≡ member-at (now (members .entry)) index .membership .account ⌝ }
+{
+    let start = index * ROW;
+    account(&members[start..start + ROW])
+}
+
+pub fn reservation_at(members: &[u64], index: usize) -> u64
+    requires { ⌜ has-row index (now members) ⌝ }
+    ensures { λ r. ⌜ r ≡ member-at (now (members .entry)) index .leg .receiver .reserved ⌝ }
+{
+    let start = index * ROW;
+    reservation(&members[start..start + ROW])
+}
+
 pub fn queue_length_at(members: &[u64], index: usize) -> u64
     requires { ⌜ has-row index (now members) ⌝ }
     ensures { λ r. ⌜ r ≡ length (member-at (now (members .entry)) index .queue) ⌝ }
@@ -133,12 +181,20 @@ pub fn put_sender_at(members: &mut [u64], index: usize, sender: Sender)
     put_sender(&mut members[start..start + ROW], sender);
 }
 
-pub fn put_receiver_at(members: &mut [u64], index: usize, receiver: Receiver)
+pub fn put_account_at(members: &mut [u64], index: usize, account: Account)
     requires { ⌜ has-row index (now members) ⌝ }
-    ensures { λ _. ⌜ Changed index (with-receiver receiver) (now (members .entry)) (now (members .exit)) ⌝ }
+    ensures { λ _. ⌜ Changed index (on-membership (with-account account)) (now (members .entry)) (now (members .exit)) ⌝ }
 {
     let start = index * ROW;
-    put_receiver(&mut members[start..start + ROW], receiver);
+    put_account(&mut members[start..start + ROW], account);
+}
+
+pub fn put_reservation_at(members: &mut [u64], index: usize, reserved: u64)
+    requires { ⌜ has-row index (now members) ⌝ }
+    ensures { λ _. ⌜ Changed index (on-leg (with-reservation reserved)) (now (members .entry)) (now (members .exit)) ⌝ }
+{
+    let start = index * ROW;
+    put_reservation(&mut members[start..start + ROW], reserved);
 }
 
 pub fn pop_at(members: &mut [u64], index: usize)
@@ -180,17 +236,16 @@ pub fn advance_receive_sequence_at(members: &mut [u64], index: usize, sequence: 
     requires { ⌜ has-row index (now members) ⌝ }
     ensures { λ _. ⌜ Changed index (on-leg (advance-receive-sequence sequence)) (now (members .entry)) (now (members .exit)) ⌝ }
 {
-    let mut receiver = receiver_at(members, index);
-    receiver.advanced = sequence;
-    put_receiver_at(members, index, receiver);
+    let start = index * ROW;
+    advance_receive_sequence(&mut members[start..start + ROW], sequence);
 }
 
 pub fn release_data_reservation_at(members: &mut [u64], index: usize, count: u64)
     requires { ⌜ has-row index (now members) ⌝ }
     ensures { λ _. ⌜ Changed index (on-leg (release-data-reservation count)) (now (members .entry)) (now (members .exit)) ⌝ }
 {
-    let leg = release_data_reservation(leg_at(members, index), count);
-    put_leg_at(members, index, leg);
+    let reserved = less(reservation_at(members, index), count);
+    put_reservation_at(members, index, reserved);
 }
 
 pub fn disconnect_at(members: &mut [u64], index: usize)

@@ -4,7 +4,8 @@ ghost use mathlib.Core.Path.{_≡_};
 ghost use Prim.Native.Nat.{_<_};
 ghost use lib.ListN.{length};
 ghost use Rattle.srt_connection_queue.specs.Rows.{part-size, link-part, receiver-part, parts, row-size, part, put-part, membership-of, membership-words, link-part-of, link-part-words, sender-of, sender-words, receiver-of, receiver-in, ring-of, ring-in, event-of, event-words, member-of, Kept, with-membership, with-link-trip, with-sender, with-receiver};
-ghost use Rattle.srt_group_model.specs.State.{with-leg};
+ghost use Rattle.srt_group_model.specs.State.{with-leg, on-leg, on-membership, with-account};
+ghost use Rattle.srt_group_model.specs.Legs.{with-reservation, advance-receive-sequence};
 use srt_group_model::Account;
 use srt_group_model::Collision;
 use srt_group_model::Data;
@@ -55,6 +56,19 @@ pub const MAX_QUEUED: u64 = 16;
 
 // The words of a row.
 pub const ROW: usize = (FIRST_EVENT + MAX_QUEUED) as usize * PART;
+
+// Words that are read or written alone.
+const STATE: usize = MEMBERSHIP + 2;
+
+const ADMITTED: usize = MEMBERSHIP + 3;
+
+const ACCOUNT: usize = MEMBERSHIP + 4;
+
+const LINK_STATE: usize = LINK;
+
+const RESERVED: usize = RECEIVER + 3;
+
+const ADVANCED: usize = RECEIVER + 4;
 
 // The link's part of a row.
 pub struct LinkPart {
@@ -354,4 +368,64 @@ pub fn put_leg(row: &mut [u64], leg: Leg)
     put_link_trip(row, leg.link, leg.trip);
     put_sender(row, leg.sender);
     put_receiver(row, leg.receiver);
+}
+
+// ---- one word of a row
+
+pub fn member_state(row: &[u64]) -> u64
+    requires { ⌜ length (now row) ≡ row-size ⌝ }
+    ensures { λ r. ⌜ r ≡ member-of (now (row .entry)) .membership .state ⌝ }
+{
+    row[STATE]
+}
+
+pub fn admitted(row: &[u64]) -> u64
+    requires { ⌜ length (now row) ≡ row-size ⌝ }
+    ensures { λ r. ⌜ r ≡ member-of (now (row .entry)) .membership .admitted ⌝ }
+{
+    row[ADMITTED]
+}
+
+pub fn link_state(row: &[u64]) -> u64
+    requires { ⌜ length (now row) ≡ row-size ⌝ }
+    ensures { λ r. ⌜ r ≡ member-of (now (row .entry)) .leg .link .state ⌝ }
+{
+    row[LINK_STATE]
+}
+
+pub fn account(row: &[u64]) -> Account
+    requires { ⌜ length (now row) ≡ row-size ⌝ }
+    ensures { λ r. ⌜ r ≡ member-of (now (row .entry)) .membership .account ⌝ }
+{
+    Account {
+        reserved: row[ACCOUNT],
+    }
+}
+
+pub fn put_account(row: &mut [u64], account: Account)
+    requires { ⌜ length (now row) ≡ row-size ⌝ }
+    ensures { λ _. ⌜ Kept (now (row .exit)) (on-membership (with-account account) (member-of (now (row .entry)))) ⌝ }
+{
+    row[ACCOUNT] = account.reserved;
+}
+
+pub fn reservation(row: &[u64]) -> u64
+    requires { ⌜ length (now row) ≡ row-size ⌝ }
+    ensures { λ r. ⌜ r ≡ member-of (now (row .entry)) .leg .receiver .reserved ⌝ }
+{
+    row[RESERVED]
+}
+
+pub fn put_reservation(row: &mut [u64], reserved: u64)
+    requires { ⌜ length (now row) ≡ row-size ⌝ }
+    ensures { λ _. ⌜ Kept (now (row .exit)) (on-leg (with-reservation reserved) (member-of (now (row .entry)))) ⌝ }
+{
+    row[RESERVED] = reserved;
+}
+
+pub fn advance_receive_sequence(row: &mut [u64], sequence: u64)
+    requires { ⌜ length (now row) ≡ row-size ⌝ }
+    ensures { λ _. ⌜ Kept (now (row .exit)) (on-leg (advance-receive-sequence sequence) (member-of (now (row .entry)))) ⌝ }
+{
+    row[ADVANCED] = sequence;
 }

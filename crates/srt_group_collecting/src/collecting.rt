@@ -29,9 +29,10 @@ ghost use Rattle.srt_group_collecting.specs.Gather.{Shows, HeldVisit, Ga
 ghost use Rattle.srt_group_collecting.specs.Visit.{freed-by-event, Collectable, Collected, Visits, Collects};
 use cell_set::free;
 use srt_connection_members::Found as FoundMember;
+use srt_connection_members::account_at;
 use srt_connection_members::membership_at;
 use srt_connection_members::poll_event_for_group_at;
-use srt_connection_members::put_membership_at;
+use srt_connection_members::put_account_at;
 use srt_connection_members::release_data_reservation_at;
 use srt_connection_queue::queue::LegPoll;
 use srt_group_members::accounts;
@@ -110,10 +111,8 @@ fn reserve_at(members: &mut [u64], index: usize, count: u64)
     ensures { λ _. ⌜ Changed index (on-account (reserve count))
         (now (members .entry)) (now (members .exit)) ⌝ }
 {
-    let mut membership = membership_at(members, index);
-    let account = accounts::reserve_packet(membership.account, count);
-    membership.account = account;
-    put_membership_at(members, index, membership);
+    let account = accounts::reserve_packet(account_at(members, index), count);
+    put_account_at(members, index, account);
 }
 
 // Whether the packet of a sequence is held already.

@@ -106,10 +106,11 @@ fn release_at(members: &mut [u64], index: usize, count: u64)
     requires { ⌜ has-row index (now members) ⌝ }
     ensures { λ _. ⌜ Changed index (release-member count) (now (members .entry)) (now (members .exit)) ⌝ }
 {
-    let mut membership = srt_connection_members::membership_at(members, index);
-    let account = accounts::release_packet(membership.account, count);
-    membership.account = account;
-    srt_connection_members::put_membership_at(members, index, membership);
+    let account = accounts::release_packet(
+        srt_connection_members::account_at(members, index),
+        count,
+    );
+    srt_connection_members::put_account_at(members, index, account);
     srt_connection_members::release_data_reservation_at(members, index, count);
 }
 

@@ -4,5 +4,6 @@ pub mod Admission
 pub mod Alignment
 pub mod Refresh
 pub mod Turns
+pub mod Quiet
 -- What is proved.
 pub mod laws

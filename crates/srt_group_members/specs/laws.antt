@@ -5,3 +5,4 @@ pub mod Admission
 pub mod Alignment
 pub mod Refresh
 pub mod Turns
+pub mod Quiet

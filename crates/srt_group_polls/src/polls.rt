@@ -1,6 +1,6 @@
 // The polls: what is collected is given in order, a waiting event first.
 ghost use mathlib.Core.Path.{_≡_};
-ghost use Prim.Native.Nat.{ℕ, min};
+ghost use Prim.Native.Nat.{ℕ, _≤_, min};
 ghost use Rattle.srt_group_model.specs.Sound.{Sending-fit};
 ghost use Rattle.srt_group_model.specs.Delivery.{max-visits};
 ghost use Rattle.srt_group_model.specs.Polls.{poll-event, poll-until-data, poll-data-bounded};
@@ -9,11 +9,12 @@ ghost use Rattle.srt_group_shown.specs.Tables.{receive-tables};
 ghost use lib.ListN.{length};
 ghost use Rattle.srt_group_collecting.specs.Leaves.{sends, Usable};
 ghost use Rattle.srt_group_collecting.specs.Follows.{Follows};
+ghost use Rattle.srt_group_polls.specs.Refresh.{Known};
 ghost use Rattle.srt_group_polls.specs.EventPoll.{give-next};
 ghost use Rattle.srt_group_polls.specs.DataPoll.{PollsData, Passes};
 ghost use Rattle.srt_group_skip.specs.Skip.{PollsFrom};
 use crate::refresh::refresh_pending_states;
-use crate::refresh::refresh_states;
+use crate::refresh::refresh_states_unless;
 use srt_group_collecting::collecting::Gathered;
 use srt_group_collecting::collecting::MAX_VISITS;
 use srt_group_collecting::collecting::collect_until_held;
@@ -22,6 +23,7 @@ use srt_group_collecting::collecting::has_pending_data;
 use srt_group_delivery::delivery::Poll;
 use srt_group_delivery::delivery::Polled;
 use srt_group_delivery::delivery::give_waiting;
+use srt_group_members::quiet::is_quiet;
 use srt_group_model::Core;
 use srt_group_model::Packet;
 use srt_group_model::Sending;
@@ -53,7 +55,7 @@ const DELIVERY_BUDGET: u64 = 32;
 
 // ---- the event poll
 
-// A waiting event; if none waits, the next packet.
+// A waiting event; if none waits, the next packet. `quiet` says that then a refresh would change nothing.
 fn give_next(
     gathered: Gathered,
     sending: Sending,
@@ -62,10 +64,12 @@ fn give_next(
     waiting: &mut [u64],
     used: &mut [u64],
     time: Timestamp,
+    quiet: bool,
 ) -> Poll
     requires { ⌜ Usable (gathered .core) (receive-tables (now members) (now pending) (now waiting)) ⌝ }
     requires { ⌜ Sending-fit sending ⌝ }
     requires { ⌜ length (now used) ≡ set-size ⌝ }
+    requires { ⌜ (gathered .core .counts .waiting ≤ 0 → Known quiet (gathered .core) (now members)) ⌝ }
     ensures { λ r. ⌜ PollsFrom (sends sending) (give-next (time .0)) (gathered .core) (gathered .budget)
         (receive-tables (now (members .entry)) (now (pending .entry)) (now (waiting .entry))) r
         (receive-tables (now (members .exit)) (now (pending .exit)) (now (waiting .exit))) ⌝ }
@@ -76,7 +80,7 @@ fn give_next(
     if 0 < here.counts.waiting {
         return give_waiting(here, waiting);
     }
-    let refreshed = refresh_states(here, sending, members);
+    let refreshed = refresh_states_unless(here, sending, members, quiet);
     deliver_next(
         refreshed,
         members,
@@ -88,7 +92,8 @@ fn give_next(
     )
 }
 
-// The states are refreshed, events collected, and a waiting event or the next packet given.
+// The states are refreshed, events collected, and a waiting event or the next packet given. What the visits take from a quiet
+// group leaves it quiet, unless an event waits then: one test serves both refreshes.
 pub fn poll_event(
     mut core: Core,
     sending: Sending,
@@ -108,9 +113,19 @@ pub fn poll_event(
         (r .core) (now (members .exit)) (now (pending .exit)) (now (used .exit)) ⌝ }
 {
     core.visit.continuation = 0;
-    let begun = refresh_pending_states(core, sending, members);
+    let quiet = is_quiet(members, core.counts.members, core.mode);
+    let begun = refresh_pending_states(core, sending, members, quiet);
     let gathered = collect_until_held(begun, members, pending, waiting, used, DELIVERY_BUDGET);
-    give_next(gathered, sending, members, pending, waiting, used, time)
+    give_next(
+        gathered,
+        sending,
+        members,
+        pending,
+        waiting,
+        used,
+        time,
+        quiet,
+    )
 }
 
 // ---- the data poll

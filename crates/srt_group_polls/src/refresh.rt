@@ -1,14 +1,15 @@
 // The refresh of the members' states: members that arrived are admitted, which may set the base and bind the group; then Pending
-// members settle, and Unstable ones requalify. From the Rust's `admit_connected_peer_groups`, `refresh_pending_states`,
+// members settle, and Unstable ones requalify. Where a refresh would change nothing none of this is gone through. From the Rust's `admit_connected_peer_groups`, `refresh_pending_states`,
 // `refresh_states`.
 ghost use Prim.Native.Nat.{_*_, _≤_};
 ghost use lib.ListN.{length};
 ghost use Rattle.srt_group_model.specs.Run.{admit-connected-peer-groups, refresh-pending-states, refresh-states};
 ghost use Rattle.srt_connection_queue.specs.Rows.{row-size};
 ghost use Rattle.srt_group_collecting.specs.Leaves.{every, sends};
-ghost use Rattle.srt_group_polls.specs.Refresh.{Refreshes};
+ghost use Rattle.srt_group_polls.specs.Refresh.{Refreshes, Known};
 use srt_group_delivery::delivery::set_base;
 use srt_group_members::admission;
+use srt_group_members::quiet::is_quiet;
 use srt_group_members::refresh;
 use srt_group_model::Core;
 use srt_group_model::Sending;
@@ -25,26 +26,49 @@ fn admit_connected_peer_groups(core: Core, members: &mut [u64]) -> Core
     after
 }
 
-// Members are admitted, and Pending ones that connected settle.
-pub fn refresh_pending_states(core: Core, sending: Sending, members: &mut [u64]) -> Core
+// Members are admitted, and Pending ones that connected settle. Where `quiet` says that this would change nothing it is left out.
+pub fn refresh_pending_states(
+    core: Core,
+    sending: Sending,
+    members: &mut [u64],
+    quiet: bool,
+) -> Core
     requires { ⌜ core .counts .members * row-size ≤ length (now members) ⌝ }
+    requires { ⌜ Known quiet core (now members) ⌝ }
     ensures { λ r. ⌜ Refreshes (sends sending) refresh-pending-states core
         (now (members .entry)) r (now (members .exit)) ⌝ }
 {
+    if quiet {
+        return core;
+    }
     let after = admit_connected_peer_groups(core, members);
     let count = after.counts.members;
     refresh::settle_members(members, count, after.mode, sending.numbered, sending.next);
     after
 }
 
-// And members whose leg is disconnected turn Broken, and Unstable ones that can send again requalify.
+// And members whose leg is disconnected turn Broken, and Unstable ones that can send again requalify. Left out likewise.
+pub fn refresh_states_unless(core: Core, sending: Sending, members: &mut [u64], quiet: bool) -> Core
+    requires { ⌜ core .counts .members * row-size ≤ length (now members) ⌝ }
+    requires { ⌜ Known quiet core (now members) ⌝ }
+    ensures { λ r. ⌜ Refreshes (sends sending) refresh-states core
+        (now (members .entry)) r (now (members .exit)) ⌝ }
+{
+    if quiet {
+        return core;
+    }
+    let after = refresh_pending_states(core, sending, members, false);
+    let count = after.counts.members;
+    refresh::requalify_members(members, count, after.mode, sending.numbered, sending.next);
+    after
+}
+
+// The whole refresh, left out where it would change nothing.
 pub fn refresh_states(core: Core, sending: Sending, members: &mut [u64]) -> Core
     requires { ⌜ core .counts .members * row-size ≤ length (now members) ⌝ }
     ensures { λ r. ⌜ Refreshes (sends sending) refresh-states core
         (now (members .entry)) r (now (members .exit)) ⌝ }
 {
-    let after = refresh_pending_states(core, sending, members);
-    let count = after.counts.members;
-    refresh::requalify_members(members, count, after.mode, sending.numbered, sending.next);
-    after
+    let quiet = is_quiet(members, core.counts.members, core.mode);
+    refresh_states_unless(core, sending, members, quiet)
 }

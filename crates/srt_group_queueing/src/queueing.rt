@@ -21,8 +21,8 @@ use srt_connection::legs::LARGEST_SEQUENCE;
 use srt_connection_members::Found;
 use srt_connection_members::find;
 use srt_connection_members::push_at;
-use srt_connection_members::put_receiver_at;
-use srt_connection_members::receiver_at;
+use srt_connection_members::put_reservation_at;
+use srt_connection_members::reservation_at;
 use srt_group_model::Core;
 use srt_group_model::Data;
 use srt_group_model::Event;
@@ -73,10 +73,8 @@ fn reserve_leg_at(members: &mut [u64], index: usize, count: u64)
     requires { ⌜ member-at (now members) index .leg .receiver .reserved + count < 2 ^ 64 ⌝ }
     ensures { λ _. ⌜ Changed index (on-leg (add-reservation count)) (now (members .entry)) (now (members .exit)) ⌝ }
 {
-    let mut receiver = receiver_at(members, index);
-    let reserved = receiver.reserved + count;
-    receiver.reserved = reserved;
-    put_receiver_at(members, index, receiver);
+    let reserved = reservation_at(members, index) + count;
+    put_reservation_at(members, index, reserved);
 }
 
 // 31, or the packet at the end of the queue of the member at an index, its payload in the cell, and the cell taken.

@@ -1,33 +1,54 @@
--- `advance_receive_sequence_at` meets its contract: the row is changed as the definition says (`changed-by`).
-use mathlib.Core.Path.{ap}
+-- `advance_receive_sequence_at` meets its contract: the row that is lent and comes back is changed, and no other.
 use borrow.Author.Needs.{needs}
-use Rattle.srt_group_model.specs.declared.Receiver.{Receiver}
-use Rattle.srt_group_model.specs.Legs.{advance-receive-sequence, with-advanced}
+use Rattle.srt_connection_members.specs.laws.Members.{lent-member, changed-row}
 use Rattle.srt_group_model.specs.State.{on-leg}
-use Rattle.srt_connection_members.specs.Members.{member-at}
-use Rattle.srt_connection_members.specs.laws.Members.{changed-by}
-use Rattle.srt_connection_queue.specs.Rows.{with-receiver}
+use Rattle.srt_group_model.specs.Legs.{advance-receive-sequence}
 use Rattle.srt_connection_members.proofs.advance_receive_sequence_at.Statement.{statement}
 use Rattle.srt_connection_members.proofs.advance_receive_sequence_at.Tie as tie
 
-receiver-at-requires : tie.Need-receiver-at-requires
-receiver-at-requires c κs = search needs
+mul-start : tie.Need-mul-start
+mul-start c = search needs
 
-put-receiver-at-requires : tie.Need-put-receiver-at-requires
-put-receiver-at-requires c κs = search needs
+add-advance-receive-sequence : tie.Need-add-advance-receive-sequence
+add-advance-receive-sequence c = search needs
+
+mul-advance-receive-sequence : tie.Need-mul-advance-receive-sequence
+mul-advance-receive-sequence c = search needs
+
+sub-advance-receive-sequence : tie.Need-sub-advance-receive-sequence
+sub-advance-receive-sequence c = search needs
+
+part-advance-receive-sequence-start : tie.Need-part-advance-receive-sequence-start
+part-advance-receive-sequence-start c = search needs
+
+part-advance-receive-sequence-end : tie.Need-part-advance-receive-sequence-end
+part-advance-receive-sequence-end c = search needs
+
+advance-receive-sequence-requires : tie.Need-advance-receive-sequence-requires
+advance-receive-sequence-requires c κs = search needs
 
 same-length : tie.Need-same-length
 same-length c = search needs
 
 returns : tie.Need-returns
 returns c =
-    let args = c .before .before .before .before .before .before .before .args in
-    let t = args .members .now in
-    changed-by (args .index) t _ (on-leg (advance-receive-sequence (args .sequence)))
-    (c .before .before .put-receiver-at .ensures)
-    (ap (λ (x : Receiver). with-receiver (with-advanced (args .sequence) x) (member-at t (args .index)))
-    (c .before .before .before .before .receiver-at .ensures))
+    changed-row (c .before .before .before .before .before .args .index)
+    (c .before .before .before .before .before .args .members .now) _ (c .before .before .before .before .before .pre)
+    (on-leg (advance-receive-sequence (c .before .before .before .before .before .args .sequence)))
+    (rw
+    (lent-member (c .before .before .before .before .before .args .members .now) (c .before .before .before .before .before .args .index))
+    at (c .before .before .advance-receive-sequence .ensures))
 
 pub advance-receive-sequence-at-spec : {M : Type 1} → statement M
 advance-receive-sequence-at-spec =
-    tie.close (tie.spec receiver-at-requires put-receiver-at-requires same-length returns)
+    tie.close
+    (tie.spec
+    mul-start
+    add-advance-receive-sequence
+    mul-advance-receive-sequence
+    sub-advance-receive-sequence
+    part-advance-receive-sequence-start
+    part-advance-receive-sequence-end
+    advance-receive-sequence-requires
+    same-length
+    returns)

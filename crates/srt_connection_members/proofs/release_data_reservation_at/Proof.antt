@@ -1,34 +1,30 @@
--- `release_data_reservation_at` meets its contract: the leg that is put is released (`leg-changed`).
+-- `release_data_reservation_at` meets its contract: the reservation that is put is the one that was there, less the count.
 use mathlib.Core.Path.{ap, _∙_}
+use Prim.Native.Nat.{ℕ, _-_}
 use borrow.Author.Needs.{needs}
-use Rattle.srt_group_model.specs.Legs.{release-data-reservation}
-use Rattle.srt_connection_members.specs.laws.Members.{leg-changed}
+use Rattle.srt_connection_members.specs.laws.Members.{reservation-changed}
 use Rattle.srt_connection_members.proofs.release_data_reservation_at.Statement.{statement}
 use Rattle.srt_connection_members.proofs.release_data_reservation_at.Tie as tie
 
-leg-at-requires : tie.Need-leg-at-requires
-leg-at-requires c κs = search needs
+reservation-at-requires : tie.Need-reservation-at-requires
+reservation-at-requires c κs = search needs
 
-release-data-reservation-requires : tie.Need-release-data-reservation-requires
-release-data-reservation-requires c κs = search needs
+less-requires : tie.Need-less-requires
+less-requires c κs = search needs
 
-put-leg-at-requires : tie.Need-put-leg-at-requires
-put-leg-at-requires c κs = search needs
+put-reservation-at-requires : tie.Need-put-reservation-at-requires
+put-reservation-at-requires c κs = search needs
 
 same-length : tie.Need-same-length
 same-length c = search needs
 
 returns : tie.Need-returns
 returns c =
-    leg-changed (release-data-reservation (c .before .before .before .before .before .before .before .before .args .count)) (c .before .before .put-leg-at .ensures)
-    (c .before .before .before .before .release-data-reservation .ensures ∙ ap (release-data-reservation (c .before .before .before .before .before .before .before .before .args .count)) (c .before .before .before .before .before .leg-at .ensures))
+    let count = c .before .before .before .before .before .before .before .before .args .count in
+    reservation-changed (λ n. n - count) (c .before .before .put-reservation-at .ensures)
+    (c .before .before .before .before .less .ensures ∙ ap (λ (n : ℕ). n - count) (c .before .before .before .before .before .reservation-at .ensures))
 
 pub release-data-reservation-at-spec : {M : Type 1} → statement M
 release-data-reservation-at-spec =
     tie.close
-    (tie.spec
-    leg-at-requires
-    release-data-reservation-requires
-    put-leg-at-requires
-    same-length
-    returns)
+    (tie.spec reservation-at-requires less-requires put-reservation-at-requires same-length returns)

@@ -5,8 +5,8 @@ use Prim.Native.Nat.{ℕ, suc, _+_, _*_, _-_, _≤_, _<_}
 use native.Mathlib.Nat.{mul-le-mul-right}
 use native.Mathlib.Decide.{decLt}
 use native.Mathlib.Omega.{arith}
-use lib.ListN.{length, take, drop, length-drop, take-append-drop}
-use lib.Seq.{drop-at, take-at, length-take-le, take-append-le, drop-append-le, drop-drop}
+use lib.ListN.{length, take, drop, set, length-drop, take-append-drop}
+use lib.Seq.{drop-at, take-at, length-take-le, take-append-le, drop-append-le, drop-drop, drop-set-add, drop-set-lt, take-set-lt, take-set-le}
 use Rattle.word_rows.specs.Rows.{row-at}
 use borrow.Rule.Slice.PartMut.{drop-put, same-len-mid, mid-len}
 use Rattle.srt_connection_queue.specs.Row.{put-row}
@@ -63,3 +63,25 @@ module _ (w : ℕ) (l r : List ℕ) (i : ℕ) (fits : i * w + w ≤ length l) (l
       go : Dec (j < i) → take w (drop (j * w) (put-row w l i r)) ≡ take w (drop (j * w) l)
       go (yes h) = before h
       go (no h) = after (omega arith)
+
+-- ---- one word of row i was set: the row has it, and every other row is as it was
+
+module _ (w : ℕ) (l : List ℕ) (i k v : ℕ) (within : k < w) where
+  pub word-set : row-at w (set l (i * w + k) v) i ≡ set (row-at w l i) k v
+  unfolding row-at
+  word-set = ap (take w) (drop-set-add (i * w) l k v) ∙ take-set-lt w (drop (i * w) l) k v within
+
+  pub word-set-other : (j : ℕ) → (j ≡ i → ⊥) → row-at w (set l (i * w + k) v) j ≡ row-at w l j
+  unfolding row-at
+  word-set-other j other = go (decLt j i)
+    where
+      go : Dec (j < i) → take w (drop (j * w) (set l (i * w + k) v)) ≡ take w (drop (j * w) l)
+      go (yes h) =
+          let n = next-row w j i h in
+          let e : i * w + k ≡ j * w + (i * w + k - j * w) = omega arith in
+          ap (λ (x : ℕ). take w (drop (j * w) (set l x v))) e
+          ∙ ap (take w) (drop-set-add (j * w) l (i * w + k - j * w) v)
+          ∙ take-set-le w (drop (j * w) l) (i * w + k - j * w) v (omega arith)
+      go (no h) =
+          let n = next-row w i j (omega arith) in
+          ap (take w) (drop-set-lt (j * w) l (i * w + k) v (omega arith))

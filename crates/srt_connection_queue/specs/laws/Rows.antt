@@ -1,10 +1,12 @@
 -- What is proved of the definitions in specs/Rows.antt, with what the proofs need.
 use mathlib.Core.Path.{_≡_, refl, ap, sym, subst, _∙_}
 use mathlib.Core.List.{List, [], _∷_}
-use Prim.Native.Nat.{ℕ, _+_, _%_, _<_}
+use Prim.Native.Nat.{ℕ, _+_, _*_, _%_, _<_}
 use native.Mathlib.Omega.{arith}
-use lib.ListN.{length, set}
-use Rattle.srt_group_model.specs.State.{with-leg}
+use lib.ListN.{length, set, length-set}
+use Rattle.srt_group_model.specs.State.{with-leg, on-leg, on-membership, with-account}
+use Rattle.srt_group_model.specs.Legs.{with-receiver-reserved, with-reservation, with-advanced, advance-receive-sequence}
+use Rattle.srt_group_model.specs.declared.Account.{Account}
 use Rattle.srt_group_model.specs.Validity.{max-queued}
 use Rattle.srt_group_model.specs.declared.Event.{Event}
 use Rattle.srt_group_model.specs.declared.Leg.{Leg}
@@ -16,8 +18,8 @@ use Rattle.srt_group_model.specs.declared.Trip.{Trip}
 use Rattle.srt_connection_queue.specs.declared.rows.LinkPart.{LinkPart}
 use Rattle.srt_connection_queue.specs.declared.rows.Ring.{Ring}
 use Rattle.word_rows.specs.laws.Tab.{tab-same}
-use Rattle.word_rows.specs.laws.Rows.{row-length}
-use Rattle.srt_connection_queue.specs.laws.Row.{row-put, row-put-other, put-length}
+use Rattle.word_rows.specs.laws.Rows.{row-length, row-word}
+use Rattle.srt_connection_queue.specs.laws.Row.{row-put, row-put-other, put-length, word-set, word-set-other}
 use Rattle.srt_connection_queue.specs.Rows.{part-size, membership-part, link-part, sender-part, receiver-part, first-event-part, parts, row-size, word, membership-of, membership-words, link-part-of, link-part-words, sender-of, sender-words, receiver-of, ring-of, receiver-in, ring-in, event-of, part, put-part, event-in, queue-of, leg-of, member-parts, member-of, Kept, with-membership, with-link-trip, with-sender, with-receiver, member-from}
 
 -- ---- laws of nine words
@@ -232,3 +234,88 @@ leg-put r₀ r₁ r₂ r₃ l a b c =
       is =
           c .is ∙ ap (with-receiver (l .receiver)) (b .is ∙ ap (with-sender (l .sender)) (a .is));
     }
+
+-- ---- one word of a row
+
+module _ (r : List ℕ) where
+  pub state-word : word r 2 ≡ member-of r .membership .state
+  unfolding member-of member-parts membership-of
+  state-word = sym (row-word part-size r membership-part 2 (omega arith))
+
+  pub admitted-word : word r 3 ≡ member-of r .membership .admitted
+  unfolding member-of member-parts membership-of
+  admitted-word = sym (row-word part-size r membership-part 3 (omega arith))
+
+  pub account-word : word r 4 ≡ member-of r .membership .account .reserved
+  unfolding member-of member-parts membership-of
+  account-word = sym (row-word part-size r membership-part 4 (omega arith))
+
+  pub link-state-word : word r 9 ≡ member-of r .leg .link .state
+  unfolding member-of member-parts link-part-of
+  link-state-word = sym (row-word part-size r link-part 0 (omega arith))
+
+  pub reserved-word : word r 30 ≡ member-of r .leg .receiver .reserved
+  unfolding member-of member-parts receiver-of
+  reserved-word = sym (row-word part-size r receiver-part 3 (omega arith))
+
+  events-kept : (k w v : ℕ) → w < part-size → k < first-event-part → (j : ℕ) → event-in (set r (k * part-size + w) v) j ≡ event-in r j
+  unfolding event-in
+  events-kept k w v within low j = ap event-of (word-set-other part-size r k w v within (first-event-part + j) (λ e. omega arith))
+
+module _ (r : List ℕ) (long : length r ≡ row-size) where
+  pub account-put : (a : Account) → Kept (set r 4 (a .reserved)) (on-membership (with-account a) (member-of r))
+  unfolding member-of member-parts membership-of
+  account-put a =
+      let other = word-set-other part-size r membership-part 4 (a .reserved) (omega arith) in
+      record {
+        long = length-set r 4 (a .reserved) ∙ long;
+        is =
+            parts-same {m = with-account a (membership-of (part r membership-part))} (event-in r) (event-in (set r 4 (a .reserved)))
+            (ap membership-of (word-set part-size r membership-part 4 (a .reserved) (omega arith)) ∙ here)
+            (ap link-part-of (other link-part (λ e. omega arith)))
+            (ap sender-of (other sender-part (λ e. omega arith)))
+            (ap receiver-of (other receiver-part (λ e. omega arith)))
+            (ap ring-of (other receiver-part (λ e. omega arith)))
+            (events-kept r membership-part 4 (a .reserved) (omega arith) (omega arith));
+      }
+    where
+      here : membership-of (set (part r membership-part) 4 (a .reserved)) ≡ with-account a (membership-of (part r membership-part))
+      here =
+          of-nine (λ (w : List ℕ). membership-of (set w 4 (a .reserved)) ≡ with-account a (membership-of w)) (part r membership-part)
+          (row-length part-size r membership-part (omega arith)) (λ a b c d e f g h i. refl)
+
+  -- a word of the receiver's part that is no word of the ring
+  receiver-word-put : (k v : ℕ) (x : Receiver) → k < part-size → receiver-of (set (part r receiver-part) k v) ≡ x
+      → ring-of (set (part r receiver-part) k v) ≡ ring-of (part r receiver-part)
+      → Kept (set r (receiver-part * part-size + k) v) (with-receiver x (member-of r))
+  unfolding member-of member-parts
+  receiver-word-put k v x within is ring =
+      let here = word-set part-size r receiver-part k v within in
+      let other = word-set-other part-size r receiver-part k v within in
+      record {
+        long = length-set r (receiver-part * part-size + k) v ∙ long;
+        is =
+            parts-same {u = x} (event-in r) (event-in (set r (receiver-part * part-size + k) v))
+            (ap membership-of (other membership-part (λ e. omega arith)))
+            (ap link-part-of (other link-part (λ e. omega arith)))
+            (ap sender-of (other sender-part (λ e. omega arith)))
+            (ap receiver-of here ∙ is)
+            (ap ring-of here ∙ ring)
+            (events-kept r receiver-part k v within (omega arith));
+      }
+
+  pub reservation-put : (n : ℕ) → Kept (set r 30 n) (on-leg (with-reservation n) (member-of r))
+  unfolding member-of member-parts receiver-of ring-of
+  reservation-put n =
+      receiver-word-put 3 n (with-receiver-reserved n (receiver-of (part r receiver-part))) (omega arith)
+      (of-nine (λ (w : List ℕ). receiver-of (set w 3 n) ≡ with-receiver-reserved n (receiver-of w)) (part r receiver-part)
+      (receiver-part-long r long) (λ a b c d e f g h i. refl))
+      (of-nine (λ (w : List ℕ). ring-of (set w 3 n) ≡ ring-of w) (part r receiver-part) (receiver-part-long r long) (λ a b c d e f g h i. refl))
+
+  pub advanced-put : (n : ℕ) → Kept (set r 31 n) (on-leg (advance-receive-sequence n) (member-of r))
+  unfolding member-of member-parts receiver-of ring-of
+  advanced-put n =
+      receiver-word-put 4 n (with-advanced n (receiver-of (part r receiver-part))) (omega arith)
+      (of-nine (λ (w : List ℕ). receiver-of (set w 4 n) ≡ with-advanced n (receiver-of w)) (part r receiver-part)
+      (receiver-part-long r long) (λ a b c d e f g h i. refl))
+      (of-nine (λ (w : List ℕ). ring-of (set w 4 n) ≡ ring-of w) (part r receiver-part) (receiver-part-long r long) (λ a b c d e f g h i. refl))

@@ -14,10 +14,9 @@ use Rattle.word_rows.specs.Tab.{tab}
 use Rattle.srt_group_model.specs.declared.Core.{Core}
 use Rattle.srt_group_model.specs.declared.Account.{Account}
 use Rattle.srt_group_model.specs.declared.Leg.{Leg}
-use Rattle.srt_group_model.specs.declared.Membership.{Membership}
 use Rattle.srt_group_model.specs.declared.Packet.{Packet}
 use Rattle.srt_group_model.specs.Tools.{if_then_else_, if-some_give_otherwise_, or-else, all, first-such, such-that, place-of, at-place}
-use Rattle.srt_group_model.specs.State.{Member, State, with-members, with-receive, with-base, with-pending, on-leg, with-account, based-at}
+use Rattle.srt_group_model.specs.State.{Member, State, with-members, with-receive, with-base, with-pending, on-leg, on-membership, with-account, based-at}
 use Rattle.srt_group_model.specs.Accounts.{release}
 use Rattle.srt_group_model.specs.Core.{with-receiving, with-own-account, with-held}
 use Rattle.srt_group_model.specs.Legs.{is-disconnected, gives-up-at, release-data-reservation, advance-receive-sequence}
@@ -25,8 +24,8 @@ use Rattle.srt_group_model.specs.Members.{has-id, find}
 use Rattle.srt_group_model.specs.Nearest.{sequence-of, nearest, covered, not-covered}
 use Rattle.srt_group_model.specs.Delivery.{leg-gives-up, gap-given-up, release-pending-reservation, release-all, advance-legs, pass-run, deliver-packet}
 use Rattle.srt_connection_members.specs.Members.{member-at, members-of, found-of, Changed, ChangedAll, has-row}
-use Rattle.srt_connection_members.specs.laws.Members.{members-place, found-some, found-none, found-below, changed-twice, membership-changed}
-use Rattle.srt_connection_queue.specs.Rows.{with-membership, row-size}
+use Rattle.srt_connection_members.specs.laws.Members.{members-place, found-some, found-none, found-below, changed-twice, account-changed}
+use Rattle.srt_connection_queue.specs.Rows.{row-size}
 use Rattle.srt_connection.specs.Answers.{deadline-of}
 use Rattle.srt_connection.specs.declared.legs.Deadline.the-variants.{At as AtMoment, Never}
 use Rattle.srt_group_members.specs.laws.Scan.{tab-next, tab-ended}
@@ -183,15 +182,12 @@ module _ (core : Core) (ms : List ℕ) (p : Packet) where
             (ap (λ (x : List Member). with-members x (shown core others ms ps ws)) (sym (changed .members (core .counts .members))));
       }
 
--- the member at a row: its sum was put, then its leg released
-pub member-released : {m : Membership} {account : Account} (i count : ℕ) (t u v : List ℕ) → m ≡ member-at t i .membership
-    → account ≡ release count (m .account) → Changed i (with-membership (with-account account m)) t u
+-- the member at a row: its account was put, then its leg released
+pub member-released : {read account : Account} (i count : ℕ) (t u v : List ℕ) → read ≡ member-at t i .membership .account
+    → account ≡ release count read → Changed i (on-membership (with-account account)) t u
     → Changed i (on-leg (release-data-reservation count)) u v → Changed i (release-member count) t v
-member-released {m} i count t u v is less put released =
-    changed-twice i t u v
-    (membership-changed (λ x. with-account (release count (x .account)) x) put
-    (ap (λ (a : Account). with-account a m) less ∙ ap (λ (x : Membership). with-account (release count (x .account)) x) is))
-    released
+member-released i count t u v is less put released =
+    changed-twice i t u v (account-changed (release count) put (less ∙ ap (release count) is)) released
 
 -- ---- packets are released one after the other
 

@@ -1,5 +1,6 @@
 -- What is proved of the definitions in specs/Refresh.antt, with what the proofs need.
 use mathlib.Core.Path.{_≡_, refl, ap, sym, subst, _∙_}
+use mathlib.Core.Bool.{Bool, true}
 use mathlib.Core.List.{List, []}
 use mathlib.Core.Option.{Option, none}
 use Prim.Native.Nat.{ℕ, _*_, _≤_}
@@ -21,12 +22,14 @@ use Rattle.srt_connection_members.specs.Members.{members-of}
 use Rattle.srt_group_members.specs.declared.admission.Admission.{Admission}
 use Rattle.srt_group_members.specs.Admission.{Admitted, base-in}
 use Rattle.srt_group_members.specs.Scan.{Became}
+use Rattle.srt_group_members.specs.Quiet.{is-quiet}
+use Rattle.srt_group_members.specs.laws.Quiet.{refresh-pending-stays, refresh-stays}
 use Rattle.srt_group_shown.specs.Shown.{Rest, shown, remembering}
 use Rattle.srt_group_shown.specs.Tables.{receive-tables}
 use Rattle.srt_group_collecting.specs.Leaves.{every, sends, Usable, under-way, At}
 use Rattle.srt_group_collecting.specs.laws.Leaves.{sound-with, sound-blank, members-shown}
 use Rattle.srt_group_delivery.specs.Poll.{Bases}
-use Rattle.srt_group_polls.specs.Refresh.{Refreshes}
+use Rattle.srt_group_polls.specs.Refresh.{Refreshes, Known}
 
 -- ---- what a refresh needs and leaves
 
@@ -138,6 +141,28 @@ module _ (sending : Sending) (core : Core) (ms : List ℕ) (after : Core) (u v :
       ∙ ap
       (λ (x : Sending). requalify-members (after .mode) (flagged (is-set (x .numbered)) (x .next)) (members-of (after .counts .members) u))
       (sym same))
+
+-- ---- a refresh that would change nothing is left out
+
+module _ {quiet : Bool} (among : Rest → Type 0) (core : Core) (ms : List ℕ) (known : Known quiet core ms) (yes : quiet ≡ true) where
+  left-out : (f : Run → Run) → ((r : Run) → is-quiet (r .state .making .mode) (r .state .members) ≡ true → f r ≡ r)
+      → Refreshes among f core ms core ms
+  left-out f stays =
+      record {
+        members-long = refl;
+        counts-same = refl;
+        run =
+            λ ps ws others is-among log budget.
+            let r = under-way core others (receive-tables ms ps ws) log budget in
+            let same : f r ≡ r = stays r (known yes) in
+            record { state = ap (λ (x : Run). x .state) same; budget = ap (λ (x : Run). x .budget) same };
+      }
+
+  pub settling-left-out : Refreshes among refresh-pending-states core ms core ms
+  settling-left-out = left-out refresh-pending-states refresh-pending-stays
+
+  pub refresh-left-out : Refreshes among refresh-states core ms core ms
+  refresh-left-out = left-out refresh-states refresh-stays
 
 -- the rows are still there
 pub still-long : {among : Rest → Type 0} {f : Run → Run} {core after : Core} {ms ms′ : List ℕ} → core .counts .members * row-size ≤ length ms

@@ -1,17 +1,17 @@
--- `release_at` meets its contract: the membership is put with less, then the leg is released.
+-- `release_at` meets its contract: the account is put with less, then the leg is released.
 use Rattle.srt_group_delivery.specs.laws.Delivery.{member-released}
 use borrow.Author.Needs.{needs}
 use Rattle.srt_group_delivery.proofs.delivery.release_at.Statement.{statement}
 use Rattle.srt_group_delivery.proofs.delivery.release_at.Tie as tie
 
-membership-at-requires : tie.Need-membership-at-requires
-membership-at-requires c κs = search needs
+account-at-requires : tie.Need-account-at-requires
+account-at-requires c κs = search needs
 
 release-packet-requires : tie.Need-release-packet-requires
 release-packet-requires c κs = search needs
 
-put-membership-at-requires : tie.Need-put-membership-at-requires
-put-membership-at-requires c κs = search needs
+put-account-at-requires : tie.Need-put-account-at-requires
+put-account-at-requires c κs = search needs
 
 release-data-reservation-at-requires : tie.Need-release-data-reservation-at-requires
 release-data-reservation-at-requires c κs = search needs
@@ -26,9 +26,9 @@ pub release-at-spec : {M : Type 1} → statement M
 release-at-spec =
     tie.close
     (tie.spec
-    membership-at-requires
+    account-at-requires
     release-packet-requires
-    put-membership-at-requires
+    put-account-at-requires
     release-data-reservation-at-requires
     same-length
     returns)

@@ -1,4 +1,5 @@
 -- `give_next` meets its contract: an event waits, or the next packet is given.
+use native.Mathlib.Omega.{arith}
 use Rattle.srt_group_polls.specs.laws.Refresh.{usable-refreshed, rows-there}
 use Rattle.srt_group_polls.specs.laws.EventPoll.{event-next, packet-next, still-none-waits}
 use borrow.Author.Needs.{needs}
@@ -19,11 +20,15 @@ returns c =
     let given = c .before .before .give-waiting .ensures in
     (event-next _ _ _ _ _ _ _ _ _ (search) (search) (given _ _), follows-given _ _ _ _ _ _ _ (search) (given _ _))
 
-refresh-states-requires : tie.Need-refresh-states-requires
-refresh-states-requires c κs = search rows-there
+refresh-states-unless-requires : tie.Need-refresh-states-unless-requires
+refresh-states-unless-requires c κs =
+    let start = c .before .before .before .before .before .before .before .before in (
+      rows-there _ _ _ _ (start .pre .0),
+      start .pre .1 .1 .1 (omega arith),
+    )
 
 deliver-next-requires : tie.Need-deliver-next-requires
-deliver-next-requires c κs = (search usable-refreshed, (search still-none-waits, search needs))
+deliver-next-requires c κs = (search usable-refreshed, (search still-none-waits, c .before .before .before .before .before .before .before .before .before .before .before .before .before .before .before .pre .1 .1 .0))
 
 same-length-2 : tie.Need-same-length-2
 same-length-2 c = search needs
@@ -39,7 +44,7 @@ same-length-5 c = search needs
 
 returns-2 : tie.Need-returns-2
 returns-2 c =
-    let long = c .before .before .before .before .before .before .before .before .before .before .before .before .before .before .before .before .before .before .before .before .before .before .before .before .pre .1 .1 in
+    let long = c .before .before .before .before .before .before .before .before .before .before .before .before .before .before .before .before .before .before .before .before .before .before .before .before .pre .1 .1 .0 in
     let delivered = c .before .before .before .before .before .before .before .before .deliver-next .ensures in
     (search packet-next, follows-then (search follows-refreshed) (delivered .1))
 
@@ -50,7 +55,7 @@ give-next-spec =
     give-waiting-requires
     same-length
     returns
-    refresh-states-requires
+    refresh-states-unless-requires
     deliver-next-requires
     same-length-2
     same-length-3

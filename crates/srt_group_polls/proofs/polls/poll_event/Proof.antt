@@ -1,24 +1,54 @@
--- `poll_event` meets its contract: the refresh, the visits, and what is given then.
+-- `poll_event` meets its contract: the test, the refresh, the visits, and what is given then.
+use mathlib.Core.Path.{sym, _∙_}
 use native.Mathlib.Omega.{arith}
 use Rattle.srt_group_polls.specs.laws.EventPoll.{usable-begun, polls-event}
 use Rattle.srt_group_polls.specs.laws.PollsUsed.{follows-begun}
+use Rattle.srt_group_polls.specs.laws.Quiet.{known-begun, known-gathered}
 use Rattle.srt_group_collecting.specs.laws.Follows.{follows-then}
 use Rattle.srt_group_polls.specs.laws.Refresh.{rows-there}
 use borrow.Author.Needs.{needs}
 use Rattle.srt_group_polls.proofs.polls.poll_event.Statement.{statement}
 use Rattle.srt_group_polls.proofs.polls.poll_event.Tie as tie
 
+is-quiet-requires : tie.Need-is-quiet-requires
+is-quiet-requires c κs = rows-there _ _ _ _ (c .before .before .before .before .before .before .pre .0)
+
 refresh-pending-states-requires : tie.Need-refresh-pending-states-requires
-refresh-pending-states-requires c κs = search rows-there
+refresh-pending-states-requires c κs = (
+  rows-there _ _ _ _ (c .before .before .before .before .before .before .before .before .pre .0),
+  λ told. sym (c .before .is-quiet .ensures) ∙ told,
+)
 
 collect-until-held-requires : tie.Need-collect-until-held-requires
-collect-until-held-requires c κs = (search usable-begun, search needs)
+collect-until-held-requires c κs =
+    let start = c .before .before .before .before .before .before .before .before .before .before .before .before .before .before .before in (
+      usable-begun _ (start .pre .1 .0) (start .args .core) _ _ _ (start .pre .0) _ _ (c .before .before .before .before .before .before .refresh-pending-states .ensures),
+      start .pre .1 .1,
+    )
 
 give-next-requires : tie.Need-give-next-requires
-give-next-requires c κs = (c .before .before .before .before .before .before .before .before .before .before .before .before .collect-until-held .ensures .0 .usable, (c .before .before .before .before .before .before .before .before .before .before .before .before .before .before .before .before .before .before .before .before .before .before .before .before .before .before .pre .1 .0, c .before .before .before .before .before .before .before .before .before .before .before .before .collect-until-held .ensures .1 .long))
+give-next-requires c κs =
+    let visits = c .before .before .before .before .before .before .before .before .before .before .before .before in
+    let refresh = visits .before .before .before .before .before .before .before in
+    let test = refresh .before .before in
+    let begun = known-begun _ _ (λ told. sym (test .is-quiet .ensures) ∙ told) _ _ _ (refresh .refresh-pending-states .ensures) in (
+      visits .collect-until-held .ensures .0 .usable,
+      (
+        test .before .before .before .before .before .before .before .pre .1 .0,
+        (
+          visits .collect-until-held .ensures .1 .long,
+          λ none-waits. known-gathered _ _ begun _ _ _ _ _ _ _ (visits .collect-until-held .ensures .0) none-waits,
+        ),
+      ),
+    )
 
 same-length : tie.Need-same-length
-same-length c = omega (arith, c .before .before .before .before .before .before .before .before .before .before .before .before .before .before .before .before .before .before .before .before .before .before .before .before .before .before .before .before .before .before .before .before .before .before .before .pre .1 .1, c .before .before .before .before .before .before .before .before .before .before .before .before .before .before .before .before .before .before .before .before .before .before .before .before .before .before .before .before .refresh-pending-states .ensures .members-long, c .before .before .before .before .before .before .before .before .before .before .before .before .before .before .before .before .before .before .before .before .before .collect-until-held .ensures .0 .members-long, c .before .before .before .before .before .before .before .before .before .before .before .before .before .before .before .before .before .before .before .before .before .collect-until-held .ensures .0 .pending-long, c .before .before .before .before .before .before .before .before .before .before .before .before .before .before .before .before .before .before .before .before .before .collect-until-held .ensures .0 .waiting-long, c .before .before .before .before .before .before .before .before .before .before .before .before .before .before .before .before .before .before .before .before .before .collect-until-held .ensures .1 .long, c .before .before .before .before .before .before .before .before .give-next .ensures .0 .members-long, c .before .before .before .before .before .before .before .before .give-next .ensures .0 .pending-long, c .before .before .before .before .before .before .before .before .give-next .ensures .0 .waiting-long, c .before .before .before .before .before .before .before .before .give-next .ensures .1 .long)
+same-length c =
+    let given = c .before .before .before .before .before .before .before .before .give-next .ensures in
+    let visits = c .before .before .before .before .before .before .before .before .before .before .before .before .before .before .before .before .before .before .before .before .before in
+    let gathered = visits .collect-until-held .ensures in
+    let refresh = visits .before .before .before .before .before .before .before in
+    omega (arith, refresh .before .before .before .before .before .before .before .before .before .pre .1 .1, refresh .refresh-pending-states .ensures .members-long, gathered .0 .members-long, gathered .0 .pending-long, gathered .0 .waiting-long, gathered .1 .long, given .0 .members-long, given .0 .pending-long, given .0 .waiting-long, given .1 .long)
 
 same-length-2 : tie.Need-same-length-2
 same-length-2 c = search needs
@@ -31,17 +61,21 @@ same-length-4 c = search needs
 
 returns : tie.Need-returns
 returns c =
-    let collect-until-held = c .before .before .before .before .before .before .before .before .before .before .before .before .before .before .before .before .before .before .before .before .before .collect-until-held in
-    let give-next = c .before .before .before .before .before .before .before .before .give-next in (
-      polls-event _ _ (c .before .before .before .before .before .before .before .before .before .before .before .before .before .before .before .before .before .before .before .before .before .before .before .before .before .before .before .before .before .before .before .before .before .before .before .args .core) _ _ _ _ _ (c .before .before .before .before .before .before .before .before .before .before .before .before .before .before .before .before .before .before .before .before .before .before .before .before .before .before .before .before .refresh-pending-states .ensures) (collect-until-held .result) _ _ _ (collect-until-held .ensures .0) _ _ _ _
+    let give-next = c .before .before .before .before .before .before .before .before .give-next in
+    let visits = c .before .before .before .before .before .before .before .before .before .before .before .before .before .before .before .before .before .before .before .before .before in
+    let refresh = visits .before .before .before .before .before .before .before in
+    let start = refresh .before .before .before .before .before .before .before .before .before in (
+      polls-event _ _ (start .args .core) _ _ _ _ _ (refresh .refresh-pending-states .ensures) (visits .collect-until-held .result) _ _ _ (visits .collect-until-held .ensures .0) _ _ _ _
           (give-next .ensures .0),
-      follows-then (follows-begun _ (c .before .before .before .before .before .before .before .before .before .before .before .before .before .before .before .before .before .before .before .before .before .before .before .before .before .before .before .before .before .before .before .before .before .before .before .args .core) _ _ _ _ _ (c .before .before .before .before .before .before .before .before .before .before .before .before .before .before .before .before .before .before .before .before .before .before .before .before .before .before .before .before .before .before .before .before .before .before .before .pre .1 .1) (c .before .before .before .before .before .before .before .before .before .before .before .before .before .before .before .before .before .before .before .before .before .before .before .before .before .before .before .before .refresh-pending-states .ensures)) (follows-then (collect-until-held .ensures .1) (give-next .ensures .1)),
+      follows-then (follows-begun _ (start .args .core) _ _ _ _ _ (start .pre .1 .1) (refresh .refresh-pending-states .ensures))
+          (follows-then (visits .collect-until-held .ensures .1) (give-next .ensures .1)),
     )
 
 pub poll-event-spec : {M : Type 1} → statement M
 poll-event-spec =
     tie.close
     (tie.spec
+    is-quiet-requires
     refresh-pending-states-requires
     collect-until-held-requires
     give-next-requires

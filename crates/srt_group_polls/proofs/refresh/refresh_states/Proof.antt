@@ -1,26 +1,21 @@
--- `refresh_states` meets its contract: what has settled requalifies.
-use Rattle.srt_group_polls.specs.laws.Refresh.{still-long, requalifies}
+-- `refresh_states` meets its contract: what the test says is handed on.
+use mathlib.Core.Path.{sym, _∙_}
 use borrow.Author.Needs.{needs}
 use Rattle.srt_group_polls.proofs.refresh.refresh_states.Statement.{statement}
 use Rattle.srt_group_polls.proofs.refresh.refresh_states.Tie as tie
 
-refresh-pending-states-requires : tie.Need-refresh-pending-states-requires
-refresh-pending-states-requires c κs = search needs
+is-quiet-requires : tie.Need-is-quiet-requires
+is-quiet-requires c κs = search needs
 
-requalify-members-requires : tie.Need-requalify-members-requires
-requalify-members-requires c κs = search still-long
+refresh-states-unless-requires : tie.Need-refresh-states-unless-requires
+refresh-states-unless-requires c κs = (search needs, λ yes. sym (c .before .is-quiet .ensures) ∙ yes)
 
 same-length : tie.Need-same-length
 same-length c = search needs
 
 returns : tie.Need-returns
-returns c = search requalifies
+returns c = c .before .before .refresh-states-unless .ensures
 
 pub refresh-states-spec : {M : Type 1} → statement M
 refresh-states-spec =
-    tie.close
-    (tie.spec
-    refresh-pending-states-requires
-    requalify-members-requires
-    same-length
-    returns)
+    tie.close (tie.spec is-quiet-requires refresh-states-unless-requires same-length returns)
