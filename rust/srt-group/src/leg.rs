@@ -109,7 +109,7 @@ impl Default for Leg {
 
 impl Leg {
     pub(crate) fn row(&self) -> Row {
-        let mut row = [0; size_of::<Row>() / size_of::<u64>()];
+        let mut row = [0; state::ROW_WORDS];
         row[state::ROW_LINK_STATE] = self.state.word();
         row[state::ROW_LINK_PEER] = peer_word(self.peer_group_id);
         row[state::ROW_LINK_LIMIT] = self.payload_limit.into();
