@@ -119,6 +119,9 @@ fn public_bytes(m: &mut Memory, call: &Call<'_>) -> Option<u32> {
                 call!(m, srt_group_raw_queue_data(store;
                     id, sequence, count, message, timestamp, source, bytes, length;))
             }
+            ("poll_event", &[now]) => {
+                call!(m, srt_group_raw_poll_event(store, output; now; answer))
+            }
             ("poll_data", &[now]) => call!(m, srt_group_raw_poll_data(store, output; now; answer)),
             ("poll_data_bounded", &[now, most]) => {
                 call!(m, srt_group_raw_poll_data_bounded(store, output; now, most as usize; answer))
@@ -194,6 +197,9 @@ fn valid_bytes(m: &mut Memory, call: &Call<'_>) -> Option<u32> {
             ("data", &[id, sequence, count, source, message, timestamp, _, _]) => {
                 call!(m, srt_group_valid_queue_data(store, used;
                     id, sequence, count, message, timestamp, source, bytes, length;))
+            }
+            ("poll_event", &[now]) => {
+                call!(m, srt_group_valid_poll_event(store, output, used; now; answer))
             }
             ("poll_data", &[now]) => {
                 let most = raw::MAX_EVENTS;

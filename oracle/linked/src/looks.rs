@@ -91,11 +91,11 @@ fn said(
 /// A member as the looks show it.
 fn row(gateway: &Gateway, member: &SrtGroupMember) -> [u64; 8] {
     let label = match member.state() {
-        GroupMemberState::Pending => raw::MEMBER_PENDING,
-        GroupMemberState::Active => raw::MEMBER_ACTIVE,
-        GroupMemberState::Standby => raw::MEMBER_STANDBY,
-        GroupMemberState::Unstable => raw::MEMBER_UNSTABLE,
-        GroupMemberState::Broken => raw::MEMBER_BROKEN,
+        GroupMemberState::Pending => raw::LABEL_PENDING,
+        GroupMemberState::Active => raw::LABEL_ACTIVE,
+        GroupMemberState::Standby => raw::LABEL_STANDBY,
+        GroupMemberState::Unstable => raw::LABEL_UNSTABLE,
+        GroupMemberState::Broken => raw::LABEL_BROKEN,
     };
     let state = match member.connection().state() {
         ConnectionState::Handshaking => 0,

@@ -43,7 +43,6 @@ pub fn seed(seed: u64, figures: &mut Figures) -> Result<(), String> {
         figures,
     };
     for (number, line) in lines.into_iter().enumerate() {
-        let line = exported(line);
         run.step(&line).map_err(|what| {
             format!(
                 "seed {seed}, call {number}: {line}\n{what}\nstate before:\n{}",
@@ -53,14 +52,6 @@ pub fn seed(seed: u64, figures: &mut Figures) -> Result<(), String> {
     }
     run.figures.seeds += 1;
     Ok(())
-}
-
-/// The library exports no `poll_event` yet: a data poll of one event goes the same way, and drops an event that is no data.
-fn exported(line: String) -> String {
-    match line.strip_prefix("poll_event ") {
-        Some(now) => format!("poll_data_bounded {now} 1"),
-        None => line,
-    }
 }
 
 fn equal(what: &str, rust: &str, library: &str) -> Result<(), String> {
