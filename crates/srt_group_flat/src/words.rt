@@ -1,12 +1,13 @@
-// The answer of a data poll in words. An answer that holds an enum cannot be handed on from a call that is lent its record by
-// reference, so each case is told by a word.
+// The answers of a data poll and of a send in words. An answer that holds an enum cannot be handed on from a call that is lent its
+// record by reference, so each case is told by a word.
 ghost use Rattle.srt_group_data_poll.specs.declared.calls.DataAnswer.the-variants.{Polled};
-ghost use Rattle.srt_group_flat.specs.Words.{Says};
+ghost use Rattle.srt_group_flat.specs.Words.{Says, SaysSent};
 use srt_group_data_poll::calls::DataAnswer;
 use srt_group_data_poll::calls::GroupDataPoll;
 use srt_group_model::Data;
 use srt_group_model::Packet;
 use srt_group_polls::polls::OptionalPacket;
+use srt_group_send_calls::calls::SendAnswer;
 use srt_protocol::time::Timestamp;
 
 // code is 0 if the poll was accepted; given is 1 if there is a packet; continuation is not 0 if the poll should be called again at
@@ -70,5 +71,36 @@ pub fn words_of(answer: DataAnswer) -> DataWords
             }
         }
         DataAnswer::Polled(poll) => words_of_poll(poll),
+    }
+}
+
+// ---- a send
+
+// code is 0 if the payload was sent; legs on how many, 0 where it was refused; rows those of the list that are filled, by a refused
+// send too.
+pub struct SendWords {
+    pub code: u64,
+    pub legs: u64,
+    pub rows: usize,
+}
+
+// The words of a send's answer, and of the rows that it filled.
+pub fn words_of_send(answer: SendAnswer, rows: usize) -> SendWords
+    ensures { λ r. ⌜ SaysSent answer rows r ⌝ }
+{
+    match answer {
+        SendAnswer::Sent(legs) => SendWords {
+            code: 0,
+            legs,
+            rows,
+        },
+        SendAnswer::Refused(error) => {
+            let number = error.number() as u64;
+            SendWords {
+                code: number,
+                legs: 0,
+                rows,
+            }
+        }
     }
 }

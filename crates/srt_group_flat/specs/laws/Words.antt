@@ -10,7 +10,7 @@ use Rattle.srt_protocol.specs.Errors.{error-number}
 use Rattle.srt_protocol.specs.laws.Errors.{refused-not-0}
 use Rattle.srt_group_model.specs.Tools.{if_then_else_, is-set}
 use Rattle.srt_group_model.specs.laws.Flag.{other-set}
-use Rattle.srt_group_model.specs.Guards.{Answer, no-answer, data-polled}
+use Rattle.srt_group_model.specs.Guards.{Answer, no-answer, shown, number, data-polled}
 use Rattle.srt_group_model.specs.Lent.{Lent, Call}
 use Rattle.srt_group_model.specs.declared.Packet.{Packet}
 use Rattle.srt_group_shown.specs.Tables.{Parts, Tables}
@@ -23,8 +23,12 @@ use Rattle.srt_group_data_poll.specs.Answers.{data-number, data-answer}
 use Rattle.srt_group_data_poll.specs.declared.calls.GroupDataPoll.{GroupDataPoll}
 use Rattle.srt_group_data_poll.specs.declared.calls.DataAnswer.{DataAnswer}
 use Rattle.srt_group_data_poll.specs.declared.calls.DataAnswer.the-variants.{Refused, Polled}
+use Rattle.srt_group_send_calls.specs.Answers.{send-number, send-answer}
+use Rattle.srt_group_send_calls.specs.declared.calls.SendAnswer.{SendAnswer}
+use Rattle.srt_group_send_calls.specs.declared.calls.SendAnswer.the-variants as send
 use Rattle.srt_group_flat.specs.declared.words.DataWords.{DataWords}
-use Rattle.srt_group_flat.specs.Words.{words-answer, no-packet, Says}
+use Rattle.srt_group_flat.specs.declared.words.SendWords.{SendWords}
+use Rattle.srt_group_flat.specs.Words.{words-answer, no-packet, Says, send-words-answer, SaysSent}
 
 -- ---- the words of an answer
 
@@ -80,6 +84,36 @@ module _ {poll : GroupDataPoll} where
             };
       }
 
+-- ---- the words of a send's answer
+
+abbrev sent-words : (code legs rows : ℕ) → SendWords
+sent-words code legs rows = record { code = code; legs = legs; rows = rows }
+
+module _ {answer : SendAnswer} (rows : ℕ) where
+  pub says-sent : (legs : ℕ) → answer ≡ send.Sent legs → SaysSent answer rows (sent-words 0 legs rows)
+  unfolding send-words-answer if_then_else_
+  says-sent legs is =
+      subst (λ (a : SendAnswer). SaysSent a rows (sent-words 0 legs rows)) (sym is)
+      record {
+        answers = record { same-code = refl; same-answer = refl };
+        cleared = record { legs = λ refused. absurd (true≢false (sym refused)) };
+        filled = refl;
+      }
+
+  pub says-not-sent : (e : Error) → answer ≡ send.Refused e → {n : ℕ} → n ≡ error-number e → SaysSent answer rows (sent-words n 0 rows)
+  unfolding send-words-answer if_then_else_
+  says-not-sent e is {n} same =
+      subst (λ (a : SendAnswer). SaysSent a rows (sent-words n 0 rows)) (sym is)
+      record {
+        answers =
+            record {
+              same-code = same;
+              same-answer = ap (λ (b : Bool). if b then no-answer else shown (number 0)) (ap is-set same ∙ other-set (error-number e) (refused-not-0 e));
+            };
+        cleared = record { legs = λ refused. refl };
+        filled = refl;
+      }
+
 -- ---- a promise over an answer in words
 
 pub poll-in-words : {call : Call} {p : Parts} {t : Tables} {bytes : Lent} (p′ : Parts) (t′ : Tables) (bytes′ : Lent) {answer : DataAnswer} {w : DataWords}
@@ -87,6 +121,14 @@ pub poll-in-words : {call : Call} {p : Parts} {t : Tables} {bytes : Lent} (p′ 
     → Promised call p t bytes (showing p′ t′ bytes′ (w .code) (words-answer w) 0)
 unfolding showing
 poll-in-words p′ t′ bytes′ promised says = promised-answers promised (says .answers)
+
+pub send-in-words : {call : Call} {p : Parts} {t : Tables} {bytes : Lent} (p′ : Parts) (t′ : Tables) (bytes′ : Lent) {answer : SendAnswer} {rows : ℕ} {w : SendWords}
+    → Promised call p t bytes (showing p′ t′ bytes′ (send-number answer) (send-answer answer) rows) → SaysSent answer rows w
+    → Promised call p t bytes (showing p′ t′ bytes′ (w .code) (send-words-answer w) (w .rows))
+unfolding showing
+send-in-words {call} {p} {t} {bytes} p′ t′ bytes′ {w = w} promised says =
+    subst (λ (n : ℕ). Promised call p t bytes (showing p′ t′ bytes′ (w .code) (send-words-answer w) n)) (sym (says .filled))
+    (promised-answers promised (says .answers))
 
 pub row-in-words : {call : Call} {p : Parts} {t : Tables} {row : List ℕ} (p′ : Parts) (t′ : Tables) {number code : ℕ}
     → PromisedRow call p t row (showing p′ t′ nothing-lent number no-answer 0) → code ≡ number
