@@ -254,7 +254,7 @@ struct srt_group_packet {
     uint64_t timestamp;   /**< as it was queued */
     uint64_t source_time; /**< as it was queued */
     size_t length;        /**< the payload's bytes */
-    bool again;           /**< also without a packet: the poll stopped with work left, poll again at once */
+    bool again;           /**< of a data poll, also without a packet: it stopped with work left, poll again at once */
 };
 
 SRT_GROUP_INLINE void srt_group_packet_of_words(struct srt_group_packet *packet, const uint64_t *words)
@@ -288,6 +288,33 @@ SRT_GROUP_INLINE enum srt_group_code srt_group_poll_data(
     struct srt_group *group, uint64_t now, uint8_t *output, size_t output_length, struct srt_group_packet *packet)
 {
     return srt_group_poll_data_bounded(group, now, SRT_GROUP_MAX_EVENTS, output, output_length, packet);
+}
+
+/** What an event poll gives: an event, a packet, or neither. */
+struct srt_group_event {
+    uint64_t kind;   /**< SRT_GROUP_EVENT_CONNECTED and so on; 0: there is no event, and the next two are 0 */
+    uint64_t member; /**< on whose leg it was queued */
+    uint64_t reason; /**< as it was queued */
+    struct srt_group_packet packet; /**< its count is 0 where there is none; `again` is not said (srt_group_has_receive_continuation) */
+};
+
+/** Collects from the legs and gives the next lifecycle event, or else the next packet in order, as a data poll does: for hosts that want to see the
+ *  events. Codes: 5 the output is too short; 6. */
+SRT_GROUP_INLINE enum srt_group_code srt_group_poll_event(
+    struct srt_group *group, uint64_t now, uint8_t *output, size_t output_length, struct srt_group_event *event)
+{
+    uint64_t answer[SRT_GROUP_POLL_ANSWER_WORDS] = {0};
+    uint32_t code = srt_group_raw_poll_event(SRT_GROUP_LENT(group), group->store, group->store_length, output, output_length, now, answer,
+        SRT_GROUP_POLL_ANSWER_WORDS);
+    memset(event, 0, sizeof *event);
+    if (answer[0] == 0) {
+        srt_group_packet_of_words(&event->packet, answer + 1);
+    } else {
+        event->kind = answer[0];
+        event->member = answer[1];
+        event->reason = answer[2];
+    }
+    return (enum srt_group_code)code;
 }
 
 /* ---- sending */

@@ -232,8 +232,36 @@ static void event_passed(uint64_t kind, uint64_t label)
     same("its label", label_of(7), label);
 }
 
+/* An event poll gives it, then the packet behind it, then nothing. */
+static void event_fields(uint64_t kind)
+{
+    struct srt_group_leg leg = connected(0);
+    struct srt_group_received data = {201, 2, 33, 44, 55};
+    struct srt_group_event event;
+    leg.peer_first_sequence = 201;
+    init(SRT_GROUP_BROADCAST);
+    add(7, &leg);
+    same("queue_event", srt_group_queue_event(&group, 7, kind, 9), 0);
+    same("queue_data", srt_group_queue_data(&group, 7, &data, (const uint8_t *)"payload", 7), 0);
+    same("a short output", srt_group_poll_event(&group, 60, output, sizeof output - 1, &event), 5);
+    same("zeros", event.kind + event.member + event.reason + event.packet.count, 0);
+    same("poll_event", srt_group_poll_event(&group, 60, output, sizeof output, &event), 0);
+    same("event.kind", event.kind, kind), same("event.member", event.member, 7), same("event.reason", event.reason, 9);
+    same("no packet with it", event.packet.count + event.packet.member + event.packet.sequence, 0);
+    same("poll_event again", srt_group_poll_event(&group, 60, output, sizeof output, &event), 0);
+    same("no event with it", event.kind + event.member + event.reason, 0);
+    same("event.packet.member", event.packet.member, 7), same("event.packet.sequence", event.packet.sequence, 201);
+    same("event.packet.count", event.packet.count, 2), same("event.packet.length", event.packet.length, 7);
+    same("its payload", (uint64_t)memcmp(output + SRT_GROUP_HEAD, "payload", 7), 0);
+    same("poll_event once more", srt_group_poll_event(&group, 60, output, sizeof output, &event), 0);
+    same("neither", event.kind + event.packet.count, 0);
+}
+
 static void events(void)
 {
+    event_fields(SRT_GROUP_EVENT_CONNECTED);
+    event_fields(SRT_GROUP_EVENT_ERROR);
+    event_fields(SRT_GROUP_EVENT_DISCONNECTED);
     event_passed(SRT_GROUP_EVENT_CONNECTED, SRT_GROUP_LABEL_ACTIVE);
     event_passed(SRT_GROUP_EVENT_ERROR, SRT_GROUP_LABEL_BROKEN);
     event_passed(SRT_GROUP_EVENT_DISCONNECTED, SRT_GROUP_LABEL_BROKEN);
@@ -264,6 +292,19 @@ static void send_fields(void)
     same("row source time", sends.row[1].source_time, 70);
     same("row time", sends.row[1].time, 70);
     same("its payload", srt_group_sent_payload(&group, &sends.row[1], payload) == payload, 1);
+}
+
+/* The raw send_shared, which the header has no call for, fills the same row. */
+static void send_shared(void)
+{
+    struct srt_group_leg leg = connected(300);
+    uint64_t answer[SRT_GROUP_SEND_ANSWER_WORDS];
+    init(SRT_GROUP_BROADCAST);
+    add(7, &leg);
+    same("send_shared", srt_group_raw_send_shared(SRT_GROUP_LENT(&group), store, sizeof store, SRT_GROUP_WORDS(sends.row), SRT_GROUP_SENT_WORDS, 80,
+        output, 3, answer, SRT_GROUP_SEND_ANSWER_WORDS), 0);
+    same("on one leg", answer[0], 1), same("in one row", answer[1], 1);
+    same("row 0 member", sends.row[0].member, 7), same("row 0 sequence", sends.row[0].sequence, 300), same("row 0 time", sends.row[0].time, 80);
 }
 
 static void paced(void)
@@ -410,6 +451,7 @@ int main(void)
     packet_fields();
     events();
     send_fields();
+    send_shared();
     paced();
     replayed();
     looks();
