@@ -1,0 +1,3 @@
+pub mod Legs
+-- What is proved.
+pub mod laws
