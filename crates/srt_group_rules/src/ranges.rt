@@ -1,7 +1,7 @@
 // Document 01's code 6, value by value: a sequence of 2^31 or more, and a field above its range. A word is never above 64 bits,
 // so a field that may take all of them has no test.
 ghost use mathlib.Core.Path.{_≡_};
-ghost use Rattle.srt_group_model.specs.Validity.{is-too-large, leg-sequence-too-large, event-sequence-too-large, data-out-of-range, event-out-of-range, leg-out-of-range, membership-out-of-range, packet-out-of-range, entry-out-of-range, waiting-out-of-range};
+ghost use Rattle.srt_group_model.specs.Validity.{is-too-large, leg-sequence-too-large, data-out-of-range, leg-out-of-range, membership-out-of-range, packet-out-of-range, entry-out-of-range, waiting-out-of-range};
 ghost use Rattle.srt_group_rules.specs.Rules.{flight-out-of-range};
 use srt_connection::legs::LARGEST_16;
 use srt_connection::legs::LARGEST_32;
@@ -9,7 +9,6 @@ use srt_connection::legs::LARGEST_SEQUENCE;
 use srt_connection::legs::NO_SEQUENCE;
 use srt_group_model::Data;
 use srt_group_model::Entry;
-use srt_group_model::Event;
 use srt_group_model::Leg;
 use srt_group_model::Membership;
 use srt_group_model::Packet;
@@ -36,13 +35,6 @@ pub fn leg_sequence_too_large(leg: Leg) -> bool
         | ((LARGEST_SEQUENCE < leg.receiver.first) & (leg.receiver.first != NO_SEQUENCE))
 }
 
-// Only data has a sequence.
-pub fn event_sequence_too_large(event: Event) -> bool
-    ensures { λ r. ⌜ r ≡ event-sequence-too-large event ⌝ }
-{
-    (event.kind == 0) & (LARGEST_SEQUENCE < event.content.sequence)
-}
-
 // ---- a field above its range
 
 pub fn data_out_of_range(content: Data) -> bool
@@ -53,14 +45,6 @@ pub fn data_out_of_range(content: Data) -> bool
         | (LARGEST_16 < content.count)
         | (LARGEST_32 < content.message)
         | (LARGEST_32 < content.timestamp)
-}
-
-pub fn event_out_of_range(event: Event) -> bool
-    ensures { λ r. ⌜ r ≡ event-out-of-range event ⌝ }
-{
-    (3 < event.kind)
-        | (LARGEST_32 < event.reason)
-        | ((event.kind == 0) & data_out_of_range(event.content))
 }
 
 // A flight is 0 without a sender.

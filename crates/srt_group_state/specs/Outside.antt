@@ -1,22 +1,15 @@
--- Every rule but the two about cells, and the walks that test them: the core's numbers, each row once, and what rows say of each
--- other.
+-- Every rule but the two about cells, and the numbers of the record, which are tested before any table is read.
 use mathlib.Core.Bool.{Bool, not, _||_}
 use mathlib.Core.List.{List, [], _∷_}
-use Prim.Native.Nat.{ℕ, _-_, _≤_}
+use Prim.Native.Nat.{_-_, _≤_}
 use Rattle.srt_protocol.specs.Handshake.{has-group-mask}
-use Rattle.srt_group_model.specs.Tools.{any, each}
+use Rattle.srt_group_model.specs.Tools.{any}
 use Rattle.srt_group_model.specs.State.{State}
-use Rattle.srt_group_model.specs.Members.{id-of}
-use Rattle.srt_group_model.specs.Validity.{Ranged, _at-most_, any-above, max-members, max-pending, max-waiting, is-too-large, one-twice, ascends, record-out-of-range, waiting-out-of-range, rules-outside-cells}
+use Rattle.srt_group_model.specs.Validity.{Ranged, _at-most_, any-above, max-members, max-pending, max-waiting, is-too-large, record-out-of-range, rules-outside-cells}
 use Rattle.srt_group_model.specs.declared.Core.{Core}
 use Rattle.srt_group_model.specs.declared.Identity.{Identity}
 use Rattle.srt_group_model.specs.declared.Sending.{Sending}
-use Rattle.srt_connection_members.specs.Members.{members-of}
-use Rattle.srt_group_tables.specs.Packets.{packets}
-use Rattle.srt_group_tables.specs.Waitings.{waitings}
 use Rattle.srt_group_shown.specs.Shown.{rest, shown}
-use Rattle.srt_group_rules.specs.Rules.{member-breaks-rule, packet-breaks-rule}
-use Rattle.srt_group_rules.specs.Sums.{accounts-wrong}
 
 -- ---- definitions
 
@@ -46,19 +39,3 @@ pub record CountsWithin (c : Core) : Type 0 where
   pub members : c .counts .members ≤ max-members
   pub pending : c .counts .pending ≤ max-pending
   pub waiting : c .counts .waiting ≤ max-waiting
-
--- ---- the lent tables
-
--- each row by itself
-unfoldable pub rows-break-rule : Core → (members pending waiting : List ℕ) → Bool
-rows-break-rule c members pending waiting =
-    any member-breaks-rule (members-of (c .counts .members) members)
-    || (any packet-breaks-rule (packets (c .counts .pending) pending)
-    || any waiting-out-of-range (waitings (c .counts .waiting) waiting))
-
--- what rows say of each other
-unfoldable pub rows-disagree : Core → (members pending : List ℕ) → Bool
-rows-disagree c members pending =
-    one-twice (each id-of (members-of (c .counts .members) members))
-    || (not (ascends (packets (c .counts .pending) pending))
-    || accounts-wrong (members-of (c .counts .members) members) (packets (c .counts .pending) pending) (c .own))

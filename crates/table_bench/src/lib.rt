@@ -2,32 +2,35 @@
 // product links it.
 ghost use mathlib.Core.Path.{_≡_};
 ghost use mathlib.Core.Bool.{true, false};
-ghost use Prim.Native.Nat.{_+_, _-_, _*_, _≤_, _<_};
+ghost use Prim.Native.Nat.{_+_, _-_, _≤_, _<_};
 ghost use lib.ListN.{length};
 ghost use Rattle.srt_group_model.specs.Cells.{is-among};
 ghost use Rattle.srt_group_model.specs.Sound.{pending-cells};
 ghost use Rattle.srt_group_model.specs.Nearest.{is-held};
 ghost use Rattle.srt_group_model.specs.Validity.{max-pending, ascends};
 ghost use Rattle.srt_group_model.specs.Legs.{largest-sequence};
-ghost use Rattle.srt_group_model.specs.Backup.{max-history};
 ghost use Rattle.srt_protocol.specs.Cells.{max-cells};
-ghost use Rattle.srt_connection_members.specs.Members.{has-row};
+ghost use Rattle.srt_connection_members.specs.Members.{has-row, members-size};
 ghost use Rattle.srt_group_tables.specs.Packets.{pending-size, packets};
-ghost use Rattle.srt_group_tables.specs.Ring.{arrays};
-ghost use Rattle.srt_connection_queue.specs.Rows.{row-size};
+ghost use Rattle.srt_group_tables.specs.Ring.{Long, arrays};
+ghost use Rattle.srt_group_tables.specs.Waitings.{waiting-size};
 ghost use Rattle.table_bench.specs.Made.{data-of, InArrays};
 use cell_set::FreeCell;
-use cell_set::WORDS;
-use cell_set::clear;
 use cell_set::lowest_free;
 use srt_connection_members::pop_at;
 use srt_connection_members::push_at;
+use srt_group_members::accounts::NO_PACKETS;
+use srt_group_model::Core;
 use srt_group_model::Counts;
 use srt_group_model::Data;
 use srt_group_model::Entry;
 use srt_group_model::Event;
+use srt_group_model::Identity;
 use srt_group_model::Packet;
-use srt_group_state::cells::mark_cells;
+use srt_group_model::Receiving;
+use srt_group_model::Sending;
+use srt_group_model::Visit;
+use srt_group_state::validity::is_invalid;
 use srt_group_tables::history::HistoryRing;
 use srt_group_tables::history::drop_before;
 use srt_group_tables::history::push_back;
@@ -158,39 +161,76 @@ pub extern "C" fn table_history(
     ring.length
 }
 
-// The cells that members, held packets and a history of so many sends name, and the lowest free one; MAX_CELLS if there is none.
+// The numbers of a group with so many members and held packets.
+fn core(many: usize, held: usize) -> Core {
+    Core {
+        mode: 0,
+        peer: 0,
+        counts: Counts {
+            members: many,
+            pending: held,
+            waiting: 0,
+        },
+        receiving: Receiving {
+            based: 1,
+            base: 0,
+            skipped: 0,
+        },
+        visit: Visit {
+            continuation: 0,
+            round: 0,
+        },
+        own: NO_PACKETS,
+    }
+}
+
+fn sending() -> Sending {
+    Sending {
+        numbered: 0,
+        next: 0,
+        carried: 0,
+        carrier: 0,
+        gap: 0,
+    }
+}
+
+// Document 01's code 6 over so many members, held packets and sends of a group that holds none itself, and then the lowest free cell;
+// MAX_CELLS if a rule is broken.
 #[no_mangle]
-pub extern "C" fn table_cells(
+pub extern "C" fn table_rules(
     members: &[u64],
     pending: &[u64],
+    waiting: &[u64],
     history: &[u64],
+    sources: &[u64],
     many: usize,
     held: usize,
     entries: usize,
 ) -> usize
-    requires { ⌜ many * row-size ≤ length (now members) ⌝ }
-    requires { ⌜ (pending-size ≤ length (now pending)) × (held ≤ max-pending) ⌝ }
-    requires { ⌜ (entries ≤ max-history) × (length (now history) ≡ max-history) ⌝ }
+    requires { ⌜ (members-size ≤ length (now members)) × ((pending-size ≤ length (now pending)) × (waiting-size ≤ length (now waiting))) ⌝ }
+    requires { ⌜ Long (arrays (now history) (now sources)) ⌝ }
 {
-    let counts = Counts {
-        members: many,
-        pending: held,
-        waiting: 0,
+    let identity = Identity {
+        id: 0x4000_0001,
+        length: 0,
     };
     let ring = HistoryRing {
         start: 0,
         length: entries,
     };
-    let mut used = [0u64; WORDS];
-    clear(&mut used);
-    if !mark_cells(
-        &mut used,
-        MAX_CELLS,
-        counts,
+    let mut used = [0u64; 32];
+    if is_invalid(
+        identity,
+        core(many, held),
+        sending(),
         ring,
         members,
         pending,
+        waiting,
         history,
+        sources,
+        MAX_CELLS,
+        &mut used,
     ) {
         return MAX_CELLS;
     }

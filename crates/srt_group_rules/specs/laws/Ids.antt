@@ -2,24 +2,26 @@
 use mathlib.Core.Path.{_≡_, refl, ap, sym, _∙_}
 use mathlib.Core.Bool.{Bool, true, false}
 use mathlib.Core.List.{List}
-use Prim.Native.Nat.{ℕ, zero, suc, _+_, _-_, _*_, _≤_, _<_}
+use Prim.Native.Nat.{ℕ, zero, suc, _+_, _-_, _*_, _%_, _≤_, _<_}
 use native.Mathlib.Decide.{decLt}
 use native.Mathlib.Omega.{arith}
 use borrow.Author.Tests.{eq-eqb, ne-eqb, eqb-true, eqb-false}
 use lib.Dec.{eqb}
-use lib.ListN.{getD}
+use lib.ListN.{length, getD, set, length-set, replicate, length-replicate}
+use lib.Seq.{getD-set-same, getD-set-other}
 use Rattle.srt_group_model.specs.Tools.{any, each}
-use Rattle.srt_group_model.specs.laws.Reason.{not-both, or-yes-left, or-yes-right, or-cases}
-use Rattle.srt_group_model.specs.Members.{id-of, has-id}
+use Rattle.srt_group_model.specs.laws.Reason.{by-test, not-both, or-yes-left, or-yes-right, or-cases}
+use Rattle.srt_group_model.specs.Members.{id-of, has-id, find}
 use Rattle.srt_group_model.specs.Cells.{is-among}
 use Rattle.srt_group_model.specs.Validity.{one-twice}
 use Rattle.srt_connection_queue.specs.Rows.{row-size}
-use Rattle.srt_connection_members.specs.Members.{member-at, members-of}
-use Rattle.srt_connection_members.specs.laws.Members.{id-word}
+use Rattle.srt_connection_members.specs.Members.{member-at, members-of, found-of}
+use Rattle.srt_connection_members.specs.declared.Found.the-variants.{At}
+use Rattle.srt_connection_members.specs.laws.Members.{id-word, found}
 use Rattle.word_rows.specs.Tab.{tab}
 use Rattle.srt_group_tables.specs.laws.PacketLaws.{each-tab}
 use Rattle.srt_group_rules.specs.laws.Walks.{any-there, any-nowhere, none-there}
-use Rattle.srt_group_rules.specs.Ids.{id-at}
+use Rattle.srt_group_rules.specs.Ids.{id-at, places, nobody, TakenBefore}
 
 -- ---- a search that finds nothing, and a row that passes
 
@@ -126,3 +128,53 @@ apart-all t index n here all =
     sym
     (ap one-twice (ids-of n t)
     ∙ apart-once n (id-at t) record { apart = λ i j less below same. here .apart i j less (omega arith) same })
+
+-- ---- the table of places
+
+pub taken-start : (t : List ℕ) → TakenBefore t 0 (replicate places nobody)
+taken-start t = record { long = length-replicate places nobody; taken = λ k below. absurd (omega arith) }
+
+module _ (t : List ℕ) (index : ℕ) (table : List ℕ) (here : TakenBefore t index table) (at : ℕ) (its-place : at ≡ getD t (index * row-size) 0 % places) where
+  place-is : at ≡ id-at t index % places
+  place-is = its-place ∙ ap (λ (id : ℕ). id % places) (id-word t index)
+
+  -- no id before has the place, so none is the same
+  pub free-place : getD table at 0 ≡ nobody → false ≡ any (has-id (id-at t index)) (members-of index t)
+  unfolding members-of
+  free-place free =
+      sym
+      (any-nowhere (has-id (id-at t index)) index (member-at t)
+      (λ k below.
+      ne-eqb (id-at t k) (id-at t index)
+      (λ same. here .taken k below (ap (λ (id : ℕ). getD table (id % places) 0) same ∙ ap (λ (n : ℕ). getD table n 0) (sym place-is) ∙ free))))
+
+  pub taken-on : index < nobody → TakenBefore t (index + 1) (set table at index)
+  taken-on low =
+      record {
+        long = length-set table at index ∙ here .long;
+        taken =
+            λ k below is.
+            by-test (eqb (id-at t k % places) at)
+            (λ e.
+            let there = ap (λ (n : ℕ). getD (set table at index) n 0) (eqb-true (id-at t k % places) at e) in
+            omega (arith, sym there ∙ is, getD-set-same table at index 0 inside))
+            (λ e.
+            let other = eqb-false (id-at t k % places) at e in
+            here .taken k (earlier k below (decLt k index) other) (sym (getD-set-other table at (id-at t k % places) index 0 other) ∙ is));
+      }
+    where
+      inside : at < length table
+      inside = omega (arith, place-is, here .long)
+
+      earlier : (k : ℕ) → k < index + 1 → Dec (k < index) → (id-at t k % places ≡ at → ⊥) → k < index
+      earlier k below (yes lower) other = lower
+      earlier k below (no l) other =
+          let last : k ≡ index = omega arith in absurd (other (ap (λ (i : ℕ). id-at t i % places) last ∙ sym place-is))
+
+-- a member with the id is the one that a search finds, where no id stands twice
+pub found-there : (n id : ℕ) (t : List ℕ) → one-twice (each id-of (members-of n t)) ≡ false → (i : ℕ) → i < n → getD t (i * row-size) 0 ≡ id
+    → At i ≡ found-of (find id (members-of n t))
+found-there n id t once i below is =
+    sym
+    (found n id t i below is
+    (λ j lower same. once-apart n (id-at t) (ap one-twice (sym (ids-of n t)) ∙ once) .apart j i lower below (sym (id-word t j) ∙ same ∙ sym is ∙ id-word t i)))

@@ -1,25 +1,31 @@
 -- What is proved of the definitions in specs/Rules.antt, with what the proofs need.
-use mathlib.Core.Path.{_≡_, ap, ap₂, _∙_}
+use mathlib.Core.Path.{_≡_, ap₂, _∙_}
 use mathlib.Core.Bool.{Bool, false, _||_}
 use Prim.Native.Nat.{ℕ, _^_, _<_}
 use native.Mathlib.Omega.{arith}
-use borrow.Author.Tests.{le-ltb}
-use Rattle.srt_group_model.specs.laws.Reason.{or-assoc}
-use Rattle.srt_group_model.specs.State.{Member}
-use Rattle.srt_group_model.specs.Legs.{largest-64}
-use Rattle.srt_group_model.specs.Validity.{above, membership-out-of-range}
-use Rattle.srt_group_model.specs.declared.Leg.{Leg}
-use Rattle.srt_group_model.specs.declared.Membership.{Membership}
-use Rattle.srt_group_rules.specs.Rules.{queue-breaks-rule, leg-breaks-rule, member-breaks-rule}
+use borrow.Author.Tests.{le-ltb, eq-eqb, ne-eqb}
+use lib.Dec.{ltb}
+use Rattle.srt_group_model.specs.Tools.{any}
+use Rattle.srt_group_model.specs.laws.Reason.{or-no, any-order}
+use Rattle.srt_group_model.specs.Legs.{largest-32, largest-64}
+use Rattle.srt_group_model.specs.Validity.{above, any-above, is-too-large, event-sequence-too-large, event-words, event-out-of-range, data-out-of-range}
+use Rattle.srt_group_model.specs.declared.Event.{Event}
+use Rattle.srt_group_rules.specs.Rules.{event-breaks-rule}
 
--- ---- laws
+-- ---- an event
 
--- a member's three parts, as they are read and tested
-pub member-tested : (m : Member) (x : Membership) (l : Leg) (a b q : Bool) → x ≡ m .membership → a ≡ membership-out-of-range x
-    → l ≡ m .leg → b ≡ leg-breaks-rule l → q ≡ queue-breaks-rule (m .queue) → ((a || b) || q) ≡ member-breaks-rule m
-unfolding member-breaks-rule
-member-tested m x l a b q x-is a-is l-is b-is q-is =
-    or-assoc a b q ∙ ap₂ _||_ (a-is ∙ ap membership-out-of-range x-is) (ap₂ _||_ (b-is ∙ ap leg-breaks-rule l-is) q-is)
+-- an event that is not data has a kind and a reason; data has a reason, a sequence and a content
+module _ (e : Event) where
+  pub event-no-data : (e .kind ≡ 0 → ⊥) → (ltb 3 (e .kind) || ltb largest-32 (e .reason)) ≡ event-breaks-rule e
+  unfolding event-breaks-rule event-sequence-too-large event-out-of-range event-words any-above any
+  event-no-data other = rw (ne-eqb (e .kind) 0 other) (simp or-no)
+
+  pub event-data : (large wrong : Bool) → e .kind ≡ 0 → large ≡ is-too-large (e .content .sequence) → wrong ≡ data-out-of-range (e .content)
+      → ((ltb largest-32 (e .reason) || large) || wrong) ≡ event-breaks-rule e
+  unfolding event-breaks-rule event-sequence-too-large event-out-of-range event-words any-above any
+  event-data large wrong is-it large-is wrong-is =
+      ap₂ (λ (a b : Bool). (ltb largest-32 (e .reason) || a) || b) large-is wrong-is
+      ∙ rw (eq-eqb (e .kind) 0 is-it, is-it) (simp (or-no, any-order))
 
 -- ---- a word is never above 64 bits
 

@@ -8,34 +8,32 @@ use Prim.Native.Nat.{ℕ, zero, suc, _+_, _-_, _*_, _^_, _≤_, _<_}
 use native.Mathlib.Numerals.{add-one}
 use native.Mathlib.Decide.{decLt}
 use native.Mathlib.Omega.{arith}
-use borrow.Author.Tests.{eq-eqb, ne-eqb, eqb-true, eqb-false, ltb-false}
+use borrow.Author.Tests.{eq-eqb, ne-eqb, eqb-true, eqb-false}
 use lib.Dec.{eqb}
-use lib.ListN.{length, take, drop, set, length-set, replicate, getD-replicate}
+use lib.ListN.{length, set, length-set, replicate, getD-replicate}
 use lib.Seq.{getD-set-same, getD-set-other}
-use Rattle.srt_group_model.specs.Tools.{if_then_else_, any, each, total, counted, All}
-use Rattle.srt_group_model.specs.laws.Reason.{by-test, or-left, or-right, or-yes-left, or-yes-right, place-none}
+use Rattle.srt_group_model.specs.Tools.{if_then_else_, any, each, total, counted}
+use Rattle.srt_group_model.specs.laws.Reason.{by-test, or-right, place-none}
 use Rattle.srt_group_model.specs.laws.Sound.{count-fits}
 use Rattle.srt_group_model.specs.State.{Member, State}
 use Rattle.srt_group_model.specs.Legs.{largest-16}
 use Rattle.srt_group_model.specs.Members.{id-of, has-id, find}
 use Rattle.srt_group_model.specs.Removal.{is-owned}
 use Rattle.srt_group_model.specs.Cells.{is-data}
-use Rattle.srt_group_model.specs.Validity.{max-pending, max-members, above, any-above, max-queued, is-too-large, event-sequence-too-large, one-twice, queued-count, member-sum-wrong, is-unreserved, reserved-sum-wrong, data-out-of-range, event-words, event-out-of-range, membership-out-of-range, packet-words, packet-out-of-range, is-held-for}
+use Rattle.srt_group_model.specs.Validity.{max-pending, max-members, any-above, max-queued, is-too-large, event-sequence-too-large, one-twice, queued-count, member-sum-wrong, is-unreserved, reserved-sum-wrong, data-out-of-range, event-words, event-out-of-range, packet-words, packet-out-of-range, is-held-for}
 use Rattle.srt_group_model.specs.declared.Event.{Event}
-use Rattle.srt_group_model.specs.declared.Membership.{Membership}
 use Rattle.srt_group_model.specs.declared.Packet.{Packet}
-use Rattle.srt_group_model.specs.declared.Receiver.{Receiver}
 use Rattle.srt_connection_queue.specs.declared.rows.Ring.{Ring}
 use Rattle.srt_connection_members.specs.declared.Found.{Found}
 use Rattle.srt_connection_members.specs.declared.Found.the-variants.{At, Nothing}
-use Rattle.srt_connection_queue.specs.Rows.{row-size, receiver-part, part, ring-of, member-of}
+use Rattle.srt_connection_queue.specs.Rows.{receiver-part, part, ring-of, member-of}
 use Rattle.srt_connection_members.specs.Members.{member-at, members-of, found-of}
-use Rattle.srt_connection_members.specs.laws.Members.{found-below, found-id, found-none, lent-member}
+use Rattle.srt_connection_members.specs.laws.Members.{found-below, found-id, found-none}
 use Rattle.srt_group_tables.specs.Packets.{packet-at, packets}
 use Rattle.word_rows.specs.Tab.{tab}
 use Rattle.word_rows.specs.laws.Tab.{tab-length, tab-push}
-use Rattle.srt_group_rules.specs.Rules.{event-breaks-rule, queue-breaks-rule, member-breaks-rule, packet-breaks-rule, leg-breaks-rule}
-use Rattle.srt_group_rules.specs.laws.Walks.{all-of-tab, any-there, any-nowhere, any-same, none-there, Passed, passed-one, passed-all, stops-there, queued, the-queue, queue-length}
+use Rattle.srt_group_rules.specs.Rules.{event-breaks-rule, packet-breaks-rule}
+use Rattle.srt_group_rules.specs.laws.Walks.{all-of-tab, any-there, any-nowhere, any-same, queued, the-queue}
 use Rattle.srt_group_rules.specs.Ids.{id-at}
 use Rattle.srt_group_rules.specs.laws.Ids.{Apart, ids-of, once-apart}
 use Rattle.srt_group_rules.specs.Sums.{sum-of, event-count, own-place, account-place, differs, accounts-wrong, account-at, Adding, member-differs, index-of, accounts-differ}
@@ -95,42 +93,30 @@ pub record Queued (row : List ℕ) (ring : Ring) (at sum : ℕ) : Type 0 where
   pub within : at ≤ ring .length
   pub is : sum ≡ sum-of is-data event-count at (queued row ring)
 
-module _ (row : List ℕ) (ring : Ring) (read : ring ≡ ring-of (part row receiver-part)) (good : queue-breaks-rule (member-of row .queue) ≡ false) where
-  pub queue-short : ring .length ≤ max-queued
-  unfolding queue-breaks-rule
-  queue-short =
-      let short = ltb-false max-queued (length (member-of row .queue)) (or-left (above max-queued (length (member-of row .queue))) _ good) in
-      omega (arith, queue-length row ring read)
-
-  event-good : (i : ℕ) → i < ring .length → event-breaks-rule (queued row ring i) ≡ false
-  unfolding queue-breaks-rule
-  event-good i below =
-      none-there event-breaks-rule (ring .length) (queued row ring)
-      (ap (any event-breaks-rule) (sym (the-queue row ring read)) ∙ or-right (above max-queued (length (member-of row .queue))) _ good) i below
-
+module _ (row : List ℕ) (ring : Ring) where
   pub queued-start : Queued row ring 0 0
   queued-start = record { within = omega arith; is = sym (sum-none is-data event-count (queued row ring)) }
 
   module _ (at sum : ℕ) (here : Queued row ring at sum) where
-    pub queued-small : sum ≤ largest-16 * at
-    queued-small =
+    queued-small : ((i : ℕ) → i < at → event-breaks-rule (queued row ring i) ≡ false) → sum ≤ largest-16 * at
+    queued-small good =
         omega (
           arith,
           here .is,
-          sum-small is-data event-count at (queued row ring)
-              (λ i below it. event-small (queued row ring i) (event-good i (omega (arith, here .within))) it),
+          sum-small is-data event-count at (queued row ring) (λ i below it. event-small (queued row ring i) (good i below) it),
         )
 
+    -- the event at the place is one more, and breaks no rule
     module _ (event : Event) (n : ℕ) (event-is : event ≡ queued row ring at) (n-is : n ≡ counted is-data event-count event)
         (inside : at < ring .length) where
-      pub queued-fits : sum + n < 2 ^ 64
-      queued-fits =
+      pub queued-fits : ((i : ℕ) → i < at → event-breaks-rule (queued row ring i) ≡ false) → event-breaks-rule event ≡ false → ring .length ≤ max-queued
+          → sum + n < 2 ^ 64
+      queued-fits good fine short =
           omega (
             arith,
-            queued-small,
-            queue-short,
-            n-is ∙ ap (counted is-data event-count) event-is,
-            counted-most largest-16 is-data event-count (queued row ring at) (event-small (queued row ring at) (event-good at inside)),
+            queued-small good,
+            n-is,
+            counted-most largest-16 is-data event-count event (event-small event fine),
           )
 
       pub queued-one : Queued row ring (at + 1) (sum + n)
@@ -142,26 +128,13 @@ module _ (row : List ℕ) (ring : Ring) (read : ring ≡ ring-of (part row recei
                 ∙ sym (sum-more is-data event-count at (queued row ring));
           }
 
-    pub queued-all : ring .length ≤ at → sum ≡ queued-count (member-of row .queue)
+    pub queued-all : ring ≡ ring-of (part row receiver-part) → ring .length ≤ at → sum ≡ queued-count (member-of row .queue)
     unfolding sum-of
-    queued-all all =
+    queued-all read all =
         let whole : at ≡ ring .length = omega (arith, here .within) in
         here .is
         ∙ ap (total (counted is-data event-count))
         (ap (λ (n : ℕ). tab n (queued row ring)) whole ∙ sym (the-queue row ring read))
-
--- the queued counts stay far below 2^64
-pub queued-count-small : (row : List ℕ) (ring : Ring) → ring ≡ ring-of (part row receiver-part) → queue-breaks-rule (member-of row .queue) ≡ false
-    → queued-count (member-of row .queue) ≤ largest-16 * max-queued
-queued-count-small row ring read good =
-    let sum = sum-of is-data event-count (ring .length) (queued row ring) in
-    let whole : Queued row ring (ring .length) sum = record { within = omega arith; is = refl } in
-    omega (
-      arith,
-      queued-small row ring read good (ring .length) sum whole,
-      queued-all row ring read good (ring .length) sum whole (omega arith),
-      queue-short row ring read good,
-    )
 
 -- ---- the packets, added up front to back: the accounts of the members, and the group's own behind them
 
@@ -246,6 +219,9 @@ module _ (t : List ℕ) (count : ℕ) (few : count ≤ max-members) (once : one-
       let is = found ∙ place-held (members-of count t) p other in
       placed-held p other place (found-below count (p .member) place t is) (found-id count (p .member) place t is))
 
+  pub placed-somewhere : (p : Packet) (place : ℕ) → At place ≡ account-place (members-of count t) p → is-unreserved (members-of count t) p ≡ false
+  placed-somewhere p place found = placed p place found .reserved
+
 pub adding-start : (t : List ℕ) (count : ℕ) (pending : List ℕ) → count ≤ max-members → Adding t count pending 0 (replicate 65 no-packets)
 unfolding tab total
 adding-start t count pending few =
@@ -283,24 +259,20 @@ one-more test pending at accounts place j long so-far yes-there no-else =
         ap (account-of test)
         (ap (λ (k : ℕ). packets k pending) (add-one at) ∙ tab-push at (packet-at pending) (packet-at pending) (packet-at pending at) (λ i below. refl) refl)
 
-all-small : (pending : List ℕ) (n : ℕ) → any packet-breaks-rule (packets n pending) ≡ false → (at : ℕ) → at ≤ n → All Small (packets at pending)
-all-small pending n good at most = all-of-tab Small at (packet-at pending) (λ k below. packet-small _ (none-there packet-breaks-rule n (packet-at pending) good k (omega arith)))
-
-module _ (t : List ℕ) (count : ℕ) (pending : List ℕ) (n at : ℕ) (accounts : List Account) (few : count ≤ max-members)
-    (once : one-twice (each id-of (members-of count t)) ≡ false) (good : any packet-breaks-rule (packets n pending) ≡ false)
-    (here : Adding t count pending at accounts) where
+module _ (t : List ℕ) (count : ℕ) (pending : List ℕ) (at : ℕ) (accounts : List Account) (few : count ≤ max-members)
+    (once : one-twice (each id-of (members-of count t)) ≡ false)
+    (good : (k : ℕ) → k < at → packet-breaks-rule (packet-at pending k) ≡ false) (here : Adding t count pending at accounts) where
   -- the accounts are of at most so many packets
-  small-at : at ≤ n → (place : ℕ) → (place ≡ own-place) ⊎ (place < count) → Few at (account-at accounts place)
-  small-at most place =
+  small-at : (place : ℕ) → (place ≡ own-place) ⊎ (place < count) → Few at (account-at accounts place)
+  small-at place =
       ⊎-elim
       (λ e. subst (Few at) (sym (ap (account-at accounts) e ∙ here .own)) (few-of is-owned))
       (λ below. subst (Few at) (sym (here .held place below)) (few-of (is-held-for (id-at t place))))
     where
       few-of : (test : Packet → Bool) → Few at (account-of test (packets at pending))
-      few-of test = subst (λ (k : ℕ). Few k (account-of test (packets at pending))) (tab-length at (packet-at pending)) (few-account test (packets at pending) (all-small pending n good at most))
-
-  pub member-small : at ≤ n → n ≤ max-pending → (i : ℕ) → i < count → account-at accounts i .reserved ≤ largest-16 * max-pending
-  member-small within most i below = omega (arith, small-at within i (inr below) .reserved)
+      few-of test =
+          subst (λ (k : ℕ). Few k (account-of test (packets at pending))) (tab-length at (packet-at pending))
+          (few-account test (packets at pending) (all-of-tab Small at (packet-at pending) (λ k below. packet-small _ (good k below))))
 
   module _ (found : Found) (p : Packet) (place : ℕ) (is : found ≡ At place) (found-is : found ≡ account-place (members-of count t) p)
       (read : p ≡ packet-at pending at) where
@@ -311,11 +283,8 @@ module _ (t : List ℕ) (count : ℕ) (pending : List ℕ) (n at : ℕ) (account
     place-inside = ⊎-elim (λ own. omega (arith, own)) (λ held. omega (arith, few, held)) (there .inside)
 
     -- its words stay far below 2^64
-    pub account-fits : at < n → n ≤ max-pending → Fits (reserve (p .content .count) (account-at accounts place))
-    account-fits inside most =
-        few-room (omega arith)
-        (subst Small (sym read) (packet-small _ (none-there packet-breaks-rule n (packet-at pending) good at inside)))
-        (small-at (omega arith) place (there .inside))
+    pub account-fits : packet-breaks-rule p ≡ false → at < max-pending → Fits (reserve (p .content .count) (account-at accounts place))
+    account-fits fine inside = few-room (omega arith) (packet-small p fine) (small-at place (there .inside))
 
     pub added-one : (after : Account) → after ≡ reserve (p .content .count) (account-at accounts place) → Adding t count pending (at + 1) (set accounts place after)
     added-one after after-is =
@@ -344,96 +313,34 @@ module _ (t : List ℕ) (count : ℕ) (pending : List ℕ) (n at : ℕ) (account
             ap (λ (j : ℕ). is-unreserved (members-of count t) (packet-at pending j)) last
             ∙ ap (is-unreserved (members-of count t)) (sym read) ∙ there .reserved
 
--- ---- the comparison
-
--- a member whose row breaks no rule has a queue that breaks none
-pub queue-good : (m : Member) → member-breaks-rule m ≡ false → queue-breaks-rule (m .queue) ≡ false
-unfolding member-breaks-rule
-queue-good m h = or-right (leg-breaks-rule (m .leg)) _ (or-right (membership-out-of-range (m .membership)) _ h)
-
--- the row of a member that is lent
-abbrev lent : List ℕ → ℕ → Member
-lent t i = member-of (take (i * row-size + row-size - i * row-size) (drop (i * row-size) t))
-
-pub member-good : (t : List ℕ) (count : ℕ) → any member-breaks-rule (members-of count t) ≡ false → (i : ℕ) → i < count → member-breaks-rule (lent t i) ≡ false
-unfolding members-of
-member-good t count good i below = ap member-breaks-rule (lent-member t i) ∙ none-there member-breaks-rule count (member-at t) good i below
-
-pub member-passed : (t : List ℕ) (accounts : List Account) (i : ℕ) (answer : Bool) → answer ≡ differs (account-at accounts i) (lent t i)
-    → Passed (member-differs t accounts) index-of i → answer ≡ false → Passed (member-differs t accounts) index-of (i + 1)
-member-passed t accounts i answer is = passed-one (member-differs t accounts) index-of i i answer refl (is ∙ ap (differs (account-at accounts i)) (lent-member t i))
-
--- what was read of a member, compared
-pub differs-tested : (held : Account) (m : Member) (x : Membership) (y : Receiver) (queued : ℕ) (other : Bool) → x ≡ m .membership → y ≡ m .leg .receiver
-    → queued ≡ queued-count (m .queue) → other ≡ unlike (x .account) held
-    → (other || not (eqb (y .reserved) (held .reserved + queued))) ≡ differs held m
-unfolding differs
-differs-tested held m x y queued other x-is y-is queued-is other-is =
-    ap₂ _||_ (other-is ∙ ap (λ (v : Membership). unlike (v .account) held) x-is)
-    (ap₂ (λ (v : Receiver) (n : ℕ). not (eqb (v .reserved) (held .reserved + n))) y-is queued-is)
-
 -- ---- the whole rule, from the walk and the comparison
 
-module _ (t : List ℕ) (count : ℕ) (pending : List ℕ) (n at : ℕ) (own : Account) where
-  -- a packet is in no account
-  pub wrong-nowhere : (found : Found) (p : Packet) → found ≡ Nothing → found ≡ account-place (members-of count t) p → p ≡ packet-at pending at → at < n
-      → true ≡ accounts-wrong (members-of count t) (packets n pending) own
-  unfolding accounts-wrong is-unreserved
-  wrong-nowhere found p is found-is read inside =
-      sym
-      (or-yes-right (any (member-sum-wrong (packets n pending)) (members-of count t)) _
-      (or-yes-left (any (is-unreserved (members-of count t)) (packets n pending)) _
-      (any-there (is-unreserved (members-of count t)) n (packet-at pending) at inside (ap (is-unreserved (members-of count t)) (sym read) ∙ unreserved))))
+-- a packet with no place is in no account, and one with a place is in one
+module _ (ms : List Member) (p : Packet) where
+  pub placed-nowhere : account-place ms p ≡ Nothing → is-unreserved ms p ≡ true
+  unfolding is-unreserved
+  placed-nowhere nothing =
+      by-test (is-owned p) (λ mine. never-nothing own-place (sym nothing ∙ place-own ms p mine))
+      (λ other.
+      ap₂ (λ (b there : Bool). not b && not there) other
+      (place-none (has-id (p .member)) ms (found-none (find (p .member) ms) (sym nothing ∙ place-held ms p other))))
+
+module _ (t : List ℕ) (count : ℕ) (pending : List ℕ) (n : ℕ) (own : Account) (accounts : List Account) (whole : Adding t count pending n accounts) where
+  pub wrong-is : accounts-wrong (members-of count t) (packets n pending) own ≡ (unlike own (account-at accounts own-place) || accounts-differ t accounts count)
+  unfolding accounts-wrong accounts-differ members-of member-sum-wrong differs
+  wrong-is =
+      ap₂ _||_
+      (any-same (member-sum-wrong (packets n pending)) (member-differs t accounts) count (member-at t) index-of (λ i below. member-is i below))
+      (ap₂ _||_
+      (any-nowhere (is-unreserved (members-of count t)) n (packet-at pending) (λ k below. whole .reserved k below))
+      (ap (unlike own) (sym (whole .own))))
+      ∙ or-swap (any (member-differs t accounts) (tab count index-of)) (unlike own (account-at accounts own-place))
     where
-      nothing : Nothing ≡ account-place (members-of count t) p
-      nothing = sym is ∙ found-is
+      or-swap : (a b : Bool) → (a || (false || b)) ≡ (b || a)
+      or-swap true true = refl
+      or-swap true false = refl
+      or-swap false true = refl
+      or-swap false false = refl
 
-      unreserved : (not (is-owned p) && not (any (has-id (p .member)) (members-of count t))) ≡ true
-      unreserved =
-          by-test (is-owned p) (λ mine. never-nothing own-place (nothing ∙ place-own (members-of count t) p mine))
-          (λ other.
-          ap₂ (λ (b there : Bool). not b && not there) other
-          (place-none (has-id (p .member)) (members-of count t)
-          (found-none (find (p .member) (members-of count t)) (nothing ∙ place-held (members-of count t) p other))))
-
-  module _ (accounts : List Account) (here : Adding t count pending at accounts) (all : n ≤ at) (most : at ≤ n) where
-    whole : Adding t count pending n accounts
-    whole = let same : at ≡ n = omega arith in subst (λ (k : ℕ). Adding t count pending k accounts) same here
-
-    wrong-is : accounts-wrong (members-of count t) (packets n pending) own ≡ (unlike own (account-at accounts own-place) || accounts-differ t accounts count)
-    unfolding accounts-wrong accounts-differ members-of member-sum-wrong differs
-    wrong-is =
-        ap₂ _||_
-        (any-same (member-sum-wrong (packets n pending)) (member-differs t accounts) count (member-at t) index-of (λ i below. member-is i below))
-        (ap₂ _||_
-        (any-nowhere (is-unreserved (members-of count t)) n (packet-at pending) (λ k below. whole .reserved k below))
-        (ap (unlike own) (sym (whole .own))))
-        ∙ or-swap (any (member-differs t accounts) (tab count index-of)) (unlike own (account-at accounts own-place))
-      where
-        or-swap : (a b : Bool) → (a || (false || b)) ≡ (b || a)
-        or-swap true true = refl
-        or-swap true false = refl
-        or-swap false true = refl
-        or-swap false false = refl
-
-        member-is : (i : ℕ) → i < count → member-sum-wrong (packets n pending) (member-at t i) ≡ member-differs t accounts i
-        member-is i below = ap (λ (held : Account). differs held (member-at t i)) (sym (whole .held i below))
-
-    module _ (other : Bool) (other-is : other ≡ unlike own (account-at accounts own-place)) where
-      pub wrong-own : other ≡ true → true ≡ accounts-wrong (members-of count t) (packets n pending) own
-      wrong-own e = sym (wrong-is ∙ ap (λ (b : Bool). b || accounts-differ t accounts count) (sym other-is ∙ e))
-
-      module _ (same : other ≡ false) where
-        wrong-members : accounts-differ t accounts count ≡ accounts-wrong (members-of count t) (packets n pending) own
-        wrong-members = sym (wrong-is ∙ ap (λ (b : Bool). b || accounts-differ t accounts count) (sym other-is ∙ same))
-
-        pub wrong-member : (i : ℕ) (answer : Bool) → answer ≡ differs (account-at accounts i) (lent t i) → i < count → answer ≡ true
-            → true ≡ accounts-wrong (members-of count t) (packets n pending) own
-        unfolding accounts-differ
-        wrong-member i answer is below it =
-            stops-there (member-differs t accounts) index-of i i answer refl (is ∙ ap (differs (account-at accounts i)) (lent-member t i)) count below it
-            ∙ wrong-members
-
-        pub wrong-none : (i : ℕ) → Passed (member-differs t accounts) index-of i → count ≤ i → false ≡ accounts-wrong (members-of count t) (packets n pending) own
-        unfolding accounts-differ
-        wrong-none i passed all-passed = passed-all (member-differs t accounts) index-of count i passed all-passed ∙ wrong-members
+      member-is : (i : ℕ) → i < count → member-sum-wrong (packets n pending) (member-at t i) ≡ member-differs t accounts i
+      member-is i below = ap (λ (held : Account). differs held (member-at t i)) (sym (whole .held i below))

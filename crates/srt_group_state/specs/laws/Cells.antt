@@ -4,11 +4,10 @@ use mathlib.Core.Bool.{Bool, true, false, not, _||_}
 use mathlib.Core.List.{List, [], _∷_, _++_, append-assoc, append-nil}
 use mathlib.Core.Option.{Option, some}
 use Prim.Native.Nat.{ℕ, zero, suc, _+_, _%_, _≤_, _<_}
-use native.Mathlib.Numerals.{add-one}
 use native.Mathlib.Omega.{arith}
 use borrow.Author.Tests.{eq-eqb, ne-eqb}
 use lib.Dec.{leb}
-use lib.ListN.{length, getD}
+use lib.ListN.{length}
 use Rattle.srt_group_model.specs.Tools.{if_then_else_, if-some_give_otherwise_, any, such-that, at-place, each}
 use Rattle.srt_group_model.specs.laws.Reason.{by-test, not-both, or-left, or-right}
 use Rattle.srt_group_model.specs.State.{Member}
@@ -16,7 +15,6 @@ use Rattle.srt_group_model.specs.Cells.{is-data, queue-cells, queued-cells}
 use Rattle.srt_group_model.specs.Validity.{max-queued, one-twice}
 use Rattle.srt_group_model.specs.Sound.{occurs, pending-cells, history-cells}
 use Rattle.srt_group_model.specs.laws.CellsKept.{occurs-append, Apart, apart-of-rules, once-of-apart, inside-of-apart}
-use Rattle.srt_group_model.specs.Backup.{max-history}
 use Rattle.srt_protocol.specs.Cells.{max-cells}
 use Rattle.srt_group_model.specs.declared.Entry.{Entry}
 use Rattle.srt_group_model.specs.declared.Event.{Event}
@@ -30,47 +28,26 @@ use Rattle.srt_connection_queue.specs.laws.Tab.{tab-place}
 use Rattle.srt_connection_queue.specs.Rows.{receiver-part, first-event-part, part, ring-of, event-of, event-in, queue-of, member-parts, member-of}
 use Rattle.srt_connection_members.specs.Members.{member-at, members-of}
 use Rattle.srt_group_tables.specs.Packets.{packet-at, packets}
-use Rattle.srt_group_tables.specs.Ring.{Arrays, word-cell, entry-at, entries-of}
+use Rattle.srt_group_tables.specs.Ring.{Arrays, entry-at, entries-of}
 use Rattle.srt_group_tables.specs.declared.history.HistoryRing.{HistoryRing}
-use Rattle.srt_group_tables.specs.laws.PacketLaws.{each-tab}
-use Rattle.srt_group_state.specs.Cells.{event-cells, sent-cells}
+use Rattle.srt_group_state.specs.Cells.{event-cells}
 
 -- ---- what a test of an answer tells
 
-answered-true : (r : Bool) → not r ≡ false → r ≡ true
+pub answered-true : (r : Bool) → not r ≡ false → r ≡ true
 answered-true true h = refl
 answered-true false h = not-both refl h
 
-answered-false : (r : Bool) → not r ≡ true → r ≡ false
+pub answered-false : (r : Bool) → not r ≡ true → r ≡ false
 answered-false true h = not-both h refl
 answered-false false h = refl
 
--- ---- no list, and one list after another
+-- ---- no list
 
-nothing-marked : (cells : ℕ) (before : List ℕ) → Marking cells before → Marks cells [] before true before
+pub nothing-marked : (cells : ℕ) (before : List ℕ) → Marking cells before → Marks cells [] before true before
 unfolding occurs
 nothing-marked cells before marking =
     record { marked = λ e n. omega arith; kept = λ e. marking; broken = λ e h. not-both refl e }
-
-pub marking-after : {cells : ℕ} {named before : List ℕ} {r : Bool} {after : List ℕ} → Marks cells named before r after → not r ≡ false → Marking cells after
-marking-after {r = r} marks taken = marks .kept (answered-true r taken)
-
-module _ (cells : ℕ) (l m before : List ℕ) (r : Bool) (here : List ℕ) (first : Marks cells l before r here) where
-  pub marks-stopped : not r ≡ true → Marks cells (l ++ m) before false here
-  marks-stopped refused =
-      record {
-        marked = λ e c. not-both e refl;
-        kept = λ e. not-both e refl;
-        broken = λ e h. first .broken (answered-false r refused) (λ c. omega (arith, h c, occurs-append c l m));
-      }
-
-  pub marks-then : not r ≡ false → (s : Bool) (after : List ℕ) → Marks cells m here s after → Marks cells (l ++ m) before s after
-  marks-then taken s after second =
-      record {
-        marked = λ e c. omega (arith, first .marked (answered-true r taken) c, second .marked e c, occurs-append c l m);
-        kept = λ e. second .kept e;
-        broken = λ e h. second .broken e (λ c. omega (arith, h c, first .marked (answered-true r taken) c, occurs-append c l m));
-      }
 
 -- ---- the lists of the first places, joined
 
@@ -85,7 +62,7 @@ joined-next (suc n) names =
     ap (λ (l : List ℕ). names 0 ++ l) (joined-next n (λ i. names (suc i)))
     ∙ sym (append-assoc (names 0) (joined n (λ i. names (suc i))) (names (suc n)))
 
-joined-more : (i n : ℕ) (names : ℕ → List ℕ) (c : ℕ) → i ≤ n → occurs c (joined i names) ≤ occurs c (joined n names)
+pub joined-more : (i n : ℕ) (names : ℕ → List ℕ) (c : ℕ) → i ≤ n → occurs c (joined i names) ≤ occurs c (joined n names)
 unfolding joined occurs
 joined-more zero n names c h = omega arith
 joined-more (suc i) zero names c h = absurd (omega arith)
@@ -126,26 +103,23 @@ pub queues-are : (n : ℕ) (members : List ℕ) → joined n (λ i. queue-cells 
 unfolding members-of
 queues-are n members = members-joined n (member-at members)
 
+pub events-are : (n : ℕ) (event : ℕ → Event) → joined n (λ i. event-cells (event i)) ≡ each (λ (e : Event). e .content .cell) (such-that is-data (tab n event))
+unfolding joined tab if_then_else_ such-that each event-cells
+events-are zero event = refl
+events-are (suc n) event =
+    by-test (is-data (event 0)) (λ t. rw (t, events-are n (λ i. event (suc i)))) (λ t. rw (t, events-are n (λ i. event (suc i))))
+
+pub entries-are : (r : HistoryRing) (a : Arrays) → joined (r .length) (λ i. entry-at r a i .cell ∷ []) ≡ history-cells (entries-of r a)
+entries-are r a = rows-joined (r .length) (λ (e : Entry). e .cell) (entry-at r a)
+
 pub pending-are : (n : ℕ) (pending : List ℕ) → joined n (λ i. packet-at pending i .content .cell ∷ []) ≡ pending-cells (packets n pending)
 pending-are n pending = rows-joined n (λ (p : Packet). p .content .cell) (packet-at pending)
-
-pub sent-are : (r : HistoryRing) (sent : List ℕ) → joined (r .length) (λ i. word-cell (getD sent ((r .start + i) % max-history) 0) ∷ []) ≡ sent-cells r sent
-unfolding sent-cells
-sent-are r sent = rows-joined (r .length) word-cell (λ i. getD sent ((r .start + i) % max-history) 0)
 
 -- ---- what is read at a place names what stands there
 
 pub event-names : (q : List Event) (index : ℕ) (e : Event) → at-place index q ≡ some e → event-cells e ≡ queue-names q index
 unfolding if-some_give_otherwise_
 event-names q index e there = ap (λ (o : Option Event). if-some o give event-cells otherwise []) (sym there)
-
--- the cell of the word at a place of the history
-pub word-names : (history : List ℕ) (at place cell : ℕ) → at ≡ place → cell ≡ word-cell (getD history at 0)
-    → _≡_ {A = List ℕ} (cell ∷ []) (word-cell (getD history place 0) ∷ [])
-word-names history at place cell same is = ap (λ (c : ℕ). c ∷ []) (is ∙ ap (λ (n : ℕ). word-cell (getD history n 0)) same)
-
-pub cell-names : (cell other : ℕ) → cell ≡ other → _≡_ {A = List ℕ} (cell ∷ []) (other ∷ [])
-cell-names cell other same = ap (λ (c : ℕ). c ∷ []) same
 
 pub marks-as : {cells : ℕ} {l m before : List ℕ} {r : Bool} {after : List ℕ} → l ≡ m → Marks cells l before r after → Marks cells m before r after
 marks-as {cells} {l} {m} {before} {r} {after} same marks = subst (λ (k : List ℕ). Marks cells k before r after) same marks
@@ -177,51 +151,6 @@ event-read row ring index e is below read =
     ∙ ap (λ (x : Ring). some (event-of (part row (first-event-part + (x .start + index) % max-queued)))) (sym is)
     ∙ ap (λ (n : ℕ). some (event-of (part row n))) (omega arith) ∙ ap (λ (x : Event). some x) (sym read)
 
--- ---- a loop over places: those passed are marked
-
-pub record MarkedTo (cells : ℕ) (names : ℕ → List ℕ) (count : ℕ) (before : List ℕ) (at : ℕ) (here : List ℕ) : Type 0 where
-  pub passed : at ≤ count
-  pub marks : Marks cells (joined at names) before true here
-  pub marking : Marking cells here
-
-pub marking-start : (cells : ℕ) (names : ℕ → List ℕ) (count : ℕ) (before : List ℕ) → Marking cells before → MarkedTo cells names count before 0 before
-unfolding joined
-marking-start cells names count before marking =
-    record { passed = omega arith; marks = nothing-marked cells before marking; marking = marking }
-
-module _ (cells : ℕ) (names : ℕ → List ℕ) (count : ℕ) (before : List ℕ) (at : ℕ) (here : List ℕ) (sofar : MarkedTo cells names count before at here)
-  where
-    one-more : {named : List ℕ} {r : Bool} {after : List ℕ} → named ≡ names at → Marks cells named here r after
-        → Marks cells (joined (suc at) names) before r after
-    one-more is step =
-        marks-as (sym (joined-next at names)) (marks-then _ _ _ _ _ _ (sofar .marks) refl _ _ (marks-as is step))
-
-    pub marking-on : (named : List ℕ) (r : Bool) (after : List ℕ) → named ≡ names at → at < count → not r ≡ false
-        → Marks cells named here r after → MarkedTo cells names count before (at + 1) after
-    marking-on named r after is more taken step =
-        let marks = subst (λ (b : Bool). Marks cells (joined (suc at) names) before b after) (answered-true r taken) (one-more is step) in
-        record { passed = omega arith; marks = rw add-one marks; marking = marks .kept refl }
-
-    pub marking-stopped : (all named : List ℕ) (r : Bool) (after : List ℕ) → joined count names ≡ all → named ≡ names at → at < count → not r ≡ true
-        → Marks cells named here r after → Marks cells all before false after
-    marking-stopped all named r after are is more refused step =
-        marks-as are
-        (record {
-          marked = λ e. not-both e refl;
-          kept = λ e. not-both e refl;
-          broken =
-              λ e h.
-              one-more is step .broken (answered-false r refused)
-              (λ n. omega (arith, h n, joined-more (suc at) count names n (omega arith)));
-        })
-
-    pub marking-done : (all : List ℕ) → joined count names ≡ all → count ≤ at → Marks cells all before true here
-    marking-done all are through =
-        marks-as (ap (λ (k : ℕ). joined k names) same ∙ are) (sofar .marks)
-      where
-        same : at ≡ count
-        same = omega (arith, sofar .passed)
-
 -- ---- the whole pass
 
 pub fresh-marking : (cells : ℕ) (words : List ℕ) → cells ≤ max-cells → ShowsCells words [] → Marking cells words
@@ -242,10 +171,3 @@ marks-answer cells named before false after fresh marks =
     (λ t.
     let rules = apart-of-rules cells named (or-left (one-twice named) _ t) (or-right (one-twice named) _ t) in
     absurd (marks .broken refl (λ n. omega (arith, rules n, fresh .bits n))))
-
--- the cells of the history's entries are those of its words
-pub sent-is-history : (r : HistoryRing) (a : Arrays) → sent-cells r (a .history) ≡ history-cells (entries-of r a)
-unfolding sent-cells
-sent-is-history r a =
-    each-tab word-cell (r .length) (λ i. getD (a .history) ((r .start + i) % max-history) 0)
-    ∙ sym (each-tab (λ (e : Entry). e .cell) (r .length) (entry-at r a))

@@ -1,21 +1,20 @@
 -- What is proved of the definitions in specs/Outside.antt, with what the proofs need.
-use mathlib.Core.Path.{_≡_, refl, ap, ap₂, sym, _∙_}
+use mathlib.Core.Path.{_≡_, refl, ap, sym, _∙_}
 use mathlib.Core.Bool.{Bool, true, false, not, _&&_, _||_}
-use mathlib.Core.List.{List, []}
+use mathlib.Core.List.{List}
 use Prim.Native.Nat.{ℕ, _-_}
 use native.Mathlib.Omega.{arith}
-use borrow.Author.Tests.{ltb-true, ltb-false, lt-ltb, le-ltb, le-leb, lt-leb}
+use borrow.Author.Tests.{not-false, ltb-true, ltb-false, lt-ltb, le-ltb, le-leb, lt-leb}
 use lib.Dec.{leb, ltb}
 use lib.ListN.{length}
 use Rattle.srt_protocol.specs.Handshake.{has-group-mask}
 use Rattle.srt_group_model.specs.Tools.{any, each}
-use Rattle.srt_group_model.specs.laws.Reason.{by-test, and-yes, neither, no-either, or-yes-left, or-yes-right, or-assoc, any-order, or-no, any-agree, any-append}
+use Rattle.srt_group_model.specs.laws.Reason.{by-test, and-yes, neither, no-either, or-left, or-right, or-yes-left, or-yes-right, or-assoc, any-order, or-no, any-agree, any-append}
 use Rattle.srt_group_model.specs.State.{Member, State}
 use Rattle.srt_group_model.specs.Members.{id-of}
 use Rattle.srt_group_model.specs.Backup.{max-history}
 use Rattle.srt_group_model.specs.Validity.{above, any-above, is-blank, max-queued, long-queue, counts, count-above-limit, is-too-large, event-sequence-too-large, member-sequence-too-large, sequence-too-large, one-twice, id-twice, ascends, held-sequence-twice, cell-twice, cell-beyond-store, reserved-sum-wrong, group-words, record-out-of-range, event-out-of-range, member-out-of-range, packet-out-of-range, entry-out-of-range, waiting-out-of-range, field-out-of-range, rules-outside-cells, rules-of-cells, broken-rules, is-invalid}
 use Rattle.srt_group_model.specs.laws.InRange.{in-range-of, of-in-range}
-use Rattle.srt_group_model.specs.laws.Valid.{Counted, counted-of}
 use Rattle.srt_group_model.specs.declared.Core.{Core}
 use Rattle.srt_group_model.specs.declared.Identity.{Identity}
 use Rattle.srt_group_model.specs.declared.Sending.{Sending}
@@ -32,7 +31,8 @@ use Rattle.srt_group_rules.specs.Rules.{event-breaks-rule, queue-breaks-rule, l
 use Rattle.srt_group_rules.specs.laws.Walks.{any-or}
 use Rattle.srt_group_rules.specs.Sums.{accounts-wrong}
 use Rattle.srt_group_rules.specs.laws.Sums.{accounts-wrong-is}
-use Rattle.srt_group_state.specs.Outside.{breaks-rule-outside-cells, core-counts, words-out-of-range, numbers-break-rule, CountsWithin, rows-break-rule, rows-disagree}
+use Rattle.srt_group_state.specs.Outside.{breaks-rule-outside-cells, core-counts, words-out-of-range, numbers-break-rule, CountsWithin}
+use Rattle.srt_group_state.specs.Passes.{TablesGood}
 
 pub invalid-is : (cells : ℕ) (s : State) → is-invalid cells s ≡ (breaks-rule-outside-cells s || (cell-twice s || cell-beyond-store cells s))
 unfolding is-invalid broken-rules breaks-rule-outside-cells rules-of-cells any
@@ -63,12 +63,6 @@ counts-within identity c sending h =
     let most = in-range-of (core-counts c) (search neither) in
     search
 
--- ---- the lent tables
-
-unfoldable pub tables-break-rule : Identity → Core → Sending → (members pending waiting : List ℕ) → Bool
-tables-break-rule identity c sending members pending waiting =
-    numbers-break-rule identity c sending || (rows-break-rule c members pending waiting || rows-disagree c members pending)
-
 -- ---- the rows: a walk tests each row once, a rule asks one thing of all
 
 queue-parts : (q : List Event) → any event-breaks-rule q ≡ (any event-sequence-too-large q || any event-out-of-range q)
@@ -95,10 +89,17 @@ entry-parts : (es : List Entry)
 unfolding entry-breaks-rule
 entry-parts es = any-or (λ (e : Entry). is-too-large (e .sequence)) entry-out-of-range es
 
--- ---- the walks test the rules
+-- ---- the passes test the rules
 
-unfoldable pub walked : Identity → Core → Sending → List Entry → (members pending waiting : List ℕ) → Bool
-walked identity c sending history members pending waiting = tables-break-rule identity c sending members pending waiting || history-breaks-rule history
+-- as they go: the numbers of the record, the waiting events, the members and the held packets, the history
+unfoldable walked : Identity → Core → Sending → List Entry → (members pending waiting : List ℕ) → Bool
+walked identity c sending history members pending waiting =
+    let ms = members-of (c .counts .members) members in
+    let ps = packets (c .counts .pending) pending in
+    numbers-break-rule identity c sending
+    || (any waiting-out-of-range (waitings (c .counts .waiting) waiting)
+    || ((one-twice (each id-of ms) || (any member-breaks-rule ms || (any packet-breaks-rule ps || (not (ascends ps) || accounts-wrong ms ps (c .own)))))
+    || history-breaks-rule history))
 
 module _ (identity : Identity) (c : Core) (sending : Sending) (history : List Entry) (members pending waiting : List ℕ) where
   member-count : length (members-of (c .counts .members) members) ≡ c .counts .members
@@ -138,110 +139,79 @@ module _ (identity : Identity) (c : Core) (sending : Sending) (history : List En
   unfolding words-out-of-range record-out-of-range group-words
   words-shown = refl
 
-  pub walked-is : walked identity c sending history members pending waiting ≡ breaks-rule-outside-cells state
-  unfolding walked tables-break-rule numbers-break-rule rows-break-rule rows-disagree history-breaks-rule is-blank breaks-rule-outside-cells rules-outside-cells any count-above-limit sequence-too-large id-twice held-sequence-twice field-out-of-range
+  walked-is : walked identity c sending history members pending waiting ≡ breaks-rule-outside-cells state
+  unfolding walked numbers-break-rule history-breaks-rule is-blank breaks-rule-outside-cells rules-outside-cells any count-above-limit sequence-too-large id-twice held-sequence-twice field-out-of-range
   walked-is =
       simp (members-parts, packet-parts, entry-parts, counts-shown, sums-shown, words-shown)
       (rw regrouped)
     where
       -- the same tests, by table as the walks go and by rule as document 01 says them
       regrouped : (blank counts base next words queues legs members packets held waits ids order sums many entries past : Bool)
-          → (((blank || (counts || (base || (next || words)))) || (((queues || (legs || members)) || ((packets || held) || waits)) || (ids || (order || sums)))) || (many || (entries || past)))
+          → ((blank || (counts || (base || (next || words)))) || (waits || ((ids || ((queues || (legs || members)) || ((packets || held) || (order || sums)))) || (many || (entries || past)))))
           ≡ (blank || (((counts || many) || queues) || (((base || (next || false)) || (packets || (entries || legs))) || (ids || (order || (sums || (words || ((members || (held || (past || waits))) || false))))))))
       regrouped blank counts base next words queues legs members packets held waits ids order sums many entries past = simp (or-no, any-order)
 
--- ---- the answers of the code
+  -- ---- the answers of the code
 
-module _ (c : Core) (members pending waiting : List ℕ) where
-  pub rows-tested : (a b w : Bool) → a ≡ any member-breaks-rule (members-of (c .counts .members) members)
-      → b ≡ any packet-breaks-rule (packets (c .counts .pending) pending)
-      → w ≡ any waiting-out-of-range (waitings (c .counts .waiting) waiting) → ((a || b) || w) ≡ rows-break-rule c members pending waiting
-  unfolding rows-break-rule
-  rows-tested a b w a-is b-is w-is = or-assoc a b w ∙ ap₂ _||_ a-is (ap₂ _||_ b-is w-is)
+  abbrev good : Type 0
+  good = TablesGood (members-of (c .counts .members) members) (packets (c .counts .pending) pending) (c .own)
 
-  module _ (good : rows-break-rule c members pending waiting ≡ false) where
-    pub members-good : any member-breaks-rule (members-of (c .counts .members) members) ≡ false
-    unfolding rows-break-rule
-    members-good = search neither
+  abbrev tables-wrong : Bool
+  tables-wrong =
+      let ms = members-of (c .counts .members) members in
+      let ps = packets (c .counts .pending) pending in
+      one-twice (each id-of ms) || (any member-breaks-rule ms || (any packet-breaks-rule ps || (not (ascends ps) || accounts-wrong ms ps (c .own))))
 
-    pub packets-good : any packet-breaks-rule (packets (c .counts .pending) pending) ≡ false
-    unfolding rows-break-rule
-    packets-good = search neither
+  abbrev waits-wrong : Bool
+  waits-wrong = any waiting-out-of-range (waitings (c .counts .waiting) waiting)
 
-module _ (c : Core) (members pending : List ℕ) where
-  module _ (id : Bool) (id-is : id ≡ one-twice (each id-of (members-of (c .counts .members) members))) where
-    pub disagree-by-id : id ≡ true → true ≡ rows-disagree c members pending
-    unfolding rows-disagree
-    disagree-by-id it = sym (or-yes-left (one-twice (each id-of (members-of (c .counts .members) members))) _ (sym id-is ∙ it))
-
-    pub disagree-else : (up wrong : Bool) → id ≡ false → up ≡ ascends (packets (c .counts .pending) pending)
-        → wrong ≡ accounts-wrong (members-of (c .counts .members) members) (packets (c .counts .pending) pending) (c .own)
-        → (not up || wrong) ≡ rows-disagree c members pending
-    unfolding rows-disagree
-    disagree-else up wrong once up-is wrong-is =
-        ap₂ (λ (u w : Bool). not u || w) up-is wrong-is
-        ∙ ap
-        (λ (b : Bool).
-        b
-        || (not (ascends (packets (c .counts .pending) pending))
-        || accounts-wrong (members-of (c .counts .members) members) (packets (c .counts .pending) pending) (c .own)))
-        (sym once ∙ id-is)
-
-module _ (c : Core) (members pending waiting : List ℕ) where
-  module _ (identity : Identity) (sending : Sending) (core : Bool) (core-is : core ≡ numbers-break-rule identity c sending) where
-    pub tables-by-core : core ≡ true → true ≡ tables-break-rule identity c sending members pending waiting
-    unfolding tables-break-rule
-    tables-by-core it = sym (or-yes-left (numbers-break-rule identity c sending) _ (sym core-is ∙ it))
-
-    module _ (rows : Bool) (core-good : core ≡ false) (rows-is : rows ≡ rows-break-rule c members pending waiting) where
-      pub tables-by-rows : rows ≡ true → true ≡ tables-break-rule identity c sending members pending waiting
-      unfolding tables-break-rule
-      tables-by-rows it =
-          sym (or-yes-right (numbers-break-rule identity c sending) _ (or-yes-left (rows-break-rule c members pending waiting) _ (sym rows-is ∙ it)))
-
-      pub tables-else : (between : Bool) → rows ≡ false → between ≡ rows-disagree c members pending
-          → between ≡ tables-break-rule identity c sending members pending waiting
-      unfolding tables-break-rule
-      tables-else between rows-good between-is =
-          between-is
-          ∙ ap₂ (λ (a b : Bool). a || (b || rows-disagree c members pending)) (sym core-good ∙ core-is) (sym rows-good ∙ rows-is)
-
--- with no history, the tables alone
-pub tables-are : (identity : Identity) (c : Core) (sending : Sending) (members pending waiting : List ℕ)
-    → tables-break-rule identity c sending members pending waiting ≡ breaks-rule-outside-cells (shown c (rest identity sending []) members pending waiting)
-unfolding walked history-breaks-rule any
-tables-are identity c sending members pending waiting = sym (or-no (tables-break-rule identity c sending members pending waiting)) ∙ walked-is identity c sending [] members pending waiting
-
--- the tables and the history
-module _ (identity : Identity) (c : Core) (sending : Sending) (history : List Entry) (members pending waiting : List ℕ) (tables : Bool)
-    (tables-is : tables ≡ breaks-rule-outside-cells (shown c (rest identity sending []) members pending waiting)) where
-  pub outside-by-tables : tables ≡ true → true ≡ breaks-rule-outside-cells (shown c (rest identity sending history) members pending waiting)
+  pub outside-numbers : (b : Bool) → b ≡ numbers-break-rule identity c sending → b ≡ true → breaks-rule-outside-cells state ≡ true
   unfolding walked
-  outside-by-tables it =
-      sym
-      (sym (walked-is identity c sending history members pending waiting)
-      ∙ or-yes-left (tables-break-rule identity c sending members pending waiting) _ (tables-are identity c sending members pending waiting ∙ sym tables-is ∙ it))
+  outside-numbers b is e = sym walked-is ∙ or-yes-left (numbers-break-rule identity c sending) _ (sym is ∙ e)
 
-  pub outside-by-history : (past : Bool) → tables ≡ false → past ≡ history-breaks-rule history
-      → past ≡ breaks-rule-outside-cells (shown c (rest identity sending history) members pending waiting)
+  pub outside-waiting : (b : Bool) → b ≡ waits-wrong → b ≡ true → breaks-rule-outside-cells state ≡ true
   unfolding walked
-  outside-by-history past tables-good past-is =
-      past-is
-      ∙ ap (λ (b : Bool). b || history-breaks-rule history) (sym (tables-are identity c sending members pending waiting ∙ sym tables-is ∙ tables-good))
-      ∙ walked-is identity c sending history members pending waiting
+  outside-waiting b is e =
+      sym walked-is ∙ or-yes-right (numbers-break-rule identity c sending) _ (or-yes-left waits-wrong _ (sym is ∙ e))
 
--- the same as one equation, for a caller that tests the two one after the other
-pub outside-parts : (identity : Identity) (c : Core) (sending : Sending) (history : List Entry) (members pending waiting : List ℕ)
-    → breaks-rule-outside-cells (shown c (rest identity sending history) members pending waiting)
-    ≡ (breaks-rule-outside-cells (shown c (rest identity sending []) members pending waiting) || history-breaks-rule history)
-unfolding walked
-outside-parts identity c sending history members pending waiting =
-    sym (walked-is identity c sending history members pending waiting)
-    ∙ ap (λ (b : Bool). b || history-breaks-rule history) (tables-are identity c sending members pending waiting)
+  -- the rest of the rules are those of the tables and the history
+  pub outside-none : (b w : Bool) → b ≡ numbers-break-rule identity c sending → b ≡ false → w ≡ waits-wrong → w ≡ false
+      → good → history-breaks-rule history ≡ false → breaks-rule-outside-cells state ≡ false
+  unfolding walked
+  outside-none b w b-is b-no w-is w-no tables past =
+      sym walked-is
+      ∙ no-either (numbers-break-rule identity c sending) _ (sym b-is ∙ b-no)
+      (no-either waits-wrong _ (sym w-is ∙ w-no) (no-either tables-wrong _ tables-right past))
+    where
+      tables-right : tables-wrong ≡ false
+      tables-right =
+          no-either _ _ (tables .ids)
+          (no-either _ _ (tables .rows .members)
+          (no-either _ _ (tables .rows .packets) (no-either _ _ (ap not (tables .rows .order)) (tables .rows .sums))))
 
--- ---- what a caller has from the answer that no rule is broken
+  module _ (none-broken : breaks-rule-outside-cells state ≡ false) where
+    rest-right : (tables-wrong || history-breaks-rule history) ≡ false
+    unfolding walked
+    rest-right = or-right waits-wrong _ (or-right (numbers-break-rule identity c sending) _ (walked-is ∙ none-broken))
 
--- the model's counts
-pub counted : (s : State) → breaks-rule-outside-cells s ≡ false → Counted s
-unfolding breaks-rule-outside-cells rules-outside-cells any
-counted s h = counted-of s (search neither)
+    pub tables-good : good
+    tables-good =
+        let ms = members-of (c .counts .members) members in
+        let ps = packets (c .counts .pending) pending in
+        let tables = or-left tables-wrong (history-breaks-rule history) rest-right in
+        let rows = or-right (one-twice (each id-of ms)) _ tables in
+        let later = or-right (any member-breaks-rule ms) _ rows in
+        let last = or-right (any packet-breaks-rule ps) _ later in
+        record {
+          ids = or-left (one-twice (each id-of ms)) _ tables;
+          rows =
+              record {
+                members = or-left (any member-breaks-rule ms) _ rows;
+                packets = or-left (any packet-breaks-rule ps) _ later;
+                order = not-false (ascends ps) (or-left (not (ascends ps)) _ last);
+                sums = or-right (not (ascends ps)) _ last;
+              };
+        }
+
+    pub history-right : history-breaks-rule history ≡ false
+    history-right = or-right tables-wrong (history-breaks-rule history) rest-right
