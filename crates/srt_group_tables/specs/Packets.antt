@@ -1,5 +1,5 @@
 -- The pending packets as an index of one word each, with a row of eight words for each cell, and what a search for a sequence
--- finds. The list of what the first `count` index words show is the model's list of pending packets.
+-- finds. The index is a ring. The list of what its first `count` words show, from its start on, is the model's list of pending packets.
 use mathlib.Core.Path.{_≡_}
 use mathlib.Core.List.{List, [], _∷_}
 use mathlib.Core.Option.{Option, none, some}
@@ -26,6 +26,10 @@ index-size = max-pending
 abbrev pub packet-row-size : ℕ
 packet-row-size = 8
 
+-- those of them that a packet takes
+abbrev pub packet-size : ℕ
+packet-size = 7
+
 -- the words of the table: the index, and behind it a row for each cell
 abbrev pub pending-size : ℕ
 pending-size = index-size + max-cells * packet-row-size
@@ -33,6 +37,36 @@ pending-size = index-size + max-cells * packet-row-size
 -- the index takes as many words as so many rows
 abbrev pub index-rows : ℕ
 index-rows = index-size / packet-row-size
+
+-- ---- the ring
+
+-- where it starts: the free word of the first row, read modulo its size, so that every word is a start
+unfoldable pub start-of : List ℕ → ℕ
+start-of words = getD words (index-size + packet-size) 0 % index-size
+
+-- the index word of the place i, counted from a start
+abbrev pub round : (start i : ℕ) → ℕ
+round start i = (start + i) % index-size
+
+abbrev pub slot-of : List ℕ → ℕ → ℕ
+slot-of words i = round (start-of words) i
+
+abbrev pub index-word : List ℕ → ℕ → ℕ
+index-word words i = getD words (slot-of words i) 0
+
+-- the words of the places from `from` up to `end` stand `width` places further on
+pub record MovedUp (width start : ℕ) (index : List ℕ) (from end : ℕ) (after : List ℕ) : Type 0 where
+  pub long : length after ≡ length index
+  pub low : (k : ℕ) → k < from → getD after (round start k) 0 ≡ getD index (round start k) 0
+  pub moved : (k : ℕ) → from ≤ k → k < end → getD after (round start (k + width)) 0 ≡ getD index (round start k) 0
+  pub high : (k : ℕ) → end + width ≤ k → k < index-size → getD after (round start k) 0 ≡ getD index (round start k) 0
+
+-- the words of the places from `from + width` up to `end` stand `width` places before
+pub record MovedDown (width start : ℕ) (index : List ℕ) (from end : ℕ) (after : List ℕ) : Type 0 where
+  pub long : length after ≡ length index
+  pub low : (k : ℕ) → k < from → getD after (round start k) 0 ≡ getD index (round start k) 0
+  pub moved : (k : ℕ) → from ≤ k → k + width < end → getD after (round start k) 0 ≡ getD index (round start (k + width)) 0
+  pub high : (k : ℕ) → end ≤ k → k < index-size → getD after (round start k) 0 ≡ getD index (round start k) 0
 
 -- ---- definitions
 
@@ -57,11 +91,11 @@ packet-of word row =
 unfoldable pub row-words : Packet → List ℕ
 row-words p =
     p .content .count ∷ p .content .message ∷ p .content .timestamp ∷ p .content .source .0 ∷ p .content .length
-    ∷ p .member ∷ p .owned ∷ 0 ∷ []
+    ∷ p .member ∷ p .owned ∷ []
 
 -- the rows of the cells stand behind the index
 unfoldable pub packet-at : List ℕ → ℕ → Packet
-packet-at words i = packet-of (getD words i 0) (row-at packet-row-size words (index-rows + getD words i 0 % max-cells))
+packet-at words i = packet-of (index-word words i) (row-at packet-row-size words (index-rows + index-word words i % max-cells))
 
 -- the packets of the first `count` index words
 abbrev pub packets : ℕ → List ℕ → List Packet
@@ -82,7 +116,13 @@ pub record Holds (long : ℕ) (after : List ℕ) (count : ℕ) (ps : List Packet
   pub length-kept : length after ≡ long
   pub is : packets count after ≡ ps
 
--- the packets from a place up to another are gone, and those behind them moved up
+-- a packet has room at a place, and those from there on moved up
+pub record WithRoom (words : List ℕ) (count at : ℕ) (after : List ℕ) : Type 0 where
+  pub long : length after ≡ length words
+  pub low : (k : ℕ) → k < at → packet-at after k ≡ packet-at words k
+  pub high : (k : ℕ) → at ≤ k → k < count → packet-at after (k + 1) ≡ packet-at words k
+
+-- the packets from a place up to another are gone, and those behind them moved down
 pub record Without (words : List ℕ) (count from end : ℕ) (after : List ℕ) : Type 0 where
   pub long : length after ≡ length words
   pub low : (k : ℕ) → k < from → packet-at after k ≡ packet-at words k

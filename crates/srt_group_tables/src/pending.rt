@@ -1,7 +1,8 @@
 // Complete payloads waiting behind a sequence gap, in a lent table. Its first words are an index that ascends: a word is a
 // sequence times MAX_CELLS, plus a cell. Behind the index each cell has a row of eight words with the rest of its packet. The
-// first `count` index words are in use; what the others hold is free, and so is the row of a cell that none of them names.
-// A packet put in or taken out moves one word of each packet above it, and no row.
+// index is a ring: `count` of its words are in use, from the one on that the free word of the first row tells. What the others hold
+// is free, and so is the row of a cell that none in use names. A packet put in or taken out moves one word of each packet on its
+// shorter side, and no row.
 ghost use mathlib.Core.Path.{_≡_};
 ghost use mathlib.Core.Bool.{true, false};
 ghost use Prim.Native.Nat.{_+_, _-_, _*_, _≤_, _<_};
@@ -17,7 +18,7 @@ ghost use Rattle.srt_group_model.specs.Tools.{each, such-that};
 ghost use Rattle.srt_group_model.specs.Removal.{own-packet, is-owned};
 ghost use Rattle.srt_group_model.specs.Validity.{max-pending, ascends};
 ghost use Rattle.srt_group_model.specs.Legs.{largest-sequence};
-ghost use Rattle.srt_group_tables.specs.Packets.{pending-size, packet-row-size, index-rows, packet-of, row-words, packet-at, packets, Placed, Holds, Without, place-found, packet-found, in-use, FoundPacket, with-owned-packet};
+ghost use Rattle.srt_group_tables.specs.Packets.{index-size, pending-size, packet-row-size, packet-size, index-rows, start-of, slot-of, MovedUp, MovedDown, WithRoom, packet-of, row-words, packet-at, packets, Placed, Holds, Without, place-found, packet-found, in-use, FoundPacket, with-owned-packet};
 ghost use Rattle.srt_group_tables.specs.Covered.{Small, CoveredUntil, Covers, Within, packets-elsewhere};
 use srt_group_model::Data;
 use srt_group_model::Packet;
@@ -36,6 +37,12 @@ const ROW_WORDS: usize = 8;
 
 // The words of the table: the index, and behind it a row for each cell.
 pub const PENDING_LENGTH: usize = INDEX_WORDS + MAX_CELLS * ROW_WORDS;
+
+// The words of a row that a packet takes. The last is free.
+const PACKET_WORDS: usize = 7;
+
+// The word that tells where the ring starts, read modulo its size: the free one of the first row.
+const START: usize = INDEX_WORDS + PACKET_WORDS;
 
 // The word of a row that holds the packet's member.
 const MEMBER: usize = 5;
@@ -90,9 +97,9 @@ fn read_packet(word: u64, row: &[u64]) -> Packet
     }
 }
 
-// All of a packet but its sequence and its cell. The last word is free.
+// All of a packet but its sequence and its cell.
 fn write_row(row: &mut [u64], packet: Packet)
-    requires { ⌜ length (now row) ≡ packet-row-size ⌝ }
+    requires { ⌜ length (now row) ≡ packet-size ⌝ }
     ensures { λ _. ⌜ now (row .exit) ≡ row-words packet ⌝ }
 {
     row[0] = packet.content.count;
@@ -102,7 +109,22 @@ fn write_row(row: &mut [u64], packet: Packet)
     row[4] = packet.content.length;
     row[MEMBER] = packet.member;
     row[OWNED] = packet.owned;
-    row[7] = 0;
+}
+
+// The index word at which the ring starts.
+fn ring_start(pending: &[u64]) -> usize
+    requires { ⌜ pending-size ≤ length (now pending) ⌝ }
+    ensures { λ r. ⌜ (r ≡ start-of (now (pending .entry))) × (r < index-size) ⌝ }
+{
+    (pending[START] % INDEX_WORDS as u64) as usize
+}
+
+// The index word of a place.
+fn slot(pending: &[u64], at: usize) -> usize
+    requires { ⌜ (pending-size ≤ length (now pending)) × (at < max-pending) ⌝ }
+    ensures { λ r. ⌜ (r ≡ slot-of (now (pending .entry)) at) × (r < index-size) ⌝ }
+{
+    (ring_start(pending) + at) % INDEX_WORDS
 }
 
 // The sequence of the packet at a place.
@@ -110,7 +132,8 @@ pub fn sequence_at(pending: &[u64], at: usize) -> u64
     requires { ⌜ (pending-size ≤ length (now pending)) × (at < max-pending) ⌝ }
     ensures { λ r. ⌜ r ≡ sequence-of (packet-at (now (pending .entry)) at) ⌝ }
 {
-    pending[at] / CELLS
+    let place = slot(pending, at);
+    pending[place] / CELLS
 }
 
 // The cell of the packet at a place.
@@ -118,7 +141,8 @@ pub fn cell_at(pending: &[u64], at: usize) -> usize
     requires { ⌜ (pending-size ≤ length (now pending)) × (at < max-pending) ⌝ }
     ensures { λ r. ⌜ (r ≡ packet-at (now (pending .entry)) at .content .cell) × (r < max-cells) ⌝ }
 {
-    (pending[at] % CELLS) as usize
+    let place = slot(pending, at);
+    (pending[place] % CELLS) as usize
 }
 
 // The packet at a place.
@@ -126,8 +150,10 @@ pub fn packet(pending: &[u64], at: usize) -> Packet
     requires { ⌜ (pending-size ≤ length (now pending)) × (at < max-pending) ⌝ }
     ensures { λ r. ⌜ r ≡ packet-at (now (pending .entry)) at ⌝ }
 {
-    let start = row_start(cell_at(pending, at));
-    read_packet(pending[at], &pending[start..start + ROW_WORDS])
+    let place = slot(pending, at);
+    let word = pending[place];
+    let start = row_start((word % CELLS) as usize);
+    read_packet(word, &pending[start..start + ROW_WORDS])
 }
 
 // A packet's row is written at its cell.
@@ -137,17 +163,27 @@ fn put_row(pending: &mut [u64], packet: Packet)
         ((index-rows + packet .content .cell) * packet-row-size) (row-words packet) (now (pending .entry)) ⌝ }
 {
     let start = row_start(packet.content.cell as usize);
-    write_row(&mut pending[start..start + ROW_WORDS], packet);
+    write_row(&mut pending[start..start + PACKET_WORDS], packet);
 }
 
-// The first place whose packet's sequence is not below `sequence`, by halving.
+// The first place whose packet's sequence is not below `sequence`: an end, most often, or else by halving.
 fn place(pending: &[u64], count: usize, sequence: u64) -> usize
     requires { ⌜ (pending-size ≤ length (now pending)) × (count ≤ max-pending) ⌝ }
     requires { ⌜ ascends (packets count (now pending)) ≡ true ⌝ }
     ensures { λ r. ⌜ Placed (now (pending .entry)) count sequence r ⌝ }
 {
+    if count == 0 {
+        return 0;
+    }
+    let last = count - 1;
+    if sequence_at(pending, last) < sequence {
+        return count;
+    }
+    if sequence <= sequence_at(pending, 0) {
+        return 0;
+    }
     let mut low: usize = 0;
-    let mut high: usize = count;
+    let mut high: usize = last;
     while low < high {
         let middle = low + (high - low) / 2;
         if sequence_at(pending, middle) < sequence {
@@ -174,6 +210,48 @@ pub fn find(pending: &[u64], count: usize, sequence: u64) -> Found
     Found::Nothing
 }
 
+// The index words of the places from `from` up to `end` move up by `width` places, round the ring.
+fn move_up(index: &mut [u64], start: usize, from: usize, end: usize, width: usize)
+    requires { ⌜ (length (now index) ≡ index-size) × (start < index-size) ⌝ }
+    requires { ⌜ (from ≤ end) × (end + width ≤ index-size) ⌝ }
+    ensures { λ _. ⌜ MovedUp width start (now (index .entry)) from end (now (index .exit)) ⌝ }
+{
+    let mut at = end;
+    while from < at {
+        let lower = at - 1;
+        index[(start + (lower + width)) % INDEX_WORDS] = index[(start + lower) % INDEX_WORDS];
+        at = lower;
+    }
+}
+
+// The index words of the places from `from + width` up to `end` move down by `width` places, round the ring.
+fn move_down(index: &mut [u64], start: usize, from: usize, end: usize, width: usize)
+    requires { ⌜ (length (now index) ≡ index-size) × (start < index-size) ⌝ }
+    requires { ⌜ (from + width ≤ end) × (end ≤ index-size) ⌝ }
+    ensures { λ _. ⌜ MovedDown width start (now (index .entry)) from end (now (index .exit)) ⌝ }
+{
+    let mut at = from;
+    while at + width < end {
+        index[(start + at) % INDEX_WORDS] = index[(start + (at + width)) % INDEX_WORDS];
+        at += 1;
+    }
+}
+
+// Room for a packet at a place: those on its shorter side move.
+fn open_place(pending: &mut [u64], count: usize, at: usize)
+    requires { ⌜ (pending-size ≤ length (now pending)) × (at ≤ count) × (count < max-pending) ⌝ }
+    ensures { λ _. ⌜ WithRoom (now (pending .entry)) count at (now (pending .exit)) ⌝ }
+{
+    let start = ring_start(pending);
+    if at <= count / 2 {
+        let before = (start + INDEX_WORDS - 1) % INDEX_WORDS;
+        move_down(&mut pending[0..INDEX_WORDS], before, 0, at + 1, 1);
+        pending[START] = before as u64;
+        return;
+    }
+    move_up(&mut pending[0..INDEX_WORDS], start, at, count, 1);
+}
+
 // A packet into its place in ascending order. No held packet has its cell, so no row in use is written over.
 pub fn insert(pending: &mut [u64], count: usize, packet: Packet)
     requires { ⌜ (pending-size ≤ length (now pending)) × (count < max-pending) ⌝ }
@@ -185,21 +263,26 @@ pub fn insert(pending: &mut [u64], count: usize, packet: Packet)
 {
     let sequence = packet.content.sequence;
     let at = place(pending, count, sequence);
-    word_rows::open_gap(&mut pending[0..INDEX_WORDS], at, count, 1);
-    pending[at] = sequence * CELLS + packet.content.cell;
+    open_place(pending, count, at);
+    let word = slot(pending, at);
+    pending[word] = sequence * CELLS + packet.content.cell;
     put_row(pending, packet);
 }
 
-// The packets from a place up to another are taken out.
+// The packets from a place up to another are taken out: those on the shorter side move.
 fn remove_range(pending: &mut [u64], count: usize, from: usize, end: usize)
     requires { ⌜ (pending-size ≤ length (now pending)) × (count ≤ max-pending) ⌝ }
     requires { ⌜ (from ≤ end) × (end ≤ count) ⌝ }
     ensures { λ _. ⌜ Without (now (pending .entry)) count from end (now (pending .exit)) ⌝ }
 {
-    if from == end {
+    let start = ring_start(pending);
+    let width = end - from;
+    if from <= count - end {
+        move_up(&mut pending[0..INDEX_WORDS], start, 0, from, width);
+        pending[START] = ((start + width) % INDEX_WORDS) as u64;
         return;
     }
-    word_rows::close_gap(&mut pending[0..INDEX_WORDS], from, count, end - from);
+    move_down(&mut pending[0..INDEX_WORDS], start, from, count, width);
 }
 
 // The packet at a place is taken out.

@@ -11,12 +11,6 @@ row-at width words i = take width (drop (i * width) words)
 
 -- ---- rows moved by one place
 
--- the words from `from` up to `end` stand `width` further on
-pub record Opened (width : ℕ) (words : List ℕ) (from end : ℕ) (after : List ℕ) : Type 0 where
-  pub long : length after ≡ length words
-  pub low : (k : ℕ) → k < from → getD after k 0 ≡ getD words k 0
-  pub high : (k : ℕ) → from ≤ k → k < end → getD after (k + width) 0 ≡ getD words k 0
-
 -- the words after `from + width`, up to `end`, stand `width` before
 pub record Closed (width : ℕ) (words : List ℕ) (from end : ℕ) (after : List ℕ) : Type 0 where
   pub long : length after ≡ length words

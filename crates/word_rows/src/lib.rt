@@ -1,20 +1,7 @@
-// Rows of words in a lent slice: the rows behind a place move up or down by one.
+// Rows of words in a lent slice: the rows behind a place move down by one.
 ghost use Prim.Native.Nat.{_+_, _≤_};
 ghost use lib.ListN.{length};
-ghost use Rattle.word_rows.specs.Rows.{Opened, Closed};
-
-// The words from `from` up to `end` move up by `width`.
-pub fn open_gap(words: &mut [u64], from: usize, end: usize, width: usize)
-    requires { ⌜ (from ≤ end) × (end + width ≤ length (now words)) ⌝ }
-    ensures { λ _. ⌜ Opened width (now (words .entry)) from end (now (words .exit)) ⌝ }
-{
-    let mut at = end;
-    while from < at {
-        let lower = at - 1;
-        words[lower + width] = words[lower];
-        at = lower;
-    }
-}
+ghost use Rattle.word_rows.specs.Rows.{Closed};
 
 // The words from `from + width` up to `end` move down by `width`.
 pub fn close_gap(words: &mut [u64], from: usize, end: usize, width: usize)

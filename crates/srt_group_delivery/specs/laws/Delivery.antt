@@ -3,12 +3,11 @@ use mathlib.Core.Path.{_≡_, refl, ap, ap₂, sym, subst, _∙_}
 use mathlib.Core.Bool.{Bool, true, false}
 use mathlib.Core.List.{List, [], _∷_, _++_}
 use mathlib.Core.Option.{Option, none, some}
-use native.Mathlib.Numerals.{add-one}
 use Prim.Native.Nat.{ℕ, suc, _+_, _-_, _≤_, _<_, _*_}
-use borrow.Author.Tests.{lt-ltb, le-ltb, eq-eqb, ne-eqb}
+use borrow.Author.Tests.{eq-eqb, ne-eqb}
 use lib.Dec.{leb}
-use lib.ListN.{length, drop}
-use Rattle.srt_protocol.specs.Sequence.{sequence-distance, sequence-further}
+use lib.ListN.{length}
+use Rattle.srt_protocol.specs.Sequence.{sequence-further}
 use Rattle.srt_protocol.specs.declared.time.Timestamp.{Timestamp}
 use Rattle.word_rows.specs.Tab.{tab}
 use Rattle.srt_group_model.specs.declared.Core.{Core}
@@ -16,20 +15,19 @@ use Rattle.srt_group_model.specs.declared.Account.{Account}
 use Rattle.srt_group_model.specs.declared.Leg.{Leg}
 use Rattle.srt_group_model.specs.declared.Membership.{Membership}
 use Rattle.srt_group_model.specs.declared.Packet.{Packet}
-use Rattle.srt_group_model.specs.Tools.{if_then_else_, if-some_give_otherwise_, or-else, all, first-such, such-that, place-of, at-place}
+use Rattle.srt_group_model.specs.Tools.{if_then_else_, if-some_give_otherwise_, or-else, all, first-such, place-of, at-place}
 use Rattle.srt_group_model.specs.State.{Member, State, with-members, with-receive, with-base, with-pending, on-leg, with-account, based-at}
 use Rattle.srt_group_model.specs.Accounts.{release}
 use Rattle.srt_group_model.specs.Core.{with-receiving, with-own-account, with-held}
 use Rattle.srt_group_model.specs.Legs.{is-disconnected, gives-up-at, release-data-reservation, advance-receive-sequence}
 use Rattle.srt_group_model.specs.Members.{has-id, find}
-use Rattle.srt_group_model.specs.Nearest.{sequence-of, nearest, covered, not-covered}
+use Rattle.srt_group_model.specs.Nearest.{nearest, covered, not-covered}
 use Rattle.srt_group_model.specs.Delivery.{leg-gives-up, gap-given-up, release-pending-reservation, release-all, advance-legs, pass-run, deliver-packet}
 use Rattle.srt_connection_members.specs.Members.{member-at, members-of, found-of, Changed, ChangedAll, has-row}
 use Rattle.srt_connection_members.specs.laws.Members.{members-place, found-some, found-none, found-below, changed-twice, membership-changed}
 use Rattle.srt_connection_queue.specs.Rows.{with-membership, row-size}
 use Rattle.srt_connection.specs.Answers.{deadline-of}
 use Rattle.srt_connection.specs.declared.legs.Deadline.the-variants.{At as AtMoment, Never}
-use Rattle.srt_group_members.specs.laws.Scan.{tab-next, tab-ended}
 use Rattle.srt_connection_members.specs.declared.Found.the-variants.{At, Nothing}
 use Rattle.srt_group_tables.specs.Packets.{packet-at, packets, packets-between, Holds, FoundPacket}
 use Rattle.srt_group_tables.specs.Covered.{Covers, packets-at, packets-elsewhere}

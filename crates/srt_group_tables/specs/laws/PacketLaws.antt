@@ -2,10 +2,10 @@
 -- farthest.
 use mathlib.Core.Path.{_≡_, refl, ap, sym, subst, _∙_}
 use mathlib.Core.Bool.{Bool, true, false, not, _||_}
-use mathlib.Core.List.{List, [], _∷_, _++_, append-nil, append-assoc}
+use mathlib.Core.List.{List, [], _∷_, _++_}
 use mathlib.Core.Option.{none, some}
 use mathlib.Core.Logic.{⊎-elim}
-use Prim.Native.Nat.{ℕ, zero, suc, _+_, _*_, _-_, _≤_, _<_}
+use Prim.Native.Nat.{ℕ, zero, suc, _+_, _*_, _-_, _%_, _≤_, _<_}
 use native.Mathlib.Nat.{eq-or-lt-of-le}
 use native.Mathlib.Numerals.{add-one}
 use native.Mathlib.Decide.{decLt, ℕ-discrete}
@@ -15,22 +15,21 @@ use lib.Seq.{drop-cons}
 use lib.Dec.{ltb, leb, eqb}
 use borrow.Author.Tests.{lt-ltb, le-ltb, le-leb, lt-leb, eq-eqb, ne-eqb, ltb-true}
 use Rattle.word_rows.specs.Tab.{tab, removed}
-use Rattle.word_rows.specs.laws.Tab.{tab-at, tab-same, tab-none, tab-push, tab-insert, tab-remove, tab-length, inserted}
-use Rattle.word_rows.specs.Rows.{Opened, Closed}
+use Rattle.word_rows.specs.laws.Tab.{tab-at, tab-same, tab-none, tab-insert, tab-remove, tab-length, inserted}
 use Rattle.srt_protocol.specs.Sequence.{half, sequence-distance}
-use Rattle.srt_protocol.specs.Cells.{max-cells}
+use Rattle.srt_protocol.specs.Cells.{max-cells, overwritten}
 use Rattle.srt_group_model.specs.declared.Packet.{Packet}
 use Rattle.srt_group_model.specs.laws.Reason.{and-left, and-right}
 use Rattle.srt_group_model.specs.Tools.{if_then_else_, if-some_give_otherwise_, or-else, any, place-of, such-that, each}
 use Rattle.srt_group_model.specs.Cells.{is-among}
 use Rattle.srt_group_model.specs.Sound.{pending-cells}
-use Rattle.srt_group_model.specs.Nearest.{sequence-of, has-sequence, is-held, insert, lowest, nearest, is-covered, farther, farthest}
+use Rattle.srt_group_model.specs.Nearest.{sequence-of, has-sequence, is-held, insert, lowest, nearest, farther, farthest}
 use Rattle.srt_group_model.specs.Removal.{own-packet, is-owned, by-group}
 use Rattle.srt_group_model.specs.Validity.{max-pending, ascends}
 use Rattle.srt_group_tables.specs.declared.pending.Found.{Found}
 use Rattle.srt_group_tables.specs.declared.pending.Found.the-variants.{At, Nothing}
-use Rattle.srt_group_tables.specs.Packets.{pending-size, packet-row-size, index-rows, packet-at, packets, Placed, Holds, Without, found, place-found, packet-found, in-use, FoundPacket, with-owned-packet}
-use Rattle.srt_group_tables.specs.laws.PacketIndex.{cell-of, indexed-there, indexed-elsewhere, index-lent, index-back, back-length, closed-low, closed-high, opened-low, opened-high, put-in, put-length, put-there, put-elsewhere, member-word, same-member, owned-same-cell, owned-other-cell}
+use Rattle.srt_group_tables.specs.Packets.{index-size, pending-size, packet-row-size, index-rows, start-of, round, slot-of, row-words, MovedUp, MovedDown, packet-at, packets, Placed, Holds, WithRoom, Without, found, place-found, packet-found, in-use, FoundPacket, with-owned-packet}
+use Rattle.srt_group_tables.specs.laws.PacketIndex.{cell-of, round-there, round-elsewhere, index-lent, index-back, back-length, restarted, restarted-length, moved-shown, restarted-shown, put-in, put-length, put-there, put-elsewhere, member-word, same-member, owned-same-cell, owned-other-cell}
 
 pub drop-zero : (l : List Packet) → drop 0 l ≡ l
 drop-zero [] = refl
@@ -113,6 +112,44 @@ module _ (words : List ℕ) (count sequence : ℕ) (up : ascends (packets count 
             omega (arith, ascends-le count (packet-at words) up middle k higher inside-count);
       }
 
+-- the search that looks at the ends first
+pub between-all : (words : List ℕ) (count sequence : ℕ) → Between words count sequence 0 count
+between-all words count sequence =
+    record {
+      ordered = omega arith;
+      within = omega arith;
+      below = λ k lower. absurd (omega arith);
+      above = λ k higher inside. absurd (omega arith);
+    }
+
+pub placed-between : (words : List ℕ) (count sequence low high : ℕ) → Between words count sequence low high → high ≤ low → Placed words count sequence low
+placed-between words count sequence low high here met =
+    record {
+      within = omega (arith, here .within, here .ordered);
+      below = here .below;
+      above = λ k higher inside. here .above k (omega arith) inside;
+    }
+
+module _ (words : List ℕ) (count sequence : ℕ) (up : ascends (packets count words) ≡ true) where
+  pub placed-behind : (last : ℕ) → last < count → count ≤ last + 1 → sequence-of (packet-at words last) < sequence → Placed words count sequence count
+  placed-behind last inside end less =
+      placed-between words count sequence count count
+      (record {
+        ordered = omega arith;
+        within = omega arith;
+        below = λ k lower. omega (arith, ascends-le count (packet-at words) up k last (omega arith) inside);
+        above = λ k higher below. absurd (omega arith);
+      })
+      (omega arith)
+
+  pub placed-first : sequence ≤ sequence-of (packet-at words 0) → Placed words count sequence 0
+  placed-first less =
+      record {
+        within = omega arith;
+        below = λ k lower. absurd (omega arith);
+        above = λ k higher inside. omega (arith, ascends-le count (packet-at words) up 0 k (omega arith) inside);
+      }
+
 -- ---- whether a sequence is held, by what stands at its place
 
 place-there : (n : ℕ) (f : ℕ → Packet) (sequence place : ℕ) → place < n → ((k : ℕ) → k < place → sequence-of (f k) < sequence)
@@ -160,6 +197,135 @@ module _ (words : List ℕ) (count sequence place : ℕ) (at : Placed words coun
               omega (arith, at .above place (omega arith) inside, ascends-up count (packet-at words) up place k higher inside-k)
           go (no l) (no h) = other (ap (λ (i : ℕ). sequence-of (packet-at words i)) (omega arith) ∙ is)
 
+-- ---- a turn of each loop that moves words round the ring
+
+-- those from `at` up to `end` have moved, and those below have not
+pub record MovingUp (width start : ℕ) (before : List ℕ) (from end : ℕ) (here : List ℕ) (at : ℕ) : Type 0 where
+  pub after : from ≤ at
+  pub within : at ≤ end
+  pub long : length here ≡ length before
+  pub low : (k : ℕ) → k < at + width → k < index-size → getD here (round start k) 0 ≡ getD before (round start k) 0
+  pub moved : (k : ℕ) → at ≤ k → k < end → getD here (round start (k + width)) 0 ≡ getD before (round start k) 0
+  pub high : (k : ℕ) → end + width ≤ k → k < index-size → getD here (round start k) 0 ≡ getD before (round start k) 0
+
+module _ (width start : ℕ) (before : List ℕ) (from end : ℕ) (long : length before ≡ index-size) (fits : end + width ≤ index-size) where
+  pub up-start : from ≤ end → MovingUp width start before from end before end
+  up-start ordered =
+      record {
+        after = ordered;
+        within = omega arith;
+        long = refl;
+        low = λ k lower inside. refl;
+        moved = λ k higher lower. absurd (omega arith);
+        high = λ k higher inside. refl;
+      }
+
+  module _ (here : List ℕ) (at : ℕ) (so-far : MovingUp width start before from end here at) where
+    pub up-turn : from < at
+        → MovingUp width start before from end (set here (round start (at - 1 + width)) (getD here (round start (at - 1)) 0)) (at - 1)
+    up-turn left =
+        record {
+          after = omega arith;
+          within = omega (arith, so-far .within);
+          long = length-set here (round start (at - 1 + width)) word ∙ so-far .long;
+          low = λ k lower inside. elsewhere k inside (λ q. omega arith) ∙ so-far .low k (omega arith) inside;
+          moved = λ k higher lower. moved k (decLt (at - 1) k) higher lower;
+          high = λ k higher inside. elsewhere k inside (λ q. omega (arith, so-far .within)) ∙ so-far .high k higher inside;
+        }
+      where
+        word : ℕ
+        word = getD here (round start (at - 1)) 0
+
+        here-long : length here ≡ index-size
+        here-long = so-far .long ∙ long
+
+        to-low : at - 1 + width < index-size
+        to-low = omega (arith, so-far .within)
+
+        elsewhere : (k : ℕ) → k < index-size → (k ≡ at - 1 + width → ⊥)
+            → getD (set here (round start (at - 1 + width)) word) (round start k) 0 ≡ getD here (round start k) 0
+        elsewhere k inside other = round-elsewhere here start (at - 1 + width) word here-long to-low k inside other
+
+        moved : (k : ℕ) → Dec (at - 1 < k) → at - 1 ≤ k → k < end
+            → getD (set here (round start (at - 1 + width)) word) (round start (k + width)) 0 ≡ getD before (round start k) 0
+        moved k (yes above) higher lower = elsewhere (k + width) (omega arith) (λ q. omega arith) ∙ so-far .moved k (omega arith) lower
+        moved k (no not-above) higher lower =
+            let same : k ≡ at - 1 = omega arith in
+            ap (λ (n : ℕ). getD (set here (round start (at - 1 + width)) word) (round start (n + width)) 0) same
+            ∙ round-there here start (at - 1 + width) word here-long to-low
+            ∙ so-far .low (at - 1) (omega arith) (omega (arith, so-far .within))
+            ∙ ap (λ (n : ℕ). getD before (round start n) 0) (sym same)
+
+    pub up-done : at ≤ from → MovedUp width start before from end here
+    up-done past =
+        record {
+          long = so-far .long;
+          low = λ k lower. so-far .low k (omega (arith, so-far .after)) (omega (arith, so-far .after, so-far .within));
+          moved = λ k higher lower. so-far .moved k (omega arith) lower;
+          high = so-far .high;
+        }
+
+-- those before `at` have moved, and those from there on have not
+pub record MovingDown (width start : ℕ) (before : List ℕ) (from end : ℕ) (here : List ℕ) (at : ℕ) : Type 0 where
+  pub after : from ≤ at
+  pub within : at + width ≤ end
+  pub long : length here ≡ length before
+  pub low : (k : ℕ) → k < from → getD here (round start k) 0 ≡ getD before (round start k) 0
+  pub moved : (k : ℕ) → from ≤ k → k < at → getD here (round start k) 0 ≡ getD before (round start (k + width)) 0
+  pub rest : (k : ℕ) → at ≤ k → k < index-size → getD here (round start k) 0 ≡ getD before (round start k) 0
+
+module _ (width start : ℕ) (before : List ℕ) (from end : ℕ) (long : length before ≡ index-size) (fits : end ≤ index-size) where
+  pub down-start : from + width ≤ end → MovingDown width start before from end before from
+  down-start ordered =
+      record {
+        after = omega arith;
+        within = ordered;
+        long = refl;
+        low = λ k lower. refl;
+        moved = λ k higher lower. absurd (omega arith);
+        rest = λ k higher inside. refl;
+      }
+
+  module _ (here : List ℕ) (at : ℕ) (so-far : MovingDown width start before from end here at) where
+    pub down-turn : at + width < end
+        → MovingDown width start before from end (set here (round start at) (getD here (round start (at + width)) 0)) (at + 1)
+    down-turn left =
+        record {
+          after = omega (arith, so-far .after);
+          within = omega arith;
+          long = length-set here (round start at) word ∙ so-far .long;
+          low = λ k lower. elsewhere k (omega (arith, so-far .after)) (λ q. omega (arith, so-far .after)) ∙ so-far .low k lower;
+          moved = λ k higher lower. moved k (decLt k at) higher lower;
+          rest = λ k higher inside. elsewhere k inside (λ q. omega arith) ∙ so-far .rest k (omega arith) inside;
+        }
+      where
+        word : ℕ
+        word = getD here (round start (at + width)) 0
+
+        here-long : length here ≡ index-size
+        here-long = so-far .long ∙ long
+
+        elsewhere : (k : ℕ) → k < index-size → (k ≡ at → ⊥) → getD (set here (round start at) word) (round start k) 0 ≡ getD here (round start k) 0
+        elsewhere k inside other = round-elsewhere here start at word here-long (omega arith) k inside other
+
+        moved : (k : ℕ) → Dec (k < at) → from ≤ k → k < at + 1 → getD (set here (round start at) word) (round start k) 0 ≡ getD before (round start (k + width)) 0
+        moved k (yes below) higher lower = elsewhere k (omega arith) (λ q. omega arith) ∙ so-far .moved k higher below
+        moved k (no not-below) higher lower =
+            let same : k ≡ at = omega arith in
+            ap (λ (n : ℕ). getD (set here (round start at) word) (round start n) 0) same
+            ∙ round-there here start at word here-long (omega arith)
+            ∙ so-far .rest (at + width) (omega arith) (omega arith)
+            ∙ ap (λ (n : ℕ). getD before (round start (n + width)) 0) (sym same)
+
+    pub down-done : end ≤ at + width → MovedDown width start before from end here
+    down-done past =
+        record {
+          long = so-far .long;
+          low = so-far .low;
+          moved = λ k higher lower. so-far .moved k higher (omega arith);
+          high = λ k higher inside. so-far .rest k (omega (arith, so-far .within)) inside;
+        }
+
 -- ---- a packet put into its place
 
 none-passes : {A : Type 0} (test : A → Bool) (n : ℕ) (f : ℕ → A) → any test (tab n f) ≡ false → (k : ℕ) → k < n
@@ -201,14 +367,44 @@ insert-there (suc n) f p (suc place) within below here =
     (ap (λ (rest : List Packet). f 0 ∷ rest)
     (insert-there n (λ i. f (suc i)) p place (omega arith) (λ k lower. below (suc k) (omega arith)) (λ inside. here (omega arith))))
 
-pub packet-inserted : (words index : List ℕ) (count place : ℕ) (p : Packet) → (enough : pending-size ≤ length words) → count < max-pending
-    → Placed words count (sequence-of p) place → Opened 1 (index-lent words) place count index
+-- room for a packet: those below its place moved down, with the ring's start, or those from it on moved up
+module _ (words index : List ℕ) (start count at : ℕ) (enough : pending-size ≤ length words) (is : start ≡ start-of words) (low : start < index-size)
+    (inside : at ≤ count) (room : count < max-pending) where
+  pub room-below : (next : ℕ) → next ≡ (start + index-size - 1) % index-size → MovedDown 1 next (index-lent words) 0 (at + 1) index
+      → WithRoom words count at (restarted (index-back words index) next)
+  room-below next before gap =
+      record {
+        long = restarted-length words index enough (gap .long) next;
+        low =
+            λ k lower.
+            restarted-shown words index enough (gap .long) start next k k is (omega arith)
+            (gap .moved k (omega arith) (omega arith) ∙ ap (λ (n : ℕ). getD (index-lent words) n 0) (omega arith));
+        high =
+            λ k higher below.
+            restarted-shown words index enough (gap .long) start next k (k + 1) is (omega arith)
+            (gap .high (k + 1) (omega arith) (omega arith) ∙ ap (λ (n : ℕ). getD (index-lent words) n 0) (omega arith));
+      }
+
+  pub room-above : MovedUp 1 start (index-lent words) at count index → WithRoom words count at (index-back words index)
+  room-above gap =
+      record {
+        long = back-length words enough index (gap .long);
+        low = λ k lower. moved-shown words index enough (gap .long) start k k is (gap .low k lower);
+        high = λ k higher below. moved-shown words index enough (gap .long) start k (k + 1) is (gap .moved k higher below);
+      }
+
+pub room-enough : (words opened : List ℕ) (count at : ℕ) → pending-size ≤ length words → WithRoom words count at opened → (to word : ℕ)
+    → pending-size ≤ length (set opened to word)
+room-enough words opened count at enough gap to word = omega (arith, length-set opened to word, gap .long)
+
+packet-inserted : (words opened : List ℕ) (count place : ℕ) (p : Packet) → (enough : pending-size ≤ length words) → count < max-pending
+    → Placed words count (sequence-of p) place → WithRoom words count place opened
     → ascends (packets count words) ≡ true → is-held (sequence-of p) (packets count words) ≡ false → cell-of p < max-cells
     → is-among (cell-of p) (pending-cells (packets count words)) ≡ false
-    → Holds (length words) (put-in (index-back words index) place p) (count + 1) (insert p (packets count words))
-packet-inserted words index count place p enough room at gap up absent small unused =
+    → Holds (length words) (put-in opened place p) (count + 1) (insert p (packets count words))
+packet-inserted words opened count place p enough room at gap up absent small unused =
     record {
-      length-kept = put-length opened place p opened-enough low small ∙ opened-long;
+      length-kept = put-length opened place p opened-enough low small ∙ gap .long;
       is =
           ap (λ (n : ℕ). packets n (put-in opened place p)) (add-one count)
           ∙ tab-insert count place p (packet-at words) (packet-at (put-in opened place p)) (at .within) lower-packets
@@ -216,14 +412,8 @@ packet-inserted words index count place p enough room at gap up absent small unu
           ∙ sym (insert-there count (packet-at words) p place (at .within) (at .below) strictly);
     }
   where
-    opened : List ℕ
-    opened = index-back words index
-
-    opened-long : length opened ≡ length words
-    opened-long = back-length words enough index (gap .long)
-
     opened-enough : pending-size ≤ length opened
-    opened-enough = omega (arith, opened-long)
+    opened-enough = omega (arith, gap .long)
 
     low : place < max-pending
     low = omega (arith, at .within)
@@ -235,13 +425,11 @@ packet-inserted words index count place p enough room at gap up absent small unu
     lower-packets : (i : ℕ) → i < place → packet-at (put-in opened place p) i ≡ packet-at words i
     lower-packets i lower =
         let inside : i < count = omega (arith, at .within) in
-        let same : packet-at opened i ≡ packet-at words i = opened-low words index count place enough room gap i lower inside in
-        put-elsewhere opened place p opened-enough low small i (omega arith) (λ q. omega arith) (cell-free i i inside same) ∙ same
+        put-elsewhere opened place p opened-enough low small i (omega arith) (λ q. omega arith) (cell-free i i inside (gap .low i lower)) ∙ gap .low i lower
 
     upper-packets : (i : ℕ) → place ≤ i → i < count → packet-at (put-in opened place p) (suc i) ≡ packet-at words i
     upper-packets i higher inside =
-        let same : packet-at opened (suc i) ≡ packet-at words i =
-        ap (packet-at opened) (sym (add-one i)) ∙ opened-high words index count place enough room gap i higher inside in
+        let same : packet-at opened (suc i) ≡ packet-at words i = ap (packet-at opened) (sym (add-one i)) ∙ gap .high i higher inside in
         put-elsewhere opened place p opened-enough low small (suc i) (omega arith) (λ q. omega arith) (cell-free i (suc i) inside same) ∙ same
 
     strictly : place < count → sequence-of p < sequence-of (packet-at words place)
@@ -249,20 +437,51 @@ packet-inserted words index count place p enough room at gap up absent small unu
         ⊎-elim (λ same. absurd (never-held count (packet-at words) (sequence-of p) absent place inside (sym same)))
         (λ more. more) (eq-or-lt-of-le (at .above place (omega arith) inside))
 
+pub inserted-at : (words opened after : List ℕ) (count place there : ℕ) (p : Packet) → (enough : pending-size ≤ length words) → count < max-pending
+    → Placed words count (sequence-of p) place → WithRoom words count place opened
+    → ascends (packets count words) ≡ true → is-held (sequence-of p) (packets count words) ≡ false → cell-of p < max-cells
+    → is-among (cell-of p) (pending-cells (packets count words)) ≡ false → there ≡ slot-of opened place
+    → after ≡ overwritten ((index-rows + cell-of p) * packet-row-size) (row-words p) (set opened there (sequence-of p * max-cells + cell-of p))
+    → Holds (length words) after (count + 1) (insert p (packets count words))
+inserted-at words opened after count place there p enough room at gap up absent small unused slot is =
+    subst (λ (l : List ℕ). Holds (length words) l (count + 1) (insert p (packets count words)))
+    (sym
+    (is
+    ∙ ap
+    (λ (n : ℕ). overwritten ((index-rows + cell-of p) * packet-row-size) (row-words p) (set opened n (sequence-of p * max-cells + cell-of p)))
+    slot))
+    (packet-inserted words opened count place p enough room at gap up absent small unused)
+
 -- ---- packets taken out of their places
 
-pub range-removed : (words index : List ℕ) (count from end : ℕ) → pending-size ≤ length words → from ≤ end → end ≤ count → count ≤ max-pending
-    → Closed (end - from) (index-lent words) from count index → Without words count from end (index-back words index)
-range-removed words index count from end enough ordered within most gap =
-    record {
-      long = back-length words enough index (gap .long);
-      low = λ k lower. closed-low words index count from enough (end - from) most gap k lower (omega arith);
-      high = λ k higher inside. closed-high words index count from enough (end - from) most gap k higher inside;
-    }
+-- those below them moved up, with the ring's start, or those behind them moved down
+module _ (words index : List ℕ) (start count from end : ℕ) (enough : pending-size ≤ length words) (is : start ≡ start-of words) (low : start < index-size)
+    (ordered : from ≤ end) (within : end ≤ count) (most : count ≤ max-pending) where
+  pub removed-below : (next : ℕ) → next ≡ (start + (end - from)) % index-size → MovedUp (end - from) start (index-lent words) 0 from index
+      → Without words count from end (restarted (index-back words index) next)
+  removed-below next behind gap =
+      record {
+        long = restarted-length words index enough (gap .long) next;
+        low =
+            λ k lower.
+            restarted-shown words index enough (gap .long) start next k k is (omega arith)
+            (ap (λ (n : ℕ). getD index n 0) (further k) ∙ gap .moved k (omega arith) lower);
+        high =
+            λ k higher inside.
+            restarted-shown words index enough (gap .long) start next (k + (end - from)) k is (omega arith)
+            (ap (λ (n : ℕ). getD index n 0) (further k) ∙ gap .high (k + (end - from)) (omega arith) (omega arith));
+      }
+    where
+      further : (k : ℕ) → round next k ≡ round start (k + (end - from))
+      further k = omega arith
 
-pub none-removed : (words : List ℕ) (count from end : ℕ) → from ≡ end → Without words count from end words
-none-removed words count from end same =
-    record { long = refl; low = λ k lower. refl; high = λ k higher inside. ap (packet-at words) (omega arith) }
+  pub removed-above : MovedDown (end - from) start (index-lent words) from count index → Without words count from end (index-back words index)
+  removed-above gap =
+      record {
+        long = back-length words enough index (gap .long);
+        low = λ k lower. moved-shown words index enough (gap .long) start k k is (gap .low k lower);
+        high = λ k higher inside. moved-shown words index enough (gap .long) start (k + (end - from)) k is (gap .moved k higher inside);
+      }
 
 pub packet-removed : (words after : List ℕ) (count place : ℕ) → place < count → Without words count place (place + 1) after
     → Holds (length words) after (count - 1) (removed place (packets count words))

@@ -12,8 +12,8 @@ use lib.Seq.{length-take-le, drop-drop, getD-take, getD-drop, getD-set-same, get
 use Rattle.srt_protocol.specs.Cells.{overwritten}
 use Rattle.srt_protocol.specs.laws.CellLaws.{overwritten-there, overwritten-run}
 use Rattle.word_rows.specs.Tab.{tab, removed}
-use Rattle.word_rows.specs.laws.Tab.{tab-set, tab-push, tab-insert, tab-remove, inserted}
-use Rattle.word_rows.specs.Rows.{row-at, Opened, Closed}
+use Rattle.word_rows.specs.laws.Tab.{tab-set, tab-push, tab-remove}
+use Rattle.word_rows.specs.Rows.{row-at, Closed}
 
 -- ---- words of a row
 
@@ -78,25 +78,9 @@ module _ (width : ℕ) (words row : List ℕ) (i : ℕ) (fits : i * width + widt
       apart (yes lower) = inl (next-row width j i lower)
       apart (no not-lower) = inr (omega (arith, next-row width i j (omega arith)))
 
--- ---- a turn of each loop that moves words
+-- ---- a turn of the loop that moves words
 
 module _ (width : ℕ) (words here : List ℕ) (end at : ℕ) where
-  pub open-low : (v : ℕ) → 0 < at → ((k : ℕ) → k < at + width → getD here k 0 ≡ getD words k 0)
-      → (k : ℕ) → k < at - 1 + width → getD (set here (at - 1 + width) v) k 0 ≡ getD words k 0
-  open-low v some low k below = getD-set-other here (at - 1 + width) k v 0 (λ q. omega arith) ∙ low k (omega arith)
-
-  pub open-high : 0 < at → at ≤ end → end + width ≤ length here
-      → ((k : ℕ) → k < at + width → getD here k 0 ≡ getD words k 0)
-      → ((k : ℕ) → at ≤ k → k < end → getD here (k + width) 0 ≡ getD words k 0)
-      → (k : ℕ) → at - 1 ≤ k → k < end → getD (set here (at - 1 + width) (getD here (at - 1) 0)) (k + width) 0 ≡ getD words k 0
-  open-high some within fits low high k above below =
-      ⊎-elim
-      (λ same.
-      rw (← same) (getD-set-same here (at - 1 + width) (getD here (at - 1) 0) 0 (omega arith) ∙ low (at - 1) (omega arith)))
-      (λ more.
-      getD-set-other here (at - 1 + width) (k + width) (getD here (at - 1) 0) 0 (λ q. omega arith) ∙ high k (omega arith) below)
-      (eq-or-lt-of-le above)
-
   pub close-low : (from v : ℕ) → from ≤ at → ((k : ℕ) → k < from → getD here k 0 ≡ getD words k 0)
       → (k : ℕ) → k < from → getD (set here at v) k 0 ≡ getD words k 0
   close-low from v within low k below = getD-set-other here at k v 0 (λ q. omega arith) ∙ low k below
@@ -167,40 +151,3 @@ module _ {A : Type 0} (width : ℕ) (read : List ℕ → A) where
 
       one-less : suc (count - 1) ≡ count
       one-less = omega arith
-
-  -- the rows from a place on moved up by one, and a row was written there
-  pub table-inserted : (words opened row : List ℕ) (count place : ℕ) → count * width + width ≤ length words → place ≤ count
-      → length row ≡ width → Opened width words (place * width) (count * width) opened
-      → table (count + 1) (overwritten (place * width) row opened) ≡ inserted place (read row) (table count words)
-  table-inserted words opened row count place fits within long gap =
-      ap (λ (n : ℕ). table n after) (add-one count)
-      ∙ tab-insert count place (read row) (read-row words) (read-row after) within lower-rows
-      (ap read (row-there width opened row place room long)) upper-rows
-    where
-      after : List ℕ
-      after = overwritten (place * width) row opened
-
-      room : place * width + width ≤ length opened
-      room = omega (arith, mul-le-mul-right width within, gap .long)
-
-      end-of : (i : ℕ) → i < count → i * width + width ≤ length words
-      end-of i below = omega (arith, next-row width i count below)
-
-      one-on : (i k : ℕ) → suc i * width + k ≡ i * width + k + width
-      one-on i k = omega arith
-
-      lower-rows : (i : ℕ) → i < place → read-row after i ≡ read-row words i
-      lower-rows i lower =
-          ap read
-          (row-elsewhere width opened row place room long i (λ same. omega arith)
-          ∙ row-same width words opened i i (omega (arith, gap .long, end-of i (omega arith))) (end-of i (omega arith))
-          (λ k inside. gap .low (i * width + k) (omega (arith, next-row width i place lower))))
-
-      upper-rows : (i : ℕ) → place ≤ i → i < count → read-row after (suc i) ≡ read-row words i
-      upper-rows i higher inside =
-          ap read
-          (row-elsewhere width opened row place room long (suc i) (λ same. omega arith)
-          ∙ row-same width words opened (suc i) i (omega (arith, gap .long, next-row width i count inside, one-on i 0)) (end-of i inside)
-          (λ k below.
-          ap (λ (n : ℕ). getD opened n 0) (one-on i k)
-          ∙ gap .high (i * width + k) (omega (arith, mul-le-mul-right width higher)) (omega (arith, next-row width i count inside))))

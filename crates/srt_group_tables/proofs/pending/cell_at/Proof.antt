@@ -1,9 +1,16 @@
 -- `cell_at` meets its contract: the index word tells the cell.
+use mathlib.Core.Path.{ap, _∙_}
+use Prim.Native.Nat.{ℕ, _%_}
 use native.Mathlib.Omega.{arith}
+use lib.ListN.{getD}
+use Rattle.srt_protocol.specs.Cells.{max-cells}
 use Rattle.srt_group_tables.specs.laws.PacketIndex.{index-cell}
 use borrow.Author.Needs.{needs}
 use Rattle.srt_group_tables.proofs.pending.cell_at.Statement.{statement}
 use Rattle.srt_group_tables.proofs.pending.cell_at.Tie as tie
+
+slot-requires : tie.Need-slot-requires
+slot-requires c κs = search needs
 
 mul-result : tie.Need-mul-result
 mul-result c = search needs
@@ -12,7 +19,11 @@ shared-slice-read-result : tie.Need-shared-slice-read-result
 shared-slice-read-result c = search needs
 
 returns : tie.Need-returns
-returns c = (index-cell _ _, omega arith)
+returns c =
+    let args = c .before .before .before .args in (
+      ap (λ (n : ℕ). getD (args .pending .now) n 0 % max-cells) (c .before .slot .ensures .0) ∙ index-cell (args .pending .now) (args .at),
+      omega arith,
+    )
 
 pub cell-at-spec : {M : Type 1} → statement M
-cell-at-spec = tie.close (tie.spec mul-result shared-slice-read-result returns)
+cell-at-spec = tie.close (tie.spec slot-requires mul-result shared-slice-read-result returns)

@@ -3,6 +3,7 @@ use mathlib.Core.Path.{sym, ap}
 use Prim.Native.Nat.{ℕ, _+_}
 use native.Mathlib.Omega.{arith}
 use Rattle.srt_protocol.specs.Sequence.{half}
+use Rattle.srt_group_tables.specs.Packets.{slot-of}
 use Rattle.srt_group_tables.specs.laws.PacketIndex.{sequence-small}
 use Rattle.srt_group_tables.specs.laws.PacketLaws.{nearest-none, nearest-wraps, nearest-lowest}
 use borrow.Author.Needs.{needs}
@@ -20,7 +21,8 @@ add-place c =
     omega (
       arith,
       c .sequence-at .ensures,
-      sequence-small (c .before .before .before .args .pending .now) 0 (omega (arith, c .before .before .shared-slice-known .given 0)),
+      sequence-small (c .before .before .before .args .pending .now) 0
+          (omega (arith, c .before .before .shared-slice-known .given (slot-of (c .before .before .before .args .pending .now) 0))),
     )
 
 place-requires : tie.Need-place-requires

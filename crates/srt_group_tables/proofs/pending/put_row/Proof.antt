@@ -1,6 +1,5 @@
 -- `put_row` meets its contract: the part that was lent comes back as the packet's row.
-use Rattle.word_rows.specs.laws.Rows.{row-back}
-use Rattle.srt_group_tables.specs.laws.PacketIndex.{eight-words}
+use Rattle.srt_group_tables.specs.laws.PacketIndex.{seven-words, row-written}
 use borrow.Author.Needs.{needs}
 use Rattle.srt_group_tables.proofs.pending.put_row.Statement.{statement}
 use Rattle.srt_group_tables.proofs.pending.put_row.Tie as tie
@@ -30,7 +29,7 @@ same-length : tie.Need-same-length
 same-length c = search needs
 
 returns : tie.Need-returns
-returns c = rw (c .before .before .write-row .ensures, c .before .before .before .before .row-start .ensures) (row-back 8 _ _ _ (eight-words _))
+returns c = rw (c .before .before .write-row .ensures, c .before .before .before .before .row-start .ensures) (row-written _ _ _ (seven-words _))
 
 pub put-row-spec : {M : Type 1} → statement M
 put-row-spec =

@@ -28,9 +28,6 @@ slice-write-row-6 c = simp length-set (omega arith)
 slice-write-row-7 : tie.Need-slice-write-row-7
 slice-write-row-7 c = simp length-set (omega arith)
 
-slice-write-row-8 : tie.Need-slice-write-row-8
-slice-write-row-8 c = simp length-set (omega arith)
-
 same-length : tie.Need-same-length
 same-length c = search needs
 
@@ -49,6 +46,5 @@ write-row-spec =
     slice-write-row-5
     slice-write-row-6
     slice-write-row-7
-    slice-write-row-8
     same-length
     returns)
