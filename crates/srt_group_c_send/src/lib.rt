@@ -1,4 +1,3 @@
-// Sending for C: the public calls, and their forms for a valid state, with the record and the answer as rows of words.
-pub mod answers; // answers.rt: what a send or a readiness test answers, in words, and the record that it leaves
+// Sends for C: the public calls, and the form for a valid state, with the record and the answer as rows of words.
+pub mod answers; // answers.rt: what a send answers, in words, and the record that it leaves
 pub mod sends; // sends.rt: `send`, `send_shared`
-pub mod readiness; // readiness.rt: `can_send`, `can_send_with_pacing`

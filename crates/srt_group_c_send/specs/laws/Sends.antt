@@ -1,4 +1,4 @@
--- Sends and readiness tests in words.
+-- Sends in words.
 use mathlib.Core.Path.{_≡_, refl, sym, ap, subst, _∙_}
 use mathlib.Core.Bool.{Bool, true, false}
 use mathlib.Core.List.{List, [], _∷_}
@@ -13,25 +13,21 @@ use Rattle.srt_protocol.specs.declared.error.Outcome.{Outcome}
 use Rattle.srt_protocol.specs.declared.error.Outcome.the-variants.{Accepted, Refused}
 use Rattle.srt_protocol.specs.Errors.{error-number, outcome-number}
 use Rattle.srt_protocol.specs.Cells.{overwritten}
-use Rattle.srt_group_model.specs.Tools.{if_then_else_, bit}
+use Rattle.srt_group_model.specs.Tools.{if_then_else_}
 use Rattle.srt_group_model.specs.laws.Reason.{if-true, if-false, by-test}
 use Rattle.srt_group_model.specs.Sending.{list-size}
-use Rattle.srt_group_model.specs.Guards.{Answer, no-answer, shown, number, truth}
+use Rattle.srt_group_model.specs.Guards.{no-answer, shown, number}
 use Rattle.srt_group_model.specs.Answers.{values-of, shown-values}
 use Rattle.srt_group_model.specs.Lent.{Lent, call-send}
 use Rattle.srt_group_shown.specs.Tables.{Parts, Tables}
 use Rattle.srt_group_shown.specs.Ready.{sending-into}
 use Rattle.srt_group.specs.Made.{parts-of}
-use Rattle.srt_group.specs.declared.Group.{Group}
-use Rattle.srt_group_looks.specs.Looks.{truth-code, truth-answer}
-use Rattle.srt_group_looks.specs.declared.looks.TruthLook.{TruthLook}
-use Rattle.srt_group_looks.specs.declared.looks.TruthLook.the-variants as of-truth
 use Rattle.srt_group_send.specs.Sends.{sent-answer, Sends}
 use Rattle.srt_group_send.specs.declared.sending.GroupSend.{GroupSend}
 use Rattle.srt_group_send_calls.specs.Answers.{OutcomeCode}
 use Rattle.srt_group_send_calls.specs.laws.Promised.{sent-coded, list-refused, send-refused}
-use Rattle.srt_group_words.specs.Record.{record-size, group-of, group-words}
-use Rattle.srt_group_words.specs.Words.{zeros, in-words, sent-words, words, PromisedWords, Said, PutSaid, BegunStored}
+use Rattle.srt_group_words.specs.Record.{record-size, group-of}
+use Rattle.srt_group_words.specs.Words.{zeros, in-words, sent-words, words, PromisedWords, BegunStored}
 use Rattle.srt_group_words.specs.laws.Words.{sent-enough, in-words-of}
 use Rattle.srt_group_words.specs.laws.Begin.{refused-in-words}
 
@@ -80,26 +76,6 @@ says-sent sent is a put =
     put
     ∙ ap (λ (l : List ℕ). overwritten 0 l a)
     (ap (λ (n : ℕ). n ∷ sent .rows ∷ []) is ∙ legs-by (sent .code) (sent .legs) (eqb (sent .code) 0) (sent .rows))
-
-module _ {look : TruthLook} (a : List ℕ) {a′ : List ℕ} where
-  pub says-truth : (b : Bool) → look ≡ of-truth.Truth b → {n : ℕ} → n ≡ bit b → a′ ≡ overwritten 0 (n ∷ []) a
-      → Said (truth-code look) (in-words 1 (truth-answer look) 0) 0 a a′
-  unfolding in-words values-of shown-values zeros
-  says-truth b is flag put =
-      subst (λ (x : TruthLook). Said (truth-code x) (in-words 1 (truth-answer x) 0) 0 a a′) (sym is)
-      record { same = refl; said = put ∙ ap (λ (n : ℕ). overwritten 0 (n ∷ []) a) flag }
-
-  pub says-refused : (e : Error) → look ≡ of-truth.Refused e → {n : ℕ} → n ≡ error-number e → a′ ≡ overwritten 0 (0 ∷ []) a
-      → Said (truth-code look) (in-words 1 (truth-answer look) 0) n a a′
-  unfolding in-words values-of shown-values zeros
-  says-refused e is {n} same put =
-      subst (λ (x : TruthLook). Said (truth-code x) (in-words 1 (truth-answer x) 0) n a a′) (sym is) record { same = same; said = put }
-
-pub says-ready : {g : Group} (ready : Bool) {n : ℕ} → n ≡ bit ready → (w a : List ℕ) {w′ a′ : List ℕ} → w′ ≡ overwritten 0 (group-words g) w
-    → a′ ≡ overwritten 0 (n ∷ []) a → PutSaid g 0 (in-words 1 (shown (truth ready)) 0) w a 0 w′ a′
-unfolding in-words values-of shown-values zeros
-says-ready ready flag w a put said =
-    record { put = put; same = refl; said = said ∙ ap (λ (n : ℕ). overwritten 0 (n ∷ []) a) flag }
 
 -- ---- `send`
 

@@ -1,8 +1,8 @@
 -- `put_readiness` meets its contract: what the test moves is put back, and its word is the answer.
-use Rattle.srt_group_c_send.specs.laws.Sends.{says-ready}
+use Rattle.srt_group_c_readiness.specs.laws.Answers.{says-ready}
 use borrow.Author.Needs.{needs}
-use Rattle.srt_group_c_send.proofs.answers.put_readiness.Statement.{statement}
-use Rattle.srt_group_c_send.proofs.answers.put_readiness.Tie as tie
+use Rattle.srt_group_c_readiness.proofs.answers.put_readiness.Statement.{statement}
+use Rattle.srt_group_c_readiness.proofs.answers.put_readiness.Tie as tie
 
 put-sent-requires : tie.Need-put-sent-requires
 put-sent-requires c κs = search needs

@@ -2,10 +2,10 @@
 use mathlib.Core.Path.{refl}
 use Rattle.srt_group_words.specs.laws.Words.{parts-ready, performs-ready}
 use borrow.Author.Needs.{needs}
-use Rattle.srt_group_c_send.proofs.readiness.srt_group_valid_can_send_with_pacing.Statement.{
+use Rattle.srt_group_c_readiness.proofs.readiness.srt_group_valid_can_send_with_pacing.Statement.{
   statement,
 }
-use Rattle.srt_group_c_send.proofs.readiness.srt_group_valid_can_send_with_pacing.Tie as tie
+use Rattle.srt_group_c_readiness.proofs.readiness.srt_group_valid_can_send_with_pacing.Tie as tie
 
 read-identity-requires : tie.Need-read-identity-requires
 read-identity-requires c κs = c .before .before .before .before .before .before .before .before .before .before .pre .0 .long

@@ -7,9 +7,9 @@ ghost use Rattle.srt_group_shown.specs.Tables.{tables};
 ghost use Rattle.srt_group_shown.specs.Ready.{storing};
 ghost use Rattle.srt_group_refusals.specs.Promised.{nothing-lent};
 ghost use Rattle.srt_group_words.specs.Words.{in-words, words, PromisedWords, ReadyWords, PerformsWords};
-use crate::answers::READY;
 use crate::answers::put_readiness;
 use crate::answers::put_tested;
+use srt_group_c_looks::answers::SHOWN;
 use srt_group_send::valid;
 use srt_group_send_calls::calls;
 use srt_group_words::record::RECORD;
@@ -42,7 +42,7 @@ pub extern "C" fn srt_group_raw_can_send(
     if record.len() < RECORD {
         return 5;
     }
-    if answer.len() < READY {
+    if answer.len() < SHOWN {
         return 5;
     }
     let tested = calls::can_send(
@@ -119,7 +119,7 @@ pub extern "C" fn srt_group_raw_can_send_with_pacing(
     if record.len() < RECORD {
         return 5;
     }
-    if answer.len() < READY {
+    if answer.len() < SHOWN {
         return 5;
     }
     let tested = calls::can_send_with_pacing(

@@ -1,0 +1,2 @@
+-- What is proved.
+pub mod laws
