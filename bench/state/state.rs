@@ -1,6 +1,5 @@
 //! Times the test of code 6, "the lent state breaks a rule", as a host makes it once that is the only writer (`srt_group_valid_begin`), beside
 //! the same test as a plain loop in Rust. Both read the same memory and mark the cells in use in a set of bits.
-
 #[allow(dead_code)]
 #[path = "../../rust/srt-group/src/raw.rs"]
 mod raw;
@@ -13,7 +12,8 @@ use std::time::Instant;
 
 use rules::State;
 
-const RUNS: usize = 15;
+/// Many short runs, so that some of them are not interrupted.
+const RUNS: usize = 101;
 const GROUP: u64 = 0x4000_0001;
 /// Far ahead of the base, so that what is polled for stays held.
 const HELD_FROM: u64 = 100_000_000;
@@ -140,7 +140,7 @@ fn main() {
     for legs in [4, 64] {
         for held in [0, 20, 200, 2_000] {
             let mut memory = Memory::new(legs, held);
-            let tests = 200_000 / (held + legs);
+            let tests = 40_000 / (held + legs);
             let rust = nanoseconds(tests, || assert!(black_box(&memory).check()));
             let library = nanoseconds(tests, || assert_eq!(black_box(&mut memory).begin(), 0));
             println!("{legs:>4} {held:>5} {rust:>9.0} {library:>11.0} {:>6.2}", library / rust);

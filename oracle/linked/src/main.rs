@@ -1,5 +1,6 @@
 //! The library and the Rust in one process: see README.md, "Linked".
 
+mod change;
 mod figures;
 mod library;
 mod looks;

@@ -120,7 +120,7 @@ impl Memory {
         }
     }
 
-    fn words(&self) -> [(Part, &Lent<u64>); 10] {
+    fn all_words(&self) -> [(Part, &Lent<u64>); 10] {
         [
             (Part::Record, &self.record),
             (Part::Members, &self.members),
@@ -133,6 +133,11 @@ impl Memory {
             (Part::Shown, &self.shown),
             (Part::Answer, &self.answer),
         ]
+    }
+
+    fn words(&self, part: Part) -> Option<&Lent<u64>> {
+        let mut all = self.all_words().into_iter();
+        all.find_map(|(name, words)| (name == part).then_some(words))
     }
 
     pub fn words_mut(&mut self, part: Part) -> Option<&mut Lent<u64>> {
@@ -151,11 +156,11 @@ impl Memory {
         })
     }
 
-    pub fn length(&mut self, part: Part) -> usize {
+    pub fn length(&self, part: Part) -> usize {
         match part {
             Part::Store => self.store.length(),
             Part::Output => self.output.length(),
-            _ => self.words_mut(part).expect("words").length(),
+            _ => self.words(part).expect("words").length(),
         }
     }
 
@@ -172,7 +177,7 @@ impl Memory {
     pub fn behind(&self) -> Vec<u64> {
         let bytes = [&self.store, &self.output];
         let bytes = bytes.into_iter().flat_map(|lent| &lent.all[lent.length..]);
-        let words = self.words().into_iter();
+        let words = self.all_words().into_iter();
         let words = words.flat_map(|(_, lent)| &lent.all[lent.length..]);
         words
             .copied()
@@ -192,7 +197,7 @@ impl Memory {
 
     /// The first word or byte that is not the other memory's, what is not lent included.
     pub fn difference(&self, other: &Self) -> Option<String> {
-        let words = self.words().into_iter().zip(other.words());
+        let words = self.all_words().into_iter().zip(other.all_words());
         let mut words = words.filter_map(|((part, a), (_, b))| place(part, &a.all, &b.all));
         words
             .next()

@@ -2,8 +2,9 @@
 
 use oracle::generate::prng::Prng;
 
+use crate::change;
 use crate::library::{self, Call};
-use crate::memory::{Memory, Part, STATE};
+use crate::memory::{Memory, Part};
 use crate::raw;
 use crate::rules::{self, Rule};
 
@@ -70,7 +71,7 @@ pub fn changed(
     prng: &mut Prng,
 ) -> Result<Result<(), Rule>, String> {
     let mut memory = memory.clone();
-    let what = change_word(&mut memory, prng);
+    let what = change::state_word(&mut memory, prng);
     let in_store = rules::cells_of(memory.store.length() as u64);
     let begun = match store_differs(&memory) {
         true => TOO_SHORT,
@@ -100,9 +101,7 @@ pub fn changed(
 /// no byte changes. It answers the code.
 pub fn handed(memory: &Memory, call: &Call<'_>, prng: &mut Prng) -> Result<u32, String> {
     let mut memory = memory.clone();
-    let words = prng.pick(&[36, 36, 36, raw::ROW_WORDS as u64]);
-    let [at, other] = [(); 2].map(|()| prng.below(words) as usize);
-    let what = put_word(&mut memory, Part::Row, at, other, prng);
+    let what = change::row_word(&mut memory, prng);
     let cells = rules::cells_given(&memory.record);
     let code = rules::handed(&memory.row);
     let done = match code {
@@ -129,116 +128,4 @@ fn code_of(rule: Result<(), Rule>) -> u32 {
 fn store_differs(memory: &Memory) -> bool {
     let given = memory.record[1];
     given != 0 && given != memory.store.length() as u64 || memory.store.length() < raw::CELL
-}
-
-/// Change one word of the record or a table, for most in a row that is in use; say which.
-fn change_word(memory: &mut Memory, prng: &mut Prng) -> String {
-    let (part, at, other) = place(memory, prng);
-    put_word(memory, part, at, other, prng)
-}
-
-fn put_word(memory: &mut Memory, part: Part, at: usize, other: usize, prng: &mut Prng) -> String {
-    let words = memory.words_mut(part).expect("words");
-    let (old, other) = (words[at], words[other]);
-    let new = match new_word(old, other, prng) {
-        same if same == old => old ^ 1,
-        new => new,
-    };
-    words[at] = new;
-    format!("{part:?} at {at} changed from {old} to {new}")
-}
-
-/// Numbers at the edges of ranges and counts.
-const EDGES: [u64; 16] = [
-    15,
-    16,
-    63,
-    64,
-    511,
-    512,
-    1_456,
-    2_047,
-    2_048,
-    65_535,
-    65_536,
-    (1 << 31) - 1,
-    1 << 31,
-    (1 << 32) - 1,
-    1 << 32,
-    u64::MAX,
-];
-
-fn new_word(old: u64, other: u64, prng: &mut Prng) -> u64 {
-    // A word of two tables has a cell in its lowest eleven bits, or in the next.
-    let (low, next) = (0x7FF, 0x7FF << 11);
-    match prng.below(8) {
-        0 | 1 => old ^ 1 << prng.below(64),
-        2 => prng.below(6),
-        3 => other,
-        4 => old & !low | other & low,
-        5 => old & !next | other & next,
-        6 => prng.pick(&EDGES).wrapping_add(prng.below(2)),
-        _ => prng.pick(&[old.wrapping_add(1), old.wrapping_sub(1)]),
-    }
-}
-
-/// A word, and that of another row in its place.
-fn place(memory: &Memory, prng: &mut Prng) -> (Part, usize, usize) {
-    let record = &memory.record;
-    let [members, held, waiting, kept] = [4, 5, 6, 19].map(|word| record[word]);
-    match prng.below(12) {
-        0..=2 if members > 0 => in_rows(Part::Members, 0, raw::ROW_WORDS, 36, members, prng),
-        3..=4 if members > 0 => in_queue(memory, members, prng),
-        5 if held > 0 => in_rows(Part::Pending, 0, 1, 1, held, prng),
-        6..=7 if held > 0 => {
-            let [a, b] =
-                [(); 2].map(|()| memory.pending[prng.below(held) as usize] as usize % 2_048);
-            let word = 2_048 + prng.below(8) as usize;
-            (Part::Pending, word + a * 8, word + b * 8)
-        }
-        8 if waiting > 0 => in_rows(Part::Waiting, 0, 3, 3, waiting, prng),
-        9..=10 if kept > 0 => {
-            let [a, b] =
-                [(); 2].map(|()| (record[18].wrapping_add(prng.below(kept)) % 512) as usize);
-            (Part::History, a, b)
-        }
-        11 => {
-            let part = prng.pick(&STATE);
-            let words = [20, 12_096, 18_432, 192, 512, 512];
-            let at = prng.below(words[STATE.iter().position(|&p| p == part).unwrap_or(0)]) as usize;
-            (part, at, 0)
-        }
-        _ => (
-            Part::Record,
-            prng.below(20) as usize,
-            prng.below(20) as usize,
-        ),
-    }
-}
-
-/// One of the first words of a row in use, in two rows.
-fn in_rows(
-    part: Part,
-    first: usize,
-    size: usize,
-    words: u64,
-    rows: u64,
-    prng: &mut Prng,
-) -> (Part, usize, usize) {
-    let word = first + prng.below(words) as usize;
-    let [a, b] = [(); 2].map(|()| word + prng.below(rows) as usize * size);
-    (part, a, b)
-}
-
-/// A word of a queued event, in two events of one queue; with an empty queue a word of the row.
-fn in_queue(memory: &Memory, members: u64, prng: &mut Prng) -> (Part, usize, usize) {
-    let row = prng.below(members) as usize * raw::ROW_WORDS;
-    let [start, length] = [memory.members[row + 32], memory.members[row + 33]];
-    if length == 0 {
-        return in_rows(Part::Members, 0, raw::ROW_WORDS, 36, members, prng);
-    }
-    let word = row + 45 + prng.below(9) as usize;
-    let [a, b] =
-        [(); 2].map(|()| word + (start.wrapping_add(prng.below(length)) % 16) as usize * 9);
-    (Part::Members, a, b)
 }

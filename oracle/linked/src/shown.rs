@@ -7,11 +7,13 @@ use oracle::trace;
 use crate::memory::Memory;
 use crate::raw::{self, NO_SEQUENCE};
 
-/// Where a member's row has its queue: its start, its length, and the first of its sixteen events of nine words.
-const QUEUE: [usize; 3] = [32, 33, 45];
-const EVENT_WORDS: usize = 9;
+/// Where a member's row has its queue: the start, the length and the sixteen events of nine words.
+pub const QUEUE_START: usize = 32;
+pub const QUEUE_LENGTH: usize = 33;
+pub const EVENTS: usize = 45;
+pub const EVENT_WORDS: usize = 9;
 /// The words of a held packet's row; the rows stand behind the index, in which each word has a sequence and a cell.
-const PACKET_WORDS: usize = 8;
+pub const PACKET_WORDS: usize = 8;
 const LABELS: [&str; 5] = ["Pending", "Active", "Standby", "Unstable", "Broken"];
 
 /// The trace of the state, and of so many rows of the list of sends.
@@ -85,10 +87,9 @@ pub fn rows(memory: &Memory) -> impl Iterator<Item = &[u64]> {
 
 /// The queued events of a member's row, front first.
 fn queue(row: &[u64]) -> impl Iterator<Item = &[u64]> {
-    let [start, length, first] = QUEUE;
-    (0..row[length]).map(move |place| {
-        let place = row[start].wrapping_add(place) % raw::MAX_QUEUED;
-        let at = first + place as usize * EVENT_WORDS;
+    (0..row[QUEUE_LENGTH]).map(move |place| {
+        let place = row[QUEUE_START].wrapping_add(place) % raw::MAX_QUEUED;
+        let at = EVENTS + place as usize * EVENT_WORDS;
         &row[at..at + EVENT_WORDS]
     })
 }
