@@ -13,8 +13,8 @@ ghost use Rattle.srt_group_polls.specs.Refresh.{Known};
 ghost use Rattle.srt_group_polls.specs.EventPoll.{give-next};
 ghost use Rattle.srt_group_polls.specs.DataPoll.{PollsData, Passes};
 ghost use Rattle.srt_group_skip.specs.Skip.{PollsFrom};
+use crate::refresh::refresh_all_states;
 use crate::refresh::refresh_pending_states;
-use crate::refresh::refresh_states_unless;
 use srt_group_collecting::collecting::Gathered;
 use srt_group_collecting::collecting::MAX_VISITS;
 use srt_group_collecting::collecting::collect_until_held;
@@ -80,7 +80,10 @@ fn give_next(
     if 0 < here.counts.waiting {
         return give_waiting(here, waiting);
     }
-    let refreshed = refresh_states_unless(here, sending, members, quiet);
+    let mut refreshed = here;
+    if !quiet {
+        refreshed = refresh_all_states(here, sending, members);
+    }
     deliver_next(
         refreshed,
         members,
@@ -114,7 +117,10 @@ pub fn poll_event(
 {
     core.visit.continuation = 0;
     let quiet = is_quiet(members, core.counts.members, core.mode);
-    let begun = refresh_pending_states(core, sending, members, quiet);
+    let mut begun = core;
+    if !quiet {
+        begun = refresh_pending_states(core, sending, members);
+    }
     let gathered = collect_until_held(begun, members, pending, waiting, used, DELIVERY_BUDGET);
     give_next(
         gathered,

@@ -6,7 +6,7 @@ ghost use lib.ListN.{length};
 ghost use Rattle.srt_group_model.specs.Run.{admit-connected-peer-groups, refresh-pending-states, refresh-states};
 ghost use Rattle.srt_connection_queue.specs.Rows.{row-size};
 ghost use Rattle.srt_group_collecting.specs.Leaves.{every, sends};
-ghost use Rattle.srt_group_polls.specs.Refresh.{Refreshes, Known};
+ghost use Rattle.srt_group_polls.specs.Refresh.{Refreshes};
 use srt_group_delivery::delivery::set_base;
 use srt_group_members::admission;
 use srt_group_members::quiet::is_quiet;
@@ -26,49 +26,38 @@ fn admit_connected_peer_groups(core: Core, members: &mut [u64]) -> Core
     after
 }
 
-// Members are admitted, and Pending ones that connected settle. Where `quiet` says that this would change nothing it is left out.
-pub fn refresh_pending_states(
-    core: Core,
-    sending: Sending,
-    members: &mut [u64],
-    quiet: bool,
-) -> Core
+// Members are admitted, and Pending ones that connected settle.
+pub fn refresh_pending_states(core: Core, sending: Sending, members: &mut [u64]) -> Core
     requires { ⌜ core .counts .members * row-size ≤ length (now members) ⌝ }
-    requires { ⌜ Known quiet core (now members) ⌝ }
     ensures { λ r. ⌜ Refreshes (sends sending) refresh-pending-states core
         (now (members .entry)) r (now (members .exit)) ⌝ }
 {
-    if quiet {
-        return core;
-    }
     let after = admit_connected_peer_groups(core, members);
     let count = after.counts.members;
     refresh::settle_members(members, count, after.mode, sending.numbered, sending.next);
     after
 }
 
-// And members whose leg is disconnected turn Broken, and Unstable ones that can send again requalify. Left out likewise.
-pub fn refresh_states_unless(core: Core, sending: Sending, members: &mut [u64], quiet: bool) -> Core
+// And members whose leg is disconnected turn Broken, and Unstable ones that can send again requalify.
+pub fn refresh_all_states(core: Core, sending: Sending, members: &mut [u64]) -> Core
     requires { ⌜ core .counts .members * row-size ≤ length (now members) ⌝ }
-    requires { ⌜ Known quiet core (now members) ⌝ }
     ensures { λ r. ⌜ Refreshes (sends sending) refresh-states core
         (now (members .entry)) r (now (members .exit)) ⌝ }
 {
-    if quiet {
-        return core;
-    }
-    let after = refresh_pending_states(core, sending, members, false);
+    let after = refresh_pending_states(core, sending, members);
     let count = after.counts.members;
     refresh::requalify_members(members, count, after.mode, sending.numbered, sending.next);
     after
 }
 
-// The whole refresh, left out where it would change nothing.
+// The same, left out where it would change nothing.
 pub fn refresh_states(core: Core, sending: Sending, members: &mut [u64]) -> Core
     requires { ⌜ core .counts .members * row-size ≤ length (now members) ⌝ }
     ensures { λ r. ⌜ Refreshes (sends sending) refresh-states core
         (now (members .entry)) r (now (members .exit)) ⌝ }
 {
-    let quiet = is_quiet(members, core.counts.members, core.mode);
-    refresh_states_unless(core, sending, members, quiet)
+    if is_quiet(members, core.counts.members, core.mode) {
+        return core;
+    }
+    refresh_all_states(core, sending, members)
 }

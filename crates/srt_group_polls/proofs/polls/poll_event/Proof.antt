@@ -1,11 +1,17 @@
--- `poll_event` meets its contract: the test, the refresh, the visits, and what is given then.
+-- `poll_event` meets its contract: the test, the refresh or none, the visits, and what is given then.
 use mathlib.Core.Path.{sym, _∙_}
+use mathlib.Core.Logic.{⊎-elim}
 use native.Mathlib.Omega.{arith}
+use borrow.Author.Tests.{not-false}
+use Rattle.srt_group_model.specs.Core.{continued}
+use Rattle.srt_group_model.specs.Run.{refresh-pending-states}
+use Rattle.srt_group_polls.specs.Refresh.{Refreshes}
 use Rattle.srt_group_polls.specs.laws.EventPoll.{usable-begun, polls-event}
 use Rattle.srt_group_polls.specs.laws.PollsUsed.{follows-begun}
 use Rattle.srt_group_polls.specs.laws.Quiet.{known-begun, known-gathered}
+use Rattle.srt_group_collecting.specs.Leaves.{sends}
 use Rattle.srt_group_collecting.specs.laws.Follows.{follows-then}
-use Rattle.srt_group_polls.specs.laws.Refresh.{rows-there}
+use Rattle.srt_group_polls.specs.laws.Refresh.{rows-there, settling-left-out}
 use borrow.Author.Needs.{needs}
 use Rattle.srt_group_polls.proofs.polls.poll_event.Statement.{statement}
 use Rattle.srt_group_polls.proofs.polls.poll_event.Tie as tie
@@ -14,30 +20,39 @@ is-quiet-requires : tie.Need-is-quiet-requires
 is-quiet-requires c κs = rows-there _ _ _ _ (c .before .before .before .before .before .before .pre .0)
 
 refresh-pending-states-requires : tie.Need-refresh-pending-states-requires
-refresh-pending-states-requires c κs = (
-  rows-there _ _ _ _ (c .before .before .before .before .before .before .before .before .pre .0),
-  λ told. sym (c .before .is-quiet .ensures) ∙ told,
-)
+refresh-pending-states-requires c κs = rows-there _ _ _ _ (c .before .before .before .before .before .before .before .before .before .pre .0)
+
+-- made or left out, it is the definition's refresh
+begun : (c : tie.Joined1)
+    → Refreshes (sends (c .before .before .before .before .before .before .before .before .args .sending)) refresh-pending-states (continued 0 (c .before .before .before .before .before .before .before .before .args .core)) (c .before .before .before .before .before .before .before .before .args .members .now)
+    (c .if1 .begun) (c .if1 .members)
+begun c =
+    let test = c .before .is-quiet in
+    ⊎-elim (λ made. rw (made .5, made .6) (made .2 .ensures))
+    (λ without.
+    rw (without .1, without .2)
+    (settling-left-out _ _ _ (λ told. sym (test .ensures) ∙ told) (not-false (test .result) (without .0 .left))))
+    (c .if1 .came)
 
 collect-until-held-requires : tie.Need-collect-until-held-requires
 collect-until-held-requires c κs =
-    let start = c .before .before .before .before .before .before .before .before .before .before .before .before .before .before .before in (
-      usable-begun _ (start .pre .1 .0) (start .args .core) _ _ _ (start .pre .0) _ _ (c .before .before .before .before .before .before .refresh-pending-states .ensures),
+    let join = c .before .before .before .before in
+    let start = join .before .before .before .before .before .before .before .before in (
+      usable-begun _ (start .pre .1 .0) (start .args .core) _ _ _ (start .pre .0) _ _ (begun join),
       start .pre .1 .1,
     )
 
 give-next-requires : tie.Need-give-next-requires
 give-next-requires c κs =
     let visits = c .before .before .before .before .before .before .before .before .before .before .before .before in
-    let refresh = visits .before .before .before .before .before .before .before in
-    let test = refresh .before .before in
-    let begun = known-begun _ _ (λ told. sym (test .is-quiet .ensures) ∙ told) _ _ _ (refresh .refresh-pending-states .ensures) in (
+    let join = visits .before .before .before .before .before in
+    let known = known-begun _ _ (λ told. sym (join .before .is-quiet .ensures) ∙ told) _ _ _ (begun join) in (
       visits .collect-until-held .ensures .0 .usable,
       (
-        test .before .before .before .before .before .before .before .pre .1 .0,
+        join .before .before .before .before .before .before .before .before .pre .1 .0,
         (
           visits .collect-until-held .ensures .1 .long,
-          λ none-waits. known-gathered _ _ begun _ _ _ _ _ _ _ (visits .collect-until-held .ensures .0) none-waits,
+          λ none-waits. known-gathered _ _ known _ _ _ _ _ _ _ (visits .collect-until-held .ensures .0) none-waits,
         ),
       ),
     )
@@ -47,8 +62,8 @@ same-length c =
     let given = c .before .before .before .before .before .before .before .before .give-next .ensures in
     let visits = c .before .before .before .before .before .before .before .before .before .before .before .before .before .before .before .before .before .before .before .before .before in
     let gathered = visits .collect-until-held .ensures in
-    let refresh = visits .before .before .before .before .before .before .before in
-    omega (arith, refresh .before .before .before .before .before .before .before .before .before .pre .1 .1, refresh .refresh-pending-states .ensures .members-long, gathered .0 .members-long, gathered .0 .pending-long, gathered .0 .waiting-long, gathered .1 .long, given .0 .members-long, given .0 .pending-long, given .0 .waiting-long, given .1 .long)
+    let join = visits .before .before .before .before .before in
+    omega (arith, join .before .before .before .before .before .before .before .before .pre .1 .1, begun join .members-long, gathered .0 .members-long, gathered .0 .pending-long, gathered .0 .waiting-long, gathered .1 .long, given .0 .members-long, given .0 .pending-long, given .0 .waiting-long, given .1 .long)
 
 same-length-2 : tie.Need-same-length-2
 same-length-2 c = search needs
@@ -63,11 +78,11 @@ returns : tie.Need-returns
 returns c =
     let give-next = c .before .before .before .before .before .before .before .before .give-next in
     let visits = c .before .before .before .before .before .before .before .before .before .before .before .before .before .before .before .before .before .before .before .before .before in
-    let refresh = visits .before .before .before .before .before .before .before in
-    let start = refresh .before .before .before .before .before .before .before .before .before in (
-      polls-event _ _ (start .args .core) _ _ _ _ _ (refresh .refresh-pending-states .ensures) (visits .collect-until-held .result) _ _ _ (visits .collect-until-held .ensures .0) _ _ _ _
+    let join = visits .before .before .before .before .before in
+    let start = join .before .before .before .before .before .before .before .before in (
+      polls-event _ _ (start .args .core) _ _ _ _ _ (begun join) (visits .collect-until-held .result) _ _ _ (visits .collect-until-held .ensures .0) _ _ _ _
           (give-next .ensures .0),
-      follows-then (follows-begun _ (start .args .core) _ _ _ _ _ (start .pre .1 .1) (refresh .refresh-pending-states .ensures))
+      follows-then (follows-begun _ (start .args .core) _ _ _ _ _ (start .pre .1 .1) (begun join))
           (follows-then (visits .collect-until-held .ensures .1) (give-next .ensures .1)),
     )
 

@@ -1,11 +1,8 @@
--- `refresh_pending_states` meets its contract: a quiet group is left as it is; else what is admitted settles.
-use Rattle.srt_group_polls.specs.laws.Refresh.{settling-left-out, still-long, settles}
+-- `refresh_pending_states` meets its contract: what is admitted settles.
+use Rattle.srt_group_polls.specs.laws.Refresh.{still-long, settles}
 use borrow.Author.Needs.{needs}
 use Rattle.srt_group_polls.proofs.refresh.refresh_pending_states.Statement.{statement}
 use Rattle.srt_group_polls.proofs.refresh.refresh_pending_states.Tie as tie
-
-returns : tie.Need-returns
-returns c = settling-left-out _ _ _ (c .before .before .pre .1) (c .if1 .taken)
 
 admit-connected-peer-groups-requires : tie.Need-admit-connected-peer-groups-requires
 admit-connected-peer-groups-requires c κs = search needs
@@ -16,15 +13,14 @@ settle-members-requires c κs = search still-long
 same-length : tie.Need-same-length
 same-length c = search needs
 
-returns-2 : tie.Need-returns-2
-returns-2 c = search settles
+returns : tie.Need-returns
+returns c = search settles
 
 pub refresh-pending-states-spec : {M : Type 1} → statement M
 refresh-pending-states-spec =
     tie.close
     (tie.spec
-    returns
     admit-connected-peer-groups-requires
     settle-members-requires
     same-length
-    returns-2)
+    returns)
