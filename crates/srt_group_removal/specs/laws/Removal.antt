@@ -4,16 +4,18 @@ use mathlib.Core.Bool.{true}
 use mathlib.Core.List.{List, []}
 use Prim.Native.Nat.{ℕ, suc, _-_, _≤_, _<_, min}
 use native.Mathlib.Omega.{arith}
+use lib.Dec.{eqb}
 use lib.ListN.{length}
 use Rattle.word_rows.specs.laws.Tab.{tab-length}
 use Rattle.srt_group_model.specs.declared.Core.{Core}
 use Rattle.srt_group_model.specs.declared.Leg.{Leg}
 use Rattle.srt_group_model.specs.declared.Membership.{Membership}
 use Rattle.srt_group_model.specs.declared.Packet.{Packet}
-use Rattle.srt_group_model.specs.Tools.{if-some_give_otherwise_, each, without-place}
+use Rattle.srt_group_model.specs.Tools.{if-some_give_otherwise_, each, without-place, All}
 use Rattle.srt_group_model.specs.State.{Member, State, with-receive, with-pending, with-round, with-members, with-own}
 use Rattle.srt_group_model.specs.Accounts.{add-account, account-of, Fits}
-use Rattle.srt_group_model.specs.Legs.{with-reservation}
+use Rattle.srt_group_model.specs.Legs.{with-reservation, largest-sequence}
+use Rattle.srt_group_model.specs.laws.Reason.{if-elim, all-map, all-each}
 use Rattle.srt_group_model.specs.Members.{id-of, has-id, find}
 use Rattle.srt_group_model.specs.laws.Frame.{found-at}
 use Rattle.srt_group_model.specs.Removal.{own-packet, largest-window, bound-group-owned-pending, retirement-base, take-out, remove-member-at}
@@ -21,7 +23,7 @@ use Rattle.srt_group_model.specs.Validity.{max-pending, max-members, ascends, i
 use Rattle.srt_group_model.specs.Cells.{queue-cells}
 use Rattle.srt_group_model.specs.laws.CellsMoved.{take-out-frees}
 use Rattle.srt_group_model.specs.laws.Ascending.{own-ascends}
-use Rattle.srt_group_model.specs.Sound.{Summed, Sound}
+use Rattle.srt_group_model.specs.Sound.{Packet-fit, Summed, Sound}
 use Rattle.srt_group_model.specs.laws.Accounts.{few-fits, few-together}
 use Rattle.srt_group_model.specs.Guards.{accept, leg-back}
 use Rattle.srt_group_model.specs.Calls.{remove-body}
@@ -37,7 +39,7 @@ use Rattle.srt_group_collecting.specs.Follows.{Follows}
 use Rattle.srt_group_collecting.specs.laws.Follows.{follows-then, follows-freed}
 use Rattle.srt_group_shown.specs.laws.Shown.{held-few}
 use Rattle.srt_group_removal.specs.declared.removal.Removed.{Removed}
-use Rattle.srt_group_removal.specs.Retire.{Held, Retires, FollowsHeld}
+use Rattle.srt_group_removal.specs.Retire.{Low, Held, Retires, FollowsHeld}
 use Rattle.srt_group_removal.specs.Removal.{Removable, taken-out, TakesOut, Removes}
 use Rattle.srt_group_model.specs.declared.Account.{Account}
 
@@ -56,6 +58,8 @@ removable i core others ms ps ws members-long pending-long members-few sound the
             pending-long = pending-long;
             held-few = few;
             ascending = sound .ascending;
+            low = all-map Packet-fit Low (λ p fit. fit .sequence) (packets held ps) (sound .fit .pending);
+            base-low = sound .fit .receiving .base;
           };
       sum =
           subst (λ (a : Account). Fits (add-account a (core .own)))
@@ -119,6 +123,10 @@ taken-and-freed {i} {core} {ms} {ps} {used} {after} {ms′} {ps′} {used′} th
       (λ others. take-out-frees i (member-at ms i) (shown core others ms ps []) (members-place (core .counts .members) ms i there)),
 )
 
+own-low : (id : ℕ) (p : Packet) → Low p → Low (own-packet id p)
+unfolding own-packet
+own-low id p low = if-elim Low (eqb (p .member) id) _ _ (λ e. low) (λ e. low)
+
 -- the held packets are as few, and ascend as before
 module _ (i : ℕ) (core : Core) (ms ps : List ℕ) (may : Removable i core ms ps) (taken : Core) (ms₁ ps₁ : List ℕ)
     (takes : TakesOut i core ms ps taken ms₁ ps₁) where
@@ -134,6 +142,10 @@ module _ (i : ℕ) (core : Core) (ms ps : List ℕ) (may : Removable i core ms p
         ascending =
             subst (λ (l : List Packet). ascends l ≡ true) own-after
             (own-ascends (id-of (member-at ms i)) (packets (core .counts .pending) ps) ∙ may .held .ascending);
+        low =
+            subst (All Low) own-after
+            (all-each Low (own-packet (id-of (member-at ms i))) (own-low (id-of (member-at ms i))) (packets (core .counts .pending) ps) (may .held .low));
+        base-low = subst (λ (c : Core). c .receiving .base ≤ largest-sequence) (sym (takes .rest)) (may .held .base-low);
       }
 
   -- ---- the whole removal

@@ -17,7 +17,7 @@ retirement-base-requires : tie.Need-retirement-base-requires
 retirement-base-requires c κs = search taken-held
 
 bound-group-owned-pending-requires : tie.Need-bound-group-owned-pending-requires
-bound-group-owned-pending-requires c κs = (taken-held _ _ _ _ (c .before .before .before .before .before .before .before .before .before .before .before .before .before .before .before .before .before .before .before .before .before .pre .0) _ _ _ (c .before .before .before .before .before .before .before .before .before .before .before .before .take-out .ensures .0), search needs)
+bound-group-owned-pending-requires c κs = (taken-held _ _ _ _ (c .before .before .before .before .before .before .before .before .before .before .before .before .before .before .before .before .before .before .before .before .before .pre .0) _ _ _ (c .before .before .before .before .before .before .before .before .before .before .before .before .take-out .ensures .0), (search needs, c .before .before .retirement-base .ensures .1))
 
 same-length : tie.Need-same-length
 same-length c = search needs
@@ -34,7 +34,7 @@ returns c =
     let takes = c .before .before .before .before .before .before .before .before .before .before .before .before .before .before .before .before .before .before .take-out .ensures in
     let retires = c .before .before .before .before .before .bound-group-owned-pending .ensures in
     removed-and-followed _ _ _ _ may _ _ _ (takes .0)
-    (removed-all _ _ _ _ may _ _ _ (takes .0) _ _ (c .before .before .before .before .before .before .before .before .before .before .before .before .before .before .before .before .before .before .before .before .before .before .leg-at .ensures) (c .before .before .before .before .before .before .before .before .before .before .largest-window .ensures) (c .before .before .before .before .before .before .before .before .retirement-base .ensures)
+    (removed-all _ _ _ _ may _ _ _ (takes .0) _ _ (c .before .before .before .before .before .before .before .before .before .before .before .before .before .before .before .before .before .before .before .before .before .before .leg-at .ensures) (c .before .before .before .before .before .before .before .before .before .before .largest-window .ensures) (c .before .before .before .before .before .before .before .before .retirement-base .ensures .0)
     (retires .0))
     (takes .1) (retires .1)
 
