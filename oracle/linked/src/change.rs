@@ -74,7 +74,10 @@ fn place(memory: &Memory, prng: &mut Prng) -> (Part, usize, usize) {
     match prng.below(12) {
         0..=2 if members > 0 => in_member(members, prng),
         3..=4 if members > 0 => in_queue(memory, members, prng),
-        5 if held > 0 => in_rows(Part::Pending, 1, 1, held, prng),
+        5 if held > 0 => {
+            let [a, b] = [(); 2].map(|()| memory.index_at(prng.below(held)));
+            (Part::Pending, a, b)
+        }
         6..=7 if held > 0 => in_packet(memory, held, prng),
         8 if waiting > 0 => in_rows(Part::Waiting, 3, 3, waiting, prng),
         9..=10 if kept > 0 => {
@@ -124,8 +127,7 @@ fn in_queue(memory: &Memory, members: u64, prng: &mut Prng) -> (Part, usize, usi
 
 /// A word of a held packet's row, in two rows.
 fn in_packet(memory: &Memory, held: u64, prng: &mut Prng) -> (Part, usize, usize) {
-    let cells =
-        [(); 2].map(|()| memory.pending[prng.below(held) as usize] as usize % raw::MAX_CELLS);
+    let cells = [(); 2].map(|()| memory.index_word(prng.below(held)) as usize % raw::MAX_CELLS);
     let word = raw::MAX_CELLS + prng.below(PACKET_WORDS as u64) as usize;
     let [a, b] = cells.map(|cell| word + cell * PACKET_WORDS);
     (Part::Pending, a, b)

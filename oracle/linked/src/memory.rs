@@ -6,6 +6,7 @@ use oracle::generate::prng::Prng;
 
 use crate::raw;
 use crate::rules::State;
+use crate::shown::PACKET_WORDS;
 
 /// A lent slice. Behind it stands memory that is not lent: a call that writes there is found.
 #[derive(Clone)]
@@ -183,6 +184,16 @@ impl Memory {
             .copied()
             .chain(bytes.map(|&byte| byte.into()))
             .collect()
+    }
+
+    /// Where the index word of a held packet stands: the index is a ring, and the free word of the first row is its start.
+    pub fn index_at(&self, place: u64) -> usize {
+        let start = self.pending[raw::MAX_CELLS + PACKET_WORDS - 1];
+        (start.wrapping_add(place) % raw::MAX_CELLS as u64) as usize
+    }
+
+    pub fn index_word(&self, place: u64) -> u64 {
+        self.pending[self.index_at(place)]
     }
 
     pub fn state(&self) -> State<'_> {

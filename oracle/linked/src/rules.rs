@@ -228,10 +228,13 @@ fn packet(count: u64, message: u64, timestamp: u64, length: u64) -> Result<(), R
     within(length, CELL)
 }
 
-/// The index ascends by sequence (reading 33); each word has the cell too, by which the packet's row is found.
+/// The index ascends by sequence (reading 33); each word has the cell too, by which the packet's row is found. It is a ring, whose start stands
+/// in the free word of the first row.
 fn held_packets(state: State<'_>, seen: &mut Seen) -> Result<(), Rule> {
+    let start = state.pending[MAX_CELLS as usize + PACKET - 1];
     let mut before = None;
-    for word in &state.pending[..state.record[5] as usize] {
+    for place in 0..state.record[5] {
+        let word = state.pending[(start.wrapping_add(place) % MAX_CELLS) as usize];
         let (sequence, cell) = (word / MAX_CELLS, word % MAX_CELLS);
         is_sequence(sequence)?;
         holds(before < Some(sequence), HeldSequenceTwice)?;

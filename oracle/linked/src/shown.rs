@@ -165,7 +165,7 @@ pub fn leg(id: u64, row: &[u64]) -> String {
 /// The index words of the held packets, each as sequence and cell.
 fn index(memory: &Memory) -> impl Iterator<Item = (u64, u64)> {
     let cells = raw::MAX_CELLS as u64;
-    let index = memory.pending.iter().take(memory.record[5] as usize);
+    let index = (0..memory.record[5]).map(|place| memory.index_word(place));
     index.map(move |word| (word / cells, word % cells))
 }
 
