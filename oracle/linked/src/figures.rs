@@ -2,7 +2,7 @@
 
 use std::collections::BTreeMap;
 
-use crate::rules::Rule;
+use crate::list::{self, Broken};
 
 #[derive(Default)]
 pub struct Figures {
@@ -12,9 +12,11 @@ pub struct Figures {
     codes: BTreeMap<(String, u32), u64>,
     pub short: u64,
     pub looks: u64,
-    /// States with one word changed that break no rule, and those that break one.
+    /// Changed states that break no rule, and those that break some.
     unbroken: u64,
-    broken: BTreeMap<Rule, u64>,
+    broken: u64,
+    /// How often a rule was broken alone, and how often with others.
+    rules: BTreeMap<&'static str, [u64; 2]>,
     /// Legs handed over with one word changed, by the code that says so, or 0.
     handed: BTreeMap<u32, u64>,
 }
@@ -29,10 +31,14 @@ impl Figures {
         self.calls += 1;
     }
 
-    pub fn changed(&mut self, rule: Result<(), Rule>) {
-        match rule {
-            Ok(()) => self.unbroken += 1,
-            Err(rule) => *self.broken.entry(rule).or_default() += 1,
+    pub fn changed(&mut self, broken: &Broken) {
+        match broken.len() {
+            0 => self.unbroken += 1,
+            _ => self.broken += 1,
+        }
+        let with_others = usize::from(broken.len() > 1);
+        for rule in broken {
+            self.rules.entry(rule).or_default()[with_others] += 1;
         }
     }
 
@@ -44,10 +50,12 @@ impl Figures {
         for ((name, code), times) in &self.codes {
             println!("{times:>9}  {name} {code}");
         }
-        for (rule, times) in &self.broken {
-            println!("{times:>9}  one word changed: 6, {rule:?}");
+        for rule in list::names() {
+            let [alone, with_others] = self.rules.get(rule).copied().unwrap_or_default();
+            println!("{alone:>9}  broken alone, {with_others:>6} with others: {rule}");
         }
-        println!("{:>9}  one word changed: no rule broken", self.unbroken);
+        println!("{:>9}  a changed state: 6", self.broken);
+        println!("{:>9}  a changed state: no rule broken", self.unbroken);
         for (code, times) in &self.handed {
             println!("{times:>9}  one word changed of a leg that is handed over: {code}");
         }

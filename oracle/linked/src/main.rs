@@ -1,8 +1,10 @@
 //! The library and the Rust in one process: see README.md, "Linked".
 
 mod change;
+mod directed;
 mod figures;
 mod library;
+mod list;
 mod looks;
 mod memory;
 #[allow(dead_code)]
@@ -18,6 +20,7 @@ mod shown;
 use std::process::ExitCode;
 
 use figures::Figures;
+use oracle::generate::prng::Prng;
 
 /// The number of seeds, and the first.
 fn arguments() -> Option<(u64, u64)> {
@@ -37,6 +40,10 @@ fn main() -> ExitCode {
         eprintln!("usage: linked N [FIRST]");
         return ExitCode::FAILURE;
     };
+    if let Err(difference) = refused::full(&mut Prng::new(first)) {
+        println!("{difference}");
+        return ExitCode::FAILURE;
+    }
     let mut figures = Figures::default();
     for seed in first..first + seeds {
         if let Err(difference) = run::seed(seed, &mut figures) {

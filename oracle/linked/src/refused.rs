@@ -3,10 +3,12 @@
 use oracle::generate::prng::Prng;
 
 use crate::change;
+use crate::directed;
 use crate::library::{self, Call};
+use crate::list::{self, Broken};
 use crate::memory::{Memory, Part};
 use crate::raw;
-use crate::rules::{self, Rule};
+use crate::rules;
 
 const TOO_SHORT: u32 = 5;
 const BROKEN: u32 = 6;
@@ -63,19 +65,19 @@ pub fn short_start(memory: &Memory, id: u64, mode: u64) -> Result<(), String> {
     }
 }
 
-/// The call over a copy of the memory with one word changed. It gives 6 exactly if the independent test says so, and so does the beginning of
-/// the forms for a valid state. A call that goes on leaves a state that keeps the rules. It answers which rule the change breaks.
-pub fn changed(
-    memory: &Memory,
-    call: &Call<'_>,
-    prng: &mut Prng,
-) -> Result<Result<(), Rule>, String> {
+/// The call over a copy of the memory, changed by a word at random or on purpose. It gives 6 exactly if both tests of code 6 say so, and so does the beginning of
+/// the forms for a valid state. A call that goes on leaves a state that keeps the rules. It answers which rules the change breaks.
+pub fn changed(memory: &Memory, call: &Call<'_>, prng: &mut Prng) -> Result<Broken, String> {
     let mut memory = memory.clone();
-    let what = change::state_word(&mut memory, prng);
+    let directed = match prng.chance(1, 2) {
+        true => directed::change(&mut memory, prng),
+        false => None,
+    };
+    let what = directed.unwrap_or_else(|| change::state_word(&mut memory, prng));
     let in_store = rules::cells_of(memory.store.length() as u64);
     let begun = match store_differs(&memory) {
         true => TOO_SHORT,
-        false => code_of(rules::check(memory.state(), in_store)),
+        false => code_of(&broken(&memory, in_store).map_err(|why| format!("{what}: {why}"))?),
     };
     let given = library::begin(&mut memory);
     if given != begun {
@@ -87,14 +89,44 @@ pub fn changed(
     } else {
         rules::cells_given(&memory.record)
     };
-    let rule = rules::check(memory.state(), cells);
-    let code = if stored { begun } else { code_of(rule) };
+    let rules = broken(&memory, cells).map_err(|why| format!("{what}: {why}"))?;
+    let code = if stored { begun } else { code_of(&rules) };
     let done = match code {
         0 => goes_on(&mut memory, call, cells),
         code => refused(&mut memory, call, code, true),
     };
-    done.map_err(|why| format!("{what} ({rule:?}): {why}"))?;
-    Ok(rule)
+    done.map_err(|why| format!("{what} ({rules:?}): {why}"))?;
+    Ok(rules)
+}
+
+/// The rules that the state breaks by `list.rs`, if `rules.rs` says the same.
+fn broken(memory: &Memory, cells: u64) -> Result<Broken, String> {
+    let rule = rules::check(memory.state(), cells);
+    let broken = list::broken(memory.state(), cells);
+    if rule.is_ok() != broken.is_empty() {
+        return Err(format!("rules.rs says {rule:?}, list.rs {broken:?}"));
+    }
+    Ok(broken)
+}
+
+/// Held packets and waiting events at their limits break no rule; one more of either is 6.
+pub fn full(prng: &mut Prng) -> Result<(), String> {
+    let mut memory = Memory::new(raw::MAX_CELLS, prng);
+    library::new(&mut memory, u64::from(raw::MASK), 0, 0);
+    directed::fill(&mut memory);
+    for (more, code) in [([0, 0], 0), ([1, 0], BROKEN), ([0, 1], BROKEN)] {
+        let mut memory = memory.clone();
+        memory.record[5] += more[0];
+        memory.record[6] += more[1];
+        let said = code_of(&broken(&memory, raw::MAX_CELLS as u64)?);
+        let given = library::begin(&mut memory);
+        if [said, given] != [code; 2] {
+            return Err(format!(
+                "full tables and {more:?}: {said}, {given}, not {code}"
+            ));
+        }
+    }
+    Ok(())
 }
 
 /// An addition that is handed a leg with one word of its row changed, for most one that is read: 6 or 2 as the independent test says, and then
@@ -117,11 +149,15 @@ fn goes_on(memory: &mut Memory, call: &Call<'_>, cells: u64) -> Result<(), Strin
     if code == TOO_SHORT || code == BROKEN {
         return Err(format!("code {code}, though no rule is broken"));
     }
-    rules::check(memory.state(), cells).map_err(|rule| format!("code {code}, and left {rule:?}"))
+    let left = broken(memory, cells)?;
+    if left.is_empty() {
+        return Ok(());
+    }
+    Err(format!("code {code}, and left {left:?}"))
 }
 
-fn code_of(rule: Result<(), Rule>) -> u32 {
-    rule.map_or(BROKEN, |()| 0)
+fn code_of(broken: &Broken) -> u32 {
+    if broken.is_empty() { 0 } else { BROKEN }
 }
 
 /// A store's length was given at the start, and it is another.

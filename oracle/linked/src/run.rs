@@ -186,7 +186,7 @@ impl Run<'_> {
         }
         if self.prng.chance(1, seldom) {
             let changed = refused::changed(&self.public, call, &mut self.prng)?;
-            self.figures.changed(changed);
+            self.figures.changed(&changed);
         }
         if matches!(call.name, "add" | "readd") && had_group {
             let code = refused::handed(&self.public, call, &mut self.prng)?;
