@@ -3,11 +3,11 @@
 use mathlib.Core.Path.{_≡_, refl, ap, ap₂, sym, subst, _∙_}
 use mathlib.Core.Bool.{Bool, true, false, not, _&&_, _||_}
 use mathlib.Core.List.{List, [], _∷_}
-use mathlib.Core.Option.{Option, some}
+use mathlib.Core.Option.{some}
 use Prim.Native.Nat.{ℕ, zero, suc, _+_, _-_, _%_, _≤_, _<_}
 use native.Mathlib.Decide.{decLt}
 use native.Mathlib.Omega.{arith}
-use borrow.Author.Tests.{eq-eqb, ne-eqb, eqb-false, le-ltb, lt-ltb}
+use borrow.Author.Tests.{eq-eqb, eqb-false, le-ltb, lt-ltb}
 use lib.Dec.{eqb}
 use lib.ListN.{length}
 use Rattle.srt_protocol.specs.Circle.{distance}
@@ -16,18 +16,18 @@ use Rattle.srt_protocol.specs.laws.Circle.{distance-up, distance-round, distanc
 use Rattle.srt_group_model.specs.declared.Account.{Account}
 use Rattle.srt_group_model.specs.declared.Event.{Event}
 use Rattle.srt_group_model.specs.declared.Packet.{Packet}
-use Rattle.srt_group_model.specs.Tools.{if_then_else_, if-some_give_otherwise_, is-set, bit, is-empty, any, such-that, first-such, place-of, at-place, change, each, All}
-use Rattle.srt_group_model.specs.laws.Reason.{if-elim, if-true, if-false, no-either, or-left, or-right, or-yes-left, or-yes-right, all-map, all-two, all-at, at-change, none-of, some-inj, none-some}
+use Rattle.srt_group_model.specs.Tools.{if_then_else_, is-set, bit, is-empty, any, such-that, first-such, at-place, change, each, All}
+use Rattle.srt_group_model.specs.laws.Reason.{if-elim, if-true, if-false, if-given, no-either, or-left, or-right, or-yes-left, or-yes-right, all-map, all-two, at-change, none-of}
 use Rattle.srt_group_model.specs.State.{Member, State, with-receive, with-base, with-pending, with-members, with-continuation, with-round, on-leg, on-account}
 use Rattle.srt_group_model.specs.Accounts.{reserve, release}
 use Rattle.srt_group_model.specs.Legs.{release-data-reservation, largest-sequence}
-use Rattle.srt_group_model.specs.Members.{id-of, has-id, find, is-active}
-use Rattle.srt_group_model.specs.Cells.{is-among, used-cells}
+use Rattle.srt_group_model.specs.Members.{id-of, find, is-active}
+use Rattle.srt_group_model.specs.Cells.{used-cells}
 use Rattle.srt_group_model.specs.Validity.{one-twice}
 use Rattle.srt_group_model.specs.Sound.{ids, pending-cells, Packet-fit}
 use Rattle.srt_group_model.specs.Nearest.{sequence-of, has-sequence, is-held, held-at, insert, is-covered, covered, not-covered}
 use Rattle.srt_group_model.specs.laws.Queues.{pop}
-use Rattle.srt_group_model.specs.laws.Unique.{among-any, changed-ids}
+use Rattle.srt_group_model.specs.laws.Unique.{changed-ids, find-at}
 use Rattle.srt_group_model.specs.laws.CellsMoved.{Moves, Keeps, retained-keeps, delivery-frees}
 use Rattle.srt_group_model.specs.laws.Steps.{popped}
 use Rattle.srt_group_model.specs.Run.{Run, collected, delivered, marking, on-state}
@@ -35,6 +35,7 @@ use Rattle.srt_group_model.specs.Collecting.{packet-from, front, is-late, is-di
 use Rattle.srt_group_model.specs.Delivery.{packet, release-pending-reservation, release-all, pass-run, Poll, advance-legs, deliver-packet, deliver, base-stays, max-visits, skip-given-up-gap}
 use Rattle.srt_group_model.specs.Polls.{delivery-budget, deliver-next, poll-event}
 use Rattle.srt_group_model.specs.laws.EveryCall.{change-twice}
+use Rattle.srt_group_model.specs.laws.Accounts.{reserve-release}
 use Rattle.srt_group_members.specs.Quiet.{is-steady, is-quiet}
 use Rattle.srt_group_members.specs.laws.Quiet.{refresh-pending-stays, refresh-stays}
 use Rattle.srt_group_polls.specs.EventPoll.{give-next}
@@ -143,28 +144,6 @@ change-as i f g [] same = refl
 change-as {A} zero f g (x ∷ xs) same = ap {B = List A} (λ y. y ∷ xs) (same x)
 change-as {A} (suc i) f g (x ∷ xs) same = ap {B = List A} (λ r. x ∷ r) (change-as i f g xs same)
 
--- an account from which what was put to it is taken
-account-back : (count : ℕ) (a : Account) → release count (reserve count a) ≡ a
-account-back count a = λ k. record { reserved = same k }
-  where
-    same : a .reserved + count - count ≡ a .reserved
-    same = omega arith
-
--- an option that holds something
-given : {A B : Type 0} {o : Option A} {a : A} (f : A → B) (b : B) → o ≡ some a → (if-some o give f otherwise b) ≡ f a
-unfolding if-some_give_otherwise_
-given f b e = rw e
-
--- ids are unique, so that the member at a place is the one that is found by its id
-find-at : (i : ℕ) (m : Member) (ms : List Member) → one-twice (ids ms) ≡ false → at-place i ms ≡ some m → find (id-of m) ms ≡ some i
-unfolding one-twice each at-place place-of any
-find-at i m [] once at = none-some at
-find-at zero m (x ∷ xs) once at = if-true _ _ _ (eq-eqb (id-of x) (id-of m) (ap id-of (some-inj at)))
-find-at (suc i) m (x ∷ xs) once at =
-    let other = all-at (λ (y : Member). has-id (id-of x) y ≡ false) i m xs at (none-of (has-id (id-of x)) xs (sym (among-any (id-of x) xs) ∙ or-left (is-among (id-of x) (ids xs)) _ once)) in
-    if-false _ _ _ (ne-eqb (id-of x) (id-of m) (λ e. eqb-false (id-of m) (id-of x) other (sym e)))
-    ∙ given _ _ (find-at i m xs (or-right (is-among (id-of x) (ids xs)) _ once) at)
-
 -- ---- the poll, step by step
 
 abbrev pub packet-of : Member → Event → Packet
@@ -201,7 +180,7 @@ module _ (time : ℕ) (r : Run) (i : ℕ) (m : Member) (e : Event) (at-base : St
   not-discarded : is-discarded p (r .state .receive) ≡ false
   unfolding is-discarded is-late half
   not-discarded =
-      no-either _ _ (given _ _ (at-base .based) ∙ before-irreflexive half (sequence-of p) (omega arith)) (at-base .free)
+      no-either _ _ (if-given _ _ (at-base .based) ∙ before-irreflexive half (sequence-of p) (omega arith)) (at-base .free)
 
   is-retained : retain-group-packet i p (popped i begun) ≡ holding
   unfolding retain-group-packet
@@ -216,11 +195,11 @@ module _ (time : ℕ) (r : Run) (i : ℕ) (m : Member) (e : Event) (at-base : St
   is-taken : take-front i m begins ≡ record { took = true; run = holds }
   unfolding take-front
   is-taken =
-      given _ _ first ∙ if-false _ _ _ refl ∙ ap (λ (x : Run). record { took = true; run = x }) is-collected
+      if-given _ _ first ∙ if-false _ _ _ refl ∙ ap (λ (x : Run). record { took = true; run = x }) is-collected
 
   is-visited : collect-one-event begins ≡ record { took = true; run = holds }
   unfolding collect-one-event
-  is-visited = given _ _ (at-base .turn) ∙ given _ _ there ∙ is-taken
+  is-visited = if-given _ _ (at-base .turn) ∙ if-given _ _ there ∙ is-taken
 
   and-no : (b : Bool) → (b && false) ≡ false
   and-no true = refl
@@ -254,7 +233,7 @@ module _ (time : ℕ) (r : Run) (i : ℕ) (m : Member) (e : Event) (at-base : St
   is-delivered : deliver-next time holds ≡ record { gave = packet p; run = marking (delivered p) (on-state (deliver-packet (sequence-of p) p) holds) }
   unfolding deliver-next skip-given-up-gap base-stays deliver
   is-delivered =
-      given _ _ (at-base .based) ∙ if-true _ _ _ (or-yes-left _ _ (inserted-held p ps)) ∙ given _ _ (inserted-found p ps (at-base .free))
+      if-given _ _ (at-base .based) ∙ if-true _ _ _ (or-yes-left _ _ (inserted-held p ps)) ∙ if-given _ _ (inserted-found p ps (at-base .free))
 
   is-polled : poll-event time r ≡ record { gave = packet p; run = marking (delivered p) (on-state (deliver-packet (sequence-of p) p) holds) }
   is-polled =
@@ -277,13 +256,13 @@ module _ (time : ℕ) (r : Run) (i : ℕ) (m : Member) (e : Event) (at-base : St
 
   is-released : release-pending-reservation p holding ≡ with-members (change i released (holding .members)) holding
   unfolding release-pending-reservation
-  is-released = if-false _ _ _ refl ∙ given _ _ found-there
+  is-released = if-false _ _ _ refl ∙ if-given _ _ found-there
 
   members-left : change i released (holding .members) ≡ change i (given-from (p .content .count)) ms
   members-left =
       change-twice i released (on-account (reserve (p .content .count))) (change i pop ms) ∙ change-twice i _ pop ms
       ∙ change-as i _ (given-from (p .content .count)) ms
-      (λ x. ap (λ (a : Account). on-leg (release-data-reservation (p .content .count)) (on-account (λ y. a) (pop x))) (account-back (p .content .count) (x .membership .account)))
+      (λ x. ap (λ (a : Account). on-leg (release-data-reservation (p .content .count)) (on-account (λ y. a) (pop x))) (reserve-release (p .content .count) (x .membership .account)))
 
   is-left : deliver-packet (sequence-of p) p holding ≡ given-straight i p (r .state)
   unfolding deliver-packet release-all pass-run advance-legs given-straight
