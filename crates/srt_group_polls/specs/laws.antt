@@ -4,3 +4,5 @@ pub mod Quiet
 pub mod EventPoll
 pub mod DataPoll
 pub mod PollsUsed
+pub mod Straight
+pub mod StraightPolls

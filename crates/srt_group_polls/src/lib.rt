@@ -2,3 +2,4 @@
 
 pub mod polls; // polls.rt: `poll_event` and `poll_data_bounded`
 pub mod refresh; // refresh.rt: admission, settling and requalifying of members
+pub mod straight; // straight.rt: a packet at the base that need not be held

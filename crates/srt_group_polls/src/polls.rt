@@ -15,6 +15,9 @@ ghost use Rattle.srt_group_polls.specs.DataPoll.{PollsData, Passes};
 ghost use Rattle.srt_group_skip.specs.Skip.{PollsFrom};
 use crate::refresh::refresh_all_states;
 use crate::refresh::refresh_pending_states;
+use crate::straight::Straight;
+use crate::straight::give_straight;
+use crate::straight::next_straight;
 use srt_group_collecting::collecting::Gathered;
 use srt_group_collecting::collecting::MAX_VISITS;
 use srt_group_collecting::collecting::collect_until_held;
@@ -95,10 +98,49 @@ fn give_next(
     )
 }
 
-// The states are refreshed, events collected, and a waiting event or the next packet given. What the visits take from a quiet
-// group leaves it quiet, unless an event waits then: one test serves both refreshes.
-pub fn poll_event(
+// The states are refreshed, events collected, and a waiting event or the next packet given. `quiet` says that a refresh would change nothing.
+// What the visits take from a quiet group leaves it quiet, unless an event waits then: one test serves both refreshes.
+fn poll_collecting(
     mut core: Core,
+    sending: Sending,
+    members: &mut [u64],
+    pending: &mut [u64],
+    waiting: &mut [u64],
+    used: &mut [u64],
+    time: Timestamp,
+    quiet: bool,
+) -> Poll
+    requires { ⌜ Usable core (receive-tables (now members) (now pending) (now waiting)) ⌝ }
+    requires { ⌜ Sending-fit sending ⌝ }
+    requires { ⌜ length (now used) ≡ set-size ⌝ }
+    requires { ⌜ Known quiet core (now members) ⌝ }
+    ensures { λ r. ⌜ ((budget : ℕ) → PollsFrom (sends sending) (poll-event (time .0)) core budget
+        (receive-tables (now (members .entry)) (now (pending .entry)) (now (waiting .entry))) r
+        (receive-tables (now (members .exit)) (now (pending .exit)) (now (waiting .exit)))) ⌝ }
+    ensures { λ r. ⌜ Follows core (now (members .entry)) (now (pending .entry)) (now (used .entry))
+        (r .core) (now (members .exit)) (now (pending .exit)) (now (used .exit)) ⌝ }
+{
+    core.visit.continuation = 0;
+    let mut begun = core;
+    if !quiet {
+        begun = refresh_pending_states(core, sending, members);
+    }
+    let gathered = collect_until_held(begun, members, pending, waiting, used, DELIVERY_BUDGET);
+    give_next(
+        gathered,
+        sending,
+        members,
+        pending,
+        waiting,
+        used,
+        time,
+        quiet,
+    )
+}
+
+// A packet that is next in turn and at the base is given straight; else the legs are visited.
+pub fn poll_event(
+    core: Core,
     sending: Sending,
     members: &mut [u64],
     pending: &mut [u64],
@@ -115,23 +157,12 @@ pub fn poll_event(
     ensures { λ r. ⌜ Follows core (now (members .entry)) (now (pending .entry)) (now (used .entry))
         (r .core) (now (members .exit)) (now (pending .exit)) (now (used .exit)) ⌝ }
 {
-    core.visit.continuation = 0;
     let quiet = is_quiet(members, core.counts.members, core.mode);
-    let mut begun = core;
-    if !quiet {
-        begun = refresh_pending_states(core, sending, members);
+    let next = next_straight(core, members, pending, quiet);
+    if let Straight::At { index, packet } = next {
+        return give_straight(core, members, used, index, packet);
     }
-    let gathered = collect_until_held(begun, members, pending, waiting, used, DELIVERY_BUDGET);
-    give_next(
-        gathered,
-        sending,
-        members,
-        pending,
-        waiting,
-        used,
-        time,
-        quiet,
-    )
+    poll_collecting(core, sending, members, pending, waiting, used, time, quiet)
 }
 
 // ---- the data poll

@@ -1,6 +1,6 @@
 // The refresh of the members' states: members that arrived are admitted, which may set the base and bind the group; then Pending
-// members settle, and Unstable ones requalify. Where a refresh would change nothing none of this is gone through. From the Rust's `admit_connected_peer_groups`, `refresh_pending_states`,
-// `refresh_states`.
+// members settle, and Unstable ones requalify. Where a refresh would change nothing none of this is gone through. From the Rust's
+// `admit_connected_peer_groups`, `refresh_pending_states`, `refresh_states`.
 ghost use Prim.Native.Nat.{_*_, _≤_};
 ghost use lib.ListN.{length};
 ghost use Rattle.srt_group_model.specs.Run.{admit-connected-peer-groups, refresh-pending-states, refresh-states};

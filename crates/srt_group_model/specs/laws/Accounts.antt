@@ -3,12 +3,12 @@
 use mathlib.Core.Path.{_≡_, ap, _∙_}
 use mathlib.Core.Bool.{Bool, true, false, not}
 use mathlib.Core.List.{List, [], _∷_, _++_}
-use Prim.Native.Nat.{ℕ, _+_, _*_, _≤_}
+use Prim.Native.Nat.{ℕ, _+_, _-_, _*_, _≤_}
 use native.Mathlib.Omega.{arith}
 use borrow.Author.Tests.{eqb-true, eq-eqb, not-false}
 use lib.ListN.{length}
 use Rattle.srt_group_model.specs.Tools.{counted, total, All}
-use Rattle.srt_group_model.specs.Accounts.{reserve, add-account, account-of, unlike, Fits}
+use Rattle.srt_group_model.specs.Accounts.{reserve, release, add-account, account-of, unlike, Fits}
 use Rattle.srt_group_model.specs.Legs.{largest-16}
 use Rattle.srt_group_model.specs.Removal.{is-owned}
 use Rattle.srt_group_model.specs.Validity.{max-pending, is-held-for}
@@ -23,6 +23,14 @@ alike a b h = λ i. record { reserved = eqb-true (a .reserved) (b .reserved) (no
 
 pub not-unlike : (a b : Account) → a ≡ b → unlike a b ≡ false
 not-unlike a b h = ap not (eq-eqb (a .reserved) (b .reserved) (ap (λ (x : Account). x .reserved) h))
+
+-- ---- a packet held and released
+
+pub reserve-release : (count : ℕ) (a : Account) → release count (reserve count a) ≡ a
+reserve-release count a = λ i. record { reserved = same i }
+  where
+    same : a .reserved + count - count ≡ a .reserved
+    same = omega arith
 
 -- ---- a packet more
 

@@ -96,6 +96,10 @@ unfolding if-some_give_otherwise_
 if-some-elim P none f b g h = h refl
 if-some-elim P (some a) f b g h = g a refl
 
+pub if-given : {A B : Type 0} {o : Option A} {a : A} (f : A → B) (b : B) → o ≡ some a → (if-some o give f otherwise b) ≡ f a
+unfolding if-some_give_otherwise_
+if-given f b e = rw e
+
 pub some-inj : {A : Type 0} {a b : A} → _≡_ {A = Option A} (some a) (some b) → a ≡ b
 some-inj {A} {a} {b} e = cc
 

@@ -3,16 +3,17 @@
 use mathlib.Core.Path.{_≡_, refl, sym, ap, ap₂, _∙_}
 use mathlib.Core.Bool.{Bool, true, false, _||_}
 use mathlib.Core.List.{List, [], _∷_, _++_}
+use mathlib.Core.Option.{some}
 use Prim.Native.Nat.{ℕ, zero, suc, _≤_}
 use native.Mathlib.Omega.{arith}
-use borrow.Author.Tests.{eqb-true, eq-eqb}
+use borrow.Author.Tests.{eqb-true, eqb-false, eq-eqb, ne-eqb}
 use lib.Dec.{eqb}
 use lib.ListN.{length, length-append}
-use Rattle.srt_group_model.specs.Tools.{any, change, each, without-place}
-use Rattle.srt_group_model.specs.laws.Reason.{by-test, not-both, or-left, or-right}
+use Rattle.srt_group_model.specs.Tools.{any, place-of, at-place, change, each, without-place}
+use Rattle.srt_group_model.specs.laws.Reason.{if-true, if-false, if-given, by-test, not-both, or-left, or-right, some-inj, none-some, none-of, all-at}
 use Rattle.srt_group_model.specs.State.{Member, State, with-members}
 use Rattle.srt_group_model.specs.Legs.{handed}
-use Rattle.srt_group_model.specs.Members.{id-of, has-id}
+use Rattle.srt_group_model.specs.Members.{id-of, has-id, find}
 use Rattle.srt_group_model.specs.Removal.{retire, take-out}
 use Rattle.srt_group_model.specs.Cells.{is-among}
 use Rattle.srt_group_model.specs.Validity.{max-members, one-twice}
@@ -87,6 +88,16 @@ pub among-any : (id : ℕ) (ms : List Member) → is-among id (ids ms) ≡ any (
 unfolding any each
 among-any id [] = refl
 among-any id (m ∷ ms) = ap (λ (b : Bool). has-id id m || b) (among-any id ms)
+
+-- ids are unique, so that the member at a place is the one that is found by its id
+pub find-at : (i : ℕ) (m : Member) (ms : List Member) → one-twice (ids ms) ≡ false → at-place i ms ≡ some m → find (id-of m) ms ≡ some i
+unfolding one-twice each at-place place-of any
+find-at i m [] once at = none-some at
+find-at zero m (x ∷ xs) once at = if-true _ _ _ (eq-eqb (id-of x) (id-of m) (ap id-of (some-inj at)))
+find-at (suc i) m (x ∷ xs) once at =
+    let other = all-at (λ (y : Member). has-id (id-of x) y ≡ false) i m xs at (none-of (has-id (id-of x)) xs (sym (among-any (id-of x) xs) ∙ or-left (is-among (id-of x) (ids xs)) _ once)) in
+    if-false _ _ _ (ne-eqb (id-of x) (id-of m) (λ e. eqb-false (id-of m) (id-of x) other (sym e)))
+    ∙ if-given _ _ (find-at i m xs (or-right (is-among (id-of x) (ids xs)) _ once) at)
 
 pub without-among : (n i : ℕ) (ms : List Member) → is-among n (ids ms) ≡ false → is-among n (ids (without-place i ms)) ≡ false
 unfolding any each without-place

@@ -75,11 +75,11 @@ module _ (time : ℕ) (r : Run) where
   unfolding give-next if_then_else_
   event-given waits = rw waits
 
-  packet-given : not (is-empty (r .state .waiting)) ≡ false → give-next time r ≡ deliver-next time (refresh-states r)
+  pub packet-given : not (is-empty (r .state .waiting)) ≡ false → give-next time r ≡ deliver-next time (refresh-states r)
   unfolding give-next if_then_else_
   packet-given none-waits = rw none-waits
 
-  event-polled : poll-event time r
+  pub event-polled : poll-event time r
       ≡ give-next time
       (collect-until-held max-visits
       (refresh-pending-states record { state = with-continuation false (r .state); log = r .log; budget = delivery-budget }))

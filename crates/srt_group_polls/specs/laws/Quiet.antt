@@ -48,7 +48,7 @@ module _ (test : Member → Bool) (f : Member → Member) (same : (m : Member) �
   any-same zero (m ∷ ms) = ap (λ (b : Bool). b || any test ms) (same m)
   any-same (suc i) (m ∷ ms) = ap (λ (b : Bool). test m || b) (any-same i ms)
 
-quiet-same : (mode i : ℕ) (f : Member → Member) (ms : List Member) → ((m : Member) → is-steady (f m) ≡ is-steady m)
+pub quiet-same : (mode i : ℕ) (f : Member → Member) (ms : List Member) → ((m : Member) → is-steady (f m) ≡ is-steady m)
     → ((m : Member) → is-active (f m) ≡ is-active m) → is-quiet mode (change i f ms) ≡ is-quiet mode ms
 unfolding is-quiet
 quiet-same mode i f ms steady active =
