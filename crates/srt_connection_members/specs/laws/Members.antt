@@ -12,6 +12,7 @@ use lib.Seq.{getD-set-same, getD-set-other}
 use Rattle.srt_protocol.specs.Errors.{if-accepted}
 use Rattle.srt_protocol.specs.declared.error.Outcome.{Outcome}
 use Rattle.srt_group_model.specs.Tools.{at-place, without-place}
+use Rattle.srt_group_model.specs.Calls.{enqueue}
 use Rattle.srt_group_model.specs.State.{Member, with-queue, with-leg, on-leg, on-membership, with-account, on-account}
 use Rattle.srt_group_model.specs.Legs.{with-reservation}
 use Rattle.srt_group_model.specs.Members.{has-id, find}
@@ -29,7 +30,7 @@ use Rattle.word_rows.specs.laws.Rows.{row-word, row-same, row-part}
 use Rattle.srt_connection_queue.specs.Row.{put-row}
 use Rattle.srt_connection_queue.specs.laws.Row.{row-put, row-put-other, put-length}
 use Rattle.srt_connection_queue.specs.Rows.{part-size, membership-part, row-size, membership-of, member-of, member-parts, Kept, with-membership}
-use Rattle.srt_connection_queue.specs.Queue.{cleared, enqueued, Pushed, queue-after, Polled}
+use Rattle.srt_connection_queue.specs.Queue.{cleared, Pushed, queue-after, Polled}
 use Rattle.srt_connection_members.specs.Members.{member-at, members-of, has-row, new-member, found-of, Changed, PushedAt, PolledAt, ChangedAll, Appended, Removed}
 
 -- ---- laws
@@ -66,7 +67,7 @@ module _ (i : ℕ) (t r : List ℕ) (there : has-row i t) where
 
   pub pushed-row : (e : Event) (answer : Outcome) → Pushed (member-at t i) e answer r → PushedAt i e t answer (put-row row-size t i r)
   pushed-row e answer pushed =
-      record { outcome = pushed .outcome; changed = changed-row (λ m. if-accepted answer (enqueued e m) m) (pushed .kept) }
+      record { outcome = pushed .outcome; changed = changed-row (λ m. if-accepted answer (enqueue e m) m) (pushed .kept) }
 
   pub polled-row : (budget : ℕ) (answer : LegPoll) → Polled (member-at t i) budget answer r
       → PolledAt i budget t answer (put-row row-size t i r)
