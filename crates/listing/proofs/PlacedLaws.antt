@@ -9,7 +9,7 @@ use borrow.Author.Tests.{le-leb, lt-leb}
 use mathlib.Core.Path.{_≡_, refl, ap, sym, subst, _∙_}
 use mathlib.Core.List.{List, [], _∷_, _++_, append-assoc}
 use lib.ListN.{length, take, drop, getD, set, replicate, length-append, length-drop, length-set, length-replicate, replicate-append-replicate, take-append-drop}
-use lib.Seq.{append-snoc, drop-cons, drop-set-lt, getD-set-same, take-set-le, length-take-le, take-suc, take-at, drop-length, drop-at, drop-append-add, drop-drop, set-split}
+use lib.Seq.{append-snoc, drop-cons, drop-set-lt, getD-set-same, take-set-le, length-take-le, take-suc, take-at, drop-length, drop-append-add, drop-drop, set-split}
 use Rattle.listing.specs.Placed.{placed, Placed, PlacedOrRefused}
 use Rattle.listing.specs.declared.Written.the-variants.{End, NoRoom}
 
@@ -26,13 +26,6 @@ length-placed buffer at text h =
 pub placed-nothing : (buffer : List ℕ) (at : ℕ) → placed buffer at [] ≡ buffer
 unfolding placed
 placed-nothing buffer at = rw (add-zero at) (take-append-drop at buffer)
-
--- what stands from the end of the text on is as it was
-pub after-placed : (buffer : List ℕ) (at : ℕ) (text : List ℕ) → at ≤ length buffer → drop (at + length text) (placed buffer at text) ≡ drop (at + length text) buffer
-unfolding placed
-after-placed buffer at text h =
-    let e : length (take at buffer ++ text) ≡ at + length text = length-append (take at buffer) text ∙ ap (λ (n : ℕ). n + length text) (length-take-le at buffer h) in
-    rw (← append-assoc (take at buffer) text (drop (at + length text) buffer)) (drop-at (take at buffer ++ text) (drop (at + length text) buffer) (at + length text) e)
 
 -- up to the end of the text stand the bytes before it, and the text
 pub upto-placed : (buffer : List ℕ) (at : ℕ) (text : List ℕ) → at ≤ length buffer → take (at + length text) (placed buffer at text) ≡ take at buffer ++ text

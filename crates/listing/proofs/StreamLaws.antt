@@ -60,10 +60,6 @@ module _ (block : List ℕ) (at : ℕ) (done : at ≡ length block) where
   unfolding first-line
   first-line-none = rw (drop-at-end block at done)
 
-  pub after-feed-none : after-feed (drop at block) ≡ drop at block
-  unfolding after-feed
-  after-feed-none = rw (drop-at-end block at done)
-
 -- without a line feed the first line is all there is, and nothing follows it
 pub first-line-all : (stream : List ℕ) → has-feed stream ≡ false → (first-line stream ≡ stream) × (after-feed stream ≡ [])
 unfolding has-feed first-line after-feed

@@ -9,9 +9,7 @@ pub use reading::read_line;
 pub use stream::read_held_line;
 pub use stream::read_whole_line;
 pub use stream::take_line;
-pub use writing::write_column;
 pub use writing::write_line;
-pub use writing::write_text;
 
 // What a column reads as.
 pub enum Column {

@@ -6,10 +6,11 @@ use crate::Whole;
 use crate::reading::clear;
 use crate::reading::read_columns;
 use crate::reading::read_line;
-use crate::writing::copy_in;
-ghost use Prim.Native.Nat.{_≤_};
+ghost use mathlib.Core.Path.{_≡_};
+ghost use Prim.Native.Nat.{_+_, _≤_};
 ghost use lib.ListN.{length};
 ghost use Rattle.listing.specs.Held.{FeedAt, Appended, TakenFrom, HeldRead, WholeRead};
+ghost use Rattle.listing.specs.Placed.{placed};
 
 // The place of the first line feed from a place on, or the block's length where there is none.
 fn feed_place(block: &[u8], from: usize) -> usize
@@ -24,6 +25,18 @@ fn feed_place(block: &[u8], from: usize) -> usize
         at += 1;
     }
     at
+}
+
+// Copies bytes into a buffer at a place.
+fn copy_in(buffer: &mut [u8], at: usize, bytes: &[u8])
+    requires { ⌜ at + length (now bytes) ≤ length (now buffer) ⌝ }
+    ensures { λ _. ⌜ now (buffer .exit) ≡ placed (now (buffer .entry)) at (now (bytes .entry)) ⌝ }
+{
+    let mut index: usize = 0;
+    while index < bytes.len() {
+        buffer[at + index] = bytes[index];
+        index += 1;
+    }
 }
 
 // Adds bytes to the line that a buffer holds. Of a line that is longer than the buffer only that is kept.

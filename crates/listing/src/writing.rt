@@ -1,4 +1,4 @@
-// Writing columns and lines.
+// Writing lines of columns.
 use crate::Written;
 ghost use mathlib.Core.Path.{_≡_};
 ghost use Prim.Native.Nat.{_+_, _-_, _≤_};
@@ -6,32 +6,6 @@ ghost use lib.Dec.{leb};
 ghost use lib.ListN.{length, replicate};
 ghost use Rattle.listing.specs.Text.{digits, right-justified, line-text};
 ghost use Rattle.listing.specs.Placed.{placed, Placed, PlacedOrRefused};
-
-// Copies bytes into a buffer at a place.
-pub fn copy_in(buffer: &mut [u8], at: usize, bytes: &[u8])
-    requires { ⌜ at + length (now bytes) ≤ length (now buffer) ⌝ }
-    ensures { λ _. ⌜ now (buffer .exit) ≡ placed (now (buffer .entry)) at (now (bytes .entry)) ⌝ }
-{
-    let mut index: usize = 0;
-    while index < bytes.len() {
-        buffer[at + index] = bytes[index];
-        index += 1;
-    }
-}
-
-// Writes a text at a place, or changes nothing where there is no room for it.
-pub fn write_text(out: &mut [u8], at: usize, text: &[u8]) -> Written
-    ensures { λ r. ⌜ PlacedOrRefused (now (out .entry)) at (now (text .entry)) (now (out .exit)) r ⌝ }
-{
-    if out.len() < at {
-        return Written::NoRoom;
-    }
-    if out.len() - at < text.len() {
-        return Written::NoRoom;
-    }
-    copy_in(out, at, text);
-    Written::End(at + text.len())
-}
 
 // How many decimal digits a number has.
 fn digit_count(number: u64) -> usize
@@ -94,19 +68,6 @@ fn put_column(out: &mut [u8], at: usize, width: usize, number: u64) -> usize
     put_spaces(out, at, width);
     put_digits(out, end, number);
     end
-}
-
-// Writes a number right-justified in a column at a place, or changes nothing where there is no room for it.
-pub fn write_column(out: &mut [u8], at: usize, width: usize, number: u64) -> Written
-    ensures { λ r. ⌜ PlacedOrRefused (now (out .entry)) at (right-justified width number) (now (out .exit)) r ⌝ }
-{
-    if out.len() < at {
-        return Written::NoRoom;
-    }
-    if out.len() - at < column_length(width, number) {
-        return Written::NoRoom;
-    }
-    Written::End(put_column(out, at, width, number))
 }
 
 // Whether a line of numbers has room in so many bytes.

@@ -1,10 +1,9 @@
 // A leg by value: what it can do, what a send, a synchronising and a release do to it. The names are those of `SrtConnection`
 // and of its sender.
 ghost use mathlib.Core.Path.{_≡_};
-ghost use Prim.Native.Nat.{_+_, _-_, _<_, _^_};
-ghost use Rattle.srt_protocol.specs.Sequence.{sequence-distance, sequence-further};
-ghost use Rattle.srt_group_model.specs.Legs.{is-connected, is-disconnected, has-sender, remaining-window-packets, can-send, can-send-with-pacing, time-until-send, oldest-unacked-sequence, gives-up-at, next-sequence-number, peer-initial-sequence, after-send};
-ghost use Rattle.srt_group_model.specs.Legs.{send-shared-with-sequence, synchronize-send-sequence, release-data-reservation, add-reservation, advance-receive-sequence, disconnect-leg, handed, read-state, acknowledge};
+ghost use Prim.Native.Nat.{_+_, _-_, _<_};
+ghost use Rattle.srt_group_model.specs.Legs.{is-connected, is-disconnected, has-sender, remaining-window-packets, can-send, can-send-with-pacing, time-until-send, oldest-unacked-sequence, gives-up-at, peer-initial-sequence, after-send};
+ghost use Rattle.srt_group_model.specs.Legs.{send-shared-with-sequence, synchronize-send-sequence, disconnect-leg, handed, read-state, acknowledge};
 ghost use Rattle.srt_connection.specs.Answers.{deadline-of, sequence-of, result-of};
 use srt_group_model::Leg;
 use srt_group_model::Sender;
@@ -59,16 +58,6 @@ pub fn has_sender(leg: Leg) -> bool
     ensures { λ r. ⌜ r ≡ has-sender leg ⌝ }
 {
     leg.sender.started == 1
-}
-
-// The sender's next sequence, if there is a sender.
-pub fn next_sequence_number(leg: Leg) -> OptionalSequence
-    ensures { λ r. ⌜ r ≡ sequence-of (next-sequence-number leg) ⌝ }
-{
-    if leg.sender.started == 1 {
-        return OptionalSequence::Some(leg.sender.next);
-    }
-    OptionalSequence::None
 }
 
 pub fn peer_initial_sequence(leg: Leg) -> OptionalSequence
@@ -189,37 +178,6 @@ pub fn less(sum: u64, count: u64) -> u64
         return 0;
     }
     sum - count
-}
-
-// The reservation less a count, least 0.
-pub fn release_data_reservation(mut leg: Leg, count: u64) -> Leg
-    ensures { λ r. ⌜ r ≡ release-data-reservation count leg ⌝ }
-{
-    if leg.receiver.reserved < count {
-        leg.receiver.reserved = 0;
-        return leg;
-    }
-    let reserved = leg.receiver.reserved - count;
-    leg.receiver.reserved = reserved;
-    leg
-}
-
-// The reservation and a count. A valid leg's reservation is the sum of 2,064 counts of 16 bits at most.
-pub fn add_reservation(mut leg: Leg, count: u64) -> Leg
-    requires { ⌜ leg .receiver .reserved + count < 2 ^ 64 ⌝ }
-    ensures { λ r. ⌜ r ≡ add-reservation count leg ⌝ }
-{
-    let reserved = leg.receiver.reserved + count;
-    leg.receiver.reserved = reserved;
-    leg
-}
-
-// Records how far the group has delivered.
-pub fn advance_receive_sequence(mut leg: Leg, sequence: u64) -> Leg
-    ensures { λ r. ⌜ r ≡ advance-receive-sequence sequence leg ⌝ }
-{
-    leg.receiver.advanced = sequence;
-    leg
 }
 
 pub fn disconnect(mut leg: Leg) -> Leg

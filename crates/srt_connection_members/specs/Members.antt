@@ -8,6 +8,7 @@ use lib.ListN.{length}
 use Rattle.srt_protocol.specs.Errors.{if-accepted}
 use Rattle.srt_protocol.specs.declared.error.Outcome.{Outcome}
 use Rattle.srt_group_model.specs.Tools.{change, without-place, each}
+use Rattle.srt_group_model.specs.Calls.{enqueue}
 use Rattle.srt_group_model.specs.State.{Member, with-queue}
 use Rattle.srt_group_model.specs.Validity.{max-members}
 use Rattle.srt_group_model.specs.declared.Event.{Event}
@@ -19,7 +20,7 @@ use Rattle.srt_connection_queue.specs.declared.queue.LegPoll.{LegPoll}
 use Rattle.word_rows.specs.Tab.{tab}
 use Rattle.word_rows.specs.Rows.{row-at}
 use Rattle.srt_connection_queue.specs.Rows.{row-size, member-of, member-from}
-use Rattle.srt_connection_queue.specs.Queue.{enqueued, push-outcome, leg-poll, queue-after}
+use Rattle.srt_connection_queue.specs.Queue.{push-outcome, leg-poll, queue-after}
 
 -- ---- definitions
 
@@ -57,7 +58,7 @@ pub record Changed (i : ℕ) (f : Member → Member) (t u : List ℕ) : Type 0 w
 
 pub record PushedAt (i : ℕ) (e : Event) (t : List ℕ) (answer : Outcome) (u : List ℕ) : Type 0 where
   pub outcome : answer ≡ push-outcome (member-at t i)
-  pub changed : Changed i (λ m. if-accepted answer (enqueued e m) m) t u
+  pub changed : Changed i (λ m. if-accepted answer (enqueue e m) m) t u
 
 pub record PolledAt (i budget : ℕ) (t : List ℕ) (answer : LegPoll) (u : List ℕ) : Type 0 where
   pub gave : answer ≡ leg-poll budget (member-at t i .queue)

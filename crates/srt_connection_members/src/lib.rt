@@ -4,23 +4,20 @@ ghost use mathlib.Core.Path.{_≡_};
 ghost use Prim.Native.Nat.{_*_, _≤_, _<_};
 ghost use lib.ListN.{length};
 ghost use Rattle.srt_group_model.specs.State.{with-leg, on-leg, on-membership, with-account};
-ghost use Rattle.srt_group_model.specs.Tools.{at-place, is-empty};
+ghost use Rattle.srt_group_model.specs.Tools.{is-empty};
 ghost use Rattle.srt_group_model.specs.Members.{find};
-ghost use Rattle.srt_connection_queue.specs.Rows.{row-size, Kept, with-membership, with-sender};
-ghost use Rattle.srt_connection_queue.specs.Queue.{optional-event, popped, cleared};
+ghost use Rattle.srt_connection_queue.specs.Rows.{row-size, Kept, with-membership};
+ghost use Rattle.srt_connection_queue.specs.Queue.{popped, cleared};
 ghost use Rattle.srt_connection_members.specs.Members.{member-at, members-of, has-row, new-member, found-of, Changed, PushedAt, PolledAt, Appended, Removed, ChangedAll};
 ghost use Rattle.srt_group_model.specs.Legs.{with-reservation, advance-receive-sequence, release-data-reservation, disconnect-leg};
 use srt_connection::legs::disconnect;
 use srt_connection::legs::less;
 use srt_connection_queue::queue::LegPoll;
-use srt_connection_queue::queue::OptionalEvent;
 use srt_connection_queue::queue::clear;
-use srt_connection_queue::queue::front;
 use srt_connection_queue::queue::poll_event_for_group;
 use srt_connection_queue::queue::pop;
 use srt_connection_queue::queue::push;
 use srt_connection_queue::queue::queue_is_empty;
-use srt_connection_queue::queue::queue_length;
 use srt_connection_queue::rows::ROW;
 use srt_connection_queue::rows::account;
 use srt_connection_queue::rows::admitted;
@@ -33,7 +30,6 @@ use srt_connection_queue::rows::put_account;
 use srt_connection_queue::rows::put_leg;
 use srt_connection_queue::rows::put_membership;
 use srt_connection_queue::rows::put_reservation;
-use srt_connection_queue::rows::put_sender;
 use srt_connection_queue::rows::receiver;
 use srt_connection_queue::rows::reservation;
 use srt_connection_queue::rows::sender;
@@ -131,28 +127,12 @@ pub fn reservation_at(members: &[u64], index: usize) -> u64
     reservation(&members[start..start + ROW])
 }
 
-pub fn queue_length_at(members: &[u64], index: usize) -> u64
-    requires { ⌜ has-row index (now members) ⌝ }
-    ensures { λ r. ⌜ r ≡ length (member-at (now (members .entry)) index .queue) ⌝ }
-{
-    let start = index * ROW;
-    queue_length(&members[start..start + ROW])
-}
-
 pub fn queue_is_empty_at(members: &[u64], index: usize) -> bool
     requires { ⌜ has-row index (now members) ⌝ }
     ensures { λ r. ⌜ r ≡ is-empty (member-at (now (members .entry)) index .queue) ⌝ }
 {
     let start = index * ROW;
     queue_is_empty(&members[start..start + ROW])
-}
-
-pub fn front_at(members: &[u64], index: usize) -> OptionalEvent
-    requires { ⌜ has-row index (now members) ⌝ }
-    ensures { λ r. ⌜ r ≡ optional-event (at-place 0 (member-at (now (members .entry)) index .queue)) ⌝ }
-{
-    let start = index * ROW;
-    front(&members[start..start + ROW])
 }
 
 // ---- one row is changed
@@ -171,14 +151,6 @@ pub fn put_leg_at(members: &mut [u64], index: usize, leg: Leg)
 {
     let start = index * ROW;
     put_leg(&mut members[start..start + ROW], leg);
-}
-
-pub fn put_sender_at(members: &mut [u64], index: usize, sender: Sender)
-    requires { ⌜ has-row index (now members) ⌝ }
-    ensures { λ _. ⌜ Changed index (with-sender sender) (now (members .entry)) (now (members .exit)) ⌝ }
-{
-    let start = index * ROW;
-    put_sender(&mut members[start..start + ROW], sender);
 }
 
 pub fn put_account_at(members: &mut [u64], index: usize, account: Account)

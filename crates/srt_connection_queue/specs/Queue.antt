@@ -1,6 +1,6 @@
 -- A leg's queue of events, as a ring in its row, and document 01's "Polling".
 use mathlib.Core.Path.{_≡_}
-use mathlib.Core.List.{List, [], _∷_, _++_}
+use mathlib.Core.List.{List, [], _∷_}
 use mathlib.Core.Option.{Option, none, some}
 use Prim.Native.Nat.{ℕ, _-_}
 use lib.Dec.{leb, eqb}
@@ -10,6 +10,7 @@ use Rattle.srt_protocol.specs.declared.error.Error.the-variants.{QueueFull}
 use Rattle.srt_protocol.specs.declared.error.Outcome.{Outcome}
 use Rattle.srt_protocol.specs.declared.error.Outcome.the-variants.{Accepted}
 use Rattle.srt_group_model.specs.Tools.{if_then_else_}
+use Rattle.srt_group_model.specs.Calls.{enqueue}
 use Rattle.srt_group_model.specs.State.{Member, with-queue}
 use Rattle.srt_group_model.specs.Validity.{max-queued}
 use Rattle.srt_group_model.specs.declared.Event.{Event}
@@ -29,10 +30,6 @@ optional-event (some e) = Some e
 abbrev pub popped : Member → Member
 popped m = with-queue (drop 1 (m .queue)) m
 
--- an event behind the others
-abbrev pub enqueued : Event → Member → Member
-enqueued e m = with-queue (m .queue ++ (e ∷ [])) m
-
 -- the queue is dropped
 abbrev pub cleared : Member → Member
 cleared m = with-queue [] m
@@ -43,7 +40,7 @@ push-outcome m = refuse-if (leb max-queued (length (m .queue))) QueueFull Accept
 
 pub record Pushed (m : Member) (e : Event) (answer : Outcome) (row : List ℕ) : Type 0 where
   pub outcome : answer ≡ push-outcome m
-  pub kept : Kept row (if-accepted answer (enqueued e m) m)
+  pub kept : Kept row (if-accepted answer (enqueue e m) m)
 
 -- data lowers the budget by one
 abbrev pub budget-after : Event → ℕ → ℕ

@@ -1,7 +1,6 @@
--- What a line of a replay listing asks of the group, as a call of the model, and what the code of a verb promises: the group after it and the
--- numbers that it prints are those of the model's listing (srt_group_model, Listing).
+-- What the code of a verb promises: the group after it and the numbers that it prints are those of the model's listing (srt_group_model,
+-- Listing), for the call that its line asks (srt_group_traces, VerbCalls).
 use mathlib.Core.Path.{_≡_}
-use mathlib.Core.Bool.{Bool}
 use mathlib.Core.List.{List, [], _∷_}
 use mathlib.Core.Option.{Option, none, some}
 use Prim.Native.Nat.{ℕ}
@@ -10,12 +9,10 @@ use lib.ListN.{length}
 use Rattle.srt_protocol.specs.Cells.{output-size}
 use Rattle.srt_group_model.specs.Tools.{if_then_else_}
 use Rattle.srt_group_model.specs.State.{State}
-use Rattle.srt_group_model.specs.Legs.{moment}
 use Rattle.srt_group_model.specs.Sending.{list-size}
 use Rattle.srt_group_model.specs.Guards.{Answer, Step}
-use Rattle.srt_group_model.specs.Lent.{Call, call-add-member, call-read-leg, call-queue-data, call-poll-data, call-send, call-remove-member-connection, call-mark-member-broken, call-queue-event, step-of}
-use Rattle.srt_group_model.specs.Listing.{Line, column, leg-of-line, columns, refused-line, printed}
-use Rattle.srt_group_model.specs.declared.Data.{Data}
+use Rattle.srt_group_model.specs.Lent.{Call, step-of}
+use Rattle.srt_group_model.specs.Listing.{Line, columns, refused-line, printed}
 use Rattle.srt_group_model.specs.declared.Leg.{Leg}
 use Rattle.srt_group_model.specs.declared.Packet.{Packet}
 use Rattle.srt_connection_members.specs.Members.{member-at, has-row}
@@ -29,52 +26,6 @@ use Rattle.srt_group_listing.specs.declared.Told.{Told}
 -- a line is its eight numbers
 abbrev pub Eight : Line → Type 0
 Eight line = length line ≡ 8
-
--- ---- the call of a verb
-
--- 2
-abbrev pub addition : Line → Call
-addition line = call-add-member (column 1 line) (column 2 line) (leg-of-line line) []
-
--- 3
-abbrev pub reading : Line → Call
-reading line = call-read-leg (column 1 line) (column 2 line) (column 3 line)
-
--- 4: the message number and the timestamp are 0, the payload is one byte
-abbrev pub data-of-line : Line → Data
-data-of-line line =
-    record {
-      sequence = column 2 line;
-      count = column 3 line;
-      message = 0;
-      timestamp = 0;
-      source = moment (column 4 line);
-      cell = 0;
-      length = 0;
-    }
-
-abbrev pub queueing : Line → Call
-queueing line = call-queue-data (column 1 line) (data-of-line line) (column 5 line ∷ [])
-
--- 5
-abbrev pub polling : Line → Call
-polling line = call-poll-data (column 1 line)
-
--- 6: the payload is one byte
-abbrev pub sending : Line → Call
-sending line = call-send (column 2 line) (column 1 line ∷ [])
-
--- 7
-abbrev pub removing : Line → Call
-removing line = call-remove-member-connection (column 1 line)
-
--- 8
-abbrev pub breaking : Line → Call
-breaking line = call-mark-member-broken (column 1 line)
-
--- 9
-abbrev pub event : Line → Call
-event line = call-queue-event (column 1 line) (column 2 line) (column 3 line)
 
 -- ---- what is printed
 

@@ -1,5 +1,6 @@
-// Whether a refresh of the members' states would change nothing. Polls ask it first: nearly always it is so, and the refresh
-// itself goes through the members six times.
+// Whether a refresh of the members' states would change nothing. Polls ask it first: nearly always it is so.
+// `refresh_pending_states` goes through the members twice and `refresh_states` four times, and in Backup each looks for an
+// active member besides.
 ghost use mathlib.Core.Path.{_≡_};
 ghost use Prim.Native.Nat.{_*_, _≤_};
 ghost use lib.ListN.{length};

@@ -177,9 +177,6 @@ send-side x h = record { numbers = x; history = h }
 abbrev pub with-sending : Sending → Send → Send
 with-sending x y = send-side x (y .history)
 
-abbrev pub with-history : List Entry → Send → Send
-with-history h y = send-side (y .numbers) h
-
 abbrev pub with-number : ℕ → Sending → Sending
 with-number n x = record { numbered = 1; next = n; carried = x .carried; carrier = x .carrier; gap = x .gap }
 

@@ -140,9 +140,6 @@ queued-weight weight = total (counted is-data (λ e. weight (e .content)))
 abbrev pub held-count : ℕ → List Packet → ℕ
 held-count = held-weight (λ d. d .count)
 
-abbrev pub own-count : List Packet → ℕ
-own-count = own-weight (λ d. d .count)
-
 abbrev pub queued-count : List Event → ℕ
 queued-count = queued-weight (λ d. d .count)
 

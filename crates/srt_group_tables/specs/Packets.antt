@@ -8,9 +8,8 @@ use lib.ListN.{length, getD}
 use Rattle.word_rows.specs.Tab.{tab}
 use Rattle.word_rows.specs.Rows.{row-at}
 use Rattle.srt_group_model.specs.declared.Packet.{Packet}
-use Rattle.srt_group_model.specs.Tools.{if_then_else_, if-some_give_otherwise_, place-of}
-use Rattle.srt_group_model.specs.Nearest.{sequence-of, has-sequence, farther}
-use Rattle.srt_group_model.specs.Removal.{is-owned}
+use Rattle.srt_group_model.specs.Tools.{place-of}
+use Rattle.srt_group_model.specs.Nearest.{sequence-of, has-sequence}
 use Rattle.srt_group_model.specs.Validity.{max-pending}
 use Rattle.srt_protocol.specs.Cells.{max-cells}
 use Rattle.srt_group_tables.specs.declared.pending.Found.{Found}
@@ -150,8 +149,3 @@ in-use count (At i) = i < count
 pub record FoundPacket (words : List ℕ) (count : ℕ) (r : Found) (p : Option Packet) : Type 0 where
   pub within : in-use count r
   pub is : packet-found words r ≡ p
-
--- a packet before those of which `best` is the farthest: it counts only if the group holds it itself
-unfoldable pub with-owned-packet : ℕ → Packet → Option Packet → Option Packet
-with-owned-packet base p best =
-    if is-owned p then (if-some best give (λ q. some (farther base p q)) otherwise some p) else best

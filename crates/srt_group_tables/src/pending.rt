@@ -13,12 +13,12 @@ ghost use Rattle.srt_protocol.specs.Sequence.{sequence-distance};
 ghost use Rattle.srt_protocol.specs.Cells.{max-cells, overwritten};
 ghost use Rattle.srt_group_model.specs.Cells.{is-among};
 ghost use Rattle.srt_group_model.specs.Sound.{pending-cells};
-ghost use Rattle.srt_group_model.specs.Nearest.{sequence-of, insert, is-held, nearest, farthest};
-ghost use Rattle.srt_group_model.specs.Tools.{each, such-that};
-ghost use Rattle.srt_group_model.specs.Removal.{own-packet, is-owned};
+ghost use Rattle.srt_group_model.specs.Nearest.{sequence-of, insert, is-held, nearest};
+ghost use Rattle.srt_group_model.specs.Tools.{each};
+ghost use Rattle.srt_group_model.specs.Removal.{own-packet};
 ghost use Rattle.srt_group_model.specs.Validity.{max-pending, ascends};
 ghost use Rattle.srt_group_model.specs.Legs.{largest-sequence};
-ghost use Rattle.srt_group_tables.specs.Packets.{index-size, pending-size, packet-row-size, packet-size, index-rows, start-of, slot-of, MovedUp, MovedDown, WithRoom, packet-of, row-words, packet-at, packets, Placed, Holds, Without, place-found, packet-found, in-use, FoundPacket, with-owned-packet};
+ghost use Rattle.srt_group_tables.specs.Packets.{index-size, pending-size, packet-row-size, packet-size, index-rows, start-of, slot-of, MovedUp, MovedDown, WithRoom, packet-of, row-words, packet-at, packets, Placed, Holds, Without, place-found, FoundPacket};
 ghost use Rattle.srt_group_tables.specs.Covered.{Small, CoveredUntil, Covers, Within, packets-elsewhere};
 use srt_group_model::Data;
 use srt_group_model::Packet;
@@ -362,22 +362,6 @@ pub fn remove_covered(pending: &mut [u64], count: usize, covered: Covered) -> us
     rest - low
 }
 
-// Whether the packets ascend by sequence.
-pub fn is_ascending(pending: &[u64], count: usize) -> bool
-    requires { ⌜ (pending-size ≤ length (now pending)) × (count ≤ max-pending) ⌝ }
-    ensures { λ r. ⌜ r ≡ ascends (packets count (now (pending .entry))) ⌝ }
-{
-    let mut next: usize = 1;
-    while next < count {
-        let at = next - 1;
-        if sequence_at(pending, next) <= sequence_at(pending, at) {
-            return false;
-        }
-        next += 1;
-    }
-    true
-}
-
 // The packets of a member become the group's own.
 pub fn own_packets(pending: &mut [u64], count: usize, member: u64)
     requires { ⌜ (pending-size ≤ length (now pending)) × (count ≤ max-pending) ⌝ }
@@ -394,49 +378,4 @@ pub fn own_packets(pending: &mut [u64], count: usize, member: u64)
             at += 1;
         }
     }
-}
-
-// Whether the group holds the packet at a place itself.
-fn is_owned(pending: &[u64], at: usize) -> bool
-    requires { ⌜ (pending-size ≤ length (now pending)) × (at < max-pending) ⌝ }
-    ensures { λ r. ⌜ r ≡ is-owned (packet-at (now (pending .entry)) at) ⌝ }
-{
-    let start = row_start(cell_at(pending, at));
-    pending[start + OWNED] == 1
-}
-
-// The farther of the packet at a place, if the group holds it itself, and the farthest of those behind it.
-fn farther(pending: &[u64], count: usize, base: u64, at: usize, best: Found) -> Found
-    requires { ⌜ (pending-size ≤ length (now pending)) × (count ≤ max-pending) × (at < count) ⌝ }
-    requires { ⌜ in-use count best ⌝ }
-    ensures { λ r. ⌜ FoundPacket (now (pending .entry)) count r
-        (with-owned-packet base (packet-at (now (pending .entry)) at) (packet-found (now (pending .entry)) best)) ⌝ }
-{
-    if !is_owned(pending, at) {
-        return best;
-    }
-    let Found::At(farthest) = best else {
-        return Found::At(at);
-    };
-    let here = word_distance(base, sequence_at(pending, at));
-    let there = word_distance(base, sequence_at(pending, farthest));
-    if there < here {
-        return Found::At(at);
-    }
-    best
-}
-
-// Of the packets that the group holds itself, the one farthest ahead of a base.
-pub fn farthest_owned(pending: &[u64], count: usize, base: u64) -> Found
-    requires { ⌜ (pending-size ≤ length (now pending)) × (count ≤ max-pending) ⌝ }
-    ensures { λ r. ⌜ FoundPacket (now (pending .entry)) count r (farthest base (such-that is-owned (packets count (now (pending .entry))))) ⌝ }
-{
-    let mut best = Found::Nothing;
-    let mut left = count;
-    while 0 < left {
-        let at = left - 1;
-        best = farther(pending, count, base, at, best);
-        left = at;
-    }
-    best
 }

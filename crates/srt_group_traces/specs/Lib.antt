@@ -4,6 +4,7 @@ pub mod ShortSchedule
 pub mod Port
 pub mod PortTheorem
 pub mod OwnCalls
+pub mod VerbCalls
 pub mod Listings
 -- What is proved.
 pub mod laws

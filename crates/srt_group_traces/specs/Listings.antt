@@ -14,15 +14,15 @@ use Rattle.srt_protocol.specs.Cells.{output-size}
 use Rattle.srt_protocol.specs.Sequence.{half}
 use Rattle.srt_group_model.specs.Tools.{if_then_else_, if-some_give_otherwise_, at-place, each, total, All}
 use Rattle.srt_group_model.specs.State.{State, Making}
-use Rattle.srt_group_model.specs.Legs.{moment, connected, no-sequence, largest-64}
+use Rattle.srt_group_model.specs.Legs.{connected, no-sequence, largest-64}
 use Rattle.srt_group_model.specs.Sending.{list-size}
 use Rattle.srt_group_model.specs.Validity.{above}
 use Rattle.srt_group_model.specs.Calls.{new}
-use Rattle.srt_group_model.specs.Lent.{Lent, Result, Call, call-add-member, call-mark-member-broken, call-remove-member-connection, call-poll-data, call-send, call-read-leg, call-queue-data, call-queue-event}
-use Rattle.srt_group_model.specs.Listing.{Line, column, store-length, leg-of-line, columns, refused-line, tell, replay}
-use Rattle.srt_group_model.specs.declared.Data.{Data}
+use Rattle.srt_group_model.specs.Lent.{Lent, Result, Call}
+use Rattle.srt_group_model.specs.Listing.{Line, column, store-length, columns, refused-line, tell, replay}
 use Rattle.srt_group_traces.specs.Statement.{Asked, do-call, Delivery, counts-of, skipped-in, reached, marks, Consecutive, pass-to, Told, Went, clerk, SetBefore, AllNear}
 use Rattle.srt_group_traces.specs.ShortSchedule.{Scheduled}
+use Rattle.srt_group_traces.specs.VerbCalls.{addition, reading, queueing, polling, sending, removing, breaking, event}
 
 -- ---- a listing beside what it prints
 
@@ -128,19 +128,6 @@ pub record FairRows (schedule : List Delivery) (first : ℕ) (rows : List Row) :
 
 -- ---- the calls of a listing
 
--- the data of verb 4; the call fills in its cell and its length
-abbrev pub data-of-line : Line → Data
-data-of-line line =
-    record {
-      sequence = column 2 line;
-      count = column 3 line;
-      message = 0;
-      timestamp = 0;
-      source = moment (column 4 line);
-      cell = 0;
-      length = 0;
-    }
-
 -- a payload byte above 255 makes no call
 abbrev pub with-byte : ℕ → Call → Option Call
 with-byte byte call = if above 255 byte then none else some call
@@ -148,14 +135,14 @@ with-byte byte call = if above 255 byte then none else some call
 -- verbs 2 to 9, in order
 unfoldable pub verb-calls : List (Line → Option Call)
 verb-calls =
-    (λ line. some (call-add-member (column 1 line) (column 2 line) (leg-of-line line) []))
-    ∷ (λ line. some (call-read-leg (column 1 line) (column 2 line) (column 3 line)))
-    ∷ (λ line. with-byte (column 5 line) (call-queue-data (column 1 line) (data-of-line line) (column 5 line ∷ [])))
-    ∷ (λ line. some (call-poll-data (column 1 line)))
-    ∷ (λ line. with-byte (column 1 line) (call-send (column 2 line) (column 1 line ∷ [])))
-    ∷ (λ line. some (call-remove-member-connection (column 1 line)))
-    ∷ (λ line. some (call-mark-member-broken (column 1 line)))
-    ∷ (λ line. some (call-queue-event (column 1 line) (column 2 line) (column 3 line)))
+    (λ line. some (addition line))
+    ∷ (λ line. some (reading line))
+    ∷ (λ line. with-byte (column 5 line) (queueing line))
+    ∷ (λ line. some (polling line))
+    ∷ (λ line. with-byte (column 1 line) (sending line))
+    ∷ (λ line. some (removing line))
+    ∷ (λ line. some (breaking line))
+    ∷ (λ line. some (event line))
     ∷ []
 
 -- verb 1 and an unknown verb are no call of a group

@@ -15,7 +15,6 @@ use Rattle.srt_group_model.specs.Tools.{if_then_else_, if-some_give_otherwise_}
 use Rattle.srt_group_model.specs.State.{State, next-receive-sequence, Making}
 use Rattle.srt_group_model.specs.Guards.{Answer, no-answer}
 use Rattle.srt_group_model.specs.Lent.{Lent, Result, delivered-by}
-use Rattle.srt_group_model.specs.Answers.{values-of}
 use Rattle.srt_group_model.specs.Calls.{new-code, new}
 use Rattle.srt_group_traces.specs.Statement.{Told, Fair, Raised, Asked, do-call, Delivery, delivery-of, counts-of, skipped-in}
 
@@ -85,10 +84,6 @@ Promise false asked s x = Does asked s x
 abbrev pub step-made : (short : Bool) → Asked → Shown → Taken
 step-made true asked x = refused-short asked x
 step-made false asked x = did asked x
-
--- in document 01's numbers: the code, 0 if it is accepted, and the values of the answer
-abbrev pub numbers-of : Shown → List ℕ
-numbers-of x = x .code ∷ values-of (x .answer)
 
 -- THE PROMISE of `new`: accepted, a fresh group; refused, with 2 or 1, what stood in its place stays
 abbrev pub shows-new : Making → Lent → State → Shown

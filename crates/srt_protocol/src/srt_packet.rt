@@ -3,10 +3,7 @@ ghost use mathlib.Core.Path.{_≡_};
 ghost use Rattle.srt_protocol.specs.Sequence.{sequence-distance, sequence-before, sequence-further};
 
 // How many sequence numbers there are.
-pub const SEQUENCE_SPACE: u64 = 0x8000_0000;
-
-// The same, in the type of a sequence number.
-const SPACE: u32 = SEQUENCE_SPACE as u32;
+const SPACE: u32 = 0x8000_0000;
 
 // The farthest apart that two comparable sequence numbers can be.
 const SEQUENCE_HALF_SPACE: u32 = 0x4000_0000;
@@ -24,13 +21,6 @@ pub fn sequence_less_than(a: u32, b: u32) -> bool
 {
     let distance = sequence_distance(a, b);
     0 < distance && distance < SEQUENCE_HALF_SPACE
-}
-
-// The sequence number `count` places after `a`.
-pub fn sequence_further(a: u32, count: u32) -> u32
-    ensures { λ r. ⌜ r ≡ sequence-further a count ⌝ }
-{
-    std::num::wrapping_add_u32(a, count) % SPACE
 }
 
 // ---- the same of sequence numbers that stand in 64-bit words: only their place on the circle counts

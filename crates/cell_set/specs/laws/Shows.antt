@@ -3,7 +3,7 @@
 use mathlib.Core.Path.{_≡_, refl, sym, subst, _∙_}
 use mathlib.Core.Bool.{true, false}
 use mathlib.Core.List.{List, [], _∷_, _++_}
-use mathlib.Core.Option.{some}
+use mathlib.Core.Option.{Option, none, some}
 use Prim.Native.Nat.{ℕ, _≤_, _<_}
 use native.Mathlib.Omega.{arith}
 use borrow.Author.Tests.{eqb-true, eqb-false, eq-eqb, ne-eqb, ltb-true, ltb-false, leb-true, leb-false}
@@ -28,6 +28,7 @@ use Rattle.cell_set.specs.Bits.{set-size, bit-at}
 use Rattle.cell_set.specs.Sets.{ShowsCells, Taken, Freed, free-cell-of, LowestFree}
 use Rattle.cell_set.specs.laws.Sets.{most, beyond}
 use Rattle.cell_set.specs.declared.FreeCell.{FreeCell}
+use Rattle.cell_set.specs.declared.FreeCell.the-variants.{Cell, Full}
 use Rattle.cell_set.specs.Shows.{Shows, freed-by}
 
 -- ---- a step of the model and a step of the words
@@ -72,29 +73,6 @@ shows-freed {words} {after} {cells} {s} {t} shows freed moves =
           };
     }
 
--- a cell that was free is taken, and then others are freed: a send that a full history makes room for
-pub shows-exchanged : {words mid after freed : List ℕ} {cell : ℕ} {s t : State} → Shows words s → bit-at words cell ≡ 0 → is-among cell freed ≡ false
-    → Taken cell words mid → Freed freed mid after → Moves (cell ∷ []) freed s t → Shows after t
-unfolding occurs
-shows-exchanged {words} {mid} {after} {freed} {cell} {s} {t} shows free apart taken frees moves =
-    record {
-      cells =
-          record {
-            long = frees .long;
-            bits =
-                λ n.
-                by-test (eqb cell n)
-                (λ e.
-                subst (λ (k : ℕ). bit-at after k ≡ occurs k (used-cells t)) (eqb-true cell n e)
-                (omega (arith, frees .others cell apart, taken .here, shows .cells .bits cell, moves .cells cell, one-same cell, absent cell freed apart)))
-                (λ e.
-                by-test (is-among n freed)
-                (λ f. omega (arith, frees .gone n f, shows .cells .bits n, moves .cells n, present n freed f, most words n, one-other cell n e))
-                (λ f.
-                omega (arith, frees .others n f, taken .others n e, shows .cells .bits n, moves .cells n, absent n freed f, one-other cell n e)));
-          };
-    }
-
 pub collected-frees : (s : State) (i : ℕ) (m : Member) (e : Event) → at-place i (s .members) ≡ some m → front (m .queue) ≡ some e
     → eqb (e .kind) 0 ≡ true → Moves [] (freed-by (packet-of m e) (s .receive)) s (retain-group-packet i (packet-of m e) (popped i s))
 unfolding freed-by
@@ -136,9 +114,26 @@ freed-then {cells} {more} {a} {b} {c} first second =
 
 -- ---- the cell that is found is document 01's
 
-pub lowest-is : {words : List ℕ} {cells : ℕ} {r : FreeCell} {s : State} → Shows words s → LowestFree words cells r → r ≡ free-cell-of (free-cell cells s)
+lowest-is : {words : List ℕ} {cells : ℕ} {r : FreeCell} {s : State} → Shows words s → LowestFree words cells r → r ≡ free-cell-of (free-cell cells s)
 unfolding free-cell
 lowest-is {s = s} shows lowest = lowest .is (used-cells s) (shows .cells)
+
+-- a cell was found, or none
+pub lowest-found : {words : List ℕ} {cells cell : ℕ} {r : FreeCell} {s : State} → Shows words s → LowestFree words cells r → r ≡ Cell cell
+    → free-cell cells s ≡ some cell
+lowest-found {cells = cells} {cell} {s = s} shows lowest is = given (free-cell cells s) (sym is ∙ lowest-is shows lowest)
+  where
+    given : (o : Option ℕ) → Cell cell ≡ free-cell-of o → o ≡ some cell
+    given none e = cc e
+    given (some c) e = cc e
+
+pub none-found : {words : List ℕ} {cells : ℕ} {r : FreeCell} {s : State} → Shows words s → LowestFree words cells r → r ≡ Full
+    → free-cell cells s ≡ none
+none-found {cells = cells} {s = s} shows lowest is = given (free-cell cells s) (sym is ∙ lowest-is shows lowest)
+  where
+    given : (o : Option ℕ) → Full ≡ free-cell-of o → o ≡ none
+    given none e = refl
+    given (some c) e = cc e
 
 -- ---- what it says, cell by cell
 

@@ -12,14 +12,14 @@ use lib.Seq.{getD-set-same, getD-set-other}
 use Rattle.srt_protocol.specs.Errors.{if-accepted}
 use Rattle.srt_protocol.specs.declared.error.Outcome.{Outcome}
 use Rattle.srt_group_model.specs.Tools.{at-place, without-place}
+use Rattle.srt_group_model.specs.Calls.{enqueue}
 use Rattle.srt_group_model.specs.State.{Member, with-queue, with-leg, on-leg, on-membership, with-account, on-account}
-use Rattle.srt_group_model.specs.Legs.{on-sender, with-reservation}
+use Rattle.srt_group_model.specs.Legs.{with-reservation}
 use Rattle.srt_group_model.specs.Members.{has-id, find}
 use Rattle.srt_group_model.specs.declared.Event.{Event}
 use Rattle.srt_group_model.specs.declared.Leg.{Leg}
 use Rattle.srt_group_model.specs.declared.Membership.{Membership}
 use Rattle.srt_group_model.specs.declared.Account.{Account}
-use Rattle.srt_group_model.specs.declared.Sender.{Sender}
 use Rattle.srt_connection_members.specs.declared.Found.the-variants.{At, Nothing}
 use Rattle.srt_connection_queue.specs.declared.queue.LegPoll.{LegPoll}
 use Rattle.word_rows.specs.Tab.{tab}
@@ -29,8 +29,8 @@ use Rattle.word_rows.specs.Rows.{row-at}
 use Rattle.word_rows.specs.laws.Rows.{row-word, row-same, row-part}
 use Rattle.srt_connection_queue.specs.Row.{put-row}
 use Rattle.srt_connection_queue.specs.laws.Row.{row-put, row-put-other, put-length}
-use Rattle.srt_connection_queue.specs.Rows.{part-size, membership-part, row-size, membership-of, member-of, member-parts, Kept, with-membership, with-sender}
-use Rattle.srt_connection_queue.specs.Queue.{cleared, enqueued, Pushed, queue-after, Polled}
+use Rattle.srt_connection_queue.specs.Rows.{part-size, membership-part, row-size, membership-of, member-of, member-parts, Kept, with-membership}
+use Rattle.srt_connection_queue.specs.Queue.{cleared, Pushed, queue-after, Polled}
 use Rattle.srt_connection_members.specs.Members.{member-at, members-of, has-row, new-member, found-of, Changed, PushedAt, PolledAt, ChangedAll, Appended, Removed}
 
 -- ---- laws
@@ -67,7 +67,7 @@ module _ (i : ℕ) (t r : List ℕ) (there : has-row i t) where
 
   pub pushed-row : (e : Event) (answer : Outcome) → Pushed (member-at t i) e answer r → PushedAt i e t answer (put-row row-size t i r)
   pushed-row e answer pushed =
-      record { outcome = pushed .outcome; changed = changed-row (λ m. if-accepted answer (enqueued e m) m) (pushed .kept) }
+      record { outcome = pushed .outcome; changed = changed-row (λ m. if-accepted answer (enqueue e m) m) (pushed .kept) }
 
   pub polled-row : (budget : ℕ) (answer : LegPoll) → Polled (member-at t i) budget answer r
       → PolledAt i budget t answer (put-row row-size t i r)
@@ -101,7 +101,7 @@ changed-by i t u g c same =
       members = λ n. tab-change n (member-at t) (member-at u) i g (c .here ∙ same) (c .others);
     }
 
--- a leg, a membership, a sender, an account or a reservation was put that is F of the one that was there
+-- a leg, a membership, an account or a reservation was put that is F of the one that was there
 module _ {i : ℕ} {t u : List ℕ} where
   pub leg-changed : {l : Leg} (F : Leg → Leg) → Changed i (with-leg l) t u → l ≡ F (member-at t i .leg) → Changed i (on-leg F) t u
   leg-changed F c is = changed-by i t u (on-leg F) c (ap (λ (x : Leg). with-leg x (member-at t i)) is)
@@ -109,10 +109,6 @@ module _ {i : ℕ} {t u : List ℕ} where
   pub membership-changed : {x : Membership} (F : Membership → Membership) → Changed i (with-membership x) t u
       → x ≡ F (member-at t i .membership) → Changed i (on-membership F) t u
   membership-changed F c is = changed-by i t u (on-membership F) c (ap (λ (x : Membership). with-membership x (member-at t i)) is)
-
-  pub sender-changed : {x : Sender} (F : Sender → Sender) → Changed i (with-sender x) t u → x ≡ F (member-at t i .leg .sender)
-      → Changed i (on-leg (on-sender F)) t u
-  sender-changed F c is = changed-by i t u (on-leg (on-sender F)) c (ap (λ (x : Sender). with-sender x (member-at t i)) is)
 
   pub account-changed : {a : Account} (F : Account → Account) → Changed i (on-membership (with-account a)) t u
       → a ≡ F (member-at t i .membership .account) → Changed i (on-account F) t u

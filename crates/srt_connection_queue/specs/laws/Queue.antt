@@ -11,6 +11,7 @@ use lib.ListN.{length, drop}
 use Rattle.srt_protocol.specs.declared.error.Error.the-variants.{QueueFull}
 use Rattle.srt_protocol.specs.declared.error.Outcome.the-variants.{Accepted, Refused}
 use Rattle.srt_group_model.specs.Tools.{if_then_else_, is-empty, at-place}
+use Rattle.srt_group_model.specs.Calls.{enqueue}
 use Rattle.srt_group_model.specs.State.{Member, with-queue}
 use Rattle.srt_group_model.specs.Validity.{max-queued}
 use Rattle.srt_group_model.specs.declared.Event.{Event}
@@ -22,7 +23,7 @@ use Rattle.word_rows.specs.laws.Tab.{tab-length, tab-pop, tab-push}
 use Rattle.srt_connection_queue.specs.laws.Tab.{tab-place}
 use Rattle.srt_connection_queue.specs.Rows.{part-size, membership-part, link-part, sender-part, receiver-part, first-event-part, row-size, part, put-part, membership-of, link-part-of, sender-of, receiver-of, ring-of, ring-in, event-of, event-words, event-in, queue-of, leg-of, member-parts, member-of, Kept, member-from}
 use Rattle.srt_connection_queue.specs.laws.Rows.{part-long, part-here, part-other, ring-put}
-use Rattle.srt_connection_queue.specs.Queue.{optional-event, popped, enqueued, cleared, Pushed, budget-after, leg-poll, queue-after, Polled}
+use Rattle.srt_connection_queue.specs.Queue.{optional-event, popped, cleared, Pushed, budget-after, leg-poll, queue-after, Polled}
 
 -- ---- laws of the ring, f being the events by their place in it
 
@@ -145,7 +146,7 @@ module _ (r : List ℕ) (long : length r ≡ row-size) (ring : Ring) (read : rin
 
     shown : member-parts (membership-of (part written membership-part)) (link-part-of (part written link-part)) (sender-of (part written sender-part))
         (receiver-of (part written receiver-part)) counted (event-in written)
-        ≡ enqueued e (member-of r)
+        ≡ enqueue e (member-of r)
     unfolding member-of member-parts queue-of
     shown =
         λ i.

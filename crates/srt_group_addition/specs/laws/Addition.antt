@@ -28,7 +28,7 @@ use Rattle.srt_group_model.specs.declared.Sending.{Sending}
 use Rattle.word_rows.specs.Tab.{tab}
 use Rattle.word_rows.specs.laws.Tab.{tab-push}
 use Rattle.srt_connection_queue.specs.Rows.{row-size, member-from}
-use Rattle.srt_connection_members.specs.Members.{members-size, member-at, members-of, has-row, Appended}
+use Rattle.srt_connection_members.specs.Members.{members-size, member-at, members-of, Appended}
 use Rattle.srt_connection_members.specs.laws.Members.{members-length}
 use Rattle.srt_group_members.specs.Scan.{is-some, Tried}
 use Rattle.srt_group_members.specs.Admission.{base-in, AdmittedAt}
@@ -44,12 +44,9 @@ use Rattle.srt_group_addition.specs.Addition.{membership-at-addition, jo
 
 -- ---- the rows
 
--- the rows of the members, and one behind them
+-- the rows of the members
 pub rows-of : (n : ℕ) (ms : List ℕ) → n < max-members → members-size ≤ length ms → n * row-size ≤ length ms
 rows-of n ms few long = omega arith
-
-pub row-behind : (n : ℕ) (ms : List ℕ) → n < max-members → members-size ≤ length ms → has-row n ms
-row-behind n ms few long = omega arith
 
 -- ---- a member joins
 

@@ -55,9 +55,6 @@ flow-of s sends code = record { state = s; sends = sends; code = code }
 members-again : (s : State) (ms : List Member) → s .members ≡ ms → s ≡ with-members ms s
 members-again s ms e = ap (λ (l : List Member). with-members l s) e
 
-send-again : (s : State) (y : Send) → s .send ≡ y → s ≡ with-send y s
-send-again s y e = ap (λ (x : Send). with-send x s) e
-
 -- ---- the replay on a leg
 
 module _ (time i : ℕ) (r : HistoryRing) (a : Arrays) (l : Leg) (t : List ℕ) (sent : ℕ) (list : List ℕ) where

@@ -35,7 +35,8 @@ use Rattle.srt_group_removal.specs.Connection.{answer-dropped, PerformsDropping
 use Rattle.srt_group.specs.Made.{parts-of}
 use Rattle.srt_group.specs.declared.Group.{Group}
 use Rattle.srt_group_listing.specs.declared.Printed.{Printed}
-use Rattle.srt_group_listing.specs.Telling.{addition, reading, data-of-line, queueing, polling, sending, removing, breaking, event, numbers-of, prints, packet-line, sent-line, asks, Tells, HandedOver}
+use Rattle.srt_group_traces.specs.VerbCalls.{addition, reading, data-of-line, queueing, polling, sending, removing, breaking, event}
+use Rattle.srt_group_listing.specs.Telling.{numbers-of, prints, packet-line, sent-line, asks, Tells, HandedOver}
 
 -- A call in its form for a valid state, whose line prints its code and its answer, tells what the model's listing tells.
 pub tells : (verb : ℕ) (call : Call) (g g′ : Group) (t t′ : Tables) (bytes bytes′ : Lent) (code : ℕ) (given : Answer) (used′ : List ℕ)

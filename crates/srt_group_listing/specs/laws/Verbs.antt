@@ -18,7 +18,8 @@ use Rattle.srt_group.specs.Made.{parts-of}
 use Rattle.srt_group.specs.declared.Group.{Group}
 use Rattle.srt_group_listing.specs.declared.Printed.{Printed}
 use Rattle.srt_group_listing.specs.declared.Told as told
-use Rattle.srt_group_listing.specs.Telling.{addition, reading, queueing, polling, sending, removing, breaking, event, numbers-of, asks, Tells}
+use Rattle.srt_group_traces.specs.VerbCalls.{addition, reading, queueing, polling, sending, removing, breaking, event}
+use Rattle.srt_group_listing.specs.Telling.{numbers-of, asks, Tells}
 use Rattle.srt_group_listing.specs.Verbs.{TellsVerb}
 
 -- ---- a verb over a group that was made

@@ -6,19 +6,16 @@ use mathlib.Core.List.{List, [], _∷_}
 use mathlib.Core.Option.{none, some}
 use Prim.Native.Nat.{ℕ, zero, suc, _+_}
 use native.Mathlib.Omega.{arith}
-use lib.Dec.{leb, eqb}
-use lib.ListN.{length, drop, take}
-use Rattle.srt_protocol.specs.Sequence.{sequence-before}
+use lib.Dec.{eqb}
 use Rattle.srt_group_model.specs.Tools.{if_then_else_, such-that, at-place, change, each, without-place}
 use Rattle.srt_group_model.specs.laws.Reason.{if-elim, by-test, not-both, none-some, some-inj}
-use Rattle.srt_group_model.specs.State.{Member, Send, State, with-members, with-send, on-leg}
-use Rattle.srt_group_model.specs.Legs.{has-sender, oldest-unacked-sequence, add-reservation}
+use Rattle.srt_group_model.specs.State.{Member, Send, State, with-members, on-leg}
+use Rattle.srt_group_model.specs.Legs.{add-reservation}
 use Rattle.srt_group_model.specs.Members.{id-of}
 use Rattle.srt_group_model.specs.Nearest.{sequence-of, has-sequence, is-covered, covered}
 use Rattle.srt_group_model.specs.Run.{Run, refresh-pending-states, refresh-states}
 use Rattle.srt_group_model.specs.Collecting.{front, is-discarded, retain-group-packet, report-event}
 use Rattle.srt_group_model.specs.Delivery.{deliver-packet, pass-run}
-use Rattle.srt_group_model.specs.Backup.{max-history, drop-before, trim-backup-history, append-history}
 use Rattle.srt_group_model.specs.Removal.{retire, take-out}
 use Rattle.srt_group_model.specs.Cells.{queue-cells, queued-cells, used-cells}
 use Rattle.srt_group_model.specs.Calls.{enqueue, data-event}
@@ -31,12 +28,10 @@ use Rattle.srt_group_model.specs.declared.Data.{Data}
 use Rattle.srt_group_model.specs.declared.Event.{Event}
 use Rattle.srt_group_model.specs.declared.Packet.{Packet}
 use Rattle.srt_group_model.specs.declared.Waiting.{Waiting}
-use Rattle.srt_group_model.specs.declared.Leg.{Leg}
-use Rattle.srt_group_model.specs.declared.Entry.{Entry}
 use Rattle.srt_group_model.specs.laws.CallLaw.{Refresh-law}
 use Rattle.srt_group_model.specs.laws.EveryCall.{refreshes-pending, refreshes, breaks}
 use Rattle.srt_group_model.specs.laws.MemberMoves.{moved-relabelled}
-use Rattle.srt_group_model.specs.laws.InHand.{enqueued, history-append}
+use Rattle.srt_group_model.specs.laws.InHand.{enqueued}
 
 -- from one state to the other these cells are taken, and those are freed
 pub record Moves (taken freed : List ℕ) (s t : State) : Type 0 where
@@ -127,54 +122,6 @@ delivery-frees base p s =
     let queued = ap (occurs n) (relabelled-cells (s .members) _ (deliver-relabelled base p s)) in
     let history = ap (λ (x : Send). occurs n (history-cells (x .history))) (deliver-released base p s .send) in
     omega (arith, queued, history, split-cells n (is-covered base (p .content .count)) (s .receive .pending)))
-
--- ---- the history
-
--- the entries at the front that are before a sequence, and those that a trim drops
-unfoldable pub entries-before : ℕ → List Entry → List Entry
-entries-before sequence [] = []
-entries-before sequence (e ∷ es) = if sequence-before (e .sequence) sequence then e ∷ entries-before sequence es else []
-
-unfoldable pub trimmed : Leg → List Entry → List Entry
-trimmed l h = if has-sender l then entries-before (oldest-unacked-sequence l) h else []
-
-dropped-cells : (n sequence : ℕ) (h : List Entry)
-    → occurs n (history-cells (drop-before sequence h)) + occurs n (history-cells (entries-before sequence h)) ≡ occurs n (history-cells h)
-unfolding drop-before entries-before each occurs if_then_else_
-dropped-cells n sequence [] = omega arith
-dropped-cells n sequence (e ∷ es) =
-    by-test (sequence-before (e .sequence) sequence)
-    (λ t. rw t (omega (arith, dropped-cells n sequence es))) (λ t. rw t (omega arith))
-
--- what the carrier's leg has had acknowledged is freed
-pub trim-frees : (l : Leg) (s : State) → Moves [] (history-cells (trimmed l (s .send .history))) s (with-send (trim-backup-history l (s .send)) s)
-unfolding trim-backup-history trimmed each occurs if_then_else_
-trim-frees l s =
-    parts-move [] (history-cells (trimmed l (s .send .history))) s (with-send (trim-backup-history l (s .send)) s)
-    (λ n.
-    by-test (has-sender l)
-    (λ t. rw t (omega (arith, dropped-cells n (oldest-unacked-sequence l) (s .send .history))))
-    (λ t. rw t (omega arith)))
-
--- the entry that a full history loses
-unfoldable pub evicted : List Entry → List Entry
-evicted h = if leb max-history (length h) then take 1 h else []
-
-first-cell : (n : ℕ) (h : List Entry) → occurs n (history-cells (drop 1 h)) + occurs n (history-cells (take 1 h)) ≡ occurs n (history-cells h)
-unfolding each occurs
-first-cell n [] = omega arith
-first-cell n (x ∷ h) = omega arith
-
--- a send's payload takes its cell; a full history frees that of its oldest entry
-pub append-moves : (carrier : ℕ) (e : Entry) (s : State)
-    → Moves (e .cell ∷ []) (history-cells (evicted (s .send .history))) s (with-send (append-history carrier e (s .send)) s)
-unfolding append-history evicted each occurs if_then_else_
-append-moves carrier e s =
-    parts-move (e .cell ∷ []) (history-cells (evicted (s .send .history))) s (with-send (append-history carrier e (s .send)) s)
-    (λ n.
-    by-test (leb max-history (length (s .send .history)))
-    (λ t. rw t (omega (arith, history-append n (drop 1 (s .send .history)) e, first-cell n (s .send .history))))
-    (λ t. rw t (omega (arith, history-append n (s .send .history) e))))
 
 -- ---- queueing
 

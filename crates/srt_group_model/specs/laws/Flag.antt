@@ -2,12 +2,11 @@
 use mathlib.Core.Path.{_≡_, refl, sym, ap}
 use mathlib.Core.Bool.{Bool, true, false, not}
 use mathlib.Core.Option.{none, some}
-use Prim.Native.Nat.{ℕ, zero, suc, _≤_, _<_}
+use Prim.Native.Nat.{ℕ, zero, suc, _≤_}
 use native.Mathlib.Omega.{arith}
 use borrow.Author.Tests.{ne-eqb}
 use lib.Dec.{eqb}
 use Rattle.srt_group_model.specs.Tools.{is-set, bit, flagged}
-use Rattle.srt_group_model.specs.laws.Reason.{not-both}
 
 -- ---- reading: from the word to the flag, and back
 
@@ -17,14 +16,6 @@ zero-unset n h = ap is-set h
 pub other-set : (n : ℕ) → (n ≡ 0 → ⊥) → is-set n ≡ true
 other-set zero h = absurd (h refl)
 other-set (suc n) h = refl
-
-pub unset-zero : (n : ℕ) → is-set n ≡ false → n ≡ 0
-unset-zero zero h = refl
-unset-zero (suc n) h = not-both refl h
-
-pub set-above-zero : (n : ℕ) → is-set n ≡ true → 0 < n
-set-above-zero zero h = not-both h refl
-set-above-zero (suc n) h = omega arith
 
 -- a test of the word against 0
 pub set-is-not-zero : (n : ℕ) → is-set n ≡ not (eqb n 0)
@@ -49,9 +40,6 @@ unfolding bit
 set-bit zero h = refl
 set-bit (suc zero) h = refl
 set-bit (suc (suc n)) h = absurd (omega arith)
-
-pub set-one : (n : ℕ) → n ≤ 1 → is-set n ≡ true → n ≡ 1
-set-one n h e = omega (arith, set-above-zero n e)
 
 -- ---- a number with its flag
 

@@ -40,11 +40,6 @@ pub record Law (I : Receive → List Mark → Type 0) : Type 0 where
 
 -- ---- facts on collecting
 
--- an event that is not data moves nothing
-report-leaves : (i : ℕ) (w : Rattle.srt_group_model.specs.declared.Waiting.Waiting) (s : State) → report-event i w s .receive ≡ s .receive
-unfolding report-event
-report-leaves i w s = refl
-
 -- collecting leaves the base and the skipped total
 retain-numbers : (i : ℕ) (p : Packet) (s : State) → retain-group-packet i p s .receive .numbers ≡ s .receive .numbers
 unfolding retain-group-packet

@@ -10,12 +10,11 @@ use borrow.Author.Tests.{ltb-true, ltb-false}
 use lib.Dec.{ltb, eqb}
 use Rattle.srt_protocol.specs.Circle.{further}
 use Rattle.srt_protocol.specs.Sequence.{half, sequence-further}
-use Rattle.srt_group_model.specs.laws.Arrivals.{base-after-elim, peer-after-elim}
 use Rattle.srt_group_model.specs.Tools.{or-else, flagged, first-such, at-place, change}
 use Rattle.srt_group_model.specs.laws.Reason.{if-elim, if-some-elim, not-both, none-some, some-inj, and-left, and-right}
 use Rattle.srt_group_model.specs.State.{Member, turned, with-leg, on-membership, with-admitted, with-collision}
 use Rattle.srt_group_model.specs.Legs.{is-connected, has-sender, can-send, no-sequence, peer-initial-sequence, send-shared-with-sequence, synchronize-send-sequence, largest-sequence, largest-32, largest-64}
-use Rattle.srt_group_model.specs.Members.{base-after, peer-after, alignment-source, align-leg}
+use Rattle.srt_group_model.specs.Members.{alignment-source, align-leg}
 use Rattle.srt_group_model.specs.Validity.{is-too-large}
 use Rattle.srt_protocol.specs.declared.time.Timestamp.{Timestamp}
 use Rattle.srt_group_model.specs.declared.Leg.{Leg}
@@ -169,20 +168,6 @@ first-fit l f n e = first-of (eqb (l .receiver .first) no-sequence) (l .receiver
         and-true : (b : Bool) → b && true ≡ false → b ≡ false
         and-true true g = g
         and-true false g = refl
-
-fit-at : (i : ℕ) (m : Member) (ms : List Member) → at-place i ms ≡ some m → All-fit ms → Member-fit m
-unfolding at-place
-fit-at zero m (x ∷ ms) at h = subst Member-fit (some-inj at) (h .0)
-fit-at (suc i) m (x ∷ ms) at h = fit-at i m ms at (h .1)
-fit-at zero m [] at h = none-some at
-fit-at (suc i) m [] at h = none-some at
-
-pub base-after-fit : (o : Option ℕ) (ms : List Member) → Option-fit o → All-fit ms → Option-fit (base-after o ms)
-base-after-fit o ms b h = base-after-elim Option-fit o ms b (λ i m at a. first-fit (m .leg) (fit-at i m ms at h .leg))
-
-pub peer-after-fit : (peer : ℕ) (ms : List Member) → peer ≤ largest-32 → All-fit ms → peer-after peer ms ≤ largest-32
-peer-after-fit peer ms b h =
-    peer-after-elim (λ (n : ℕ). n ≤ largest-32) peer ms b (λ n i m at a unbound k. fit-at i m ms at h .leg .peer)
 
 pub admitted-fit : (m : Member) → Member-fit m → Member-fit (on-membership with-admitted m)
 admitted-fit m h =

@@ -10,9 +10,9 @@ use borrow.Author.Tests.{ltb-false, ltb-true, not-false}
 use lib.Dec.{ltb, eqb}
 use lib.ListN.{length}
 use Rattle.srt_protocol.specs.Cells.{max-cells}
-use Rattle.srt_group_model.specs.Tools.{at-place, each, total, All}
+use Rattle.srt_group_model.specs.Tools.{at-place, total, All}
 use Rattle.srt_group_model.specs.laws.Reason.{if-elim, by-test, not-both, or-right, all-at, all-map}
-use Rattle.srt_group_model.specs.State.{Member, State, with-send, with-history}
+use Rattle.srt_group_model.specs.State.{Member, State}
 use Rattle.srt_group_model.specs.Accounts.{reserve, Fits}
 use Rattle.srt_group_model.specs.Legs.{largest-sequence, largest-16, largest-32}
 use Rattle.srt_group_model.specs.Members.{id-of}
@@ -81,13 +81,6 @@ sound-of-valid cells s wide fine =
       sums = sums-of-rule s (h .ids-once) (h .sums);
       round = counted-of s (h .counts) .round;
     }
-
--- with no history, a state that is sound stays so: what touches no history may be asked without one
-pub sound-without-history : (s : State) → Sound s → Sound (with-send (with-history [] (s .send)) s)
-unfolding each occurs
-sound-without-history s h =
-    let cells : Within (room max-cells) (with-send (with-history [] (s .send)) s) = λ n. omega (arith, h .cells n) in
-    search (arith, cells)
 
 -- ---- the event in front of a queue
 

@@ -14,8 +14,8 @@ use Rattle.srt_group_model.specs.Members.{id-of, settle-members, requali
 use Rattle.srt_group_model.specs.Nearest.{sequence-of, held-at, nearest}
 use Rattle.srt_group_model.specs.Run.{Mark, Run, set-base, admit-connected-peer-groups, refresh-pending-states, refresh-states}
 use Rattle.srt_group_model.specs.Collecting.{retain-group-packet, report-event, collect-member-event, front, Visited, take-front, collect-one-event, collect-until-held, Emptied, collect-until-empty, packet-from, waiting-from}
-use Rattle.srt_group_model.specs.Delivery.{Polled, nothing, event, packet, Poll, deliver-packet, deliver, skip-to, give-waiting, skip-after, max-visits, skip-given-up-gap}
-use Rattle.srt_group_model.specs.Polls.{deliver-next, poll-event, DataPoll, pass-events, poll-until-data, poll-data-bounded}
+use Rattle.srt_group_model.specs.Delivery.{Poll, deliver-packet, deliver, skip-to, give-waiting, skip-after, max-visits, skip-given-up-gap}
+use Rattle.srt_group_model.specs.Polls.{deliver-next, poll-event}
 use Rattle.srt_group_model.specs.laws.Queues.{pop, packet-of, waiting-of}
 use Rattle.srt_group_model.specs.laws.CallLaw.{In-front, reported, Poll-law, Refresh-law, Collect-law}
 use Rattle.srt_group_model.specs.laws.EveryCall.{admits-all, settles, requalifies, retains, breaks}
@@ -199,20 +199,3 @@ module _ (Good : State → Type 0) (law : State-law Good) where
       let gathered = until-held-has max-visits _ (refresh-pending-has _ (law .continues _ false h)) in
       if-elim (λ (q : Poll). Has (q .run)) _ _ _ (λ e. give-waiting-has _ gathered)
       (λ e. deliver-next-has time _ (refresh-has _ gathered))
-
-  pass-events-has : (gave : Polled) (r : Run) (later : DataPoll) → Has r → Has (later .run) → Has (pass-events gave r later .run)
-  unfolding pass-events
-  pass-events-has nothing r later h k = h
-  pass-events-has (event w) r later h k = k
-  pass-events-has (packet p) r later h k = h
-
-  pub poll-until-has : (time n : ℕ) (r : Run) → Has r → Has (poll-until-data time n r .run)
-  unfolding poll-until-data
-  poll-until-has time zero r h = h
-  poll-until-has time (suc n) r h =
-      let polled = poll-event-has time r h in pass-events-has _ _ _ polled (poll-until-has time n _ polled)
-
-  pub poll-data-has : (time max-events : ℕ) (r : Run) → Has r → Has (poll-data-bounded time max-events r .run)
-  unfolding poll-data-bounded
-  poll-data-has time max-events r h =
-      if-elim (λ (q : DataPoll). Has (q .run)) _ _ _ (λ e. h) (λ e. poll-until-has time _ r h)

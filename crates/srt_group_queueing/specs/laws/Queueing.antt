@@ -2,7 +2,7 @@
 use mathlib.Core.Path.{_≡_, refl, sym, ap, subst, _∙_}
 use mathlib.Core.Bool.{Bool, true, false}
 use mathlib.Core.List.{List, [], _∷_}
-use mathlib.Core.Option.{Option, none, some}
+use mathlib.Core.Option.{Option, some}
 use Prim.Native.Nat.{ℕ, _+_, _*_, _^_, _≤_, _<_}
 use native.Mathlib.Omega.{arith}
 use borrow.Author.Tests.{lt-ltb, le-ltb}
@@ -32,24 +32,21 @@ use Rattle.srt_group_model.specs.Calls.{store-unfit, data-unfit, is-unknown, no
 use Rattle.srt_group_model.specs.Lent.{Call, call-queue-data, stored, delivered-by, written-out, list-rows, with-bytes, step-of}
 use Rattle.srt_group_model.specs.declared.Data.{Data}
 use Rattle.srt_group_model.specs.declared.Event.{Event}
-use Rattle.srt_connection_queue.specs.Queue.{enqueued}
 use Rattle.srt_connection_members.specs.Members.{member-at, found-of, Changed, PushedAt}
 use Rattle.srt_connection_members.specs.laws.Members.{changed-by, changed-twice}
 use Rattle.srt_connection_members.specs.declared.Found.the-variants.{At, Nothing}
-use Rattle.cell_set.specs.Sets.{Taken, can-take, LowestFree, free-cell-of}
-use Rattle.cell_set.specs.laws.Shows.{shows-taken, lowest-is}
+use Rattle.cell_set.specs.Sets.{Taken, can-take, LowestFree}
+use Rattle.cell_set.specs.laws.Shows.{shows-taken, lowest-found, none-found}
 use Rattle.cell_set.specs.declared.FreeCell.{FreeCell}
 use Rattle.cell_set.specs.declared.FreeCell.the-variants.{Cell, Full}
 use Rattle.srt_group_shown.specs.Tables.{Parts, Tables, state-of, Long}
 use Rattle.srt_group_shown.specs.Ready.{Ready, storing, Performs}
 use Rattle.srt_group_shown.specs.laws.Ready.{one-cell, performs-refused, performs-refused-over, performs-accepted}
 use Rattle.srt_group_queueing.specs.Queueing.{Enqueueable, with-data, Enqueues}
+use Rattle.srt_group_refusals.specs.laws.Begins.{never-accepted}
 use Rattle.srt_group_shown.specs.laws.Found.{with-table, long-with, is-nowhere, place, is-known, of-found, change-found, found-row, shown-changed}
 
 -- ---- the member at an index, once a cell is found
-
-not-accepted : {B : Type 0} {e : Error} → _≡_ {A = Outcome} (Refused e) Accepted → B
-not-accepted {B} {e} never = let different : _≡_ {A = ℕ} 0 1 = cc in absurd (omega arith)
 
 module _ (index cell : ℕ) (d : Data) (payload members store used : List ℕ) where
   pub enqueue-refused : {r : Outcome} (e : Error) (members′ : List ℕ) (event : Event) → PushedAt index event members r members′ → r ≡ Refused e
@@ -59,9 +56,9 @@ module _ (index cell : ℕ) (d : Data) (payload members store used : List ℕ) w
         outcome = sym is ∙ pushed .outcome;
         queued =
             changed-by index members members′ (λ m. m) (pushed .changed)
-            (ap (λ (o : Outcome). if-accepted o (enqueued event (member-at members index)) (member-at members index)) is);
+            (ap (λ (o : Outcome). if-accepted o (enqueue event (member-at members index)) (member-at members index)) is);
         stored-there = refl;
-        taken = λ never. not-accepted never;
+        taken = λ never. never-accepted never;
         kept = λ f g. refl;
       }
 
@@ -72,7 +69,7 @@ module _ (index cell : ℕ) (d : Data) (payload members store used : List ℕ) w
     accepted-changed event u v made pushed is reserved =
         changed-twice index members u v
         (changed-by index members u (enqueue (data-event cell (length payload) d)) (pushed .changed)
-        (ap (λ (o : Outcome). if-accepted o (enqueued event (member-at members index)) (member-at members index)) is
+        (ap (λ (o : Outcome). if-accepted o (enqueue event (member-at members index)) (member-at members index)) is
         ∙ ap (λ (e : Event). enqueue e (member-at members index)) made))
         reserved
 
@@ -89,7 +86,7 @@ module _ (index cell : ℕ) (d : Data) (payload members store used : List ℕ) w
               ∙ ap (λ (o : Outcome). if-accepted o (overwritten (cell * cell-size) payload store) store)
               (stores .outcome ∙ cell-accepted (length store) cell (length payload) (fits .one-cell) (fits .cell-there) (fits .payload));
           taken = λ a. takes;
-          kept = λ e never. not-accepted (sym never);
+          kept = λ e never. never-accepted (sym never);
         }
 
     -- the room for the reservation is still there once the event is pushed
@@ -97,18 +94,10 @@ module _ (index cell : ℕ) (d : Data) (payload members store used : List ℕ) w
         → member-at u index .leg .receiver .reserved + d .count < 2 ^ 64
     room-left event u pushed is =
         subst (λ (m : Member). m .leg .receiver .reserved + d .count < 2 ^ 64)
-        (sym (pushed .changed .here ∙ ap (λ (o : Outcome). if-accepted o (enqueued event (member-at members index)) (member-at members index)) is))
+        (sym (pushed .changed .here ∙ ap (λ (o : Outcome). if-accepted o (enqueue event (member-at members index)) (member-at members index)) is))
         (fits .room)
 
 -- ---- the call
-
-free-some : (o : Option ℕ) (c : ℕ) → Cell c ≡ free-cell-of o → o ≡ some c
-free-some none c e = cc e
-free-some (some k) c e = cc e
-
-free-none : (o : Option ℕ) → Full ≡ free-cell-of o → o ≡ none
-free-none none e = refl
-free-none (some k) e = cc e
 
 module _ (id : ℕ) (d : Data) (payload : List ℕ) (p : Parts) (t : Tables) (store used : List ℕ) (ready : Ready p t (length store) used) where
   abbrev s : State
@@ -184,11 +173,11 @@ module _ (id : ℕ) (d : Data) (payload : List ℕ) (p : Parts) (t : Tables) (st
             (after-4
             ∙ guard-stops (30 when no-free-cell room s) 31-on s body
             (ap (λ (o : Option ℕ). if-some o give (λ c. false) otherwise true)
-            (free-none (free-cell room s) (sym is ∙ lowest-is (ready .shows) lowest))))
+            (none-found (ready .shows) lowest is)))
 
         module _ {r : FreeCell} (cell : ℕ) (lowest : LowestFree used room r) (is : r ≡ Cell cell) where
           free-there : free-cell room s ≡ some cell
-          free-there = free-some (free-cell room s) cell (sym is ∙ lowest-is (ready .shows) lowest)
+          free-there = lowest-found (ready .shows) lowest is
 
           can : can-take used room (Cell cell)
           can = subst (can-take used room) is (lowest .free)

@@ -47,7 +47,7 @@ refused-is e other fails = sym (ap (λ (x : Bool). refuse-if x e other) fails)
 passed-is : {b : Bool} (e : Error) (other : Outcome) → b ≡ false → other ≡ refuse-if b e other
 passed-is e other passes = sym (ap (λ (x : Bool). refuse-if x e other) passes)
 
-never-accepted : {B : Type 0} {e : Error} → _≡_ {A = Outcome} (Refused e) Accepted → B
+pub never-accepted : {B : Type 0} {e : Error} → _≡_ {A = Outcome} (Refused e) Accepted → B
 never-accepted {B} {e} never = let different : _≡_ {A = ℕ} 0 1 = cc in absurd (omega arith)
 
 module _ (p : Parts) (t : Tables) (store : ℕ) (used : List ℕ) where

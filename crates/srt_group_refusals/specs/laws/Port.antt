@@ -20,7 +20,7 @@ use Rattle.srt_group_refusals.specs.Begins.{are-short}
 use Rattle.srt_group_refusals.specs.Promised.{asking, showing, nothing-lent, Promised, PromisedRow, row-short}
 use Rattle.srt_group_refusals.specs.Past.{Past}
 
-step-shows : (short : Bool) (asked : Asked) (x : Shown) → shown-of (step-made short asked x) .state ≡ x .state
+pub step-shows : (short : Bool) (asked : Asked) (x : Shown) → shown-of (step-made short asked x) .state ≡ x .state
 step-shows true asked x = refl
 step-shows false asked x = refl
 

@@ -15,7 +15,7 @@ use Rattle.srt_group_model.specs.declared.Event.{Event}
 use Rattle.srt_connection_queue.specs.declared.rows.Ring.{Ring}
 use Rattle.srt_connection_queue.specs.Rows.{receiver-part, part, ring-of, event-in, queue-of, member-parts, member-of}
 use Rattle.srt_group_tables.specs.declared.history.HistoryRing.{HistoryRing}
-use Rattle.srt_group_tables.specs.Ring.{Arrays, entry-in, entry-at, entries-of}
+use Rattle.srt_group_tables.specs.Ring.{Arrays, entry-at, entries-of}
 use Rattle.word_rows.specs.Tab.{tab}
 use Rattle.word_rows.specs.laws.Tab.{tab-length}
 use Rattle.srt_group_rules.specs.Rules.{event-breaks-rule, queue-breaks-rule, entry-breaks-rule, history-breaks-rule}
@@ -130,7 +130,3 @@ module _ (r : HistoryRing) (a : Arrays) where
       walked
       ∙ ap (λ (long : Bool). long || any entry-breaks-rule (entries-of r a))
       (sym (le-ltb max-history (length (entries-of r a)) (omega (arith, tab-length (r .length) (entry-at r a)))))
-
-  -- the start read modulo max-history first
-  pub entry-there : (at index : ℕ) → at ≡ (r .start + index) % max-history → entry-in a at ≡ entry-at r a index
-  entry-there at index same = ap (entry-in a) same

@@ -20,12 +20,12 @@ use Rattle.srt_group_model.specs.Legs.{largest-64}
 use Rattle.srt_group_model.specs.Cells.{queued-cells, used-cells, free-cell}
 use Rattle.srt_group_model.specs.Sound.{pending-cells, history-cells}
 use Rattle.srt_group_model.specs.Run.{Mark, put, Run, start, refresh-states}
-use Rattle.srt_group_model.specs.Sending.{list-size, Sent, Flow, ends-with, above-limit}
+use Rattle.srt_group_model.specs.Sending.{list-size, Flow, ends-with, above-limit}
 use Rattle.srt_group_model.specs.Validity.{above, is-invalid, max-members}
 use Rattle.srt_group_model.specs.Guards.{Answer, no-answer, shown, number, Put as PutStep, Step, refuse, Check, _when_, guard}
 use Rattle.srt_group_model.specs.laws.Refusals.{guard-stops, guard-goes-on}
 use Rattle.srt_group_model.specs.Calls.{store-unfit, list-unfit, no-free-cell, taken-cell, left-by-send, send-flow, send-body, send}
-use Rattle.srt_group_model.specs.Lent.{Lent, Call, call-send, stored, delivered-by, written-out, list-rows, with-bytes, step-of, perform}
+use Rattle.srt_group_model.specs.Lent.{Call, call-send, stored, delivered-by, written-out, with-bytes, step-of, perform}
 use Rattle.srt_group_model.specs.laws.CellsKept.{relabelled-cells}
 use Rattle.srt_group_model.specs.laws.EveryCall.{refresh-mode}
 use Rattle.srt_group_model.specs.laws.MemberMoves.{Same-account, account-relabelled}
@@ -35,12 +35,12 @@ use Rattle.srt_group_model.specs.laws.Sound.{sound-of-valid}
 use Rattle.srt_group_model.specs.laws.Valid.{valid-of, counted-of}
 use Rattle.srt_group_model.specs.declared.Packet.{Packet}
 use Rattle.srt_connection_members.specs.laws.Members.{members-length}
-use Rattle.srt_group_tables.specs.Ring.{arrays, entry-at, entries-of}
+use Rattle.srt_group_tables.specs.Ring.{arrays, entry-at}
 use Rattle.word_rows.specs.laws.Tab.{tab-length}
 use Rattle.cell_set.specs.Bits.{bit-at}
-use Rattle.cell_set.specs.Sets.{ShowsCells, free-cell-of, can-take, LowestFree}
+use Rattle.cell_set.specs.Sets.{ShowsCells, can-take, LowestFree}
 use Rattle.cell_set.specs.Shows.{Shows}
-use Rattle.cell_set.specs.laws.Shows.{lowest-is}
+use Rattle.cell_set.specs.laws.Shows.{lowest-found, none-found}
 use Rattle.cell_set.specs.laws.Sets.{beyond}
 use Rattle.cell_set.specs.declared.FreeCell.{FreeCell}
 use Rattle.cell_set.specs.declared.FreeCell.the-variants.{Cell, Full}
@@ -49,7 +49,7 @@ use Rattle.srt_group_shown.specs.Ready.{Ready, sending-into, Performs}
 use Rattle.srt_group_shown.specs.laws.Ready.{one-cell, performs-refused, performs-accepted}
 use Rattle.srt_group_shown.specs.laws.Steps.{rows-there}
 use Rattle.srt_group_carrier.specs.Freeing.{SendFollows}
-use Rattle.srt_group_carrier.specs.Lendable.{BackupTables, backup-tables, arrays-in, Lendable}
+use Rattle.srt_group_carrier.specs.Lendable.{BackupTables, backup-tables, Lendable}
 use Rattle.srt_group_send.specs.declared.sending.GroupSend.{GroupSend}
 use Rattle.srt_group_send.specs.Sends.{FitShown, FlowMade, sent-answer, Storable, Sends}
 
@@ -111,14 +111,6 @@ module _ {p : Parts} {t : Tables} {store : ℕ} {used : List ℕ} (ready : Ready
       omega (arith, counted .members, members-length (p .core .counts .members) (t .members))
 
 -- ---- the codes before anything is done
-
-free-some : (o : Option ℕ) (c : ℕ) → Cell c ≡ free-cell-of o → o ≡ some c
-free-some none c e = cc e
-free-some (some k) c e = cc e
-
-free-none : (o : Option ℕ) → Full ≡ free-cell-of o → o ≡ none
-free-none none e = refl
-free-none (some k) e = cc e
 
 module _ (time : ℕ) (payload : List ℕ) (p : Parts) (t : Tables) (store list used : List ℕ) (ready : Ready p t (length store) used)
     (list-long : list-size ≤ length list) (small : time ≤ largest-64) where
@@ -188,7 +180,7 @@ module _ (time : ℕ) (payload : List ℕ) (p : Parts) (t : Tables) (store list 
         (after-4
         ∙ guard-stops (30 when (is-backup (p .core .mode) && no-free-cell room s)) [] s body
         (ap₂ _&&_ in-backup
-        (ap (λ (o : Option ℕ). if-some o give (λ c. false) otherwise true) (free-none (free-cell room s) (sym is ∙ lowest-is (ready .shows) lowest)))))
+        (ap (λ (o : Option ℕ). if-some o give (λ c. false) otherwise true) (none-found (ready .shows) lowest is))))
 
     -- no cell is taken in Broadcast
     pub no-cell-taken : is-backup (p .core .mode) ≡ false → step ≡ body
@@ -202,7 +194,7 @@ module _ (time : ℕ) (payload : List ℕ) (p : Parts) (t : Tables) (store list 
         → step ≡ send-body cell time payload s
     unfolding guard if-some_give_otherwise_
     cell-taken cell in-backup lowest is =
-        let there : free-cell room s ≡ some cell = free-some (free-cell room s) cell (sym is ∙ lowest-is (ready .shows) lowest) in
+        let there : free-cell room s ≡ some cell = lowest-found (ready .shows) lowest is in
         after-4
         ∙ guard-goes-on (30 when (is-backup (p .core .mode) && no-free-cell room s)) [] s body
         (ap₂ _&&_ in-backup (ap (λ (o : Option ℕ). if-some o give (λ c. false) otherwise true) there))

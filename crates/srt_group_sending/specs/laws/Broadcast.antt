@@ -10,7 +10,6 @@ use lib.Dec.{eqb, ltb}
 use lib.ListN.{length}
 use Rattle.word_rows.specs.Tab.{tab}
 use Rattle.word_rows.specs.laws.Tab.{tab-push}
-use Rattle.srt_protocol.specs.Cells.{overwritten}
 use Rattle.srt_protocol.specs.Sequence.{sequence-further}
 use Rattle.srt_protocol.specs.declared.error.Outcome.the-variants.{Accepted, Refused}
 use Rattle.srt_protocol.specs.declared.error.Error.the-variants.{NoActiveMember, SequenceMismatch, AllBroadcastFailed}
@@ -21,7 +20,6 @@ use Rattle.srt_group_model.specs.laws.Flag.{zero-unset, other-set}
 use Rattle.srt_group_model.specs.Legs.{is-connected, can-send, send-shared-with-sequence}
 use Rattle.srt_group_model.specs.Members.{is-active, first-active}
 use Rattle.srt_group_model.specs.Sending.{sent-row-size, list-size, Sent, own-payload, own-send, Flow, mark-send-failure, sequence-for-send, sequence-mismatch, above-limit, takes-send, attempt-send, send-broadcast}
-use Rattle.srt_group_model.specs.Lent.{list-rows}
 use Rattle.srt_group_model.specs.Validity.{max-members}
 use Rattle.srt_group_model.specs.declared.Leg.{Leg}
 use Rattle.srt_group_model.specs.declared.Membership.{Membership}
@@ -34,8 +32,7 @@ use Rattle.srt_connection_members.specs.laws.Members.{members-place, found-some
 use Rattle.srt_connection.specs.declared.legs.LegResult.the-variants.{Ok, Err}
 use Rattle.srt_connection_members.specs.declared.Found.the-variants.{At, Nothing}
 use Rattle.srt_group_members.specs.laws.Scan.{found-row, any-at, any-nowhere}
-use Rattle.srt_group_sending.specs.declared.broadcast.BroadcastSend.{BroadcastSend}
-use Rattle.srt_group_sending.specs.SentList.{sent-row, sent-rows, SendTables, send-tables, Wrote}
+use Rattle.srt_group_sending.specs.SentList.{sent-row, sent-rows, send-tables, Wrote}
 use Rattle.srt_group_sending.specs.laws.SentList.{wrote-nothing, wrote-length, wrote-then, wrote-rows}
 use Rattle.srt_group_sending.specs.Broadcast.{number-for-send, is-mismatched, sends-of, left-by-send, AttemptedAt, Attempted, SentBroadcast}
 
@@ -534,18 +531,3 @@ module _ (n time size : ℕ) (x : Sending) (t a : List ℕ) where
                 (ap (with-number (sequence-further sequence 1)) numbers ∙ sym is-number) (members-are s members) j)
                 (sym rows-are j) 0);
           }
-
--- what the model says of the list that is lent: its first rows are the sends, and it stays as it was behind them
-module _ {n time size : ℕ} {x : Sending} {before after : SendTables} {answer : BroadcastSend}
-    (w : SentBroadcast n time size x before answer after) (s : State) (members : s .members ≡ members-of n (before .members))
-    (numbers : s .send .numbers ≡ x) where
-  sends-are : sent-rows (answer .sent) (after .list) ≡ send-broadcast time size s .sends
-  sends-are = ap (λ (f : Flow). f .sends) (sym (w .is s members numbers))
-
-  pub list-after-send : after .list ≡ overwritten 0 (list-rows (send-broadcast time size s .sends)) (before .list)
-  list-after-send = w .wrote .is ∙ ap (λ (xs : List Sent). overwritten 0 (list-rows xs) (before .list)) sends-are
-
-  pub rows-of-send : answer .sent ≡ length (send-broadcast time size s .sends)
-  rows-of-send =
-      let rows : length (sent-rows (answer .sent) (after .list)) ≡ length (send-broadcast time size s .sends) = ap length sends-are in
-      omega (arith, w .wrote .count, rows)

@@ -1,14 +1,13 @@
 -- What is proved of the definitions in specs/SentList.antt, with what the proofs need.
 use mathlib.Core.Path.{_≡_, refl, ap, sym, _∙_}
 use mathlib.Core.List.{List, [], _∷_, _++_, append-assoc, append-nil}
-use mathlib.Core.Logic.{_⊎_}
-use Prim.Native.Nat.{ℕ, _+_, _*_, _≤_, _<_}
+use Prim.Native.Nat.{ℕ, _+_, _*_, _≤_}
 use native.Mathlib.Omega.{arith}
-use lib.ListN.{length, take, drop, getD, length-append, take-append-drop}
+use lib.ListN.{length, take, drop, length-append, take-append-drop}
 use lib.Seq.{length-take-le, take-at, drop-append-add, drop-drop}
 use Rattle.word_rows.specs.laws.Rows.{table-push}
 use Rattle.srt_protocol.specs.Cells.{overwritten}
-use Rattle.srt_protocol.specs.laws.CellLaws.{overwritten-length, overwritten-elsewhere}
+use Rattle.srt_protocol.specs.laws.CellLaws.{overwritten-length}
 use Rattle.srt_group_model.specs.Sending.{sent-row-size, Sent}
 use Rattle.srt_group_model.specs.Lent.{list-rows}
 use Rattle.srt_group_sending.specs.SentList.{sent-words, sent-of, sent-at, sent-rows, Wrote}
@@ -89,13 +88,6 @@ module _ {k n : ℕ} {xs : List Sent} {a b : List ℕ} (w : Wrote k xs a n b) (f
 
   pub wrote-length : length b ≡ length a
   wrote-length = ap length (w .is) ∙ overwritten-length (k * sent-row-size) (list-rows xs) a room
-
-  -- all other words stay
-  pub wrote-elsewhere : (i : ℕ) → (i < k * sent-row-size) ⊎ (n * sent-row-size ≤ i) → getD b i 0 ≡ getD a i 0
-  wrote-elsewhere i outside =
-      let end : k * sent-row-size + length (list-rows xs) ≡ n * sent-row-size = omega (arith, list-rows-length xs, w .count) in
-      ap (λ (l : List ℕ). getD l i 0) (w .is)
-      ∙ overwritten-elsewhere (k * sent-row-size) (list-rows xs) a room i 0 (rw end outside)
 
   pub wrote-then : {m : ℕ} {ys : List Sent} {c : List ℕ} → Wrote n ys b m c → Wrote k (xs ++ ys) a m c
   wrote-then {m} {ys} {c} v =

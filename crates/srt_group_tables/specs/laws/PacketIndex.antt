@@ -59,7 +59,7 @@ packet-part words at there start place is =
     (is ∙ ap (λ (n : ℕ). (index-rows + getD words n 0 % max-cells) * packet-row-size) place)
     ∙ ap (packet-of (index-word words at)) (row-part packet-row-size words (index-rows + index-word words at % max-cells))
 
--- two words of a packet's row
+-- the word of a packet's row that names its member
 module _ (words : List ℕ) (at start : ℕ) (start-is : start ≡ (index-rows + cell-of (packet-at words at)) * packet-row-size) where
   word-at : (k : ℕ) → k < packet-row-size → getD words (start + k) 0 ≡ getD (row-at packet-row-size words (index-rows + index-word words at % max-cells)) k 0
   word-at k below =
@@ -69,10 +69,6 @@ module _ (words : List ℕ) (at start : ℕ) (start-is : start ≡ (index-rows +
   pub member-word : getD words (start + 5) 0 ≡ packet-at words at .member
   unfolding packet-at packet-of
   member-word = word-at 5 (omega arith)
-
-  pub owned-word : getD words (start + 6) 0 ≡ packet-at words at .owned
-  unfolding packet-at packet-of
-  owned-word = word-at 6 (omega arith)
 
 -- ---- equal words show the same packet
 

@@ -1,7 +1,7 @@
--- Laws of the pending packets: a search that halves, a packet put into its place and one taken out, the nearest and the
--- farthest.
+-- Laws of the pending packets: a search that halves, a packet put into its place and one taken out, the nearest, and
+-- packets that become the group's own.
 use mathlib.Core.Path.{_≡_, refl, ap, sym, subst, _∙_}
-use mathlib.Core.Bool.{Bool, true, false, not, _||_}
+use mathlib.Core.Bool.{Bool, true, false, _||_}
 use mathlib.Core.List.{List, [], _∷_, _++_}
 use mathlib.Core.Option.{none, some}
 use mathlib.Core.Logic.{⊎-elim}
@@ -11,24 +11,23 @@ use native.Mathlib.Numerals.{add-one}
 use native.Mathlib.Decide.{decLt, ℕ-discrete}
 use native.Mathlib.Omega.{arith}
 use lib.ListN.{length, drop, getD, set, length-set, drop-of-length-le}
-use lib.Seq.{drop-cons}
 use lib.Dec.{ltb, leb, eqb}
 use borrow.Author.Tests.{lt-ltb, le-ltb, le-leb, lt-leb, eq-eqb, ne-eqb, ltb-true}
 use Rattle.word_rows.specs.Tab.{tab, removed}
-use Rattle.word_rows.specs.laws.Tab.{tab-at, tab-same, tab-none, tab-insert, tab-remove, tab-length, inserted}
-use Rattle.srt_protocol.specs.Sequence.{half, sequence-distance}
+use Rattle.word_rows.specs.laws.Tab.{tab-same, tab-none, tab-insert, tab-remove, tab-length, inserted}
+use Rattle.srt_protocol.specs.Sequence.{half}
 use Rattle.srt_protocol.specs.Cells.{max-cells, overwritten}
 use Rattle.srt_group_model.specs.declared.Packet.{Packet}
 use Rattle.srt_group_model.specs.laws.Reason.{and-left, and-right}
 use Rattle.srt_group_model.specs.Tools.{if_then_else_, if-some_give_otherwise_, or-else, any, place-of, such-that, each}
 use Rattle.srt_group_model.specs.Cells.{is-among}
 use Rattle.srt_group_model.specs.Sound.{pending-cells}
-use Rattle.srt_group_model.specs.Nearest.{sequence-of, has-sequence, is-held, insert, lowest, nearest, farther, farthest}
-use Rattle.srt_group_model.specs.Removal.{own-packet, is-owned, by-group}
+use Rattle.srt_group_model.specs.Nearest.{sequence-of, has-sequence, is-held, insert, lowest, nearest}
+use Rattle.srt_group_model.specs.Removal.{own-packet, by-group}
 use Rattle.srt_group_model.specs.Validity.{max-pending, ascends}
 use Rattle.srt_group_tables.specs.declared.pending.Found.{Found}
 use Rattle.srt_group_tables.specs.declared.pending.Found.the-variants.{At, Nothing}
-use Rattle.srt_group_tables.specs.Packets.{index-size, pending-size, packet-row-size, index-rows, start-of, round, slot-of, row-words, MovedUp, MovedDown, packet-at, packets, Placed, Holds, WithRoom, Without, found, place-found, packet-found, in-use, FoundPacket, with-owned-packet}
+use Rattle.srt_group_tables.specs.Packets.{index-size, pending-size, packet-row-size, index-rows, start-of, round, slot-of, row-words, MovedUp, MovedDown, packet-at, packets, Placed, Holds, WithRoom, Without, found, place-found, in-use}
 use Rattle.srt_group_tables.specs.laws.PacketIndex.{cell-of, round-there, round-elsewhere, index-lent, index-back, back-length, restarted, restarted-length, moved-shown, restarted-shown, put-in, put-length, put-there, put-elsewhere, member-word, same-member, owned-same-cell, owned-other-cell}
 
 pub drop-zero : (l : List Packet) → drop 0 l ≡ l
@@ -564,55 +563,9 @@ pub nearest-none : (words : List ℕ) (count : ℕ) → count ≡ 0 → nearest 
 unfolding nearest lowest if-some_give_otherwise_
 nearest-none words count nothing = ap nearest (tab-none count (packet-at words) nothing)
 
--- ---- whether packets ascend: each of the first `next` sequences is below the one after it
-
-ascends-all : (n : ℕ) (f : ℕ → Packet) → ((k : ℕ) → suc k < n → sequence-of (f k) < sequence-of (f (suc k))) → ascends (tab n f) ≡ true
-unfolding ascends tab
-ascends-all zero f up = refl
-ascends-all (suc zero) f up = refl
-ascends-all (suc (suc n)) f up =
-    rw (
-      lt-ltb (sequence-of (f 0)) (sequence-of (f 1)) (up 0 (omega arith)),
-      ascends-all (suc n) (λ i. f (suc i)) (λ k inside. up (suc k) (omega arith)),
-    )
-
--- the packets before `next` ascend
-pub record Ascending (words : List ℕ) (next : ℕ) : Type 0 where
-  pub some : 1 ≤ next
-  pub up : (k : ℕ) → 0 < k → k < next → sequence-of (packet-at words (k - 1)) < sequence-of (packet-at words k)
-
-pub ascending-start : (words : List ℕ) → Ascending words 1
-ascending-start words = record { some = omega arith; up = λ k positive below. absurd (omega arith) }
-
-module _ (words : List ℕ) (count next : ℕ) (here : Ascending words next) where
-  pub ascending-one : sequence-of (packet-at words (next - 1)) < sequence-of (packet-at words next) → Ascending words (next + 1)
-  ascending-one less = record { some = omega arith; up = λ k positive below. go k (decLt k next) positive below }
-    where
-      go : (k : ℕ) → Dec (k < next) → 0 < k → k < next + 1 → sequence-of (packet-at words (k - 1)) < sequence-of (packet-at words k)
-      go k (yes lower) positive below = here .up k positive lower
-      go k (no not-lower) positive below = let here-is : k ≡ next = omega arith in rw here-is less
-
-  pub ascending-all : count ≤ next → true ≡ ascends (packets count words)
-  ascending-all past = sym (ascends-all count (packet-at words) below-next)
-    where
-      below-next : (k : ℕ) → suc k < count → sequence-of (packet-at words k) < sequence-of (packet-at words (suc k))
-      below-next k inside =
-          let back : suc k - 1 ≡ k = omega arith in
-          rw back at (here .up (suc k) (omega arith) (omega arith))
-
-  pub ascending-not : next < count → sequence-of (packet-at words next) ≤ sequence-of (packet-at words (next - 1))
-      → false ≡ ascends (packets count words)
-  ascending-not inside down = by-test (ascends (packets count words)) refl
-    where
-      by-test : (b : Bool) → ascends (packets count words) ≡ b → false ≡ b
-      by-test false e = refl
-      by-test true e =
-          absurd
-          (omega (
-            arith,
-            here .some,
-            ascends-up count (packet-at words) e (next - 1) next (omega (arith, here .some)) inside,
-          ))
+-- a place that was found is in use
+pub at-in-use : (count : ℕ) (best : Found) (place : ℕ) → in-use count best → best ≡ At place → place < count
+at-in-use count best place used is = subst (in-use count) is used
 
 -- ---- packets that become the group's own: those before `at` have. A packet from there on may have too, if it shares its row
 
@@ -717,124 +670,4 @@ owned-all id count before words at here past =
       is =
           tab-same count (λ i. own-packet id (packet-at before i)) (packet-at words) (λ i inside. here .done i (omega arith))
           ∙ sym (each-tab (own-packet id) count (packet-at before));
-    }
-
--- ---- the farthest of the group's own
-
--- a place that was found is in use
-pub at-in-use : (count : ℕ) (best : Found) (place : ℕ) → in-use count best → best ≡ At place → place < count
-at-in-use count best place used is = subst (in-use count) is used
-
-module _ (words : List ℕ) (count base at : ℕ) (inside : at < count) where
-  pub farther-not-owned : (best : Found) → in-use count best → is-owned (packet-at words at) ≡ false
-      → FoundPacket words count best (with-owned-packet base (packet-at words at) (packet-found words best))
-  unfolding with-owned-packet if_then_else_
-  farther-not-owned best used other =
-      record {
-        within = used;
-        is = sym (rw other);
-      }
-
-  module _ (mine : is-owned (packet-at words at) ≡ true) where
-    pub farther-first : (best : Found) → best ≡ Nothing
-        → FoundPacket words count (At at) (with-owned-packet base (packet-at words at) (packet-found words best))
-    unfolding with-owned-packet if_then_else_ if-some_give_otherwise_
-    farther-first best none-yet =
-        record {
-          within = inside;
-          is = sym (rw (mine, none-yet));
-        }
-
-    module _ (best : Found) (place : ℕ) (is-at : best ≡ At place) (here there : ℕ)
-        (here-is : here ≡ sequence-distance base (sequence-of (packet-at words at)))
-        (there-is : there ≡ sequence-distance base (sequence-of (packet-at words place))) where
-      chosen : with-owned-packet base (packet-at words at) (packet-found words best)
-          ≡ some (farther base (packet-at words at) (packet-at words place))
-      unfolding with-owned-packet if_then_else_ if-some_give_otherwise_
-      chosen = rw (mine, is-at)
-
-      pub farther-here : there < here
-          → FoundPacket words count (At at) (with-owned-packet base (packet-at words at) (packet-found words best))
-      unfolding farther if_then_else_
-      farther-here less =
-          record { within = inside; is = sym (chosen ∙ ap some (rw (← there-is, ← here-is, lt-ltb there here less))) }
-
-      pub farther-there : here ≤ there → in-use count best
-          → FoundPacket words count (At place) (with-owned-packet base (packet-at words at) (packet-found words best))
-      unfolding farther if_then_else_
-      farther-there less used =
-          record {
-            within = at-in-use count best place used is-at;
-            is = sym (chosen ∙ ap some (rw (← there-is, ← here-is, le-ltb there here less)));
-          }
-
--- the packets from `left` on were looked at
-pub record Looking (words : List ℕ) (count base left : ℕ) (best : Found) : Type 0 where
-  pub within : left ≤ count
-  pub found-so-far : FoundPacket words count best (farthest base (such-that is-owned (drop left (packets count words))))
-
-farthest-more : (base : ℕ) (p : Packet) (ps : List Packet)
-    → farthest base (such-that is-owned (p ∷ ps)) ≡ with-owned-packet base p (farthest base (such-that is-owned ps))
-unfolding farthest such-that with-owned-packet if_then_else_ if-some_give_otherwise_
-farthest-more base p ps = by-test (is-owned p)
-  where
-    by-test : (b : Bool)
-        → farthest base (if b then p ∷ such-that is-owned ps else such-that is-owned ps)
-        ≡ (if b then (if-some farthest base (such-that is-owned ps) give (λ q. some (farther base p q)) otherwise some p)
-        else farthest base (such-that is-owned ps))
-    by-test true = refl
-    by-test false = refl
-
-module _ (words : List ℕ) (count base left : ℕ) (best : Found) (here : Looking words count base left best) where
-  pub looked-one : (at : ℕ) (next : Found) → at ≡ left - 1 → 0 < left
-      → FoundPacket words count next (with-owned-packet base (packet-at words at) (packet-found words best))
-      → Looking words count base at next
-  looked-one at next is some-left step =
-      record {
-        within = omega (arith, here .within);
-        found-so-far =
-            record {
-              within = step .within;
-              is =
-                  step .is
-                  ∙ ap (with-owned-packet base (packet-at words at)) (here .found-so-far .is)
-                  ∙ sym (farthest-more base (packet-at words at) (drop left (packets count words)))
-                  ∙ ap (λ (l : List Packet). farthest base (such-that is-owned l)) (sym from-at);
-            };
-      }
-    where
-      inside : at < count
-      inside = omega (arith, here .within)
-
-      next-is : suc at ≡ left
-      next-is = omega arith
-
-      from-at : drop at (packets count words) ≡ packet-at words at ∷ drop left (packets count words)
-      from-at =
-          drop-cons (packets count words) at (packet-at words at) (omega (arith, inside, tab-length count (packet-at words)))
-          ∙ ap (λ (p : Packet). p ∷ drop (suc at) (packets count words)) (tab-at count (packet-at words) at (packet-at words at) inside)
-          ∙ ap (λ (n : ℕ). packet-at words at ∷ drop n (packets count words)) next-is
-
-  pub looked-all : left ≡ 0 → FoundPacket words count best (farthest base (such-that is-owned (packets count words)))
-  looked-all none-left =
-      record {
-        within = here .found-so-far .within;
-        is =
-            here .found-so-far .is
-            ∙ ap (λ (l : List Packet). farthest base (such-that is-owned l))
-            (ap (λ (n : ℕ). drop n (packets count words)) none-left ∙ drop-zero (packets count words));
-      }
-
-pub looking-start : (words : List ℕ) (count base : ℕ) → Looking words count base count Nothing
-unfolding farthest such-that
-looking-start words count base =
-    record {
-      within = omega arith;
-      found-so-far =
-          record {
-            within = tt;
-            is =
-                ap (λ (l : List Packet). farthest base (such-that is-owned l))
-                (sym (drop-of-length-le (packets count words) {i = count} (omega (arith, tab-length count (packet-at words)))));
-          };
     }

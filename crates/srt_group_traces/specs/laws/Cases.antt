@@ -7,7 +7,7 @@ use mathlib.Core.Option.{Option, none, some}
 use Prim.Native.Nat.{ℕ, zero, suc, _≤_, _<_}
 use lib.Dec.{T, leb, ltb, eqb, leb→le, nleb→lt, nltb→le, eqb→eq, eqb-refl, le→leb}
 use lib.ListN.{drop}
-use Rattle.srt_group_model.specs.Tools.{All, or-else, such-that, first-such, at-place, change, without-place, each}
+use Rattle.srt_group_model.specs.Tools.{All, or-else, such-that, first-such, at-place, change, without-place}
 use Rattle.srt_group_model.specs.laws.Reason.{if-elim, not-both, some-inj, Each-to}
 
 -- ---- a choice and an option
@@ -148,8 +148,3 @@ module _ {A : Type 0} where
   all-without-place P i [] h = tt
   all-without-place P zero (x ∷ xs) h = h .1
   all-without-place P (suc i) (x ∷ xs) h = (h .0, all-without-place P i xs (h .1))
-
-  pub all-each : (P : A → Type 0) (f : A → A) (l : List A) → ((a : A) → P a → P (f a)) → All P l → All P (each f l)
-  unfolding each
-  all-each P f [] k h = tt
-  all-each P f (x ∷ xs) k h = (k x (h .0), all-each P f xs k (h .1))

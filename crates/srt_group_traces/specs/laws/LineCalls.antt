@@ -18,25 +18,26 @@ use Rattle.srt_group_model.specs.declared.Event.{Event}
 use Rattle.srt_group_model.specs.declared.Leg.{Leg}
 use Rattle.srt_group_model.specs.Guards.{Step, refuse}
 use Rattle.srt_group_model.specs.Calls.{new-code}
-use Rattle.srt_group_model.specs.Lent.{Result, Call, call-add-member, call-mark-member-broken, call-remove-member-connection, call-poll-data, call-send, call-read-leg, call-queue-data, call-queue-event, with-bytes, step-of, perform}
+use Rattle.srt_group_model.specs.Lent.{Result, Call, call-add-member, call-poll-data, call-queue-data, with-bytes, step-of, perform}
 use Rattle.srt_group_model.specs.Listing.{Line, column, store-length, leg-of-line, printed, verbs, Told, tell, tell-new, tell-verb}
 use Rattle.srt_group_model.specs.laws.Reason.{if-elim, if-true, if-false, not-both, none-some, some-inj}
 use Rattle.srt_group_traces.specs.Statement.{do-call, is-poll, with-payload}
-use Rattle.srt_group_traces.specs.Listings.{is-accepted, data-of-line, with-byte, verb-calls, call-of-verb, call-of, lending, asking, printed-by}
+use Rattle.srt_group_traces.specs.VerbCalls.{addition, reading, data-of-line, queueing, polling, sending, removing, breaking, event}
+use Rattle.srt_group_traces.specs.Listings.{is-accepted, with-byte, verb-calls, call-of-verb, call-of, lending, asking, printed-by}
 
 -- ---- through the verbs
 
 -- what holds of each verb and its call holds of every line that is one
 module _ (P : ℕ → Call → Type 0) (line : Line) where
   pub record Each-verb : Type 0 where
-    pub adds : P 2 (call-add-member (column 1 line) (column 2 line) (leg-of-line line) [])
-    pub reads : P 3 (call-read-leg (column 1 line) (column 2 line) (column 3 line))
-    pub queues : above 255 (column 5 line) ≡ false → P 4 (call-queue-data (column 1 line) (data-of-line line) (column 5 line ∷ []))
-    pub polls : P 5 (call-poll-data (column 1 line))
-    pub sends : above 255 (column 1 line) ≡ false → P 6 (call-send (column 2 line) (column 1 line ∷ []))
-    pub removes : P 7 (call-remove-member-connection (column 1 line))
-    pub breaks : P 8 (call-mark-member-broken (column 1 line))
-    pub reports : P 9 (call-queue-event (column 1 line) (column 2 line) (column 3 line))
+    pub adds : P 2 (addition line)
+    pub reads : P 3 (reading line)
+    pub queues : above 255 (column 5 line) ≡ false → P 4 (queueing line)
+    pub polls : P 5 (polling line)
+    pub sends : above 255 (column 1 line) ≡ false → P 6 (sending line)
+    pub removes : P 7 (removing line)
+    pub breaks : P 8 (breaking line)
+    pub reports : P 9 (event line)
 
   of-call : (verb : ℕ) (c call : Call) → P verb c → _≡_ {A = Option Call} (some c) (some call) → P verb call
   of-call verb c call h e = subst (P verb) (some-inj e) h
@@ -181,7 +182,7 @@ adds-by-verb line call =
       reports = λ id weight l queue e. absurd (let z : _≡_ {A = ℕ} 0 1 = cc in omega arith);
     }
 
-pub addition-of-verb : (line : Line) → column 0 line ≡ 2 → call-of line ≡ some (call-add-member (column 1 line) (column 2 line) (leg-of-line line) [])
+pub addition-of-verb : (line : Line) → column 0 line ≡ 2 → call-of line ≡ some (addition line)
 unfolding call-of-verb verb-calls at-place if-some_give_otherwise_
 addition-of-verb line e = ap (λ (verb : ℕ). call-of-verb verb line) e
 

@@ -1,23 +1,19 @@
 -- Each exported public call gives a step of demand 3's list, as the calls by value do (srt_group_refusals, laws/Port): from its promise in
 -- words to a past that is one step longer. So `every-skip-right` and `never-6` hold of the words.
-use mathlib.Core.Path.{_≡_, refl, sym, subst, _∙_}
-use mathlib.Core.Bool.{Bool, true, false, _||_}
+use mathlib.Core.Path.{sym, subst, _∙_}
+use mathlib.Core.Bool.{Bool, _||_}
 use mathlib.Core.List.{List, [], _∷_, _++_}
 use Prim.Native.Nat.{ℕ}
 use Rattle.srt_group_model.specs.State.{State, Making}
 use Rattle.srt_group_model.specs.Calls.{new}
-use Rattle.srt_group_model.specs.Lent.{Lent, Call}
-use Rattle.srt_group_traces.specs.Statement.{Asked}
-use Rattle.srt_group_traces.specs.Port.{Shown, Taken, shown-of, Promise, step-made}
+use Rattle.srt_group_model.specs.Lent.{Call}
+use Rattle.srt_group_traces.specs.Port.{Taken, Promise, step-made}
 use Rattle.srt_group_traces.specs.laws.Port.{promised-step, last-of}
+use Rattle.srt_group_refusals.specs.laws.Port.{step-shows}
 use Rattle.srt_group_refusals.specs.Begins.{are-short}
 use Rattle.srt_group_refusals.specs.Promised.{asking, showing}
 use Rattle.srt_group_refusals.specs.Past.{Past}
 use Rattle.srt_group_words.specs.Words.{Says, Words, parts-in, are-few, PromisedWords}
-
-step-shows : (short : Bool) (asked : Asked) (x : Shown) → shown-of (step-made short asked x) .state ≡ x .state
-step-shows true asked x = refl
-step-shows false asked x = refl
 
 -- the step that a call in words makes
 abbrev pub step-in-words : {call : Call} {says : Says} {other : Bool} {before : Words} {code : ℕ} {after : Words}

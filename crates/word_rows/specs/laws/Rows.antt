@@ -12,7 +12,7 @@ use lib.Seq.{length-take-le, drop-drop, getD-take, getD-drop, getD-set-same, get
 use Rattle.srt_protocol.specs.Cells.{overwritten}
 use Rattle.srt_protocol.specs.laws.CellLaws.{overwritten-there, overwritten-run}
 use Rattle.word_rows.specs.Tab.{tab, removed}
-use Rattle.word_rows.specs.laws.Tab.{tab-set, tab-push, tab-remove}
+use Rattle.word_rows.specs.laws.Tab.{tab-push, tab-remove}
 use Rattle.word_rows.specs.Rows.{row-at, Closed}
 
 -- ---- words of a row
@@ -108,14 +108,8 @@ module _ {A : Type 0} (width : ℕ) (read : List ℕ → A) where
   abbrev pub table : ℕ → List ℕ → List A
   table count words = tab count (read-row words)
 
-  -- a row was written over: the others are as they were
+  -- a row was written behind the others, which are as they were
   module _ (words row : List ℕ) (place : ℕ) (fits : place * width + width ≤ length words) (long : length row ≡ width) where
-    pub table-set : (count : ℕ) → table count (overwritten (place * width) row words) ≡ set (table count words) place (read row)
-    table-set count =
-        tab-set count (read-row words) (read-row (overwritten (place * width) row words)) place (read row)
-        (ap read (row-there width words row place fits long))
-        (λ j inside other. ap read (row-elsewhere width words row place fits long j other))
-
     pub table-push : table (place + 1) (overwritten (place * width) row words) ≡ table place words ++ (read row ∷ [])
     table-push =
         ap (λ (n : ℕ). table n (overwritten (place * width) row words)) (add-one place)

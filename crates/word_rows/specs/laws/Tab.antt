@@ -3,7 +3,7 @@ use mathlib.Core.Path.{_≡_, refl, ap}
 use mathlib.Core.List.{List, [], _∷_, _++_}
 use Prim.Native.Nat.{ℕ, zero, suc, _≤_, _<_}
 use native.Mathlib.Omega.{arith}
-use lib.ListN.{length, take, drop, getD, set}
+use lib.ListN.{length, take, drop}
 use Rattle.word_rows.specs.Tab.{tab, removed}
 
 -- an element more at a place, and the element at a place less
@@ -15,12 +15,6 @@ module _ {A : Type 0} where
   unfolding tab
   tab-length zero f = refl
   tab-length (suc n) f = ap suc (tab-length n (λ i. f (suc i)))
-
-  pub tab-at : (n : ℕ) (f : ℕ → A) (i : ℕ) (d : A) → i < n → getD (tab n f) i d ≡ f i
-  unfolding tab
-  tab-at zero f i d below = absurd (omega arith)
-  tab-at (suc n) f zero d below = refl
-  tab-at (suc n) f (suc i) d below = tab-at n (λ i. f (suc i)) i d (omega arith)
 
   pub tab-same : (n : ℕ) (f g : ℕ → A) → ((i : ℕ) → i < n → g i ≡ f i) → tab n g ≡ tab n f
   unfolding tab
@@ -76,18 +70,4 @@ module _ {A : Type 0} where
         low 0 (omega arith),
         tab-remove n at (λ i. f (suc i)) (λ i. g (suc i)) (omega arith) (λ i below. low (suc i) (omega arith))
             (λ i above below. high (suc i) (omega arith) (omega arith)),
-      )
-
-  -- one element changed
-  pub tab-set : (n : ℕ) (f g : ℕ → A) (i : ℕ) (x : A) → g i ≡ x → ((j : ℕ) → j < n → (j ≡ i → ⊥) → g j ≡ f j)
-      → tab n g ≡ set (tab n f) i x
-  unfolding tab
-  tab-set zero f g i x here same = refl
-  tab-set (suc n) f g zero x here same =
-      cc (here, tab-same n (λ i. f (suc i)) (λ i. g (suc i)) (λ i below. same (suc i) (omega arith) (λ q. omega arith)))
-  tab-set (suc n) f g (suc i) x here same =
-      cc (
-        same 0 (omega arith) (λ q. omega arith),
-        tab-set n (λ i. f (suc i)) (λ i. g (suc i)) i x here
-            (λ j below other. same (suc j) (omega arith) (λ q. other (omega arith))),
       )

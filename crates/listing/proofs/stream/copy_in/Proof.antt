@@ -1,4 +1,4 @@
--- `listing::writing::copy_in` meets its contract: so many bytes as were stored stand from the place on.
+-- `listing::stream::copy_in` meets its contract: so many bytes as were stored stand from the place on.
 use Prim.Native.Nat.{ℕ, _+_, _-_, _≤_}
 use native.Mathlib.Omega.{arith}
 use mathlib.Core.Path.{_≡_, refl, ap, sym, _∙_}
@@ -9,8 +9,8 @@ use Rattle.listing.proofs.PlacedLaws.{placed-nothing, placed-next}
 use Rattle.listing.specs.Placed.{placed}
 use lib.Seq.{take-all}
 use borrow.Author.Needs.{needs}
-use Rattle.listing.proofs.writing.copy_in.Statement.{statement}
-use Rattle.listing.proofs.writing.copy_in.Tie as tie
+use Rattle.listing.proofs.stream.copy_in.Statement.{statement}
+use Rattle.listing.proofs.stream.copy_in.Tie as tie
 
 abbrev Inv-loop : tie.InvT-loop
 Inv-loop buffer₀ at bytes index₀ buffer index =
