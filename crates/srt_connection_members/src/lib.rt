@@ -4,16 +4,18 @@ ghost use mathlib.Core.Path.{_≡_};
 ghost use Prim.Native.Nat.{_*_, _≤_, _<_};
 ghost use lib.ListN.{length};
 ghost use Rattle.srt_group_model.specs.State.{with-leg, on-leg, on-membership, with-account};
-ghost use Rattle.srt_group_model.specs.Tools.{is-empty};
+ghost use Rattle.srt_group_model.specs.Tools.{at-place, is-empty};
 ghost use Rattle.srt_group_model.specs.Members.{find};
 ghost use Rattle.srt_connection_queue.specs.Rows.{row-size, Kept, with-membership};
-ghost use Rattle.srt_connection_queue.specs.Queue.{popped, cleared};
+ghost use Rattle.srt_connection_queue.specs.Queue.{optional-event, popped, cleared};
 ghost use Rattle.srt_connection_members.specs.Members.{member-at, members-of, has-row, new-member, found-of, Changed, PushedAt, PolledAt, Appended, Removed, ChangedAll};
 ghost use Rattle.srt_group_model.specs.Legs.{with-reservation, advance-receive-sequence, release-data-reservation, disconnect-leg};
 use srt_connection::legs::disconnect;
 use srt_connection::legs::less;
 use srt_connection_queue::queue::LegPoll;
+use srt_connection_queue::queue::OptionalEvent;
 use srt_connection_queue::queue::clear;
+use srt_connection_queue::queue::front;
 use srt_connection_queue::queue::poll_event_for_group;
 use srt_connection_queue::queue::pop;
 use srt_connection_queue::queue::push;
@@ -133,6 +135,14 @@ pub fn queue_is_empty_at(members: &[u64], index: usize) -> bool
 {
     let start = index * ROW;
     queue_is_empty(&members[start..start + ROW])
+}
+
+pub fn front_at(members: &[u64], index: usize) -> OptionalEvent
+    requires { ⌜ has-row index (now members) ⌝ }
+    ensures { λ r. ⌜ r ≡ optional-event (at-place 0 (member-at (now (members .entry)) index .queue)) ⌝ }
+{
+    let start = index * ROW;
+    front(&members[start..start + ROW])
 }
 
 // ---- one row is changed
