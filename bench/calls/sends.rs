@@ -1,11 +1,10 @@
 //! The sends, timed like the other calls: the same steps on states made alike, the answers, the lists of sends and the states compared. On
 //! both sides a Backup send copies its payload once; a Broadcast send of the port copies none, the Rust's copies it into new bytes.
 use std::hint::black_box;
-use std::time::Instant;
 
 use srt_protocol::{GroupMode, Timestamp};
 
-use super::{Linked, NOW, PAYLOAD, Port, RUNS, Rust};
+use super::{COLUMNS, Lent, Linked, NOW, PAYLOAD, Port, RUNS, Rust, nanoseconds, port, print_head, print_row};
 
 /// The record, the five tables, the store, the list of sends, the steps and the payload, each slice with its length.
 type Run = unsafe extern "C" fn(
@@ -34,7 +33,7 @@ const OPEN: u64 = 1_024;
 const BLOCK: u64 = 8;
 /// Longer than a carrier may be silent.
 const SILENCE: u64 = 100_000;
-const NOT_SENT: u64 = 4_294_967_295;
+pub const NOT_SENT: u64 = 4_294_967_295;
 const OUT_OF_TURN: u64 = 32;
 
 #[derive(Clone, Copy, PartialEq)]
@@ -150,14 +149,21 @@ impl Port {
     }
 }
 
-impl Rust {
+/// One whose steps are made from here, call by call.
+pub trait Sends {
+    fn send(&mut self, now: u64, payload: &[u8]) -> u64;
+
+    fn acknowledge(&mut self, leg: u32, up_to: u32) -> u64;
+
     fn send_each(&mut self, steps: &mut [u64], payload: &[u8]) {
         for step in steps {
             let leg = (*step >> 32) as u32;
             *step = if leg == 0 { self.send(*step, payload) } else { self.acknowledge(leg, *step as u32) };
         }
     }
+}
 
+impl Sends for Rust {
     fn send(&mut self, now: u64, payload: &[u8]) -> u64 {
         self.list.borrow_mut().clear();
         self.group.send(payload, Timestamp(now)).map_or(NOT_SENT, |legs| legs as u64)
@@ -171,7 +177,9 @@ impl Rust {
         connection.acknowledge(up_to);
         0
     }
+}
 
+impl Rust {
     /// The last send's rows are those of the port's list, but for the cells, of which the Rust has none; and so are the send number, the
     /// length of the history and the carrier.
     fn equals(&self, port: &Port) -> bool {
@@ -184,14 +192,7 @@ impl Rust {
     }
 }
 
-impl Linked {
-    fn send_each(&mut self, steps: &mut [u64], payload: &[u8]) {
-        for step in steps {
-            let leg = (*step >> 32) as u32;
-            *step = if leg == 0 { self.send(*step, payload) } else { self.acknowledge(leg, *step as u32) };
-        }
-    }
-
+impl Sends for Linked {
     fn send(&mut self, now: u64, payload: &[u8]) -> u64 {
         self.group.send(payload, srt_group::Timestamp(now)).map_or(NOT_SENT, |legs| legs as u64)
     }
@@ -202,41 +203,37 @@ impl Linked {
     }
 }
 
-fn nanoseconds(sends: u64, work: impl FnOnce()) -> f64 {
-    let start = Instant::now();
-    work();
-    start.elapsed().as_nanos() as f64 / sends as f64
-}
-
-/// The best of the runs of the Rust, the forms for a valid state, the public calls and the crate, in nanoseconds a send.
-fn timed(kind: Kind) -> [f64; 4] {
+/// The best of the runs of each column, in nanoseconds a send.
+fn timed(kind: Kind) -> [f64; 5] {
     let payload: Vec<u8> = (0..PAYLOAD).map(|i| i as u8).collect();
     let (mode, legs) = kind.group();
-    let (mut rust, mut valid, mut public) = (Rust::new(mode, legs), Port::new(mode, legs), Port::new(mode, legs));
-    let mut linked = Linked::new(mode, legs);
+    let (mut rust, mut valid, mut public) = (Rust::new(mode, legs), port(mode, legs), port(mode, legs));
+    let (mut lent, mut linked) = (Lent(port(mode, legs)), Linked::new(mode, legs));
     let mut script = Script::new(kind);
     let before = script.take();
     rust.send_each(&mut before.clone(), &payload);
     valid.send_each(calls_sends_valid, &mut before.clone(), &payload);
     public.send_each(calls_sends, &mut before.clone(), &payload);
+    lent.send_each(&mut before.clone(), &payload);
     linked.send_each(&mut before.clone(), &payload);
     assert_eq!(rust.group.backup_history().len() as u64, kind.flight());
-    let mut least = [f64::MAX; 4];
+    let mut least = [f64::MAX; 5];
     for _ in 0..RUNS {
         let steps = script.run();
-        let mut answers = [steps.clone(), steps.clone(), steps.clone(), steps.clone()];
-        let [a, b, c, d] = &mut answers;
-        let payload = black_box(&payload);
+        let mut answers = [(); 5].map(|()| steps.clone());
+        let [a, b, c, d, e] = &mut answers;
+        let (payload, sends) = (black_box(&payload), kind.sends());
         let times = [
-            nanoseconds(kind.sends(), || rust.send_each(a, payload)),
-            nanoseconds(kind.sends(), || valid.send_each(calls_sends_valid, b, payload)),
-            nanoseconds(kind.sends(), || public.send_each(calls_sends, c, payload)),
-            nanoseconds(kind.sends(), || linked.send_each(d, payload)),
+            nanoseconds(sends, || rust.send_each(a, payload)),
+            nanoseconds(sends, || valid.send_each(calls_sends_valid, b, payload)),
+            nanoseconds(sends, || public.send_each(calls_sends, c, payload)),
+            nanoseconds(sends, || lent.send_each(d, payload)),
+            nanoseconds(sends, || linked.send_each(e, payload)),
         ];
         assert!(answers[1..].iter().all(|other| *other == answers[0]));
         let expected = if mode == GroupMode::Broadcast { legs } else { 1 };
         assert!(steps.iter().zip(&answers[0]).all(|(step, &answer)| answer == if *step >> 32 == 0 { expected } else { 0 }));
-        assert!(rust.equals(&valid) && valid.equals(&public));
+        assert!(rust.equals(&valid) && valid.equals(&public) && public.equals(&lent.0));
         if let Kind::TakeOver { replayed } = kind {
             assert_eq!(rust.list.borrow().len() as u64, replayed + 1);
         }
@@ -249,10 +246,7 @@ fn timed(kind: Kind) -> [f64; 4] {
 
 pub fn main() {
     println!("ns a send of {PAYLOAD} bytes, the best of {RUNS} runs of {SENDS} sends or {TAKE_OVERS} take-overs, with the acknowledgements");
-    println!(
-        "{:<34} {:>9} {:>11} {:>6} {:>11} {:>6} {:>10} {:>6}",
-        "send", "Rust", "valid state", "ratio", "public call", "ratio", "Rust crate", "ratio"
-    );
+    print_head("send", &COLUMNS);
     let rows = [
         ("Broadcast, 4 legs", Kind::Broadcast { legs: 4 }),
         ("Broadcast, 64 legs", Kind::Broadcast { legs: 64 }),
@@ -262,12 +256,6 @@ pub fn main() {
         ("Backup, take-over that replays 100", Kind::TakeOver { replayed: 100 }),
     ];
     for (name, kind) in rows {
-        let [rust, valid, public, linked] = timed(kind);
-        println!(
-            "{name:<34} {rust:>9.0} {valid:>11.0} {:>6.2} {public:>11.0} {:>6.2} {linked:>10.0} {:>6.2}",
-            valid / rust,
-            public / rust,
-            linked / rust
-        );
+        print_row(name, &timed(kind));
     }
 }

@@ -7,54 +7,8 @@ use crate::record::read_group;
 use bench_steps::steps::call_each;
 use bench_steps::steps::step_each;
 use srt_group::Group;
-use srt_group::NewGroup;
-use srt_group_addition::calls::add_member;
 use srt_group_refusals::refusals::begin_poll;
 use srt_protocol::error::Outcome;
-
-// A new group. Answers its code.
-#[no_mangle]
-pub extern "C" fn calls_new(record: &mut [u64; 20], id: u64, mode: u64, length: usize) -> u32 {
-    let made = Group::new(id, mode, length);
-    match made {
-        NewGroup::Made(group) => {
-            put_group(record, group);
-            0
-        }
-        NewGroup::Refused(error) => error.number(),
-    }
-}
-
-// A leg is added, handed over in a row. Answers the code.
-#[no_mangle]
-pub extern "C" fn calls_add(
-    record: &mut [u64; 20],
-    members: &mut [u64],
-    pending: &[u64],
-    waiting: &[u64],
-    history: &[u64],
-    sources: &[u64],
-    row: &[u64],
-    id: u64,
-    weight: u64,
-) -> u32 {
-    let group = read_group(record);
-    let added = add_member(
-        group,
-        members,
-        pending,
-        waiting,
-        history,
-        sources,
-        row,
-        id,
-        weight,
-    );
-    let after = added.group;
-    let outcome = added.outcome;
-    put_group(record, after);
-    outcome.number()
-}
 
 // The steps in turn by the public calls.
 #[no_mangle]

@@ -1,5 +1,5 @@
 // The answers of a data poll and of a send in words. An answer that holds an enum cannot be handed on from a call that is lent its
-// record by reference, so each case is told by a word.
+// record by reference, so each case is told by a word. The words are laid out as C has them: those calls are exported.
 ghost use Rattle.srt_group_data_poll.specs.declared.calls.DataAnswer.the-variants.{Polled};
 ghost use Rattle.srt_group_flat.specs.Words.{Says, SaysSent};
 use srt_group_data_poll::calls::DataAnswer;
@@ -12,6 +12,7 @@ use srt_protocol::time::Timestamp;
 
 // code is 0 if the poll was accepted; given is 1 if there is a packet; continuation is not 0 if the poll should be called again at
 // once. The words of a packet are 0 where there is none.
+#[repr(C)]
 pub struct DataWords {
     pub code: u64,
     pub given: u64,
@@ -78,6 +79,7 @@ pub fn words_of(answer: DataAnswer) -> DataWords
 
 // code is 0 if the payload was sent; legs on how many, 0 where it was refused; rows those of the list that are filled, by a refused
 // send too.
+#[repr(C)]
 pub struct SendWords {
     pub code: u64,
     pub legs: u64,

@@ -8,7 +8,8 @@ use srt_group::Group;
 use srt_group_flat::flat;
 
 // The leg of a lent row joins the group. The answer is the code, 0 if it was added.
-pub fn add_member(
+#[no_mangle]
+pub extern "C" fn srt_group_lent_add_member(
     group: &mut Group,
     members: &mut [u64],
     pending: &[u64],

@@ -11,7 +11,8 @@ use srt_group_flat::words::DataWords;
 use srt_protocol::time::Timestamp;
 
 // The next packet in order, or none: its payload is written to the output from byte 12.
-pub fn poll_data(
+#[no_mangle]
+pub extern "C" fn srt_group_lent_poll_data(
     group: &mut Group,
     members: &mut [u64],
     pending: &mut [u64],

@@ -11,7 +11,8 @@ use srt_group_flat::words::SendWords;
 use srt_protocol::time::Timestamp;
 
 // One payload through the group, on every active leg or on the carrier; each send that a leg takes fills a row of the list.
-pub fn send(
+#[no_mangle]
+pub extern "C" fn srt_group_lent_send(
     group: &mut Group,
     members: &mut [u64],
     pending: &[u64],

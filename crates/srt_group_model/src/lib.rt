@@ -8,6 +8,7 @@ use srt_protocol::time::Timestamp;
 // ---- packets and events
 
 // What a leg's queue holds of a DATA packet: the fields of `ConnectionEvent::DataReceived`, its payload in a cell.
+#[repr(C)]
 pub struct Data {
     // sequence_number
     pub sequence: u64,
@@ -32,6 +33,7 @@ pub struct Event {
 }
 
 // `GroupPacket`, with its place in `owned`: 1 if the group holds it itself, 0 if its member holds the reservation.
+#[repr(C)]
 pub struct Packet {
     // member_id
     pub member: u64,

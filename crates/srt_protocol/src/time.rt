@@ -3,6 +3,7 @@ ghost use mathlib.Core.Path.{_≡_};
 ghost use Rattle.srt_protocol.specs.Time.{later, elapsed};
 
 // A moment in microseconds.
+#[repr(C)]
 pub struct Timestamp(pub u64);
 
 impl Timestamp {
