@@ -310,13 +310,19 @@ fn timed(order: Order, legs: u64, held: u64) -> [f64; 5] {
 fn main() {
     println!("ns a queued packet of {PAYLOAD} bytes, the best of {RUNS} runs of {QUEUED}; a ratio above 1 means slower than the Rust");
     print_head("legs  held  order", &COLUMNS);
+    let mut ratios = Vec::new();
     for (order, name) in [(Order::InOrder, "in order"), (Order::Behind, "behind"), (Order::Duplicated, "duplicated")] {
         for legs in [4, 64] {
             for held in [0, 20, 200, 2_000] {
-                print_row(&format!("{legs:>4} {held:>5}  {name}"), &timed(order, legs, held));
+                let times = timed(order, legs, held);
+                print_row(&format!("{legs:>4} {held:>5}  {name}"), &times);
+                ratios.push(times[1] / times[0]);
             }
         }
     }
-    sends::main();
+    ratios.extend(sends::main());
+    let mean = (ratios.iter().map(|ratio| ratio.ln()).sum::<f64>() / ratios.len() as f64).exp();
+    let largest = ratios.iter().copied().fold(0.0, f64::max);
+    println!("the forms for a valid state in the {} rows above: geometric mean {mean:.2}, the largest {largest:.2}", ratios.len());
     additions::main();
 }

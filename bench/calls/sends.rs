@@ -244,7 +244,8 @@ fn timed(kind: Kind) -> [f64; 5] {
     least
 }
 
-pub fn main() {
+/// Prints a row for each kind of send. Gives the ratios of the forms for a valid state to the Rust.
+pub fn main() -> Vec<f64> {
     println!("ns a send of {PAYLOAD} bytes, the best of {RUNS} runs of {SENDS} sends or {TAKE_OVERS} take-overs, with the acknowledgements");
     print_head("send", &COLUMNS);
     let rows = [
@@ -255,7 +256,10 @@ pub fn main() {
         ("Backup, 500 unacknowledged", Kind::Backup { unacknowledged: 500 }),
         ("Backup, take-over that replays 100", Kind::TakeOver { replayed: 100 }),
     ];
-    for (name, kind) in rows {
-        print_row(name, &timed(kind));
-    }
+    let timed_row = |(name, kind)| {
+        let times = timed(kind);
+        print_row(name, &times);
+        times[1] / times[0]
+    };
+    rows.map(timed_row).to_vec()
 }
