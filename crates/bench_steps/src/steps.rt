@@ -23,14 +23,14 @@ const NO_PACKET: u64 = 4294967295;
 const NOT_POLLED: u64 = 4294967294;
 
 // The group after a step, and the step's answer.
-#[derive(Drop)]
+#[derive(Clone, Copy)]
 pub struct Called {
     pub group: Group,
     pub answer: u64,
 }
 
 // What a poll moves of the record, and the step's answer.
-#[derive(Drop)]
+#[derive(Clone, Copy)]
 pub struct Stepped {
     pub core: Core,
     pub answer: u64,

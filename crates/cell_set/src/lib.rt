@@ -14,7 +14,7 @@ pub const WORDS: usize = MAX_CELLS / 64;
 const FULL: u64 = 0xffff_ffff_ffff_ffff;
 
 // The lowest free cell, or that none is free.
-#[derive(Drop)]
+#[derive(Clone, Copy)]
 pub enum FreeCell {
     Cell(usize),
     Full,

@@ -11,7 +11,7 @@ use srt_protocol::{srt_handshake, srt_packet};
 const WIDTH: usize = 21;
 
 // An answer, or that there is none.
-#[derive(Drop)]
+#[derive(Clone, Copy)]
 enum Answer {
     Number(u64),
     OutOfRange,
@@ -78,7 +78,7 @@ fn answer_line(line: &[u8], size: usize, out: &mut [u8], at: usize) -> usize {
 }
 
 // How far the input is read and the output written.
-#[derive(Drop)]
+#[derive(Clone, Copy)]
 struct Places {
     input: usize,
     output: usize,

@@ -9,28 +9,28 @@ pub use stream::{read_held_line, read_whole_line, take_line};
 pub use writing::write_line;
 
 // What a column reads as.
-#[derive(Drop)]
+#[derive(Clone, Copy)]
 pub enum Column {
     Number(u64),
     Malformed,
 }
 
 // Where the columns end that bytes begin with.
-#[derive(Drop)]
+#[derive(Clone, Copy)]
 pub enum Columns {
     UpTo(usize),
     NoColumns,
 }
 
 // What a line reads as. The numbers stand in the slice that was lent for them.
-#[derive(Drop)]
+#[derive(Clone, Copy)]
 pub enum Line {
     Numbers,
     MalformedLine,
 }
 
 // Where a text that was written ends.
-#[derive(Drop)]
+#[derive(Clone, Copy)]
 pub enum Written {
     End(usize),
     NoRoom,
@@ -38,7 +38,7 @@ pub enum Written {
 
 // What was taken of a line from a block: where the block goes on, how many bytes the line now has in its buffer (more
 // than the buffer's length where it is longer), and whether the line ended.
-#[derive(Drop)]
+#[derive(Clone, Copy)]
 pub struct Taken {
     pub next: usize,
     pub size: usize,
@@ -46,7 +46,7 @@ pub struct Taken {
 }
 
 // Where the block goes on behind a well-formed line that stands in it whole.
-#[derive(Drop)]
+#[derive(Clone, Copy)]
 pub enum Whole {
     Next(usize),
     NotWhole,

@@ -9,7 +9,7 @@ pub use writing::write_lines;
 
 // What was taken of a block: how many rows were filled, and how many bytes the line that it leaves open has in its buffer (more
 // than the buffer's length where it is longer).
-#[derive(Drop)]
+#[derive(Clone, Copy)]
 pub struct LinesTaken {
     pub count: usize,
     pub size: usize,

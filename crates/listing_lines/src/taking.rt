@@ -12,7 +12,7 @@ const COLUMNS: usize = 8;
 const WIDTH: usize = 11;
 
 // How far a block is taken: where it goes on, how many bytes the open line has, and how many rows were filled, 0 or 1.
-#[derive(Drop)]
+#[derive(Clone, Copy)]
 struct LineTaken {
     next: usize,
     size: usize,

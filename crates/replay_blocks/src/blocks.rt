@@ -11,7 +11,7 @@ use srt_group::Group;
 
 // The group after some lines, if one was made (1, else 0), and where the text of their answers ends.
 #[repr(C)]
-#[derive(Drop)]
+#[derive(Clone, Copy)]
 pub struct Answered {
     pub made: u64,
     pub group: Group,
@@ -20,7 +20,7 @@ pub struct Answered {
 
 // The same after a block, and how many bytes the line has that it leaves open.
 #[repr(C)]
-#[derive(Drop)]
+#[derive(Clone, Copy)]
 pub struct Progress {
     pub made: u64,
     pub group: Group,

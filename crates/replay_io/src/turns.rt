@@ -18,7 +18,7 @@ pub const MORE: u64 = 1;
 pub const FAILED: u64 = 2;
 
 // What is kept from one block to the next: the group, if one was made (1, else 0), how many bytes the open line has, and whether there is more to read.
-#[derive(Drop)]
+#[derive(Clone, Copy)]
 pub struct State {
     pub made: u64,
     pub group: Group,

@@ -17,7 +17,7 @@ const PRINTED: usize = 6;
 
 // The group that stands after some lines, if one was made (1, else 0).
 #[repr(C)]
-#[derive(Drop)]
+#[derive(Clone, Copy)]
 pub struct GroupAfter {
     pub made: u64,
     pub group: Group,

@@ -25,14 +25,14 @@ const LEG: u64 = 4294967296;
 const ACKNOWLEDGED: u64 = 5;
 
 // The group after a step, and the step's answer.
-#[derive(Drop)]
+#[derive(Clone, Copy)]
 pub struct Called {
     pub group: Group,
     pub answer: u64,
 }
 
 // What a send moves of the record.
-#[derive(Drop)]
+#[derive(Clone, Copy)]
 pub struct Moved {
     pub core: Core,
     pub sending: Sending,
@@ -40,7 +40,7 @@ pub struct Moved {
 }
 
 // What a step leaves of the record, and the step's answer.
-#[derive(Drop)]
+#[derive(Clone, Copy)]
 pub struct Stepped {
     pub moved: Moved,
     pub answer: u64,

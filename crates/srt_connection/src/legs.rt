@@ -20,21 +20,21 @@ pub const LARGEST_16: u64 = 0xffff;
 pub const LARGEST_32: u64 = 0xffff_ffff;
 
 // When a leg gives up on a packet that is missing: a Rust `Option<Timestamp>`.
-#[derive(Drop)]
+#[derive(Clone, Copy)]
 pub enum Deadline {
     At(Timestamp),
     Never,
 }
 
 // A sequence number that may be missing: a Rust `Option<u32>`.
-#[derive(Drop)]
+#[derive(Clone, Copy)]
 pub enum OptionalSequence {
     Some(u64),
     None,
 }
 
 // The leg after a step that can fail; a failed one changes nothing: a Rust `Result<(), Error>`.
-#[derive(Drop)]
+#[derive(Clone, Copy)]
 pub enum LegResult {
     Ok(Leg),
     Err,

@@ -13,7 +13,7 @@ use srt_protocol::error::Error;
 use srt_protocol::srt_packet::word_distance;
 
 // The leg after a reading, or why it was refused.
-#[derive(Drop)]
+#[derive(Clone, Copy)]
 pub enum ReadResult {
     Read(Leg),
     Refused(Error),

@@ -27,7 +27,7 @@ pub const MAX_MEMBERS: usize = 64;
 pub const MEMBERS_LENGTH: usize = MAX_MEMBERS * ROW;
 
 // The index of a member, if there is one.
-#[derive(Drop)]
+#[derive(Clone, Copy)]
 pub enum Found {
     At(usize),
     Nothing,

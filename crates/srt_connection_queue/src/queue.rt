@@ -9,7 +9,7 @@ use srt_group_model::Event;
 use srt_protocol::error::{Error, Outcome};
 
 // An event that may be missing: a Rust `Option<ConnectionEvent>`.
-#[derive(Drop)]
+#[derive(Clone, Copy)]
 pub enum OptionalEvent {
     Some(Event),
     None,
@@ -17,7 +17,7 @@ pub enum OptionalEvent {
 
 // What polling a leg gives: nothing, nothing with the continuation asked for, or the front event and what is left of the
 // budget.
-#[derive(Drop)]
+#[derive(Clone, Copy)]
 pub enum LegPoll {
     Nothing,
     Continuation,

@@ -63,14 +63,14 @@ const RESERVED: usize = RECEIVER + 3;
 const ADVANCED: usize = RECEIVER + 4;
 
 // The link's part of a row.
-#[derive(Drop)]
+#[derive(Clone, Copy)]
 pub struct LinkPart {
     pub link: Link,
     pub trip: Trip,
 }
 
 // Where a queue's events stand in the ring: the front's place, read modulo MAX_QUEUED, and how many there are.
-#[derive(Drop)]
+#[derive(Clone, Copy)]
 pub struct Ring {
     pub start: u64,
     pub length: u64,

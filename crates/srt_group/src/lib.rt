@@ -20,7 +20,7 @@ use srt_protocol::srt_handshake::is_group_id;
 // By who moves what: fixed at creation; what a poll carries through by value; what sending moves; the places of the history in use.
 // Every field is a 64-bit word, so that whatever a host lends can be read, and refused (6) where it is beyond its range.
 #[repr(C)]
-#[derive(Drop)]
+#[derive(Clone, Copy)]
 pub struct Group {
     pub identity: Identity,
     pub core: Core,
@@ -29,7 +29,7 @@ pub struct Group {
 }
 
 // What `new` answers: the Rust's `Result<Self, SrtError>`.
-#[derive(Drop)]
+#[derive(Clone, Copy)]
 pub enum NewGroup {
     Made(Group),
     Refused(Error),

@@ -16,7 +16,7 @@ use srt_group_model::{Collision, Core, Leg, Membership, Sending};
 use srt_protocol::error::{Error, Outcome};
 
 // The group's record after an addition, and how it ended: the Rust's `Result<(), Error>`.
-#[derive(Drop)]
+#[derive(Clone, Copy)]
 pub struct Added {
     pub core: Core,
     pub outcome: Outcome,

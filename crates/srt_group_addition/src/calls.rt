@@ -13,7 +13,7 @@ use srt_group_refusals::refusals::begin;
 use srt_protocol::error::{Error, Outcome};
 
 // How an addition ended, and the record after it: as it was where the call is refused with another code than 22.
-#[derive(Drop)]
+#[derive(Clone, Copy)]
 pub struct MemberAdded {
     pub group: Group,
     pub outcome: Outcome,

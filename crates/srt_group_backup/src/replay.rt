@@ -13,7 +13,7 @@ use srt_group_tables::history::{HistoryRing, entry_at};
 use srt_protocol::time::Timestamp;
 
 // The leg after a replay, how many rows of the list are in use, and whether all entries were sent.
-#[derive(Drop)]
+#[derive(Clone, Copy)]
 pub struct Replayed {
     pub leg: Leg,
     pub sent: usize,

@@ -23,14 +23,14 @@ use srt_protocol::error::{Error, Outcome};
 use srt_protocol::time::Timestamp;
 
 // Whether the flight was replayed, and how many rows of the list are in use.
-#[derive(Drop)]
+#[derive(Clone, Copy)]
 pub struct Flight {
     pub outcome: Outcome,
     pub sent: usize,
 }
 
 // Whether the member is ready to carry the next send, with the numbers of sending, the ring and the rows in use as they are then.
-#[derive(Drop)]
+#[derive(Clone, Copy)]
 pub struct TakenOver {
     pub outcome: Outcome,
     pub sending: Sending,

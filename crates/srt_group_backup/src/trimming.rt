@@ -14,7 +14,7 @@ use srt_group_tables::history::{HistoryRing, drop_before, sequence_at};
 use srt_protocol::srt_packet::word_before;
 
 // The numbers of sending and the ring of the history, as a call leaves them.
-#[derive(Drop)]
+#[derive(Clone, Copy)]
 pub struct SendHistory {
     pub sending: Sending,
     pub ring: HistoryRing,

@@ -20,7 +20,7 @@ use srt_protocol::error::Outcome;
 use srt_protocol::time::Timestamp;
 
 // What a send answers: the numbers of sending and the ring after it, and how many rows of the list are in use.
-#[derive(Drop)]
+#[derive(Clone, Copy)]
 pub struct BackupSend {
     pub outcome: Outcome,
     pub sending: Sending,

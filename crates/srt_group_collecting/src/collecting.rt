@@ -40,7 +40,7 @@ use srt_group_tables::{pending, waiting};
 use srt_protocol::srt_packet::word_before;
 
 // What a visit leaves: whether an event was taken off a queue, the group's numbers, and what is left of the budget.
-#[derive(Drop)]
+#[derive(Clone, Copy)]
 pub struct Visited {
     pub took: u64,
     pub core: Core,
@@ -48,7 +48,7 @@ pub struct Visited {
 }
 
 // Visits until something is held, under way: whether more of them follow.
-#[derive(Drop)]
+#[derive(Clone, Copy)]
 struct Visiting {
     more: u64,
     core: Core,
@@ -56,7 +56,7 @@ struct Visiting {
 }
 
 // What visits until the queues are empty leave: whether they ended so.
-#[derive(Drop)]
+#[derive(Clone, Copy)]
 pub struct Emptied {
     pub emptied: u64,
     pub core: Core,
@@ -64,7 +64,7 @@ pub struct Emptied {
 }
 
 // What the visits of a poll leave.
-#[derive(Drop)]
+#[derive(Clone, Copy)]
 pub struct Gathered {
     pub core: Core,
     pub budget: u64,

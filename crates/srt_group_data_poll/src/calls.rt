@@ -15,21 +15,21 @@ use srt_protocol::error::{Error, Outcome};
 use srt_protocol::time::Timestamp;
 
 // A packet or none, and whether the poll should be called again at once.
-#[derive(Drop)]
+#[derive(Clone, Copy)]
 pub struct GroupDataPoll {
     pub packet: OptionalPacket,
     pub continuation: u64,
 }
 
 // What a data poll answers.
-#[derive(Drop)]
+#[derive(Clone, Copy)]
 pub enum DataAnswer {
     Refused(Error),
     Polled(GroupDataPoll),
 }
 
 // The answer, and the record after the call: as it was where the call is refused.
-#[derive(Drop)]
+#[derive(Clone, Copy)]
 pub struct DataPolled {
     pub group: Group,
     pub answer: DataAnswer,

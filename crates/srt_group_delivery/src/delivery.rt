@@ -32,7 +32,7 @@ use srt_protocol::srt_packet::{word_distance, word_further};
 use srt_protocol::time::Timestamp;
 
 // What an event poll gives: a Rust `Option<GroupEvent>`, in which data stands beside the other events.
-#[derive(Drop)]
+#[derive(Clone, Copy)]
 pub enum Polled {
     Nothing,
     Event(Waiting),
@@ -40,7 +40,7 @@ pub enum Polled {
 }
 
 // What is given, and the group's record after it.
-#[derive(Drop)]
+#[derive(Clone, Copy)]
 pub struct Poll {
     pub gave: Polled,
     pub core: Core,

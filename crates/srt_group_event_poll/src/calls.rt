@@ -14,14 +14,14 @@ use srt_protocol::error::{Error, Outcome};
 use srt_protocol::time::Timestamp;
 
 // What an event poll answers: nothing, an event or a packet.
-#[derive(Drop)]
+#[derive(Clone, Copy)]
 pub enum EventAnswer {
     Refused(Error),
     Polled(Polled),
 }
 
 // The answer, and the record after the call: as it was where the call is refused.
-#[derive(Drop)]
+#[derive(Clone, Copy)]
 pub struct EventPolled {
     pub group: Group,
     pub answer: EventAnswer,

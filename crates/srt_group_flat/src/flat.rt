@@ -16,21 +16,21 @@ use srt_group_send_calls::calls as sends;
 use srt_protocol::time::Timestamp;
 
 // The words of a data poll's answer, and the record after it.
-#[derive(Drop)]
+#[derive(Clone, Copy)]
 pub struct DataPolledWords {
     pub group: Group,
     pub answer: DataWords,
 }
 
 // The code of an addition, 0 if it was accepted, and the record after it.
-#[derive(Drop)]
+#[derive(Clone, Copy)]
 pub struct MemberAddedWords {
     pub group: Group,
     pub code: u64,
 }
 
 // The words of a send's answer, and the record after it.
-#[derive(Drop)]
+#[derive(Clone, Copy)]
 pub struct GroupSentWords {
     pub group: Group,
     pub answer: SendWords,

@@ -12,7 +12,7 @@ use srt_protocol::time::Timestamp;
 // code is 0 if the poll was accepted; given is 1 if there is a packet; continuation is not 0 if the poll should be called again at
 // once. The words of a packet are 0 where there is none.
 #[repr(C)]
-#[derive(Drop)]
+#[derive(Clone, Copy)]
 pub struct DataWords {
     pub code: u64,
     pub given: u64,
@@ -80,7 +80,7 @@ pub fn words_of(answer: DataAnswer) -> DataWords
 // code is 0 if the payload was sent; legs on how many, 0 where it was refused; rows those of the list that are filled, by a refused
 // send too.
 #[repr(C)]
-#[derive(Drop)]
+#[derive(Clone, Copy)]
 pub struct SendWords {
     pub code: u64,
     pub legs: u64,

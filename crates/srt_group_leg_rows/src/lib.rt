@@ -5,7 +5,7 @@ ghost use Rattle.srt_group_leg_rows.specs.Legs.{state_among};
 
 // A row of the list, word for word.
 #[repr(C)]
-#[derive(Drop)]
+#[derive(Clone, Copy)]
 pub struct LegRow {
     pub id: u64,
     pub weight: u64,

@@ -8,7 +8,7 @@ pub mod telling; // telling.rt: which of them a line asks for
 
 // The six numbers of an output line: the verb, its code, and what an accepted poll or send prints.
 #[repr(C)]
-#[derive(Drop)]
+#[derive(Clone, Copy)]
 pub struct Printed {
     pub verb: u64,
     pub code: u64,
@@ -20,7 +20,7 @@ pub struct Printed {
 
 // The group after a line, and what the line prints.
 #[repr(C)]
-#[derive(Drop)]
+#[derive(Clone, Copy)]
 pub struct Told {
     pub group: Group,
     pub line: Printed,

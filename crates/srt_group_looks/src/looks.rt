@@ -13,14 +13,14 @@ use srt_protocol::error::{Error, Outcome};
 use srt_protocol::time::Timestamp;
 
 // What a look at a number answers.
-#[derive(Drop)]
+#[derive(Clone, Copy)]
 pub enum NumberLook {
     Number(u64),
     Refused(Error),
 }
 
 // What a look at a number that may be missing answers.
-#[derive(Drop)]
+#[derive(Clone, Copy)]
 pub enum OptionalLook {
     Number(u64),
     Nothing,
@@ -28,7 +28,7 @@ pub enum OptionalLook {
 }
 
 // What a look at a flag answers.
-#[derive(Drop)]
+#[derive(Clone, Copy)]
 pub enum TruthLook {
     Truth(bool),
     Refused(Error),

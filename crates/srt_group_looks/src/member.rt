@@ -17,7 +17,7 @@ use srt_group_refusals::refusals::begin;
 use srt_protocol::error::{Error, Outcome};
 
 // What a look at a member answers.
-#[derive(Drop)]
+#[derive(Clone, Copy)]
 pub enum MemberLook {
     Member(MemberShown),
     Refused(Error),

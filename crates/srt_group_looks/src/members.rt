@@ -24,7 +24,7 @@ pub const MEMBER_WORDS: usize = 8;
 pub const LIST_LENGTH: usize = MAX_MEMBERS * MEMBER_WORDS;
 
 // How many rows were filled.
-#[derive(Drop)]
+#[derive(Clone, Copy)]
 pub enum MembersLook {
     Listed(usize),
     Refused(Error),

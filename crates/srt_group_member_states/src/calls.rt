@@ -15,7 +15,7 @@ use srt_protocol::error::Outcome;
 use srt_protocol::time::Timestamp;
 
 // The record after a refresh of the states: as it was where the call is refused; and how it ended.
-#[derive(Drop)]
+#[derive(Clone, Copy)]
 pub struct Refreshed {
     pub group: Group,
     pub outcome: Outcome,

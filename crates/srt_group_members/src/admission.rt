@@ -13,7 +13,7 @@ use srt_connection_members::{leg_at, membership_at, put_membership_at};
 use srt_group_model::{Collision, Leg, Membership};
 
 // The peer group that the group is bound to, 0 while it is not, and the base if the members that arrived gave one.
-#[derive(Drop)]
+#[derive(Clone, Copy)]
 pub struct Admission {
     pub peer: u64,
     pub based: u64,

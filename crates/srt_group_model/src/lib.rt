@@ -9,7 +9,7 @@ use srt_protocol::time::Timestamp;
 
 // What a leg's queue holds of a DATA packet: the fields of `ConnectionEvent::DataReceived`, its payload in a cell.
 #[repr(C)]
-#[derive(Drop)]
+#[derive(Clone, Copy)]
 pub struct Data {
     // sequence_number
     pub sequence: u64,
@@ -27,7 +27,7 @@ pub struct Data {
 }
 
 // `ConnectionEvent`. The kind is 0 data, 1 connected, 2 error, 3 disconnected. Data has no reason, the others no data.
-#[derive(Drop)]
+#[derive(Clone, Copy)]
 pub struct Event {
     pub kind: u64,
     pub reason: u64,
@@ -36,7 +36,7 @@ pub struct Event {
 
 // `GroupPacket`, with its place in `owned`: 1 if the group holds it itself, 0 if its member holds the reservation.
 #[repr(C)]
-#[derive(Drop)]
+#[derive(Clone, Copy)]
 pub struct Packet {
     // member_id
     pub member: u64,
@@ -45,7 +45,7 @@ pub struct Packet {
 }
 
 // `GroupEvent` without its data case: member, kind 1 connected, 2 error, 3 disconnected, and the reason's number.
-#[derive(Drop)]
+#[derive(Clone, Copy)]
 pub struct Waiting {
     pub member: u64,
     pub kind: u64,
@@ -55,7 +55,7 @@ pub struct Waiting {
 // ---- a leg: the stand-in for `SrtConnection`
 
 // state is 0 handshaking, 1 connected, 2 disconnected; peer is the peer group (0: none); limit is the payload limit.
-#[derive(Drop)]
+#[derive(Clone, Copy)]
 pub struct Link {
     pub state: u64,
     pub peer: u64,
@@ -64,7 +64,7 @@ pub struct Link {
 
 // The sender, which exists (started is 1) from the first connect on. flight counts unacknowledged sends; window is their
 // limit; oldest is the oldest send time; pace is the time before which pacing holds a send back.
-#[derive(Drop)]
+#[derive(Clone, Copy)]
 pub struct Sender {
     pub started: u64,
     pub next: u64,
@@ -76,7 +76,7 @@ pub struct Sender {
 
 // first is the peer's first sequence (4294967295: none); window the receive window; reserved the packets of its queue and
 // of the payloads held for it; advanced the number last recorded by `advance_receive_sequence`.
-#[derive(Drop)]
+#[derive(Clone, Copy)]
 pub struct Receiver {
     pub first: u64,
     pub window: u64,
@@ -86,14 +86,14 @@ pub struct Receiver {
 }
 
 // The round trip as the sender estimates it, and when the peer was last heard.
-#[derive(Drop)]
+#[derive(Clone, Copy)]
 pub struct Trip {
     pub srtt: u64,
     pub rttvar: u64,
     pub heard: Timestamp,
 }
 
-#[derive(Drop)]
+#[derive(Clone, Copy)]
 pub struct Leg {
     pub link: Link,
     pub sender: Sender,
@@ -104,7 +104,7 @@ pub struct Leg {
 // ---- a member
 
 // `PeerGroupCollision` at its member: actual is 0 while there is none.
-#[derive(Drop)]
+#[derive(Clone, Copy)]
 pub struct Collision {
     // expected_peer_group_id
     pub expected: u64,
@@ -114,14 +114,14 @@ pub struct Collision {
 
 // The packets held for a member, or by the group itself: the sum of their counts. What is kept of them moves together.
 #[repr(C)]
-#[derive(Drop)]
+#[derive(Clone, Copy)]
 pub struct Account {
     // reserved_packets of a member, owned_packets of the group
     pub reserved: u64,
 }
 
 // `SrtGroupMember` without its connection. The state is 0 pending, 1 active, 2 standby, 3 unstable, 4 broken.
-#[derive(Drop)]
+#[derive(Clone, Copy)]
 pub struct Membership {
     pub id: u64,
     pub weight: u64,
@@ -133,7 +133,7 @@ pub struct Membership {
 }
 
 // A member as it is shown to a host: its membership, and of its leg (the Rust's `connection`) the state.
-#[derive(Drop)]
+#[derive(Clone, Copy)]
 pub struct MemberShown {
     pub membership: Membership,
     pub connection: u64,
@@ -146,7 +146,7 @@ pub struct MemberShown {
 
 // What is fixed at creation and no poll needs.
 #[repr(C)]
-#[derive(Drop)]
+#[derive(Clone, Copy)]
 pub struct Identity {
     // group_id
     pub id: u64,
@@ -156,7 +156,7 @@ pub struct Identity {
 
 // What receiving moves, with the pending packets.
 #[repr(C)]
-#[derive(Drop)]
+#[derive(Clone, Copy)]
 pub struct Receiving {
     // next_receive_sequence, the base, and whether it is set
     pub based: u64,
@@ -167,7 +167,7 @@ pub struct Receiving {
 
 // What sending moves, with the history.
 #[repr(C)]
-#[derive(Drop)]
+#[derive(Clone, Copy)]
 pub struct Sending {
     // next_send_sequence, and whether it is set
     pub numbered: u64,
@@ -180,7 +180,7 @@ pub struct Sending {
 }
 
 #[repr(C)]
-#[derive(Drop)]
+#[derive(Clone, Copy)]
 pub struct Visit {
     // receive_continuation
     pub continuation: u64,
@@ -190,7 +190,7 @@ pub struct Visit {
 
 // How many rows of each lent table are in use: members, pending packets, waiting events.
 #[repr(C)]
-#[derive(Drop)]
+#[derive(Clone, Copy)]
 pub struct Counts {
     pub members: usize,
     pub pending: usize,
@@ -199,7 +199,7 @@ pub struct Counts {
 
 // What a poll carries through by value.
 #[repr(C)]
-#[derive(Drop)]
+#[derive(Clone, Copy)]
 pub struct Core {
     // mode
     pub mode: u64,
@@ -214,7 +214,7 @@ pub struct Core {
 
 // An entry of backup_history: the payload that was sent at a sequence, in its cell, with its source time.
 #[repr(C)]
-#[derive(Drop)]
+#[derive(Clone, Copy)]
 pub struct Entry {
     pub sequence: u64,
     pub cell: u64,

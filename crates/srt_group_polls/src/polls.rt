@@ -25,14 +25,14 @@ use srt_group_tables::pending;
 use srt_protocol::time::Timestamp;
 
 // A packet or none.
-#[derive(Drop)]
+#[derive(Clone, Copy)]
 pub enum OptionalPacket {
     Some(Packet),
     None,
 }
 
 // What a data poll gives: a packet or none, whether it should be called again at once, and the group's record after it.
-#[derive(Drop)]
+#[derive(Clone, Copy)]
 pub struct DataPoll {
     pub gave: OptionalPacket,
     pub continuation: u64,
@@ -40,7 +40,7 @@ pub struct DataPoll {
 }
 
 // Whether an event poll gave an event, and the data poll that ends with it.
-#[derive(Drop)]
+#[derive(Clone, Copy)]
 struct Passed {
     event: u64,
     answer: DataPoll,

@@ -23,7 +23,7 @@ use srt_group_model::{Core, Event, Packet};
 use srt_protocol::srt_packet::word_further;
 
 // A packet that can be given straight, with the index of its member, or none.
-#[derive(Drop)]
+#[derive(Clone, Copy)]
 pub enum Straight {
     At { index: usize, packet: Packet },
     Nothing,

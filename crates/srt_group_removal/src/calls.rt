@@ -14,7 +14,7 @@ use srt_group_refusals::refusals::begin;
 use srt_protocol::error::{Error, Outcome};
 
 // How a removal ended, and the record after it: as it was where the call is refused.
-#[derive(Drop)]
+#[derive(Clone, Copy)]
 pub struct MemberRemoved {
     pub group: Group,
     pub outcome: Outcome,

@@ -18,7 +18,7 @@ use srt_group_tables::history::HistoryRing;
 use srt_protocol::error::{Error, Outcome};
 
 // What is left by a removal, refused or not.
-#[derive(Drop)]
+#[derive(Clone, Copy)]
 pub struct Removal {
     pub core: Core,
     pub outcome: Outcome,

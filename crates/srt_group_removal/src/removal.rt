@@ -12,7 +12,7 @@ use srt_group_model::{Core, Leg};
 use srt_group_tables::pending;
 
 // The group's record after a removal, and the leg that is given back: an `SrtConnection` in the Rust.
-#[derive(Drop)]
+#[derive(Clone, Copy)]
 pub struct Removed {
     pub core: Core,
     pub leg: Leg,

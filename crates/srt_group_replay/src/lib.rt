@@ -7,7 +7,7 @@ pub mod telling; // telling.rt: a line, whatever its verb
 
 // The group after a line, if one was made (1, else 0), and what the line prints.
 #[repr(C)]
-#[derive(Drop)]
+#[derive(Clone, Copy)]
 pub struct Replayed {
     pub made: u64,
     pub group: Group,

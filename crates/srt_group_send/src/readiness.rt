@@ -19,7 +19,7 @@ use srt_group_tables::history::HistoryRing;
 use srt_protocol::time::Timestamp;
 
 // Whether a send could go, and the parts of the record as the test leaves them.
-#[derive(Drop)]
+#[derive(Clone, Copy)]
 pub struct Readiness {
     pub ready: bool,
     pub core: Core,

@@ -28,7 +28,7 @@ use srt_protocol::time::Timestamp;
 
 // What a send leaves of the record; its code, 0 if the payload was sent; on how many legs it was; and how many rows of the list are filled.
 #[repr(C)]
-#[derive(Drop)]
+#[derive(Clone, Copy)]
 pub struct GroupSend {
     pub code: u64,
     pub legs: usize,

@@ -20,14 +20,14 @@ use srt_protocol::error::{Error, Outcome};
 use srt_protocol::time::Timestamp;
 
 // What a send answers: on how many legs the payload went, or why it was not sent.
-#[derive(Drop)]
+#[derive(Clone, Copy)]
 pub enum SendAnswer {
     Sent(u64),
     Refused(Error),
 }
 
 // The answer, the record after the call, and how many rows of the list it has filled: a refused send may have filled some.
-#[derive(Drop)]
+#[derive(Clone, Copy)]
 pub struct GroupSent {
     pub group: Group,
     pub answer: SendAnswer,
@@ -175,7 +175,7 @@ pub fn send_shared(
 // ---- readiness
 
 // Whether a send could go, or why the question is refused; and the record after it, since the test refreshes and trims.
-#[derive(Drop)]
+#[derive(Clone, Copy)]
 pub struct GroupReady {
     pub group: Group,
     pub answer: TruthLook,

@@ -23,7 +23,7 @@ use srt_protocol::srt_packet::word_further;
 use srt_protocol::time::Timestamp;
 
 // What a send answers: the group's numbers after it, and how many rows of the list it has written.
-#[derive(Drop)]
+#[derive(Clone, Copy)]
 pub struct BroadcastSend {
     pub outcome: Outcome,
     pub sending: Sending,

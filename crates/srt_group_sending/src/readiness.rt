@@ -23,14 +23,14 @@ use srt_protocol::time::Timestamp;
 const NO_MEMBER_WAIT: u64 = 100000;
 
 // A wait in microseconds that may be missing: a Rust `Option<u64>`.
-#[derive(Drop)]
+#[derive(Clone, Copy)]
 pub enum OptionalWait {
     Some(u64),
     None,
 }
 
 // Whether pacing counts, and when: a Rust `Option<Timestamp>`.
-#[derive(Drop)]
+#[derive(Clone, Copy)]
 pub enum Pacing {
     At(Timestamp),
     Ignored,

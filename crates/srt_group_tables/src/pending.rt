@@ -53,14 +53,14 @@ pub const CELLS: u64 = MAX_CELLS as u64;
 const HALF_SPACE: u64 = 0x4000_0000;
 
 // The place of a packet, or that there is none.
-#[derive(Drop)]
+#[derive(Clone, Copy)]
 pub enum Found {
     At(usize),
     Nothing,
 }
 
 // Where the packets stand that a run covers: the first `low`, which lie beyond the wrap, and those from `from` up to `end`.
-#[derive(Drop)]
+#[derive(Clone, Copy)]
 pub struct Covered {
     pub low: usize,
     pub from: usize,

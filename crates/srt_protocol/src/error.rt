@@ -3,7 +3,7 @@ ghost use Rattle.std.specs.Prelude.{◌≡◌};
 ghost use Rattle.srt_protocol.specs.Errors.{error_number, outcome_number};
 
 // Why a call was refused. 1 to 6 speak of the input, 20 to 29 are the group's own, 30 to 32 are added by this port.
-#[derive(Drop)]
+#[derive(Clone, Copy)]
 pub enum Error {
     // 1: a group id without SRTGROUP_MASK.
     MissingGroupMask,
@@ -75,7 +75,7 @@ impl Error {
 }
 
 // What a call answers that has nothing to give back.
-#[derive(Drop)]
+#[derive(Clone, Copy)]
 pub enum Outcome {
     Accepted,
     Refused(Error),

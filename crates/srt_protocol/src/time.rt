@@ -4,7 +4,7 @@ ghost use Rattle.srt_protocol.specs.Time.{later, elapsed};
 
 // A moment in microseconds.
 #[repr(C)]
-#[derive(Drop)]
+#[derive(Clone, Copy)]
 pub struct Timestamp(pub u64);
 
 impl Timestamp {
