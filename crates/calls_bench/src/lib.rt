@@ -1,5 +1,8 @@
 // The calls under plain names, for bench/calls to time. A measuring crate: no product links it. Nothing exported has a `requires`: what a
 // host lends is tested.
+
+#![tactic(auto)]
+
 pub mod record; // record.rt: the record as a row of words
 
 use crate::record::{put_group, read_group};

@@ -1,4 +1,7 @@
 // A set of the store's cells, a bit to each in WORDS lent words: cell n is bit n % 64 of word n / 64.
+
+#![tactic(auto)]
+
 ghost use Rattle.std.specs.Prelude.{◌≡◌, [], ◌∷◌, ◌≤◌, ◌<◌, length, eqb};
 ghost use Rattle.srt_protocol.specs.Cells.{max_cells};
 ghost use Rattle.cell_set.specs.Bits.{set_size, bit_at};

@@ -4,6 +4,9 @@
 //
 // The stored input and output are the questions and answers that the Rust's own leaves give: oracle/check makes them anew with
 // oracle/srt-protocol/examples/leaf_cases.rs and compares.
+
+#![tactic(auto)]
+
 use listing::{Line, Written};
 use srt_protocol::time::Timestamp;
 use srt_protocol::{srt_handshake, srt_packet};

@@ -1,5 +1,8 @@
 // Listings: lines of decimal numbers, each right-justified in a column of a fixed width. The count of columns and their
 // width are parameters. Everything here works on slices; a program over it reads and writes.
+
+#![tactic(auto)]
+
 mod reading;
 mod stream;
 mod writing;

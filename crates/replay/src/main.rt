@@ -1,5 +1,8 @@
 // Document 01's replay: it reads a listing of eight columns of 11 from standard input, and writes six columns of 11 for each line. All that it answers
 // is proved (`answer_block`, `answer_last_line`); here it is read and written. Its memory is fixed, whatever the listing's length.
+
+#![tactic(auto)]
+
 ghost use Rattle.std.specs.Prelude.{◌≡◌, length};
 ghost use Rattle.srt_group_shown.specs.Tables.{tables};
 ghost use Rattle.srt_group_replay.specs.Lines.{room, Standing};

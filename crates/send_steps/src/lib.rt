@@ -1,2 +1,5 @@
 // The sends that sends_bench times. A measuring crate: no product links it.
+
+#![tactic(auto)]
+
 pub mod steps; // steps.rt: one step of a run of sends, by the public calls and by the forms for a valid state

@@ -1,5 +1,8 @@
 // The sends under plain names, for bench/calls to time. A measuring crate: no product links it. Nothing exported has a `requires`: what a
 // host lends is tested.
+
+#![tactic(auto)]
+
 use calls_bench::record::{put_group, read_group};
 use send_steps::steps::{call_each, step_each};
 use srt_group::Group;

@@ -1,5 +1,8 @@
 // The lent table of members, row by row. A row is lent as a part of the table, so that what is proved of a row holds of the
 // table: the row at the index is changed, and no other. Rows past the count of members are free.
+
+#![tactic(auto)]
+
 ghost use Rattle.std.specs.Prelude.{◌≡◌, ◌*◌, ◌≤◌, ◌<◌, length};
 ghost use Rattle.srt_group_model.specs.State.{with_leg, on_leg, on_membership, with_account};
 ghost use Rattle.srt_group_model.specs.Tools.{at_place, is_empty};

@@ -1,6 +1,9 @@
 // `SrtGroup` of srt_group/mod.rs: the group's record, by value, with `new` and its limits. All that is large is lent: the members with
 // their legs and queues, the held packets, the waiting events, the history's two arrays, the store. The public calls over it stand in the
 // crates of their subjects, in modules `calls`; no public function there has a `requires`.
+
+#![tactic(auto)]
+
 ghost use Rattle.std.specs.Prelude.{◌≡◌, ◌||◌, length};
 ghost use Rattle.srt_group_model.specs.Legs.{largest_32};
 ghost use Rattle.srt_group_model.specs.Validity.{above};

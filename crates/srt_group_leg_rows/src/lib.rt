@@ -1,4 +1,7 @@
 // The legs as rows of one lent slice of records, for reading states: what `members` (srt_group_looks) fills, read as structs.
+
+#![tactic(auto)]
+
 ghost use Rattle.std.specs.Prelude.{◌≡◌, eqb};
 ghost use Rattle.srt_group_model.specs.Tools.{if_true◌then◌else◌};
 ghost use Rattle.srt_group_leg_rows.specs.Legs.{state_among};

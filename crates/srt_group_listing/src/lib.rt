@@ -1,6 +1,9 @@
 // The replay listing over the group: what each verb of document 01's listing does, and what its line prints. Here are the verbs about members; those
 // about packets stand in `srt_group_listing_packets`. Each verb is a call in its form
 // for a valid state, since a replay is the only writer of its group; so these functions have a `requires`, and no host calls them.
+
+#![tactic(auto)]
+
 use srt_group::Group;
 
 pub mod members; // members.rt: verbs 2, 3, 7, 8 and 9

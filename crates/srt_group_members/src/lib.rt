@@ -1,6 +1,8 @@
 // The members of a group over the lent table: which are active, who is promoted, admission to the peer group, alignment of send
 // sequences, and the refresh of the members' states. From the members' part of the Rust's srt_group/mod.rs.
 
+#![tactic(auto)]
+
 pub mod states; // states.rt: what state a member is in, and a member that turns to another
 pub mod promotion; // promotion.rt: the Backup member that is promoted
 pub mod admission; // admission.rt: admission to the peer group

@@ -3,6 +3,9 @@
 //
 // What is read from a row of a lent table has 64-bit words, as the row has. Their ranges are rules of validity (code 6),
 // so a row that breaks one can be shown and refused.
+
+#![tactic(auto)]
+
 use srt_protocol::time::Timestamp;
 
 // ---- packets and events

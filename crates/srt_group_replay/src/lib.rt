@@ -1,5 +1,8 @@
 // A replay listing over a group, line by line: document 01's listing without the reading and writing of columns. The replay is the only writer of
 // its group and of all that it is lent, so these functions have a `requires`, and no host calls them.
+
+#![tactic(auto)]
+
 use srt_group::Group;
 use srt_group_listing::Printed;
 

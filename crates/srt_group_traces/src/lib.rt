@@ -1,1 +1,3 @@
 // The history theorem stands in specs/: no code.
+
+#![tactic(auto)]

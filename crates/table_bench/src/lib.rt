@@ -1,5 +1,8 @@
 // The tables' operations under plain names, for bench/tables to time beside Rust's BTreeMap and VecDeque. A measuring crate: no
 // product links it.
+
+#![tactic(auto)]
+
 ghost use Rattle.std.specs.Prelude.{◌≡◌, true, false, ◌+◌, ◌-◌, ◌≤◌, ◌<◌, length};
 ghost use Rattle.srt_group_model.specs.Cells.{is_among};
 ghost use Rattle.srt_group_model.specs.Sound.{pending_cells};

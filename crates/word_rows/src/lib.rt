@@ -1,4 +1,7 @@
 // Rows of words in a lent slice: the rows behind a place move down by one.
+
+#![tactic(auto)]
+
 ghost use Rattle.std.specs.Prelude.{◌+◌, ◌≤◌, length};
 ghost use Rattle.word_rows.specs.Rows.{Closed};
 

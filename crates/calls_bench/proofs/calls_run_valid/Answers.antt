@@ -1,0 +1,7 @@
+-- `calls_run_valid`: where 5 and 6 are not answered, what the forms rest on holds.
+use Rattle.calls_bench.proofs.calls_run_valid.Goals as goal
+
+pub step_each-after-requires : goal.step_each-after-requires
+step_each-after-requires c =
+    let accepted = c.in_default.is in
+    let begun = c.begin_poll-begun.ensures in (begun.ready accepted, begun.room accepted)

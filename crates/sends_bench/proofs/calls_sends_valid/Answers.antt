@@ -1,0 +1,7 @@
+-- `calls_sends_valid`: where 5 and 6 are not answered, what the forms rest on holds.
+use Rattle.sends_bench.proofs.calls_sends_valid.Goals as goal
+
+pub step_each-moved-requires : goal.step_each-moved-requires
+step_each-moved-requires c =
+    let accepted = c.in_default.is in
+    (c.begin_stored-begun.ensures.ready accepted, c.if-list-lt-SENT_LENGTH.false)

@@ -1,0 +1,10 @@
+-- `member_state_at` meets its contract: the row that is lent is the one at the index.
+use mathlib.Core.Path.{ap, ◌∙◌}
+use Rattle.srt_group_model.specs.State.{Member}
+use Rattle.srt_connection_members.specs.Laws.Members.{lent_member}
+use Rattle.srt_connection_members.proofs.member_state_at.Goals as goal
+
+pub returns : goal.returns
+returns c =
+    c.member_state.ensures ∙ ap (λ (m : Member). m.membership.state)
+    (lent_member c.args.members.now c.args.index)

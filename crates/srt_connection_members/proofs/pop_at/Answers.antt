@@ -1,0 +1,12 @@
+-- `pop_at` meets its contract: the row that is lent and comes back is changed, and no other.
+use Rattle.srt_connection_members.specs.Laws.Members.{lent_member, changed_row}
+use Rattle.srt_connection_queue.specs.Queue.{popped}
+use Rattle.srt_connection_members.proofs.pop_at.Goals as goal
+
+pub returns : goal.returns
+returns c =
+    changed_row c.args.index
+    c.args.members.now _ c.requires popped
+    (rw
+    (lent_member c.args.members.now c.args.index)
+    at c.pop.ensures)

@@ -1,0 +1,27 @@
+-- `read_sender` meets its contract.
+use mathlib.Core.Path.{refl}
+use native.Mathlib.Omega.{arith}
+use Rattle.srt_connection_queue.specs.Rows.{sender_of}
+use Rattle.srt_connection_queue.proofs.rows.read_sender.Goals as goal
+
+pub bounds-words-0 : goal.bounds-words-0
+bounds-words-0 c = omega arith
+
+pub bounds-words-1 : goal.bounds-words-1
+bounds-words-1 c = omega arith
+
+pub bounds-words-2 : goal.bounds-words-2
+bounds-words-2 c = omega arith
+
+pub bounds-words-3 : goal.bounds-words-3
+bounds-words-3 c = omega arith
+
+pub bounds-words-4 : goal.bounds-words-4
+bounds-words-4 c = omega arith
+
+pub bounds-words-5 : goal.bounds-words-5
+bounds-words-5 c = omega arith
+
+pub returns : goal.returns
+unfolding sender_of
+returns c = refl

@@ -1,0 +1,15 @@
+-- `join` meets its contract: the member is appended, looked at as one that arrives, and then the base and the peer group are set.
+use mathlib.Core.Path.{refl}
+use Rattle.srt_group_addition.specs.Laws.Addition.{joins}
+use borrow.Author.Rules.{rules}
+use Rattle.srt_group_addition.proofs.addition.join.Goals as goal
+
+pub overflow_add-one_more : goal.overflow_add-one_more
+overflow_add-one_more c = search (rules, c.requires.0)
+
+pub returns : goal.returns
+returns c =
+    let a = c.args in
+    joins a.id a.weight a.leg a.core a.members.now
+    c.state_at_addition-state.ensures c.membership_at_addition.ensures _ c.append_member.ensures
+    _ _ _ c.admit_peer_group-admission.ensures refl refl _ c.set_base-after.ensures

@@ -1,0 +1,23 @@
+-- `record_backup_send` meets its contract.
+use Prim.Native.Nat.{◌≤◌}
+use Rattle.srt_group_model.specs.Backup.{max_history}
+use mathlib.Core.Path.{sym, subst}
+use Rattle.srt_group_tables.specs.declared.history.HistoryRing.{HistoryRing}
+use Rattle.srt_group_tables.specs.Laws.Ring.{push_fits}
+use Rattle.srt_group_backup.specs.Laws.OwnSend.{send_recorded}
+use borrow.Author.Rules.{rules}
+use Rattle.srt_group_backup.proofs.send.record_backup_send.Goals as goal
+
+pub trim_backup_history-requires : goal.trim_backup_history-requires
+trim_backup_history-requires c =
+    let pre = c.requires in (
+      subst (λ (r : HistoryRing). r.length ≤ max_history) (sym c.push_back-pushed.ensures) (push_fits _ pre.0.0),
+      search rules,
+    )
+
+pub returns : goal.returns
+returns c =
+    let pre = c.requires in
+    send_recorded _ _ _ _ _ _ _ pre.0.1 pre.1 pre.0.0
+    c.store.ensures
+    c.with_number_after-numbers.ensures c.push_back-pushed.ensures c.trim_backup_history.ensures

@@ -1,0 +1,13 @@
+-- `send_on` meets its contract.
+use Rattle.srt_group_backup.specs.Laws.OwnSend.{own_not_sent, own_sent}
+use Rattle.srt_group_backup.proofs.send.send_on.Goals as goal
+
+pub returns-in_default : goal.returns-in_default
+returns-in_default c = search own_not_sent
+
+pub write_sent-requires : goal.write_sent-requires
+write_sent-requires c =
+    c.requires.1
+
+pub returns : goal.returns
+returns c = search own_sent

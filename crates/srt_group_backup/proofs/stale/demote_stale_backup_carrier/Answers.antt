@@ -1,0 +1,49 @@
+-- `demote_stale_backup_carrier` meets its contract: each return is a law of Stale.antt.
+use mathlib.Core.Path.{sym, ◌∙◌}
+use native.Mathlib.Omega.{arith}
+use borrow.Author.Tests.{not-true, not-false}
+use Rattle.srt_group_model.specs.Members.{is_active}
+use Rattle.srt_group_members.specs.Laws.Scan.{found_row}
+use Rattle.srt_group_backup.specs.Laws.Stale.{trip_fits, none_active_none_demoted, no_standby_none_demoted, not_stale_none_demoted, stale_demoted}
+use Rattle.srt_group_backup.proofs.stale.demote_stale_backup_carrier.Goals as goal
+
+pub returns-in_default : goal.returns-in_default
+returns-in_default c = none_active_none_demoted _ _ _ (sym c.in_default.is ∙ c.first_active-found.ensures)
+
+pub returns-then-not-has_standby : goal.returns-then-not-has_standby
+returns-then-not-has_standby c =
+    no_standby_none_demoted _ _ _ _
+    (sym c.in-At.is ∙ c.first_active-found.ensures)
+    c.has_standby.ensures (not-true _ c.if-not-has_standby.true)
+
+pub leg_at-requires : goal.leg_at-requires
+leg_at-requires c =
+    omega
+    (arith, found_row is_active _ _ _ (sym c.in-At.is ∙ c.first_active-found.ensures))
+
+pub is_stale-requires : goal.is_stale-requires
+is_stale-requires c =
+    trip_fits _ _ _
+    (found_row is_active _ _ _ (sym c.in-At.is ∙ c.first_active-found.ensures))
+    c.requires.1 c.leg_at.ensures
+
+pub returns-then-not-is_stale : goal.returns-then-not-is_stale
+returns-then-not-is_stale c =
+    not_stale_none_demoted _ _ _ _
+    (sym c.in-At.is ∙ c.first_active-found.ensures)
+    c.leg_at.ensures c.is_stale.ensures (not-true _ c.if-not-is_stale.true)
+
+pub turn_at-requires : goal.turn_at-requires
+turn_at-requires c =
+    omega
+    (arith, found_row is_active _ _ _ (sym c.in-At.is ∙ c.first_active-found.ensures))
+
+pub returns : goal.returns
+returns c =
+    stale_demoted _ _ _ _
+    (sym c.in-At.is ∙ c.first_active-found.ensures)
+    c.has_standby.ensures
+    (not-false _ c.if-not-has_standby.false)
+    c.leg_at.ensures
+    c.is_stale.ensures
+    (not-false _ c.if-not-is_stale.false) c.turn_at.ensures

@@ -1,0 +1,50 @@
+-- `take_over_backup_flight` meets its contract: each return is one of the three cases of a take-over.
+use native.Mathlib.Omega.{arith}
+use borrow.Author.Tests.{not-true, not-false}
+use Rattle.srt_group_backup.specs.Laws.TakeOver.{no_take_over, took_over_nothing, took_over_flight}
+use borrow.Author.Rules.{rules}
+use Rattle.srt_group_tables.specs.Ring.{arrays}
+use Rattle.srt_group_backup.proofs.takeover.take_over_backup_flight.Goals as goal
+
+pub returns-then-not-takes_over : goal.returns-then-not-takes_over
+returns-then-not-takes_over c = search (no_take_over, not-true)
+
+pub trim_by_carrier-trimmed-requires : goal.trim_by_carrier-trimmed-requires
+trim_by_carrier-trimmed-requires c = ((search rules, search rules), search rules)
+
+pub align_carrier-outcome-requires-then-left-eq0 : goal.align_carrier-outcome-requires-then-left-eq0
+align_carrier-outcome-requires-then-left-eq0 c = c.requires.1.0.1
+
+pub returns-then-left-eq0 : goal.returns-then-left-eq0
+returns-then-left-eq0 c =
+    let args = c.args in
+    took_over_nothing _ _ _ _
+    c.requires.1.0.0
+    args.sending args.ring
+    (arrays args.history.now args.sources.now)
+    _ _
+    c.membership_at-membership.ensures
+    c.takes_over.ensures
+    (not-false _ c.if-not-takes_over.false)
+    c.trim_by_carrier-trimmed.ensures
+    c.if-left-eq0.true c.align_carrier-outcome-then-left-eq0.ensures
+
+pub replay_flight-flight-requires : goal.replay_flight-flight-requires
+replay_flight-flight-requires c =
+    let pre = c.requires in
+    ((c.trim_by_carrier-trimmed.ensures.fits, pre.0.1), (omega arith, pre.1.1))
+
+pub returns : goal.returns
+returns c =
+    let args = c.args in
+    took_over_flight _ _ _ _
+    c.requires.1.0.0
+    args.sending args.ring
+    (arrays args.history.now args.sources.now)
+    _ _
+    c.membership_at-membership.ensures
+    c.takes_over.ensures
+    (not-false _ c.if-not-takes_over.false)
+    c.trim_by_carrier-trimmed.ensures
+    c.if-left-eq0.false
+    c.replay_flight-flight.ensures

@@ -1,0 +1,26 @@
+-- `srt_group_valid_send` meets its contract: that of the form over the parts that the words show.
+use Rattle.srt_group_words.specs.Laws.Words.{parts_ready, performs_sent}
+use Rattle.srt_group_c_send.specs.Laws.Sends.{code_small}
+use Rattle.srt_group_words.specs.Words.{sent_words}
+use Rattle.srt_group_c_send.proofs.sends.srt_group_valid_send.Goals as goal
+
+pub read_identity-requires : goal.read_identity-requires
+read_identity-requires c = c.requires.0.long
+
+pub read_core-requires : goal.read_core-requires
+read_core-requires c = c.requires.0.long
+
+pub read_sending-requires : goal.read_sending-requires
+read_sending-requires c = c.requires.0.long
+
+pub read_ring-requires : goal.read_ring-requires
+read_ring-requires c = c.requires.0.long
+
+pub send-sent-requires : goal.send-sent-requires
+send-sent-requires c = (parts_ready _ c.read_identity.ensures c.read_core.ensures c.read_sending.ensures c.read_ring.ensures c.requires.0, c.requires.1.0)
+
+pub put_send-requires : goal.put_send-requires
+put_send-requires c = ((c.requires.0.long, c.requires.1.1), code_small c.send-sent.ensures)
+
+pub returns : goal.returns
+returns c = performs_sent _ c.read_identity.ensures c.read_core.ensures c.read_sending.ensures c.read_ring.ensures _ _ _ c.requires.0.long _ _ _ sent_words _ _ _ _ _ _ c.send-sent.ensures.rows c.send-sent.ensures.performs c.put_send.ensures

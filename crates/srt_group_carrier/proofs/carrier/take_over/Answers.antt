@@ -1,0 +1,12 @@
+-- `take_over` meets its contract: the take-over leaves the end of the history.
+use Rattle.srt_group_carrier.specs.Laws.Prepared.{taken_follows}
+use Rattle.srt_group_carrier.proofs.carrier.take_over.Goals as goal
+
+pub free_dropped-requires : goal.free_dropped-requires
+free_dropped-requires c =
+    ((c.requires.0.lent.fits, c.take_over_backup_flight-taken.ensures.fits), (c.requires.0.lent.arrays_long.history, c.requires.0.lent.used_long))
+
+pub returns : goal.returns
+returns c =
+    let took = c.take_over_backup_flight-taken.ensures in
+    (took, taken_follows _ _ took c.free_dropped.ensures)

@@ -1,0 +1,29 @@
+-- `send_after_promotion` meets its contract: 27 with no active member, or what the promoted one gives.
+use mathlib.Core.Path.{sym, ◌∙◌}
+use native.Mathlib.Omega.{arith}
+use Rattle.srt_group_model.specs.Members.{is_active}
+use Rattle.srt_group_members.specs.Laws.Scan.{found_row}
+use Rattle.srt_group_carrier.specs.Laws.Flows.{lendable_with, none_promoted, promoted_flows}
+use Rattle.srt_group_carrier.proofs.promotion.send_after_promotion.Goals as goal
+
+pub first_active-found-requires : goal.first_active-found-requires
+first_active-found-requires c =
+    omega (arith, c.requires.0.lent.rows, c.promote_after_failure.ensures.long)
+
+pub returns-in_default : goal.returns-in_default
+returns-in_default c =
+    none_promoted _ _ _ _ _ _ _ _ _ _ _ c.promote_after_failure.ensures (sym c.in_default.is ∙ c.first_active-found.ensures) c.requires.0.lent (omega (arith, c.requires.1.0))
+
+pub send_on_promoted-requires : goal.send_on_promoted-requires
+send_on_promoted-requires c =
+    let found = sym c.in-At.is ∙ c.first_active-found.ensures in
+    (record { below = found_row is_active _ _ _ found; lent = lendable_with _ c.requires.0.lent c.promote_after_failure.ensures.long }, c.requires.1)
+
+pub shape_of-members : goal.shape_of-members
+shape_of-members c =
+    omega (arith, c.send_on_promoted.auto, c.promote_after_failure.auto)
+
+pub returns : goal.returns
+returns c =
+    let found = sym c.in-At.is ∙ c.first_active-found.ensures in
+    promoted_flows _ _ _ _ _ _ _ _ _ _ _ c.promote_after_failure.ensures _ found c.send_on_promoted.ensures

@@ -1,0 +1,17 @@
+-- `remember_send` meets its contract: room is made, the cell taken, the entry recorded, and what is trimmed freed.
+use mathlib.Core.Path.{ap}
+use native.Mathlib.Omega.{arith}
+use Rattle.srt_group_tables.specs.declared.history.HistoryRing.{HistoryRing}
+use Rattle.srt_group_tables.specs.Laws.Ring.{push_fits}
+use Rattle.srt_group_carrier.specs.Laws.Recording.{recorded_long, send_remembered}
+use Rattle.srt_group_carrier.proofs.recording.remember_send.Goals as goal
+
+pub free_dropped-requires-2 : goal.free_dropped-requires-2
+free_dropped-requires-2 c =
+    let fits = push_fits c.args.ring c.requires.0.0 in
+    ((omega (arith, fits, ap (λ (q : HistoryRing). q.length) c.push_back-pushed.ensures), c.record_backup_send-kept.ensures.fits), ((recorded_long c.requires.0.1 c.record_backup_send-kept.ensures).history, c.take.ensures.long))
+
+pub returns : goal.returns
+returns c =
+    let recorded = c.record_backup_send-kept.ensures in
+    (recorded, send_remembered _ _ _ _ _ _ _ c.requires.0.1 c.requires.1.0 c.requires.0.0 recorded _ c.push_back-pushed.ensures c.free_dropped.ensures c.take.ensures c.free_dropped-2.ensures)

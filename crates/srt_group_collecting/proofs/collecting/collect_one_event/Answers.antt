@@ -1,0 +1,17 @@
+-- `collect_one_event` meets its contract.
+use Rattle.srt_group_collecting.specs.Laws.Turn.{in_turn_inside}
+use Rattle.srt_group_collecting.specs.Laws.Visit.{collects_none, collects_one}
+use borrow.Author.Rules.{rules}
+use Rattle.srt_group_collecting.specs.Laws.Follows.{follows_same}
+use Rattle.srt_group_collecting.proofs.collecting.collect_one_event.Goals as goal
+
+pub returns-in_default : goal.returns-in_default
+returns-in_default c = (search collects_none, search follows_same)
+
+pub take_front-requires : goal.take_front-requires
+take_front-requires c = (search rules, ((search in_turn_inside, search rules), search rules))
+
+pub returns : goal.returns
+returns c =
+    let taken = c.take_front.ensures in
+    (collects_one _ _ _ _ _ (search) (search) _ _ _ _ _ c.in-At.is c.in_turn-found.ensures taken.0, taken.1)

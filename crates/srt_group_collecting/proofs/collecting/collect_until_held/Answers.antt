@@ -1,0 +1,42 @@
+-- `collect_until_held` meets its contract. The loop's invariant: what is left of the visits gives what all of them give (`Holding`).
+use Rattle.srt_group_collecting.specs.Laws.Gather.{holding_start, holding_on, holding_ended, holding_done}
+use borrow.Author.Rules.{rules}
+use native.Mathlib.Omega.{arith}
+use Rattle.srt_group_collecting.specs.Laws.Follows.{follows_same, follows_then}
+use Rattle.srt_group_model.specs.Laws.Flag.{zero_unset, other_set}
+use Rattle.srt_group_collecting.proofs.collecting.collect_until_held.Goals as goal
+
+pub loop-left-init : goal.loop-left-init
+loop-left-init c = (search holding_start, search follows_same)
+
+pub visit_until_held-visited-requires : goal.visit_until_held-visited-requires
+visit_until_held-visited-requires c = (search rules, search rules)
+
+pub shape_of-used-then-visited-eq0 : goal.shape_of-used-then-visited-eq0
+shape_of-used-then-visited-eq0 c = omega (arith, c.requires.1, c.loop-left.invariant.1.long, c.loop-left.invariant.0.members_long, c.loop-left.invariant.0.pending_long, c.loop-left.invariant.0.waiting_long, c.visit_until_held-visited.ensures.0.members_long, c.visit_until_held-visited.ensures.0.pending_long, c.visit_until_held-visited.ensures.0.waiting_long, c.visit_until_held-visited.ensures.1.long)
+
+pub returns-then-visited-eq0 : goal.returns-then-visited-eq0
+returns-then-visited-eq0 c =
+    let args = c.args in
+    let visit-until-held = c.visit_until_held-visited in (
+      holding_ended args.core args.budget args.members.now args.pending.now args.waiting.now _ _ visit-until-held.result _ _ _ _ _ _
+          c.loop-left-test.true c.loop-left.invariant.0 visit-until-held.ensures.0 (zero_unset visit-until-held.result.more c.if-visited-eq0.true),
+      follows_then c.loop-left.invariant.1 visit-until-held.ensures.1,
+    )
+
+pub loop-left-preserved : goal.loop-left-preserved
+loop-left-preserved c =
+    let args = c.args in
+    let visit-until-held = c.visit_until_held-visited in (
+      holding_on args.core args.budget args.members.now args.pending.now args.waiting.now _ _ visit-until-held.result _ _ _ _ _ _
+          c.loop-left-test.true c.loop-left.invariant.0 visit-until-held.ensures.0 (other_set visit-until-held.result.more c.if-visited-eq0.false),
+      follows_then c.loop-left.invariant.1 visit-until-held.ensures.1,
+    )
+
+pub returns : goal.returns
+returns c =
+    let args = c.args in (
+      holding_done args.core args.budget args.members.now args.pending.now args.waiting.now _ c.loop-left.visited _ _ _
+          c.loop-left-test.false c.loop-left.invariant.0,
+      c.loop-left.invariant.1,
+    )

@@ -1,0 +1,14 @@
+-- `release_covered` meets its contract: the packets beyond the wrap are released, then those from the base on.
+use Rattle.srt_group_delivery.specs.Laws.Delivery.{rows_kept, released_then}
+use Rattle.srt_group_delivery.specs.Laws.UsedByDelivery.{freed_packets}
+use borrow.Author.Rules.{rules}
+use Rattle.srt_group_delivery.proofs.delivery.release_covered.Goals as goal
+
+pub release_range-requires : goal.release_range-requires
+release_range-requires c = (search rows_kept, (search rules, search rules))
+
+pub returns : goal.returns
+returns c =
+    let low = c.release_range-begun.ensures in
+    let high = c.release_range.ensures in
+    (released_then low.0 high.0, freed_packets _ _ low.1 high.1)

@@ -1,0 +1,7 @@
+-- `release_held` meets its contract: what is released and freed is the packet at the place.
+use Rattle.srt_group_delivery.specs.Laws.Delivery.{that_released}
+use Rattle.srt_group_delivery.specs.Laws.UsedByDelivery.{that_freed}
+use Rattle.srt_group_delivery.proofs.delivery.release_held.Goals as goal
+
+pub returns : goal.returns
+returns c = search (that_released, that_freed)

@@ -1,0 +1,24 @@
+-- `poll_event` meets its contract: 5 and 6, and then the form for a valid state.
+use Rattle.srt_group_shown.specs.Tables.{tables}
+use Rattle.srt_group.specs.Made.{parts_of}
+use Rattle.srt_group_refusals.specs.Laws.Polled.{event_poll_refused, event_poll_performed}
+use Rattle.srt_group_event_poll.proofs.calls.poll_event.Goals as goal
+
+pub returns-in-Refused : goal.returns-in-Refused
+returns-in-Refused c =
+    let a = c.args in
+    event_poll_refused a.time.0 (parts_of a.group)
+    (tables a.members.now a.pending.now a.waiting.now a.history.now a.sources.now) a.store.now a.output.now
+    c.begin_poll-begun.ensures _ c.in-Refused.is
+
+pub poll_event-poll-requires : goal.poll_event-poll-requires
+poll_event-poll-requires c =
+    let accepted = c.in_default.is in
+    let begun = c.begin_poll-begun.ensures in (begun.ready accepted, begun.room accepted)
+
+pub returns : goal.returns
+returns c =
+    let a = c.args in
+    event_poll_performed a.time.0 (parts_of a.group)
+    (tables a.members.now a.pending.now a.waiting.now a.history.now a.sources.now) a.store.now a.output.now
+    c.begin_poll-begun.ensures c.in_default.is c.poll_event-poll.ensures

@@ -1,0 +1,12 @@
+-- `send` meets its contract.
+use Rattle.srt_group_listing.specs.Laws.Telling.{tells_send}
+use mathlib.Core.Path.{refl}
+use borrow.Author.Rules.{rules}
+use Rattle.srt_group_listing_packets.proofs.packets.send.Goals as goal
+
+pub send-sent-requires : goal.send-sent-requires
+send-sent-requires c = (search rules, search rules)
+
+pub returns : goal.returns
+returns c =
+    tells_send c.args.line.now c.requires.1.0 (search rules) refl c.sent_line.ensures c.send-sent.ensures

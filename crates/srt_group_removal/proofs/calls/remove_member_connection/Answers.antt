@@ -1,0 +1,48 @@
+-- `remove_member_connection` meets its contract: 5 for the row, 5, 6, and then what follows them.
+use mathlib.Core.Path.{refl}
+use native.Mathlib.Omega.{arith}
+use borrow.Author.Rules.{rules}
+use Rattle.srt_group_model.specs.Lent.{call_remove_member_connection}
+use Rattle.srt_group_shown.specs.Tables.{tables}
+use Rattle.srt_group.specs.Made.{parts_of}
+use Rattle.srt_group_refusals.specs.Laws.Begins.{begun_unbroken}
+use Rattle.srt_group_refusals.specs.Laws.Promised.{row_refused}
+use Rattle.srt_group_removal.specs.Laws.Connection.{any_removable}
+use Rattle.srt_group_removal.specs.Laws.Calls.{removal_refused, removal_promised}
+use Rattle.srt_group_removal.proofs.calls.remove_member_connection.Goals as goal
+
+pub returns-then-row-lt-ROW : goal.returns-then-row-lt-ROW
+returns-then-row-lt-ROW c =
+    let a = c.args in (
+      row_refused (call_remove_member_connection a.id) (parts_of a.group)
+          (tables a.members.now a.pending.now a.waiting.now a.history.now a.sources.now) a.row.now c.if-row-lt-ROW.true,
+      refl,
+    )
+
+pub returns-in-Refused : goal.returns-in-Refused
+returns-in-Refused c =
+    let a = c.args in (
+      removal_refused a.id (parts_of a.group)
+          (tables a.members.now a.pending.now a.waiting.now a.history.now a.sources.now) a.row.now c.if-row-lt-ROW.false
+          c.begin-begun.ensures _ c.in-Refused.is,
+      refl,
+    )
+
+pub remove_named-removed-requires : goal.remove_named-removed-requires
+remove_named-removed-requires c =
+    let a = c.args in (
+      any_removable
+          (begun_unbroken (parts_of a.group)
+          (tables a.members.now a.pending.now a.waiting.now a.history.now a.sources.now) c.begin-begun.ensures c.in_default.is),
+      (omega (arith, c.if-row-lt-ROW.false), search rules),
+    )
+
+pub returns : goal.returns
+returns c =
+    let a = c.args in
+    let removes = c.remove_named-removed.ensures in (
+      removal_promised a.id (parts_of a.group)
+          (tables a.members.now a.pending.now a.waiting.now a.history.now a.sources.now) a.row.now c.if-row-lt-ROW.false
+          c.begin-begun.ensures c.in_default.is c.remove_named-removed.result _ _ _ removes.0,
+      removes.1.0,
+    )

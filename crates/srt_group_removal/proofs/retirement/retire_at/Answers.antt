@@ -1,0 +1,8 @@
+-- `retire_at` meets its contract: what is removed at the place is what the definition takes out by its sequence.
+use Rattle.srt_group_removal.specs.Laws.Retire.{retired_one, retired_and_freed}
+use Rattle.srt_group_removal.proofs.retirement.retire_at.Goals as goal
+
+pub returns : goal.returns
+returns c =
+    retired_and_freed _ _ _ c.requires.0 c.requires.1.0 (search retired_one) c.packet-packet.ensures
+    c.free.ensures

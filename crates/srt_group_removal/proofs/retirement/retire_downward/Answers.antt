@@ -1,0 +1,26 @@
+-- `retire_downward` meets its contract. The loop's invariant: bounding from here on gives what bounding all gives, and from `left` on no packet is
+-- reached (`Downward`).
+use native.Mathlib.Omega.{arith}
+use Rattle.srt_group_removal.specs.Laws.Retire.{downward_start, downward_within, downward_done, downward_skip, downward_retire, held_follows_same, held_follows_then}
+use Rattle.srt_group_removal.proofs.retirement.retire_downward.Goals as goal
+
+pub loop-left-init : goal.loop-left-init
+loop-left-init c = (downward_start _ _ _ _ _ c.requires.0 c.requires.1.1, search held_follows_same)
+
+pub returns-then-core-limit : goal.returns-then-core-limit
+returns-then-core-limit c = (downward_within c.loop-left.invariant.0 c.if-core-limit.true, c.loop-left.invariant.1)
+
+pub packet-packet-requires : goal.packet-packet-requires
+packet-packet-requires c = (omega (arith, c.loop-left.invariant.0.bounding.held.pending_long), omega (arith, c.loop-left.invariant.0.within, c.loop-left.invariant.0.bounding.held.held_few))
+
+pub retire_at-core-requires : goal.retire_at-core-requires
+retire_at-core-requires c = (c.loop-left.invariant.0.bounding.held, (omega (arith, c.loop-left.invariant.0.within), c.loop-left.invariant.1.used_long))
+
+pub loop-left-preserved-then-is_reached : goal.loop-left-preserved-then-is_reached
+loop-left-preserved-then-is_reached c = (downward_retire c.loop-left.invariant.0 c.loop-left-test.true _ c.packet-packet.ensures _ c.is_reached.ensures c.if-is_reached.true c.if-core-limit.false _ _ c.retire_at-core.ensures.0, held_follows_then c.loop-left.invariant.1 c.retire_at-core.ensures.1)
+
+pub loop-left-preserved : goal.loop-left-preserved
+loop-left-preserved c = (downward_skip c.loop-left.invariant.0 c.loop-left-test.true _ c.packet-packet.ensures _ c.is_reached.ensures c.if-is_reached.false, c.loop-left.invariant.1)
+
+pub returns : goal.returns
+returns c = (downward_done c.loop-left.invariant.0 (omega arith), c.loop-left.invariant.1)

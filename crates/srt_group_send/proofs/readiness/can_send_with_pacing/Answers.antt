@@ -1,0 +1,32 @@
+-- `can_send_with_pacing` meets its contract: the mode decides.
+use mathlib.Core.Path.{ap}
+use native.Mathlib.Omega.{arith}
+use Rattle.srt_group_model.specs.declared.Counts.{Counts}
+use Rattle.srt_group_send.specs.Laws.Readiness.{members_refreshed, backup_with_pacing, broadcast_with_pacing}
+use Rattle.srt_group_send.proofs.readiness.can_send_with_pacing.Goals as goal
+
+pub refresh_states-after-requires : goal.refresh_states-after-requires
+refresh_states-after-requires c = c.requires.rows
+
+pub ready_members-requires : goal.ready_members-requires
+ready_members-requires c =
+    let refreshes = c.refresh_states-after.ensures in
+    (omega (arith, c.requires.rows, refreshes.members_long, ap (λ (k : Counts). k.members) refreshes.counts_same), members_refreshed _ _ _ _ _ c.args.used.now _ _ refreshes c.requires)
+
+pub trim_and_test-requires : goal.trim_and_test-requires
+trim_and_test-requires c =
+    let refreshes = c.refresh_states-after.ensures in
+    ((c.requires.fits, c.requires.history_long), (omega (arith, c.requires.rows, c.ready_members.ensures.long, refreshes.members_long, ap (λ (k : Counts). k.members) refreshes.counts_same), c.requires.used_long))
+
+pub returns-then-is_backup : goal.returns-then-is_backup
+returns-then-is_backup c =
+    backup_with_pacing _ _ _ _ _ _ _ _ c.refresh_states-after.ensures _ (omega (arith, c.well_formed)) c.is_backup.ensures c.if-is_backup.true c.ready_members.ensures c.trim_and_test.ensures
+
+pub broadcast_send_ready-ready-requires : goal.broadcast_send_ready-ready-requires
+broadcast_send_ready-ready-requires c =
+    let refreshes = c.refresh_states-after.ensures in
+    omega (arith, c.requires.rows, refreshes.members_long, ap (λ (k : Counts). k.members) refreshes.counts_same)
+
+pub returns : goal.returns
+returns c =
+    broadcast_with_pacing _ _ _ _ _ _ _ _ c.refresh_states-after.ensures _ (omega (arith, c.well_formed)) c.is_backup.ensures c.if-is_backup.false c.broadcast_send_ready-ready.ensures

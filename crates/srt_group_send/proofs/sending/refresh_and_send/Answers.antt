@@ -1,0 +1,23 @@
+-- `refresh_and_send` meets its contract: 23, or the send of the mode.
+use Rattle.srt_group_send.specs.Laws.Sends.{numbers_refreshed, lendable_refreshed, few_refreshed, limit_made, mode_made}
+use Rattle.srt_group_send.proofs.sending.refresh_and_send.Goals as goal
+
+pub refresh_states-after-requires : goal.refresh_states-after-requires
+refresh_states-after-requires c = c.requires.0.rows
+
+pub above_limit-requires : goal.above_limit-requires
+above_limit-requires c =
+    (lendable_refreshed _ _ _ _ _ _ c.refresh_states-after.ensures c.requires.0).rows
+
+pub returns-then-above_limit : goal.returns-then-above_limit
+returns-then-above_limit c =
+    limit_made _ _ _ _ _ _ c.refresh_states-after.ensures _ _ _ c.above_limit.ensures c.if-above_limit.true c.requires.0
+
+pub send_mode-sent-requires : goal.send_mode-sent-requires
+send_mode-sent-requires c =
+    let refreshes = c.refresh_states-after.ensures in
+    (lendable_refreshed _ _ _ _ _ _ refreshes c.requires.0, (numbers_refreshed _ _ _ _ _ _ refreshes c.requires.1.0, (few_refreshed refreshes c.requires.1.1.0, c.requires.1.1.1)))
+
+pub returns : goal.returns
+returns c =
+    mode_made _ _ _ _ _ _ c.refresh_states-after.ensures _ _ _ c.above_limit.ensures _ _ c.if-above_limit.false c.send_mode-sent.ensures c.number-code.ensures c.legs_sent.ensures

@@ -1,0 +1,26 @@
+-- `can_send` meets its contract: 5 and 6, and then what follows them.
+use borrow.Author.Rules.{rules}
+use Rattle.srt_group_model.specs.Lent.{call_can_send}
+use Rattle.srt_group_send_calls.specs.Laws.Readiness.{can_send_refused, can_test, tested}
+use Rattle.srt_group_send_calls.proofs.calls.can_send.Goals as goal
+
+pub returns-in-Refused : goal.returns-in-Refused
+returns-in-Refused c =
+    let a = c.args in
+    can_send_refused a.group.identity a.group.core a.group.sending a.group.ring
+    a.members.now a.pending.now a.waiting.now a.history.now a.sources.now
+    c.begin-begun.ensures _ c.in-Refused.is
+
+pub can_send-tested-requires : goal.can_send-tested-requires
+can_send-tested-requires c =
+    let a = c.args in
+    can_test a.group.identity a.group.core a.group.sending a.group.ring
+    a.members.now a.pending.now a.waiting.now a.history.now a.sources.now
+    c.begin-begun.ensures c.in_default.is (search rules)
+
+pub returns : goal.returns
+returns c =
+    let a = c.args in
+    tested a.group.identity a.group.core a.group.sending a.group.ring
+    a.members.now a.pending.now a.waiting.now a.history.now a.sources.now
+    c.begin-begun.ensures c.in_default.is call_can_send c.can_send-tested.ensures

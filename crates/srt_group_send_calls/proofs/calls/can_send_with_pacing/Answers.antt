@@ -1,0 +1,26 @@
+-- `can_send_with_pacing` meets its contract: 5 and 6, and then what follows them.
+use borrow.Author.Rules.{rules}
+use Rattle.srt_group_model.specs.Lent.{call_can_send_with_pacing}
+use Rattle.srt_group_send_calls.specs.Laws.Readiness.{with_pacing_refused, can_test, tested}
+use Rattle.srt_group_send_calls.proofs.calls.can_send_with_pacing.Goals as goal
+
+pub returns-in-Refused : goal.returns-in-Refused
+returns-in-Refused c =
+    let a = c.args in
+    with_pacing_refused a.group.identity a.group.core a.group.sending a.group.ring
+    a.members.now a.pending.now a.waiting.now a.history.now a.sources.now
+    c.begin-begun.ensures a.time.0 _ c.in-Refused.is
+
+pub can_send_with_pacing-told-requires : goal.can_send_with_pacing-told-requires
+can_send_with_pacing-told-requires c =
+    let a = c.args in
+    can_test a.group.identity a.group.core a.group.sending a.group.ring
+    a.members.now a.pending.now a.waiting.now a.history.now a.sources.now
+    c.begin-begun.ensures c.in_default.is (search rules)
+
+pub returns : goal.returns
+returns c =
+    let a = c.args in
+    tested a.group.identity a.group.core a.group.sending a.group.ring
+    a.members.now a.pending.now a.waiting.now a.history.now a.sources.now
+    c.begin-begun.ensures c.in_default.is (call_can_send_with_pacing a.time.0) c.can_send_with_pacing-told.ensures

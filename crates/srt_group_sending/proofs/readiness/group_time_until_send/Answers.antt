@@ -1,0 +1,16 @@
+-- `group_time_until_send` meets its contract. The loop's invariant: `least` is the least wait of the members from `left`
+-- on.
+use Rattle.srt_group_sending.specs.Laws.Readiness.{least_start, least_on, wait_none, wait_least}
+use Rattle.srt_group_sending.proofs.readiness.group_time_until_send.Goals as goal
+
+pub loop-left-init : goal.loop-left-init
+loop-left-init c = least_start _ _ _
+
+pub loop-left-preserved : goal.loop-left-preserved
+loop-left-preserved c = search least_on
+
+pub returns-in_default : goal.returns-in_default
+returns-in_default c = search wait_none
+
+pub returns : goal.returns
+returns c = search wait_least

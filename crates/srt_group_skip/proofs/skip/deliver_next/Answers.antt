@@ -1,0 +1,15 @@
+-- `deliver_next` meets its contract: the base is set, or the nearest packet sets it.
+use Rattle.srt_group_skip.specs.Laws.Skip.{next_at_base, next_nearest}
+use Rattle.srt_group_delivery.specs.Laws.Delivery.{deliverable}
+use Rattle.srt_group_skip.proofs.skip.deliver_next.Goals as goal
+
+pub returns-then-core-ne0 : goal.returns-then-core-ne0
+returns-then-core-ne0 c = search next_at_base
+
+pub deliver_nearest-requires : goal.deliver_nearest-requires
+deliver_nearest-requires c = search deliverable
+
+pub returns : goal.returns
+returns c =
+    let delivered = c.deliver_nearest.ensures in
+    (next_nearest _ _ _ _ _ _ _ _ _ (search) (search) (delivered.0 _), delivered.1)

@@ -1,0 +1,27 @@
+-- `skip_after` meets its contract: an event waits, the queues ended empty, or not.
+use Rattle.srt_group_delivery.specs.Laws.Delivery.{deliverable}
+use Rattle.srt_group_skip.specs.Laws.Skip.{event_first, skipped_if_empty, stays_if_not_empty}
+use Rattle.srt_group_skip.specs.Laws.SkipUsed.{follows_given}
+use Rattle.srt_group_model.specs.Laws.Flag.{zero_unset, other_set}
+use Rattle.srt_group_skip.proofs.skip.skip_after.Goals as goal
+
+pub returns-then-core-gt0 : goal.returns-then-core-gt0
+returns-then-core-gt0 c =
+    let given = c.give_waiting.ensures in
+    (λ tested time. event_first _ _ _ _ _ _ _ _ _ _ tested time (search) (given _ _), follows_given _ _ _ _ _ _ _ (search) (given _ _))
+
+pub skip_to_nearest-requires : goal.skip_to_nearest-requires
+skip_to_nearest-requires c = search deliverable
+
+pub returns-then-collected-ne0 : goal.returns-then-collected-ne0
+returns-then-collected-ne0 c =
+    let skipped = c.skip_to_nearest.ensures in
+    (λ tested time. skipped_if_empty _ _ _ _ _ _ _ _ _ _ tested time (search) (search other_set) (skipped.0 _ tested time), skipped.1)
+
+pub deliver-requires : goal.deliver-requires
+deliver-requires c = search deliverable
+
+pub returns : goal.returns
+returns c =
+    let delivered = c.deliver.ensures in
+    (λ tested time. stays_if_not_empty _ _ _ _ _ _ _ _ _ _ tested time (search) (search zero_unset) (delivered.0 _), delivered.1)
