@@ -3,7 +3,7 @@ use Rattle.std.specs.Prelude.{◌≡◌, refl, Bool, true, false, ◌||◌, List
 use Rattle.std.proofs.Common.{sym, ◌∙◌, ne_eqb}
 use Rattle.std.proofs.Math.Option.{none}
 use Rattle.srt_group_model.specs.Tools.{first_such, All}
-use Rattle.srt_group_model.specs.Laws.Reason.{if_false}
+use Rattle.srt_group_model.specs.Laws.Reason.{when_false}
 use Rattle.srt_group_model.specs.Legs.{readings, reading_of}
 
 -- ---- laws
@@ -15,7 +15,7 @@ or_false false = refl
 none_such : {A : Type 0} (test : A → Bool) (l : List A) → All (λ x. test x ≡ false) l → first_such test l ≡ none
 unfolding first_such
 none_such test [] h = refl
-none_such test (x ∷ l) h = if_false (test x) _ _ h.0 ∙ none_such test l h.1
+none_such test (x ∷ l) h = when_false (test x) _ _ h.0 ∙ none_such test l h.1
 
 -- there are twelve fields
 pub unknown_field : (n : ℕ) → (n ≡ 1 → ⊥) → (n ≡ 2 → ⊥) → (n ≡ 3 → ⊥) → (n ≡ 4 → ⊥) → (n ≡ 5 → ⊥) → (n ≡ 6 → ⊥) → (n ≡ 7 → ⊥)

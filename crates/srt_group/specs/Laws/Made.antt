@@ -7,7 +7,7 @@ use Rattle.srt_protocol.specs.declared.error.Error.{Error}
 use Rattle.srt_protocol.specs.declared.error.Error.TheVariants.{OutOfRange, MissingGroupMask}
 use Rattle.srt_protocol.specs.Errors.{error_number}
 use Rattle.srt_group_model.specs.Tools.{if_true◌then◌else◌, any}
-use Rattle.srt_group_model.specs.Laws.Reason.{if_true, if_false, or_no}
+use Rattle.srt_group_model.specs.Laws.Reason.{when_true, when_false, or_no}
 use Rattle.srt_group_model.specs.State.{Making}
 use Rattle.srt_group_model.specs.Legs.{largest_32}
 use Rattle.srt_group_model.specs.Validity.{above, any_above, making_words}
@@ -28,7 +28,7 @@ module _ (making : Making) where
         holds =
             λ t bytes s i.
             record {
-              state = sym (if_false (eqb (new_code making) 0) (new making) s (ap (λ (n : ℕ). eqb n 0) is ∙ other)) i;
+              state = sym (when_false (eqb (new_code making) 0) (new making) s (ap (λ (n : ℕ). eqb n 0) is ∙ other)) i;
               lent = bytes;
               code = sym is i;
               answer = no_answer;
@@ -41,26 +41,26 @@ module _ (making : Making) where
     unfolding new_code
     new_unfit is =
         refused_by OutOfRange
-        (if_true (any_above (making_words making)) 2 (if_true has_group_mask making.id then 0 else 1) (words_are ∙ sym tested ∙ is)) refl
+        (when_true (any_above (making_words making)) 2 (if_true has_group_mask making.id then 0 else 1) (words_are ∙ sym tested ∙ is)) refl
 
     module _ (fits : unfit ≡ false) {marked : Bool} (looked : marked ≡ has_group_mask making.id) where
       passed : new_code making ≡ (if_true marked then 0 else 1)
       unfolding new_code
       passed =
-          if_false (any_above (making_words making)) 2 (if_true has_group_mask making.id then 0 else 1) (words_are ∙ sym tested ∙ fits)
+          when_false (any_above (making_words making)) 2 (if_true has_group_mask making.id then 0 else 1) (words_are ∙ sym tested ∙ fits)
           ∙ ap (λ (b : Bool). if_true b then 0 else 1) (sym looked)
 
       pub new_unmarked : marked ≡ false → PromisedNew making (Refused MissingGroupMask)
-      new_unmarked is = refused_by MissingGroupMask (passed ∙ if_false marked 0 1 is) refl
+      new_unmarked is = refused_by MissingGroupMask (passed ∙ when_false marked 0 1 is) refl
 
       pub new_made : marked ≡ true → (g : Group) → Fresh g (new making) → PromisedNew making (Made g)
       new_made is g fresh =
-          let accepted : new_code making ≡ 0 = passed ∙ if_true marked 0 1 is in
+          let accepted : new_code making ≡ 0 = passed ∙ when_true marked 0 1 is in
           record {
             holds =
                 λ t bytes s i.
                 record {
-                  state = (fresh.shows t ∙ sym (if_true (eqb (new_code making) 0) (new making) s (ap (λ (n : ℕ). eqb n 0) accepted))) i;
+                  state = (fresh.shows t ∙ sym (when_true (eqb (new_code making) 0) (new making) s (ap (λ (n : ℕ). eqb n 0) accepted))) i;
                   lent = bytes;
                   code = sym accepted i;
                   answer = no_answer;

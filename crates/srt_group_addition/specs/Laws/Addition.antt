@@ -7,7 +7,7 @@ use Rattle.std.proofs.Math.Option.{Option, none, some}
 use Rattle.srt_protocol.specs.declared.error.Error.TheVariants.{AlignmentFailed}
 use Rattle.srt_protocol.specs.declared.error.Outcome.TheVariants.{Accepted, Refused}
 use Rattle.srt_group_model.specs.Tools.{if_true◌then◌else◌, if_some◌give◌otherwise◌, is_set, flagged}
-use Rattle.srt_group_model.specs.Laws.Reason.{if_true, if_false}
+use Rattle.srt_group_model.specs.Laws.Reason.{when_true, when_false}
 use Rattle.srt_group_model.specs.State.{Member, State, next_send_sequence, with_members, with_peer}
 use Rattle.srt_group_model.specs.Core.{with_peer_group, with_member_count}
 use Rattle.srt_group_model.specs.Legs.{handed}
@@ -158,7 +158,7 @@ module _ (id weight : ℕ) (l : Leg) (core : Core) (sending : Sending) (ms : Lis
 
     not_aligned : (x.admitted ≡ 1 → ⊥) → Left (add_body id weight l before) 0 no_answer (shown after others u ps ws)
     not_aligned other =
-        left_by (ended added 0) (body_is ∙ if_false _ _ _ (ap (λ (k : ℕ). eqb k 1) (sym admitted_is) ∙ ne_eqb x.admitted 1 other))
+        left_by (ended added 0) (body_is ∙ when_false _ _ _ (ap (λ (k : ℕ). eqb k 1) (sym admitted_is) ∙ ne_eqb x.admitted 1 other))
         record { code = refl; answer = refl; state = joining.state others ps ws; put = refl; sends = refl }
 
     rows_are : added.members ≡ members_of (count + 1) u
@@ -173,7 +173,7 @@ module _ (id weight : ℕ) (l : Leg) (core : Core) (sending : Sending) (ms : Lis
         ∙ ap (align_member_sequence (flagged (is_set sending.numbered) sending.next) count) rows_are)
 
     starts_aligning : x.admitted ≡ 1 → add_body id weight l before ≡ aligned aligning
-    starts_aligning one = body_is ∙ if_true _ _ _ (ap (λ (k : ℕ). eqb k 1) (sym admitted_is) ∙ eq-eqb x.admitted 1 one)
+    starts_aligning one = body_is ∙ when_true _ _ _ (ap (λ (k : ℕ). eqb k 1) (sym admitted_is) ∙ eq-eqb x.admitted 1 one)
 
     -- the members after it, as they are shown
     shows_rows : (v : List ℕ) (ns : List Member) → members_of (count + 1) v ≡ ns → with_members ns added ≡ shown after others v ps ws

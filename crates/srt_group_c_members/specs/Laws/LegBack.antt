@@ -7,7 +7,7 @@ use Rattle.srt_protocol.specs.declared.error.Outcome.{Outcome}
 use Rattle.srt_protocol.specs.declared.error.Outcome.TheVariants.{Accepted, Refused}
 use Rattle.srt_protocol.specs.Errors.{error_number, outcome_number}
 use Rattle.srt_group_model.specs.Tools.{if_true◌then◌else◌}
-use Rattle.srt_group_model.specs.Laws.Reason.{if_false}
+use Rattle.srt_group_model.specs.Laws.Reason.{when_false}
 use Rattle.srt_group_model.specs.Guards.{no_answer, leg_back}
 use Rattle.srt_group_model.specs.Lent.{Lent, call_remove_member_connection}
 use Rattle.srt_group_shown.specs.Tables.{Tables}
@@ -43,7 +43,7 @@ not_zero OutOfTurn = refl
 leg_by_number : (o : Outcome) (row : List ℕ) → given_back o row ≡ leg_given (outcome_number o) row
 unfolding if_true◌then◌else◌
 leg_by_number Accepted row = refl
-leg_by_number (Refused e) row = sym (if_false (eqb (error_number e) 0) (leg_back (leg_in row)) no_answer (not_zero e))
+leg_by_number (Refused e) row = sym (when_false (eqb (error_number e) 0) (leg_back (leg_in row)) no_answer (not_zero e))
 
 row_by_number : (o : Outcome) (row row' : List ℕ) → RowAfter o row row' → RowBy (eqb (outcome_number o) 0) row row'
 row_by_number Accepted row row' after = after

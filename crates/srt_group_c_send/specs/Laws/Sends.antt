@@ -9,7 +9,7 @@ use Rattle.srt_protocol.specs.declared.error.Outcome.TheVariants.{Accepted, Refu
 use Rattle.srt_protocol.specs.Errors.{error_number, outcome_number}
 use Rattle.srt_protocol.specs.Cells.{overwritten}
 use Rattle.srt_group_model.specs.Tools.{if_true◌then◌else◌}
-use Rattle.srt_group_model.specs.Laws.Reason.{if_true, if_false, by_test}
+use Rattle.srt_group_model.specs.Laws.Reason.{when_true, when_false, by_test}
 use Rattle.srt_group_model.specs.Sending.{list_size}
 use Rattle.srt_group_model.specs.Guards.{no_answer, shown, number}
 use Rattle.srt_group_model.specs.Answers.{values_of, shown_values}

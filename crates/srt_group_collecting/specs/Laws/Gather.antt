@@ -7,7 +7,7 @@ use Rattle.word_rows.specs.Tab.{tab}
 use Rattle.srt_group_model.specs.declared.Core.{Core}
 use Rattle.srt_group_model.specs.Tools.{if_true◌then◌else◌, is_set, bit, is_empty}
 use Rattle.srt_group_model.specs.Laws.Flag.{other_set, set_is_not_zero, bit_set, set_bit}
-use Rattle.srt_group_model.specs.Laws.Reason.{or_yes_left, or_yes_right, if_true, if_false}
+use Rattle.srt_group_model.specs.Laws.Reason.{or_yes_left, or_yes_right, when_true, when_false}
 use Rattle.srt_group_model.specs.State.{State}
 use Rattle.srt_group_model.specs.Core.{continued}
 use Rattle.srt_group_model.specs.Nearest.{is_held}
@@ -290,7 +290,7 @@ module _ (core : Core) (budget : ℕ) (ms ps ws : List ℕ) where
           members_same = x.members_same ∙ h.members_same;
           usable = x.usable;
           marks = λ others log. x.marks others (h.marks others log);
-          is = λ others log. one_more others log ∙ if_true (is_set v'.more) _ _ goes;
+          is = λ others log. one_more others log ∙ when_true (is_set v'.more) _ _ goes;
         }
 
     pub holding_ended : is_set v'.more ≡ false
@@ -304,7 +304,7 @@ module _ (core : Core) (budget : ℕ) (ms ps ws : List ℕ) where
           usable = x.usable;
           run =
               λ others log.
-              let e = one_more others log ∙ if_false (is_set v'.more) _ _ stays in
+              let e = one_more others log ∙ when_false (is_set v'.more) _ _ stays in
               record { state = ap (λ (y : Run). y.state) e; budget = ap (λ (y : Run). y.budget) e };
         }
 

@@ -15,7 +15,7 @@ use Rattle.srt_group_model.specs.Guards.{number, Answer, no_answer, shown, data_
 use Rattle.srt_group_model.specs.Lent.{Lent, Call, call_add_member, call_queue_data, call_send, call_remove_member_connection, step_of, with_bytes, perform}
 use Rattle.srt_group_model.specs.Listing.{Line, column, leg_of_line, columns, refused_line, printed}
 use Rattle.srt_group_model.specs.Laws.Answers.{call_answers}
-use Rattle.srt_group_model.specs.Laws.Reason.{if_elim, if_true, if_false, by_test}
+use Rattle.srt_group_model.specs.Laws.Reason.{if_elim, when_true, when_false, by_test}
 use Rattle.srt_connection_queue.specs.Queue.{cleared}
 use Rattle.srt_connection_members.specs.Members.{member_at, HasRow, Changed}
 use Rattle.srt_group_shown.specs.Tables.{Tables, state_of}
@@ -73,9 +73,9 @@ unfolding columns
 prints_sent r s =
     by_test (eqb r.code 0)
     (λ e.
-    let accepted : sent_answer r ≡ shown (number r.legs) = if_true (eqb r.code 0) _ _ e in
-    if_true (eqb r.code 0) _ _ e ∙ ap (λ (a : Answer). 6 ∷ 0 ∷ columns a s) (sym accepted) ∙ sym (if_true (eqb r.code 0) _ _ e))
-    (λ e. if_false (eqb r.code 0) _ _ e ∙ sym (if_false (eqb r.code 0) _ _ e))
+    let accepted : sent_answer r ≡ shown (number r.legs) = when_true (eqb r.code 0) _ _ e in
+    when_true (eqb r.code 0) _ _ e ∙ ap (λ (a : Answer). 6 ∷ 0 ∷ columns a s) (sym accepted) ∙ sym (when_true (eqb r.code 0) _ _ e))
+    (λ e. when_false (eqb r.code 0) _ _ e ∙ sym (when_false (eqb r.code 0) _ _ e))
 
 -- ---- which calls look at no more of what they are lent than the store's length
 

@@ -10,7 +10,7 @@ use Rattle.srt_group_model.specs.Guards.{Step, refuse}
 use Rattle.srt_group_model.specs.Validity.{above}
 use Rattle.srt_group_model.specs.Lent.{Call, step_of}
 use Rattle.srt_group_model.specs.Listing.{Line, column, store_length, verbs, refused_line, printed, Told, tell_verb, tell}
-use Rattle.srt_group_model.specs.Laws.Reason.{if_true, if_false}
+use Rattle.srt_group_model.specs.Laws.Reason.{when_true, when_false}
 use Rattle.srt_group_shown.specs.Tables.{Tables, state_of}
 use Rattle.srt_group_shown.specs.Ready.{Ready}
 use Rattle.srt_group.specs.Made.{parts_of}
@@ -41,7 +41,7 @@ module _ (line : Line) (s : State) where
   unfolding tell verbs at_place if_some◌give◌otherwise◌ tell_verb step_of
   tell_4 byte =
       ap (λ (x : Step). record { group = some x.state; line = printed (column 0 line) x })
-      (if_false (above 255 (column 5 line)) (refuse 2 s) (asks store_length (queueing line) s) byte)
+      (when_false (above 255 (column 5 line)) (refuse 2 s) (asks store_length (queueing line) s) byte)
 
   tell_5 : tell 5 line (some s) ≡ told_of line (polling line) s
   unfolding tell verbs at_place if_some◌give◌otherwise◌ tell_verb step_of
@@ -51,7 +51,7 @@ module _ (line : Line) (s : State) where
   unfolding tell verbs at_place if_some◌give◌otherwise◌ tell_verb step_of
   tell_6 byte =
       ap (λ (x : Step). record { group = some x.state; line = printed (column 0 line) x })
-      (if_false (above 255 (column 1 line)) (refuse 2 s) (asks store_length (sending line) s) byte)
+      (when_false (above 255 (column 1 line)) (refuse 2 s) (asks store_length (sending line) s) byte)
 
   tell_7 : tell 7 line (some s) ≡ told_of line (removing line) s
   unfolding tell verbs at_place if_some◌give◌otherwise◌ tell_verb step_of
@@ -73,13 +73,13 @@ module _ (line : Line) (s : State) where
   unfolding tell verbs at_place if_some◌give◌otherwise◌ tell_verb printed if_true◌then◌else◌ step_of refused_2
   tell_4_refused byte =
       ap (λ (x : Step). record { group = some x.state; line = printed (column 0 line) x })
-      (if_true (above 255 (column 5 line)) (refuse 2 s) (asks store_length (queueing line) s) byte)
+      (when_true (above 255 (column 5 line)) (refuse 2 s) (asks store_length (queueing line) s) byte)
 
   tell_6_refused : above 255 (column 1 line) ≡ true → tell 6 line (some s) ≡ refused_2
   unfolding tell verbs at_place if_some◌give◌otherwise◌ tell_verb printed if_true◌then◌else◌ step_of refused_2
   tell_6_refused byte =
       ap (λ (x : Step). record { group = some x.state; line = printed (column 0 line) x })
-      (if_true (above 255 (column 1 line)) (refuse 2 s) (asks store_length (sending line) s) byte)
+      (when_true (above 255 (column 1 line)) (refuse 2 s) (asks store_length (sending line) s) byte)
 
 module _ (line : Line) {g : Group} {t t' : Tables} {store : ℕ} {r : told.Told} {used' : List ℕ} (cells : store ≡ store_length) where
   -- the verb k is this call, and the code tells it

@@ -6,7 +6,7 @@ use Rattle.std.proofs.lemmas.Bool.{not-true}
 use Rattle.srt_protocol.specs.Cells.{cells_of}
 use Rattle.srt_protocol.specs.Handshake.{has_group_mask}
 use Rattle.srt_group_model.specs.Tools.{any, all}
-use Rattle.srt_group_model.specs.Laws.Reason.{if_elim, if_true, if_false, by_test, if_some_elim, not_both, and_left, and_right, or_cases}
+use Rattle.srt_group_model.specs.Laws.Reason.{if_elim, when_true, when_false, by_test, if_some_elim, not_both, and_left, and_right, or_cases}
 use Rattle.srt_group_model.specs.State.{State, is_backup, Making}
 use Rattle.srt_group_model.specs.Cells.{is_among}
 use Rattle.srt_group_model.specs.Guards.{Step, Check, guard, About, Answer, accept, about_group, about_time, about_member}
@@ -51,14 +51,14 @@ send_coded store list time payload s =
     by_test (is_backup s.making.mode)
     (λ b.
     let codes : List ℕ = 0 ∷ 5 ∷ 6 ∷ 2 ∷ 4 ∷ 30 ∷ 23 ∷ backup_codes in
-    let given = subst (λ (x : List ℕ). is_among (send_body cell time payload s).code (0 ∷ 23 ∷ x) ≡ true) (if_true _ _ _ b) (send_body_gives cell time payload s) in
-    subst (λ (x : List ℕ). Coded (0 ∷ 5 ∷ 6 ∷ 2 ∷ 4 ∷ x) (send store list time payload s)) (sym (if_true (is_backup s.making.mode) _ _ b))
+    let given = subst (λ (x : List ℕ). is_among (send_body cell time payload s).code (0 ∷ 23 ∷ x) ≡ true) (when_true _ _ _ b) (send_body_gives cell time payload s) in
+    subst (λ (x : List ℕ). Coded (0 ∷ 5 ∷ 6 ∷ 2 ∷ 4 ∷ x) (send store list time payload s)) (sym (when_true (is_backup s.making.mode) _ _ b))
     (guard_coded codes _ s _ refl
     record { is = among_passes (λ n. is_among n codes) (0 ∷ 23 ∷ backup_codes) refl (send_body cell time payload s).code given }))
     (λ b.
     let codes : List ℕ = 0 ∷ 5 ∷ 6 ∷ 2 ∷ 4 ∷ 23 ∷ broadcast_codes in
-    let given = subst (λ (x : List ℕ). is_among (send_body cell time payload s).code (0 ∷ 23 ∷ x) ≡ true) (if_false _ _ _ b) (send_body_gives cell time payload s) in
-    subst (λ (x : List ℕ). Coded (0 ∷ 5 ∷ 6 ∷ 2 ∷ 4 ∷ x) (send store list time payload s)) (sym (if_false (is_backup s.making.mode) _ _ b))
+    let given = subst (λ (x : List ℕ). is_among (send_body cell time payload s).code (0 ∷ 23 ∷ x) ≡ true) (when_false _ _ _ b) (send_body_gives cell time payload s) in
+    subst (λ (x : List ℕ). Coded (0 ∷ 5 ∷ 6 ∷ 2 ∷ 4 ∷ x) (send store list time payload s)) (sym (when_false (is_backup s.making.mode) _ _ b))
     (guard_coded codes _ s _ (rw b)
     record { is = among_passes (λ n. is_among n codes) (0 ∷ 23 ∷ broadcast_codes) refl (send_body cell time payload s).code given }))
   where

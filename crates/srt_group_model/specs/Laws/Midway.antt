@@ -9,7 +9,7 @@ use Prim.Native.Nat.{ℕ, zero, suc}
 use Rattle.std.proofs.lemmas.Bool.{not-true}
 use Rattle.srt_protocol.specs.Cells.{cells_of, overwritten}
 use Rattle.srt_group_model.specs.Tools.{any, all, place_of, at_place, change, each, All}
-use Rattle.srt_group_model.specs.Laws.Reason.{if_elim, if_false, by_test, if_some_elim, not_both, none_some, and_left, and_right, and_yes, or_cases, or_yes_left, or_yes_right, no_either, some_inj, at_change, all_map, all_append, EachTo}
+use Rattle.srt_group_model.specs.Laws.Reason.{if_elim, when_false, by_test, if_some_elim, not_both, none_some, and_left, and_right, and_yes, or_cases, or_yes_left, or_yes_right, no_either, some_inj, at_change, all_map, all_append, EachTo}
 use Rattle.srt_group_model.specs.State.{Member, Send, State, is_backup, next_receive_sequence, next_send_sequence, backup_carrier, with_receive, with_send, with_members, with_peer, turned, active_state, standby_state}
 use Rattle.srt_group_model.specs.Legs.{handed, is_connected, on_sender}
 use Rattle.srt_group_model.specs.Members.{id_of, is_active, is_standby, has_active_member, first_active, Placed, first_in_rank, promotion, promote_backup_member, promote_if_none, base_after, peer_after, admit_peer_group}
@@ -341,7 +341,7 @@ no_standby_undemoted time ms =
     (λ i g alone.
     by_test (any is_standby ms)
     (λ t. not_both (any_change is_standby i _ ms t (λ m at. active_not_standby m (place_passes is_active ms i g m at))) alone)
-    (λ t. change_same i _ ms (λ m. if_false (any is_standby ms && is_stale time m.leg) _ _ (ap (λ (b : Bool). b && is_stale time m.leg) t))))
+    (λ t. change_same i _ ms (λ m. when_false (any is_standby ms && is_stale time m.leg) _ _ (ap (λ (b : Bool). b && is_stale time m.leg) t))))
     (λ g alone. refl)
 
 none_readied : (mode time : ℕ) (ms : List Member) → is_backup mode ≡ true → first_active (promote_if_none mode (demote_stale_backup_carrier time ms)) ≡ none
@@ -423,7 +423,7 @@ based_admits s t peer ms h e =
 
 peer_after_bound : (peer : ℕ) (ms : List Member) → eqb peer 0 ≡ false → peer_after peer ms ≡ peer
 unfolding peer_after
-peer_after_bound peer ms e = if_false (eqb peer 0) _ _ e
+peer_after_bound peer ms e = when_false (eqb peer 0) _ _ e
 
 refresh_admits : (s : State) → Admits s (refresh_states (start s)).state
 unfolding refresh_states refresh_pending_states admit_connected_peer_groups

@@ -15,13 +15,13 @@ unfolding if_true◌then◌else◌
 if_elim P true a b f g = f refl
 if_elim P false a b f g = g refl
 
-pub if_true : {A : Type 0} (t : Bool) (a b : A) → t ≡ true → (if_true t then a else b) ≡ a
+pub when_true : {A : Type 0} (t : Bool) (a b : A) → t ≡ true → (if_true t then a else b) ≡ a
 unfolding if_true◌then◌else◌
-if_true t a b e = rw e
+when_true t a b e = rw e
 
-pub if_false : {A : Type 0} (t : Bool) (a b : A) → t ≡ false → (if_true t then a else b) ≡ b
+pub when_false : {A : Type 0} (t : Bool) (a b : A) → t ≡ false → (if_true t then a else b) ≡ b
 unfolding if_true◌then◌else◌
-if_false t a b e = rw e
+when_false t a b e = rw e
 
 pub by_test : {B : Type 0} (t : Bool) → (t ≡ true → B) → (t ≡ false → B) → B
 by_test true f g = f refl

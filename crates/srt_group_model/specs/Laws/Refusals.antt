@@ -6,7 +6,7 @@ use Rattle.std.proofs.Math.Option.{Option, none}
 use Rattle.std.proofs.lemmas.Bool.{not-true}
 use Rattle.srt_protocol.specs.Cells.{overwritten}
 use Rattle.srt_group_model.specs.Tools.{if_true◌then◌else◌, any, all, All}
-use Rattle.srt_group_model.specs.Laws.Reason.{if_elim, if_true, if_false, if_some_elim, not_both, and_left, and_right, or_cases}
+use Rattle.srt_group_model.specs.Laws.Reason.{if_elim, when_true, when_false, if_some_elim, not_both, and_left, and_right, or_cases}
 use Rattle.srt_group_model.specs.State.{State, Member, is_backup}
 use Rattle.srt_group_model.specs.Run.{Run}
 use Rattle.srt_group_model.specs.Sending.{Flow, ◌and_then◌, send_broadcast}
@@ -178,10 +178,10 @@ flow_gives cell time payload s r =
     (λ e.
     if_elim (Gives (send_codes s.making.mode)) _ _ _
     (λ b.
-    subst (λ (codes : List ℕ). Gives (23 ∷ codes) (send_backup time (length payload) cell r.state)) (sym (if_true (is_backup s.making.mode) backup_codes broadcast_codes b))
+    subst (λ (codes : List ℕ). Gives (23 ∷ codes) (send_backup time (length payload) cell r.state)) (sym (when_true (is_backup s.making.mode) backup_codes broadcast_codes b))
     (among_passes (λ n. is_among n (0 ∷ 23 ∷ backup_codes)) (0 ∷ backup_codes) refl (send_backup time (length payload) cell r.state).code (send_backup_ends time (length payload) cell r.state)))
     (λ b.
-    subst (λ (codes : List ℕ). Gives (23 ∷ codes) (send_broadcast time (length payload) r.state)) (sym (if_false (is_backup s.making.mode) backup_codes broadcast_codes b))
+    subst (λ (codes : List ℕ). Gives (23 ∷ codes) (send_broadcast time (length payload) r.state)) (sym (when_false (is_backup s.making.mode) backup_codes broadcast_codes b))
     (among_passes (λ n. is_among n (0 ∷ 23 ∷ broadcast_codes)) (0 ∷ broadcast_codes) refl (send_broadcast time (length payload) r.state).code (send_broadcast_ends time (length payload) r.state))))
 
 -- a send's body ends with 0 or with a code of its mode

@@ -5,7 +5,7 @@ use Rattle.std.proofs.Common.{sym, ap, ap₂, ◌∙◌, arith, eqb-true, eq-eqb
 use Rattle.std.proofs.Math.Option.{some}
 use Rattle.std.proofs.lemmas.Bool.{eqb-false}
 use Rattle.srt_group_model.specs.Tools.{any, place_of, at_place, change, each, without_place}
-use Rattle.srt_group_model.specs.Laws.Reason.{if_true, if_false, if_given, by_test, not_both, or_left, or_right, some_inj, none_some, none_of, all_at}
+use Rattle.srt_group_model.specs.Laws.Reason.{when_true, when_false, if_given, by_test, not_both, or_left, or_right, some_inj, none_some, none_of, all_at}
 use Rattle.srt_group_model.specs.State.{Member, State, with_members}
 use Rattle.srt_group_model.specs.Legs.{handed}
 use Rattle.srt_group_model.specs.Members.{id_of, has_id, find}
@@ -88,10 +88,10 @@ among_any id (m ∷ ms) = ap (λ (b : Bool). has_id id m || b) (among_any id ms)
 pub find_at : (i : ℕ) (m : Member) (ms : List Member) → one_twice (ids ms) ≡ false → at_place i ms ≡ some m → find (id_of m) ms ≡ some i
 unfolding one_twice each at_place place_of any
 find_at i m [] once at = none_some at
-find_at zero m (x ∷ xs) once at = if_true _ _ _ (eq-eqb (id_of x) (id_of m) (ap id_of (some_inj at)))
+find_at zero m (x ∷ xs) once at = when_true _ _ _ (eq-eqb (id_of x) (id_of m) (ap id_of (some_inj at)))
 find_at (suc i) m (x ∷ xs) once at =
     let other = all_at (λ (y : Member). has_id (id_of x) y ≡ false) i m xs at (none_of (has_id (id_of x)) xs (sym (among_any (id_of x) xs) ∙ or_left (is_among (id_of x) (ids xs)) _ once)) in
-    if_false _ _ _ (ne_eqb (id_of x) (id_of m) (λ e. eqb-false (id_of m) (id_of x) other (sym e)))
+    when_false _ _ _ (ne_eqb (id_of x) (id_of m) (λ e. eqb-false (id_of m) (id_of x) other (sym e)))
     ∙ if_given _ _ (find_at i m xs (or_right (is_among (id_of x) (ids xs)) _ once) at)
 
 pub without_among : (n i : ℕ) (ms : List Member) → is_among n (ids ms) ≡ false → is_among n (ids (without_place i ms)) ≡ false

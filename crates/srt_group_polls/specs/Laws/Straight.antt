@@ -16,7 +16,7 @@ use Rattle.srt_group_model.specs.declared.Account.{Account}
 use Rattle.srt_group_model.specs.declared.Event.{Event}
 use Rattle.srt_group_model.specs.declared.Packet.{Packet}
 use Rattle.srt_group_model.specs.Tools.{if_true◌then◌else◌, is_set, bit, is_empty, any, such_that, first_such, at_place, change, each, All}
-use Rattle.srt_group_model.specs.Laws.Reason.{if_elim, if_true, if_false, if_given, no_either, or_left, or_right, or_yes_left, or_yes_right, all_map, all_two, at_change, none_of}
+use Rattle.srt_group_model.specs.Laws.Reason.{if_elim, when_true, when_false, if_given, no_either, or_left, or_right, or_yes_left, or_yes_right, all_map, all_two, at_change, none_of}
 use Rattle.srt_group_model.specs.State.{Member, State, with_receive, with_base, with_pending, with_members, with_continuation, with_round, on_leg, on_account}
 use Rattle.srt_group_model.specs.Accounts.{reserve, release}
 use Rattle.srt_group_model.specs.Legs.{release_data_reservation, largest_sequence}
@@ -62,37 +62,37 @@ module _ (p : Packet) where
 
   inserted_found : (ps : List Packet) → is_held (sequence_of p) ps ≡ false → held_at (sequence_of p) (insert p ps) ≡ some p
   unfolding insert any first_such
-  inserted_found [] h = if_true _ _ _ itself
+  inserted_found [] h = when_true _ _ _ itself
   inserted_found (q ∷ qs) h =
-      if_elim (λ (l : List Packet). held_at (sequence_of p) l ≡ some p) _ _ _ (λ e. if_true _ _ _ itself)
-      (λ e. if_false _ _ _ (or_left (has_sequence (sequence_of p) q) _ h) ∙ inserted_found qs (or_right (has_sequence (sequence_of p) q) _ h))
+      if_elim (λ (l : List Packet). held_at (sequence_of p) l ≡ some p) _ _ _ (λ e. when_true _ _ _ itself)
+      (λ e. when_false _ _ _ (or_left (has_sequence (sequence_of p) q) _ h) ∙ inserted_found qs (or_right (has_sequence (sequence_of p) q) _ h))
 
   -- of those that pass a test: where it alone passes, and where it alone fails
   module _ (test : Packet → Bool) where
     none_left : (l : List Packet) → All (λ (q : Packet). test q ≡ false) l → such_that test l ≡ []
     unfolding such_that
     none_left [] h = refl
-    none_left (x ∷ xs) h = if_false _ _ _ h.0 ∙ none_left xs h.1
+    none_left (x ∷ xs) h = when_false _ _ _ h.0 ∙ none_left xs h.1
 
     all_left : (l : List Packet) → All (λ (q : Packet). test q ≡ true) l → such_that test l ≡ l
     unfolding such_that
     all_left [] h = refl
-    all_left (x ∷ xs) h = if_true _ _ _ h.0 ∙ ap (λ (r : List Packet). x ∷ r) (all_left xs h.1)
+    all_left (x ∷ xs) h = when_true _ _ _ h.0 ∙ ap (λ (r : List Packet). x ∷ r) (all_left xs h.1)
 
     inserted_alone : (ps : List Packet) → test p ≡ true → All (λ (q : Packet). test q ≡ false) ps → such_that test (insert p ps) ≡ p ∷ []
     unfolding insert such_that
-    inserted_alone [] passes h = if_true _ _ _ passes
+    inserted_alone [] passes h = when_true _ _ _ passes
     inserted_alone (q ∷ qs) passes h =
         if_elim (λ (l : List Packet). such_that test l ≡ p ∷ []) _ _ _
-        (λ e. if_true _ _ _ passes ∙ ap (λ (l : List Packet). p ∷ l) (none_left (q ∷ qs) h))
-        (λ e. if_false _ _ _ h.0 ∙ inserted_alone qs passes h.1)
+        (λ e. when_true _ _ _ passes ∙ ap (λ (l : List Packet). p ∷ l) (none_left (q ∷ qs) h))
+        (λ e. when_false _ _ _ h.0 ∙ inserted_alone qs passes h.1)
 
     inserted_apart : (ps : List Packet) → test p ≡ false → All (λ (q : Packet). test q ≡ true) ps → such_that test (insert p ps) ≡ ps
     unfolding insert such_that
-    inserted_apart [] fails h = if_false _ _ _ fails
+    inserted_apart [] fails h = when_false _ _ _ fails
     inserted_apart (q ∷ qs) fails h =
-        if_elim (λ (l : List Packet). such_that test l ≡ q ∷ qs) _ _ _ (λ e. if_false _ _ _ fails ∙ all_left (q ∷ qs) h)
-        (λ e. if_true _ _ _ h.0 ∙ ap (λ (l : List Packet). q ∷ l) (inserted_apart qs fails h.1))
+        if_elim (λ (l : List Packet). such_that test l ≡ q ∷ qs) _ _ _ (λ e. when_false _ _ _ fails ∙ all_left (q ∷ qs) h)
+        (λ e. when_true _ _ _ h.0 ∙ ap (λ (l : List Packet). q ∷ l) (inserted_apart qs fails h.1))
 
 -- ---- a run of one covers itself alone
 
@@ -183,18 +183,18 @@ module _ (time : ℕ) (r : Run) (i : ℕ) (m : Member) (e : Event) (at_base : St
 
   is_retained : retain_group_packet i p (popped i begun) ≡ holding
   unfolding retain_group_packet
-  is_retained = if_false _ _ _ not_discarded
+  is_retained = when_false _ _ _ not_discarded
 
   is_collected : collect_member_event i (id_of m) e record { state = popped i begun; log = r.log; budget = delivery_budget } ≡ holds
   unfolding collect_member_event
   is_collected =
-      if_true _ _ _ (eq-eqb e.kind 0 is_data)
+      when_true _ _ _ (eq-eqb e.kind 0 is_data)
       ∙ ap (λ (s : State). record { state = s; log = collected p ∷ r.log; budget = delivery_budget - 1 }) is_retained
 
   is_taken : take_front i m begins ≡ record { took = true; run = holds }
   unfolding take_front
   is_taken =
-      if_given _ _ first ∙ if_false _ _ _ refl ∙ ap (λ (x : Run). record { took = true; run = x }) is_collected
+      if_given _ _ first ∙ when_false _ _ _ refl ∙ ap (λ (x : Run). record { took = true; run = x }) is_collected
 
   is_visited : collect_one_event begins ≡ record { took = true; run = holds }
   unfolding collect_one_event
@@ -214,7 +214,7 @@ module _ (time : ℕ) (r : Run) (i : ℕ) (m : Member) (e : Event) (at_base : St
   is_gathered : (visits : ℕ) → collect_until_held (suc visits) begins ≡ holds
   unfolding collect_until_held has_pending_data bit
   is_gathered visits =
-      ap (gathered_from visits) is_visited ∙ if_false _ _ _ (ap not at_base.none_waits) ∙ if_false _ _ _ refl ∙ if_true _ _ _ has_packet
+      ap (gathered_from visits) is_visited ∙ when_false _ _ _ (ap not at_base.none_waits) ∙ when_false _ _ _ refl ∙ when_true _ _ _ has_packet
       ∙ ap (λ (b : Bool). record { state = with_continuation b holding; log = holds.log; budget = holds.budget }) not_continued
     where
       not_continued : (is_set (bit false) || (eqb visits 0 && is_empty (insert p ps))) ≡ false
@@ -232,7 +232,7 @@ module _ (time : ℕ) (r : Run) (i : ℕ) (m : Member) (e : Event) (at_base : St
   is_delivered : deliver_next time holds ≡ record { gave = packet p; run = marking (delivered p) (on_state (deliver_packet (sequence_of p) p) holds) }
   unfolding deliver_next skip_given_up_gap base_stays deliver
   is_delivered =
-      if_given _ _ at_base.based ∙ if_true _ _ _ (or_yes_left _ _ (inserted_held p ps)) ∙ if_given _ _ (inserted_found p ps at_base.free)
+      if_given _ _ at_base.based ∙ when_true _ _ _ (or_yes_left _ _ (inserted_held p ps)) ∙ if_given _ _ (inserted_found p ps at_base.free)
 
   is_polled : poll_event time r ≡ record { gave = packet p; run = marking (delivered p) (on_state (deliver_packet (sequence_of p) p) holds) }
   is_polled =
@@ -255,7 +255,7 @@ module _ (time : ℕ) (r : Run) (i : ℕ) (m : Member) (e : Event) (at_base : St
 
   is_released : release_pending_reservation p holding ≡ with_members (change i released holding.members) holding
   unfolding release_pending_reservation
-  is_released = if_false _ _ _ refl ∙ if_given _ _ found_there
+  is_released = when_false _ _ _ refl ∙ if_given _ _ found_there
 
   members_left : change i released holding.members ≡ change i (given_from p.content.count) ms
   members_left =

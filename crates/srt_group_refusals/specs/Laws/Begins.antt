@@ -10,7 +10,7 @@ use Rattle.srt_protocol.specs.declared.error.Outcome.TheVariants.{Accepted, Refu
 use Rattle.srt_protocol.specs.Errors.{error_number, outcome_number, refuse_if}
 use Rattle.srt_protocol.specs.Cells.{cell_size, max_cells, cells_of}
 use Rattle.srt_group_model.specs.Tools.{if_true◌then◌else◌}
-use Rattle.srt_group_model.specs.Laws.Reason.{if_true, if_false, or_left, or_right, by_test}
+use Rattle.srt_group_model.specs.Laws.Reason.{when_true, when_false, or_left, or_right, by_test}
 use Rattle.srt_group_model.specs.Backup.{max_history}
 use Rattle.srt_group_model.specs.Validity.{is_invalid}
 use Rattle.srt_group_model.specs.Calls.{store_unfit, output_unfit, cells_given, breaks_rule}
@@ -83,10 +83,10 @@ module _ (p : Parts) (t : Tables) (store : ℕ) (used : List ℕ) where
 -- ---- a call that is lent no store
 
 pub none_given : {given : ℕ} → given ≡ 0 → max_cells ≡ (if_true eqb given 0 then max_cells else cells_of given)
-none_given {given} is = sym (if_true (eqb given 0) max_cells (cells_of given) (eq-eqb given 0 is))
+none_given {given} is = sym (when_true (eqb given 0) max_cells (cells_of given) (eq-eqb given 0 is))
 
 pub some_given : {given : ℕ} → (given ≡ 0 → ⊥) → cells_of given ≡ (if_true eqb given 0 then max_cells else cells_of given)
-some_given {given} not_0 = sym (if_false (eqb given 0) max_cells (cells_of given) (ne_eqb given 0 not_0))
+some_given {given} not_0 = sym (when_false (eqb given 0) max_cells (cells_of given) (ne_eqb given 0 not_0))
 
 module _ (p : Parts) (t : Tables) where
   pub begun_short : are_short t ≡ true → Refused InsufficientBuffer ≡ begun p t

@@ -15,7 +15,7 @@ use Rattle.srt_group_model.specs.State.{State, Making}
 use Rattle.srt_group_model.specs.Calls.{new, new_code, store_unfit}
 use Rattle.srt_group_model.specs.Lent.{Lent}
 use Rattle.srt_group_model.specs.Listing.{Line, column, store_length, verbs, refused_line, Told, tell_new, tell_verb, tell}
-use Rattle.srt_group_model.specs.Laws.Reason.{if_true, if_false}
+use Rattle.srt_group_model.specs.Laws.Reason.{when_true, when_false}
 use Rattle.srt_group_traces.specs.Port.{Shown}
 use Rattle.cell_set.specs.Sets.{ShowsCells}
 use Rattle.srt_group_shown.specs.Tables.{Tables, state_of}
@@ -65,10 +65,10 @@ without_group line (suc (suc (suc (suc (suc (suc (suc (suc k)))))))) few = absur
 
 module _ (g : Group) (t : Tables) (made : ℕ) where
   standing_made : (made ≡ 0 → ⊥) → standing made g t ≡ some (state_of (parts_of g) t)
-  standing_made some_made = if_false (eqb made 0) none (some (state_of (parts_of g) t)) (ne_eqb made 0 some_made)
+  standing_made some_made = when_false (eqb made 0) none (some (state_of (parts_of g) t)) (ne_eqb made 0 some_made)
 
   standing_none : made ≡ 0 → standing made g t ≡ none
-  standing_none is = if_true (eqb made 0) none (some (state_of (parts_of g) t)) (eq-eqb made 0 is)
+  standing_none is = when_true (eqb made 0) none (some (state_of (parts_of g) t)) (eq-eqb made 0 is)
 
 -- ---- verb 1
 
@@ -89,7 +89,7 @@ module _ (line : Line) where
         record {
           over =
               λ t lent stands. (
-                if_true (eqb (new_code making_of) 0) _ _ (eq-eqb (new_code making_of) 0 (accepted t lent))
+                when_true (eqb (new_code making_of) 0) _ _ (eq-eqb (new_code making_of) 0 (accepted t lent))
                     ∙ ap₂ (λ (x : Option State) (l : List ℕ). record { group = x; line = l })
                     (ap (λ (x : State). some x) (sym (shows t lent)) ∙ sym (standing_made fresh t 1 (λ e. omega arith))) (sym says),
                 record {
@@ -114,7 +114,7 @@ module _ (line : Line) where
         shows : (t : Tables) (lent : Lent) → state_of (parts_of fresh) t ≡ new making_of
         shows t lent =
             ap (λ (x : Shown). x.state) (here.holds t lent (new making_of))
-            ∙ if_true (eqb (new_code making_of) 0) (new making_of) (new making_of) (eq-eqb (new_code making_of) 0 (accepted t lent))
+            ∙ when_true (eqb (new_code making_of) 0) (new making_of) (new making_of) (eq-eqb (new_code making_of) 0 (accepted t lent))
 
     -- refused: what stood in its place stays
     pub tells_refused : (e : Error) → r ≡ Refused e → {n : ℕ} → n ≡ error_number e → {out : Printed} → numbers_of out ≡ refused_line 1 n
@@ -124,7 +124,7 @@ module _ (line : Line) where
         record {
           over =
               λ t lent stands. (
-                if_false (eqb (new_code making_of) 0) _ _
+                when_false (eqb (new_code making_of) 0) _ _
                     (ap (λ (n : ℕ). eqb n 0) (sym (code t lent)) ∙ ne_eqb (error_number e) 0 (refused_not_0 e))
                     ∙ ap (λ (l : List ℕ). record { group = standing made g t; line = l })
                     (ap (λ (n : ℕ). refused_line 1 n) (sym (number ∙ code t lent)) ∙ sym says),

@@ -12,7 +12,7 @@ use Rattle.srt_protocol.specs.Errors.{if_accepted}
 use Rattle.srt_protocol.specs.Cells.{Put}
 use Rattle.srt_protocol.specs.Laws.CellLaws.{cell_accepted}
 use Rattle.srt_group_model.specs.Tools.{if_true◌then◌else◌, if_some◌give◌otherwise◌}
-use Rattle.srt_group_model.specs.Laws.Reason.{if_true, if_false, by_test, each_to_map}
+use Rattle.srt_group_model.specs.Laws.Reason.{when_true, when_false, by_test, each_to_map}
 use Rattle.srt_group_model.specs.State.{State, is_backup}
 use Rattle.srt_group_model.specs.Legs.{largest_64}
 use Rattle.srt_group_model.specs.Cells.{queued_cells, used_cells, free_cell}
@@ -153,7 +153,7 @@ module _ (time : ℕ) (payload : List ℕ) (p : Parts) (t : Tables) (store list 
       record {
         performs =
             subst (λ (a : Answer). Performs call p t (sending_into store list) code a p t (sending_into store list) used)
-            (sym (if_false (eqb code 0) (shown (number 0)) no_answer above_0))
+            (sym (when_false (eqb code 0) (shown (number 0)) no_answer above_0))
             (performs_refused call p t (sending_into store list) used ready code is);
         rows = sym (ap (λ (x : Step). length x.sends) is);
       }
@@ -272,7 +272,7 @@ module _ (time : ℕ) (payload : List ℕ) (p : Parts) (t : Tables) (store list 
           performed (shown (number (if_true b then 1 else length made.sends))) (if_true b then some record { cell = c; payload = payload } else none)
           (if_true b then put c payload ∷ run.log else run.log)
           (left_is
-          ∙ if_true (eqb answer.code 0) _ _ sent
+          ∙ when_true (eqb answer.code 0) _ _ sent
           ∙ (λ i.
           record {
             state = state_of p' t';
@@ -282,9 +282,9 @@ module _ (time : ℕ) (payload : List ℕ) (p : Parts) (t : Tables) (store list 
             sends = made.sends;
             log = if_true run_mode i then put c payload ∷ run.log else run.log;
           }))
-          (if_true (eqb answer.code 0) (shown (number answer.legs)) no_answer sent
+          (when_true (eqb answer.code 0) (shown (number answer.legs)) no_answer sent
           ∙ ap (λ (k : ℕ). shown (number k))
-          (made.legs ∙ if_true (eqb answer.code 0) (if_true is_backup p.core.mode then 1 else length made.sends) 0 sent
+          (made.legs ∙ when_true (eqb answer.code 0) (if_true is_backup p.core.mode then 1 else length made.sends) 0 sent
           ∙ ap (λ (x : Bool). if_true x then 1 else length made.sends) mode))
           refl (bytes ∙ stored_if b)
         where
@@ -298,8 +298,8 @@ module _ (time : ℕ) (payload : List ℕ) (p : Parts) (t : Tables) (store list 
       pub refused_performed : eqb answer.code 0 ≡ false → store' ≡ store → SentSo
       unfolding step_with left_by_send stored delivered_by
       refused_performed refused bytes =
-          performed no_answer none run.log (left_is ∙ if_false (eqb answer.code 0) _ _ refused)
-          (if_false (eqb answer.code 0) (shown (number answer.legs)) no_answer refused) refl bytes
+          performed no_answer none run.log (left_is ∙ when_false (eqb answer.code 0) _ _ refused)
+          (when_false (eqb answer.code 0) (shown (number answer.legs)) no_answer refused) refl bytes
 
   -- ---- in each mode
 
@@ -310,7 +310,7 @@ module _ (time : ℕ) (payload : List ℕ) (p : Parts) (t : Tables) (store list 
   any_cell c d in_broadcast =
       let run = refresh_states (start s) in
       ap (λ (f : Flow). if_true above_limit (length payload) run.state.members then ends_with 23 run.state else f)
-      (if_false (is_backup p.core.mode) _ _ in_broadcast ∙ sym (if_false (is_backup p.core.mode) _ _ in_broadcast))
+      (when_false (is_backup p.core.mode) _ _ in_broadcast ∙ sym (when_false (is_backup p.core.mode) _ _ in_broadcast))
 
   pub broadcast_performed : {answer : GroupSend} {end : BackupTables} → is_backup p.core.mode ≡ false → length payload ≤ cell_size
       → FlowMade max_cells time (length payload) p.core p.sending p.ring (lent_tables ready list list_long) answer end
@@ -347,10 +347,10 @@ module _ (time : ℕ) (payload : List ℕ) (p : Parts) (t : Tables) (store list 
         by_test (eqb answer.code 0)
         (λ sent.
         sent_performed cell cell answer end store' is made refl can.1 size true in_backup sent
-        (bytes ∙ if_true (eqb answer.code 0) (overwritten (cell * cell_size) payload store) store sent))
+        (bytes ∙ when_true (eqb answer.code 0) (overwritten (cell * cell_size) payload store) store sent))
         (λ refused.
         refused_performed cell cell answer end store' is made refl can.1 size true in_backup refused
-        (bytes ∙ if_false (eqb answer.code 0) (overwritten (cell * cell_size) payload store) store refused))
+        (bytes ∙ when_false (eqb answer.code 0) (overwritten (cell * cell_size) payload store) store refused))
 
 -- ---- the payload in its cell
 
@@ -361,7 +361,7 @@ module _ (cell code : ℕ) (payload store : List ℕ) where
       stores.stored
       ∙ ap (λ (o : Outcome). if_accepted o (overwritten (cell * cell_size) payload store) store)
       (stores.outcome ∙ cell_accepted (length store) cell (length payload) storable.one_cell storable.there storable.short)
-      ∙ sym (if_true (eqb code 0) (overwritten (cell * cell_size) payload store) store (eq-eqb code 0 is))
+      ∙ sym (when_true (eqb code 0) (overwritten (cell * cell_size) payload store) store (eq-eqb code 0 is))
 
   pub not_stored : (code ≡ 0 → ⊥) → store ≡ (if_true eqb code 0 then overwritten (cell * cell_size) payload store else store)
-  not_stored other = sym (if_false (eqb code 0) (overwritten (cell * cell_size) payload store) store (ne_eqb code 0 other))
+  not_stored other = sym (when_false (eqb code 0) (overwritten (cell * cell_size) payload store) store (ne_eqb code 0 other))

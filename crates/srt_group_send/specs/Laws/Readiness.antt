@@ -6,7 +6,7 @@ use mathlib.Core.List.{List, [], ◌∷◌, ◌++◌, append_assoc}
 use Rattle.std.proofs.Math.Option.{Option, none, some}
 use Rattle.word_rows.specs.Laws.Tab.{tab_length}
 use Rattle.srt_group_model.specs.Tools.{any, such_that, each, change}
-use Rattle.srt_group_model.specs.Laws.Reason.{if_elim, if_some_elim, if_true, if_false}
+use Rattle.srt_group_model.specs.Laws.Reason.{if_elim, if_some_elim, when_true, when_false}
 use Rattle.srt_group_model.specs.State.{Member, State, is_backup, with_send, with_members, turned, active_state}
 use Rattle.srt_group_model.specs.Legs.{largest_64}
 use Rattle.srt_group_model.specs.Members.{promote_backup_member, promote_if_none}
@@ -226,7 +226,7 @@ module _ (core : Core) (x : Sending) (r : HistoryRing) (members history used : L
                   λ store output list.
                   left_by_step
                   (guard_goes_on (6 when breaks_rule z) [] z (can_send_body z) unbroken.valid
-                  ∙ if_true (is_backup core.mode) _ _ (sym InMode ∙ in_backup))
+                  ∙ when_true (is_backup core.mode) _ _ (sym InMode ∙ in_backup))
                   (left_trimmed none mid tested identity pending waiting sources (run identity pending waiting sources).state _ (refreshed identity pending waiting sources));
               long = long_refreshed identity pending waiting sources mid refl unbroken;
             };
@@ -250,7 +250,7 @@ module _ (core : Core) (x : Sending) (r : HistoryRing) (members history used : L
                   λ store output list.
                   left_by_step
                   (guard_goes_on (6 when breaks_rule z) [] z (can_send_body z) unbroken.valid
-                  ∙ if_false (is_backup core.mode) _ _ (sym tested ∙ in_broadcast))
+                  ∙ when_false (is_backup core.mode) _ _ (sym tested ∙ in_broadcast))
                   record {
                     code = refl;
                     answer =
@@ -284,7 +284,7 @@ module _ (core : Core) (x : Sending) (r : HistoryRing) (members history used : L
               record {
                 step =
                     λ store output list.
-                    left_by_step (checked z unbroken.valid ∙ if_false (is_backup core.mode) _ _ (sym tested ∙ in_broadcast))
+                    left_by_step (checked z unbroken.valid ∙ when_false (is_backup core.mode) _ _ (sym tested ∙ in_broadcast))
                     record {
                       code = refl;
                       answer =
@@ -313,7 +313,7 @@ module _ (core : Core) (x : Sending) (r : HistoryRing) (members history used : L
               record {
                 step =
                     λ store output list.
-                    left_by_step (checked z unbroken.valid ∙ if_true (is_backup core.mode) _ _ (sym InMode ∙ in_backup))
+                    left_by_step (checked z unbroken.valid ∙ when_true (is_backup core.mode) _ _ (sym InMode ∙ in_backup))
                     (left_trimmed (some time) members' tested identity pending waiting sources
                     (with_members (promote_if_none core.mode (demote_stale_backup_carrier time t.members)) t) _
                     (ap (λ (u : State). with_members (promote_if_none core.mode (demote_stale_backup_carrier time u.members)) u)

@@ -8,7 +8,7 @@ use Rattle.std.proofs.Math.Dec.{eqb}
 use Rattle.std.proofs.Math.ListN.{length}
 use Rattle.srt_protocol.specs.Errors.{outcome_number}
 use Rattle.srt_group_model.specs.Tools.{if_true◌then◌else◌}
-use Rattle.srt_group_model.specs.Laws.Reason.{if_true, if_false}
+use Rattle.srt_group_model.specs.Laws.Reason.{when_true, when_false}
 use Rattle.srt_group_model.specs.State.{Send, State, is_backup, with_send, with_members, with_sending}
 use Rattle.srt_group_model.specs.Run.{Run, start, refresh_states}
 use Rattle.srt_group_model.specs.Sending.{max_sent, list_size, Sent, Flow, ends_with, above_limit, send_broadcast}
@@ -59,7 +59,7 @@ module _ (mode time size cell n : ℕ) (x : Sending) (r : HistoryRing) (before :
         follows = flows.follows;
         flow =
             λ s is ms sends.
-            if_true (is_backup mode) (send_backup time size cell s) (send_broadcast time size s) (sym tested ∙ in_backup)
+            when_true (is_backup mode) (send_backup time size cell s) (send_broadcast time size s) (sym tested ∙ in_backup)
             ∙ flows.flow s is ms sends;
       }
 
@@ -79,7 +79,7 @@ module _ (mode time size cell n : ℕ) (x : Sending) (r : HistoryRing) (before :
         follows = trim_sends cell (trim_same (entries_of r (arrays_in before)) before.used lent.used_long);
         flow =
             λ s is ms sends.
-            if_false (is_backup mode) (send_backup time size cell s) (send_broadcast time size s) (sym tested ∙ in_broadcast)
+            when_false (is_backup mode) (send_backup time size cell s) (send_broadcast time size s) (sym tested ∙ in_broadcast)
             ∙ cast.is s ms (ap (λ (y : Send). y.numbers) sends)
             ∙ ap (λ (y : Send). made (with_sending sent.sending y) s) sends;
       }
@@ -138,11 +138,11 @@ module _ (core : Core) (x : Sending) (r : HistoryRing) (before : BackupTables) (
           few = omega arith;
           sends = [];
           written = wrote_nothing 0 before.list;
-          legs = sym (if_false (eqb 23 0) (if_true is_backup core.mode then 1 else 0) 0 refl);
+          legs = sym (when_false (eqb 23 0) (if_true is_backup core.mode then 1 else 0) 0 refl);
           follows = trim_sends cell (trim_same (entries_of r (arrays_in before)) before.used lent.used_long);
           flow =
               λ identity pending waiting payload long.
-              if_true _ _ _ (above true is identity pending waiting payload long) ∙ ap (ends_with 23) (refreshed identity pending waiting);
+              when_true _ _ _ (above true is identity pending waiting payload long) ∙ ap (ends_with 23) (refreshed identity pending waiting);
         }
 
     pub mode_made : {sent : BackupSend} {end : BackupTables} (code legs : ℕ) → b ≡ false
@@ -166,7 +166,7 @@ module _ (core : Core) (x : Sending) (r : HistoryRing) (before : BackupTables) (
               λ identity pending waiting payload long.
               let run = refresh_states (start (sending_state core x r before identity pending waiting)) in
               let same = refreshed identity pending waiting in
-              if_false _ _ _ (above false is identity pending waiting payload long)
+              when_false _ _ _ (above false is identity pending waiting payload long)
               ∙ ap (λ (k : ℕ). by_mode core.mode time k cell run.state) long
               ∙ flows.flow run.state (refresh_mode (start (sending_state core x r before identity pending waiting)))
               (ap (λ (s : State). s.members) same) (ap (λ (s : State). s.send) same)

@@ -18,7 +18,7 @@ use Rattle.srt_group_model.specs.Cells.{is_among}
 use Rattle.srt_group_model.specs.Codes.{broadcast_codes, backup_codes, codes_of}
 use Rattle.srt_group_model.specs.Lent.{Lent, Call, call_send, step_of, perform}
 use Rattle.srt_group_model.specs.Laws.Codes.{call_code}
-use Rattle.srt_group_model.specs.Laws.Reason.{if_true, if_false, if_elim, by_test, or_no, or_cases, or_yes_right, not_both}
+use Rattle.srt_group_model.specs.Laws.Reason.{when_true, when_false, if_elim, by_test, or_no, or_cases, or_yes_right, not_both}
 use Rattle.srt_group_model.specs.Laws.Refusals.{guard_stops}
 use Rattle.srt_group_traces.specs.Laws.Port.{performs_does}
 use Rattle.srt_group_shown.specs.Tables.{Parts, parts, Tables, state_of}
@@ -120,11 +120,11 @@ module _ (code legs : ℕ) where
   given = if_true eqb code 0 then shown (number legs) else no_answer
 
   pub answers_sent : code ≡ 0 → Answers code given 0 (shown (number legs))
-  answers_sent sent = record { same_code = sym sent; same_answer = sym (if_true (eqb code 0) (shown (number legs)) no_answer (eq-eqb code 0 sent)) }
+  answers_sent sent = record { same_code = sym sent; same_answer = sym (when_true (eqb code 0) (shown (number legs)) no_answer (eq-eqb code 0 sent)) }
 
   pub answers_refused : (code ≡ 0 → ⊥) → (e : Error) → code ≡ error_number e → Answers code given (error_number e) no_answer
   answers_refused refused e is =
-      record { same_code = sym is; same_answer = sym (if_false (eqb code 0) (shown (number legs)) no_answer (ne_eqb code 0 refused)) }
+      record { same_code = sym is; same_answer = sym (when_false (eqb code 0) (shown (number legs)) no_answer (ne_eqb code 0 refused)) }
 
 -- ---- the call
 

@@ -9,7 +9,7 @@ use Rattle.srt_protocol.specs.Sequence.{half, sequence_distance}
 use Rattle.srt_group_model.specs.Tools.{if_true◌then◌else◌, such_that, first_such, All}
 use Rattle.srt_group_model.specs.Nearest.{sequence_of, has_sequence, held_at, insert, lowest, nearest, is_covered, not_covered}
 use Rattle.srt_group_model.specs.declared.Packet.{Packet}
-use Rattle.srt_group_model.specs.Laws.Reason.{if_true, if_false, if_elim, by_test, if_some_elim, all_map}
+use Rattle.srt_group_model.specs.Laws.Reason.{when_true, when_false, if_elim, by_test, if_some_elim, all_map}
 use Rattle.srt_group_traces.specs.Laws.Cases.{Each, each_at, each_or_else, all_such_that, all_pass, each_first_such, first_such_passes, le_of, gt_of, ge_of, eq_of, eqb_yes, not_false}
 
 module _ (Q : Packet → Type 0) where
@@ -68,12 +68,12 @@ lowest_is_held (p ∷ ps) =
     (λ q e.
     if_elim (λ (n : Packet). held_at (sequence_of n) (p ∷ ps) ≡ some n) (leb (sequence_of p) (sequence_of q)) _ _ (λ low. here)
     (λ low.
-    if_false (eqb (sequence_of p) (sequence_of q)) _ _ (other q low)
+    when_false (eqb (sequence_of p) (sequence_of q)) _ _ (other q low)
     ∙ each_at (λ (n : Packet). held_at (sequence_of n) ps ≡ some n) (lowest ps) q e (lowest_is_held ps)))
     (λ e. here)
   where
     here : held_at (sequence_of p) (p ∷ ps) ≡ some p
-    here = if_true (eqb (sequence_of p) (sequence_of p)) _ _ (eqb_yes (sequence_of p))
+    here = when_true (eqb (sequence_of p) (sequence_of p)) _ _ (eqb_yes (sequence_of p))
 
     other : (q : Packet) → leb (sequence_of p) (sequence_of q) ≡ false → eqb (sequence_of p) (sequence_of q) ≡ false
     other q low =
@@ -89,7 +89,7 @@ held_in_part bound sequence (p ∷ ps) h =
     if_elim (λ (l : List Packet). held_at sequence l ≡ held_at sequence (p ∷ ps)) (leb bound (sequence_of p)) _ _
     (λ e.
     ap (λ (o : Option Packet). if_true eqb (sequence_of p) sequence then some p else o) (held_in_part bound sequence ps h))
-    (λ e. held_in_part bound sequence ps h ∙ sym (if_false (eqb (sequence_of p) sequence) _ _ (other e)))
+    (λ e. held_in_part bound sequence ps h ∙ sym (when_false (eqb (sequence_of p) sequence) _ _ (other e)))
   where
     other : leb bound (sequence_of p) ≡ false → eqb (sequence_of p) sequence ≡ false
     other low =

@@ -19,7 +19,7 @@ use Rattle.srt_group_model.specs.Guards.{Step, refuse}
 use Rattle.srt_group_model.specs.Calls.{new_code}
 use Rattle.srt_group_model.specs.Lent.{Result, Call, call_add_member, call_poll_data, call_queue_data, with_bytes, step_of, perform}
 use Rattle.srt_group_model.specs.Listing.{Line, column, store_length, leg_of_line, printed, verbs, Told, tell, tell_new, tell_verb}
-use Rattle.srt_group_model.specs.Laws.Reason.{if_elim, if_true, if_false, not_both, none_some, some_inj}
+use Rattle.srt_group_model.specs.Laws.Reason.{if_elim, when_true, when_false, not_both, none_some, some_inj}
 use Rattle.srt_group_traces.specs.Statement.{do_call, is_poll, with_payload}
 use Rattle.srt_group_traces.specs.VerbCalls.{addition, reading, data_of_line, queueing, polling, sending, removing, breaking, event}
 use Rattle.srt_group_traces.specs.Listings.{is_accepted, with_byte, verb_calls, call_of_verb, call_of, lending, asking, printed_by}
@@ -83,9 +83,9 @@ module _ (line : Line) (s : State) where
       record {
         adds = refl;
         reads = refl;
-        queues = λ e. ap (of_step line) (if_false (above 255 (column 5 line)) _ _ e);
+        queues = λ e. ap (of_step line) (when_false (above 255 (column 5 line)) _ _ e);
         polls = refl;
-        sends = λ e. ap (of_step line) (if_false (above 255 (column 1 line)) _ _ e);
+        sends = λ e. ap (of_step line) (when_false (above 255 (column 1 line)) _ _ e);
         removes = refl;
         breaks = refl;
         reports = refl;
@@ -200,7 +200,7 @@ module _ (line : Line) (s : State) where
   byte_refused : (byte : ℕ) (step : Step) (c : Call) → with_byte byte c ≡ none → Passes s (of_step line (if_true above 255 byte then refuse 2 s else step))
   byte_refused byte step c =
       if_elim (λ (o : Option Call). o ≡ none → Passes s (of_step line (if_true above 255 byte then refuse 2 s else step))) (above 255 byte) _ _
-      (λ t e. subst (λ (x : Step). Passes s (of_step line x)) (sym (if_true (above 255 byte) (refuse 2 s) step t)) refuse_passes)
+      (λ t e. subst (λ (x : Step). Passes s (of_step line x)) (sym (when_true (above 255 byte) (refuse 2 s) step t)) refuse_passes)
       (λ t e. none_some (sym e))
 
   new_refused : is_accepted 1 record { input = line; output = (tell_new line (some s)).line } ≡ false → Passes s (tell_new line (some s))

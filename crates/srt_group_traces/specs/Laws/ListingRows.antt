@@ -14,7 +14,7 @@ use Rattle.srt_group_model.specs.Guards.{Answer, data_polled}
 use Rattle.srt_group_model.specs.Lent.{Call, call_poll_data, delivered_by, perform, with_bytes}
 use Rattle.srt_group_model.specs.Answers.{CallAnswers}
 use Rattle.srt_group_model.specs.Listing.{Line, column, store_length, columns, tell, replay_from, Told as ToldLine}
-use Rattle.srt_group_model.specs.Laws.Reason.{if_elim, if_true, if_false, by_test, not_both, and_yes}
+use Rattle.srt_group_model.specs.Laws.Reason.{if_elim, when_true, when_false, by_test, not_both, and_yes}
 use Rattle.srt_group_model.specs.Laws.CallLaw.{Calling, Polls, CallLaw}
 use Rattle.srt_group_model.specs.Laws.EveryCall.{call_keeps}
 use Rattle.srt_group_model.specs.Laws.Answers.{call_answers}
@@ -132,12 +132,12 @@ unfolding printed_by delivered_by columns if_true◌then◌else◌
 poll_columns verb store call s line none more accepted zero_code answer =
     let r = do_call (asking store call) s in
     let out : printed_by verb r ≡ verb ∷ 0 ∷ columns (data_polled none more) r.state =
-    if_true (eqb r.code 0) _ _ (ap (λ (n : ℕ). eqb n 0) zero_code) ∙ ap (λ (a : Answer). verb ∷ 0 ∷ columns a r.state) answer in
+    when_true (eqb r.code 0) _ _ (ap (λ (n : ℕ). eqb n 0) zero_code) ∙ ap (λ (a : Answer). verb ∷ 0 ∷ columns a r.state) answer in
     poll_told none (ap delivered_by answer) accepted (ap (column 3) out) (ap (column 4) out) (ap (column 5) out)
 poll_columns verb store call s line (some p) more accepted zero_code answer =
     let r = do_call (asking store call) s in
     let out : printed_by verb r ≡ verb ∷ 0 ∷ columns (data_polled (some p) more) r.state =
-    if_true (eqb r.code 0) _ _ (ap (λ (n : ℕ). eqb n 0) zero_code) ∙ ap (λ (a : Answer). verb ∷ 0 ∷ columns a r.state) answer in
+    when_true (eqb r.code 0) _ _ (ap (λ (n : ℕ). eqb n 0) zero_code) ∙ ap (λ (a : Answer). verb ∷ 0 ∷ columns a r.state) answer in
     poll_told (some p) (ap delivered_by answer) accepted (ap (column 3) out) (ap (column 4) out) (ap (column 5) out)
 
 says_by : (line : Line) (store : List ℕ) (call : Call) (s : State) → call_of line ≡ some call → (poll zero_code : Bool) → is_poll call ≡ poll
@@ -258,11 +258,11 @@ Counted = All (λ (x : Delivery). 1 ≤ x.count)
 -- a row that tells nothing
 told_nothing : (row : Row) (rows : List Row) → is_accepted 5 row ≡ false → told_of (row ∷ rows) ≡ told_of rows
 unfolding told_of
-told_nothing row rows e = if_false (is_accepted 5 row) _ _ e
+told_nothing row rows e = when_false (is_accepted 5 row) _ _ e
 
 prints_nothing : (row : Row) (rows : List Row) → prints_packet row ≡ false → packets_of (row ∷ rows) ≡ packets_of rows
 unfolding packets_of
-prints_nothing row rows e = if_false (prints_packet row) _ _ e
+prints_nothing row rows e = when_false (prints_packet row) _ _ e
 
 -- what a call tells by itself
 abbrev told_after : Asked → State → Told
@@ -275,7 +275,7 @@ told_after asked s =
 clerk_passes : (ahead : List Delivery) (known : ℕ) (told : Told) (more : List Told) → told.delivered ≡ false
     → clerk ahead known (told ∷ more) ≡ clerk ahead told.skipped more
 unfolding clerk
-clerk_passes ahead known told more e = if_false told.delivered _ _ e
+clerk_passes ahead known told more e = when_false told.delivered _ _ e
 
 clerk_same : (ahead : List Delivery) (known : ℕ) (told : Told) (x y : List Told)
     → ((ahead : List Delivery) → clerk ahead told.skipped x ≡ clerk ahead told.skipped y)
@@ -349,7 +349,7 @@ module _ (asked : Asked) (s : State) (row : Row) (rows : List Row) (calls : List
   reads_poll e skipped gives printed again counted =
       let h : Reads after rows calls = again (all_behind (given_by (do_call asked s)) (deliveries calls after) counted) in
       let told : told_of (row ∷ rows) ≡ told_after asked s ∷ told_of rows =
-      if_true (is_accepted 5 row) _ _ e ∙ (λ i. record { skipped = skipped i; delivered = gives i } ∷ told_of rows)
+      when_true (is_accepted 5 row) _ _ e ∙ (λ i. record { skipped = skipped i; delivered = gives i } ∷ told_of rows)
       in
       record {
         clerks =
@@ -383,7 +383,7 @@ module _ (asked : Asked) (s : State) (row : Row) (rows : List Row) (calls : List
       let some_count : not (eqb (column 4 row.output) 0) ≡ true = ap (λ (n : ℕ). not (eqb n 0)) count ∙ counted_not_zero p.content.count counts in
       let prints : prints_packet row ≡ true = and_yes (is_accepted 5 row) _ e some_count in (
         prints ∙ sym (ap (λ (o : Option Packet). if_some o give (λ p. true) otherwise false) given),
-        if_true (prints_packet row) _ _ prints ∙ (λ i. record { sequence = sequence i; count = count i } ∷ packets_of rows)
+        when_true (prints_packet row) _ _ prints ∙ (λ i. record { sequence = sequence i; count = count i } ∷ packets_of rows)
             ∙ sym
             (ap (λ (o : Option Packet). each heading (if_some o give (λ p. delivery_of p (do_call asked s).lent.output ∷ []) otherwise []) ++ packets_of rows) given),
       )

@@ -10,7 +10,7 @@ use Rattle.srt_group_model.specs.Validity.{is_invalid, cell_beyond_store}
 use Rattle.srt_group_model.specs.Guards.{Step, Check, ◌when◌, guard, About, Answer, accept, about_group, about_time, about_member}
 use Rattle.srt_group_model.specs.Calls.{store_unfit, cells_given, breaks_rule, new, new_code, add_body, add_member, mark_member_broken, remove_body, remove_member_connection, refresh_member_states, disconnect, event_poll_body, poll_event_call, data_poll_body, poll_data_call, send_body, send, can_send_body, can_send_call, can_send_with_pacing_body, can_send_with_pacing_call, read_leg, queue_data_body, queue_data, queue_event, look_checks}
 use Rattle.srt_group_model.specs.Lent.{look_at, looking, Call, call_add_member, call_mark_member_broken, call_remove_member_connection, call_refresh_member_states, call_disconnect, call_poll_event, call_poll_data_bounded, call_send, call_can_send, call_can_send_with_pacing, call_look, call_read_leg, call_queue_data, call_queue_event, with_bytes, step_of, perform}
-use Rattle.srt_group_model.specs.Laws.Reason.{if_elim, if_some_elim, if_true, if_false, by_test, not_both, or_left, or_right, or_yes_left}
+use Rattle.srt_group_model.specs.Laws.Reason.{if_elim, if_some_elim, when_true, when_false, by_test, not_both, or_left, or_right, or_yes_left}
 use Rattle.srt_group_model.specs.Laws.Refusals.{guard_passed, guard_stops, changes_nothing, send_body_midway}
 use Rattle.srt_group_model.specs.Laws.Valid.{valid_of, of_valid, valid_kept, valid_wider, new_valid}
 use Rattle.srt_group_traces.specs.Statement.{Asked, do_call, takes_store, state_after, reached}
@@ -57,13 +57,13 @@ stays_valid_widest call s h =
 none_given_valid : (s : State) → s.making.length ≡ 0 → breaks_rule s ≡ false → is_invalid max_cells s ≡ false
 unfolding cells_given
 none_given_valid s e h =
-    subst (λ (cells : ℕ). is_invalid cells s ≡ false) (if_true (eqb s.making.length 0) _ _ (ap (λ (n : ℕ). eqb n 0) e ∙ eqb_yes 0)) h
+    subst (λ (cells : ℕ). is_invalid cells s ≡ false) (when_true (eqb s.making.length 0) _ _ (ap (λ (n : ℕ). eqb n 0) e ∙ eqb_yes 0)) h
 
 given_valid : (s : State) → (s.making.length ≡ 0 → ⊥) → breaks_rule s ≡ false → ValidAt s.making.length s
 unfolding cells_given
 given_valid s some_length h =
     subst (λ (cells : ℕ). is_invalid cells s ≡ false)
-    (if_false (eqb s.making.length 0) _ _ (not_zero s.making.length some_length)) h
+    (when_false (eqb s.making.length 0) _ _ (not_zero s.making.length some_length)) h
 
 pub own_rules_kept : (call : Asked) (s : State) → breaks_rule s ≡ false → breaks_rule (do_call call s).state ≡ false
 own_rules_kept call s h =

@@ -13,7 +13,7 @@ use Rattle.srt_group_model.specs.Tools.{if_true◌then◌else◌, if_some◌give
 use Rattle.srt_group_model.specs.State.{State, next_receive_sequence, Making}
 use Rattle.srt_group_model.specs.Calls.{new, new_code}
 use Rattle.srt_group_model.specs.Lent.{Result, delivered_by, Lent, Call, perform}
-use Rattle.srt_group_model.specs.Laws.Reason.{if_true, if_false, by_test, none_some, some_inj}
+use Rattle.srt_group_model.specs.Laws.Reason.{when_true, when_false, by_test, none_some, some_inj}
 use Rattle.srt_group_traces.specs.Statement.{first_base, total_skipped, place_after, Consecutive, pass_to, Told, told_by, give_next, clerk, OneStore, Fair, Prefix, until_skip, Gateway, stands_at, delivers, Asked, do_call, Delivery, given_by, state_after, log_after, deliveries, skipped_in, counts_of, Went, place_of_base}
 use Rattle.srt_group_traces.specs.Laws.Cases.{by_option, eq_of, eqb_yes}
 use Rattle.srt_group_traces.specs.Laws.CallWalk.{Fits}
@@ -75,8 +75,8 @@ pub new_begins : (g : Making) (lent : Lent) (s : State)
     → ((shows_new g lent s).code ≡ 0 → (shows_new g lent s).state ≡ new g)
     × (((shows_new g lent s).code ≡ 0 → ⊥) → (shows_new g lent s).state ≡ s)
 new_begins g lent s = (
-  (λ e. if_true (eqb code 0) (new g) s (ap (λ (n : ℕ). eqb n 0) e ∙ eqb_yes 0)),
-  λ refused. if_false (eqb code 0) (new g) s (by_test (eqb code 0) (λ e. absurd (refused (eq_of code 0 e))) (λ e. e)),
+  (λ e. when_true (eqb code 0) (new g) s (ap (λ (n : ℕ). eqb n 0) e ∙ eqb_yes 0)),
+  λ refused. when_false (eqb code 0) (new g) s (by_test (eqb code 0) (λ e. absurd (refused (eq_of code 0 e))) (λ e. e)),
 )
   where
     code : ℕ
@@ -581,18 +581,18 @@ until_skip_shows s (t ∷ steps) h =
     (λ call k.
     by_test (eqb (skipped_in (do_call call s).state) (skipped_in s))
     (λ e.
-    ap shown_deliveries (if_true (eqb (skipped_in (do_call call s).state) (skipped_in s)) _ _ e)
+    ap shown_deliveries (when_true (eqb (skipped_in (do_call call s).state) (skipped_in s)) _ _ e)
     ∙ ap (λ (l : List Delivery). l ++ shown_deliveries (shown_until_skip (skipped_in s) (all_shown steps)))
     (delivery_is_given (do_call call s))
     ∙ ap (λ (n : ℕ). given_by (do_call call s) ++ shown_deliveries (shown_until_skip n (all_shown steps)))
     (sym (eq_of (skipped_in (do_call call s).state) (skipped_in s) e))
     ∙ ap (λ (l : List Delivery). given_by (do_call call s) ++ l) (until_skip_shows (do_call call s).state steps k)
-    ∙ sym (ap (λ (cs : List Asked). deliveries cs s) (if_true (eqb (skipped_in (do_call call s).state) (skipped_in s)) _ _ e)))
+    ∙ sym (ap (λ (cs : List Asked). deliveries cs s) (when_true (eqb (skipped_in (do_call call s).state) (skipped_in s)) _ _ e)))
     (λ e.
-    ap shown_deliveries (if_false (eqb (skipped_in (do_call call s).state) (skipped_in s)) _ _ e)
-    ∙ sym (ap (λ (cs : List Asked). deliveries cs s) (if_false (eqb (skipped_in (do_call call s).state) (skipped_in s)) _ _ e))))
+    ap shown_deliveries (when_false (eqb (skipped_in (do_call call s).state) (skipped_in s)) _ _ e)
+    ∙ sym (ap (λ (cs : List Asked). deliveries cs s) (when_false (eqb (skipped_in (do_call call s).state) (skipped_in s)) _ _ e))))
     (λ call k.
-    ap shown_deliveries (if_true (eqb (skipped_in s) (skipped_in s)) _ _ (eqb_yes (skipped_in s)))
+    ap shown_deliveries (when_true (eqb (skipped_in s) (skipped_in s)) _ _ (eqb_yes (skipped_in s)))
     ∙ ap (λ (l : List Delivery). l ++ shown_deliveries (shown_until_skip (skipped_in s) (all_shown steps)))
     (short_delivers_nothing call s)
     ∙ until_skip_shows s steps k)

@@ -4,7 +4,7 @@ use Rattle.std.specs.Prelude.{◌≡◌, refl, true, false, List, [], ◌∷◌,
 use Rattle.std.proofs.Common.{ap, ◌∙◌, subst, arith}
 use Rattle.std.proofs.Math.Option.{Option, some}
 use Rattle.srt_protocol.specs.Sequence.{sequence_further}
-use Rattle.srt_group_model.specs.Laws.Reason.{if_true, if_false, if_elim, by_test, not_both, none_some, some_inj}
+use Rattle.srt_group_model.specs.Laws.Reason.{when_true, when_false, if_elim, by_test, not_both, none_some, some_inj}
 use Rattle.srt_group_traces.specs.Statement.{RunsFrom, pass_to, Delivery}
 use Rattle.srt_group_traces.specs.Laws.Cases.{le_of, eq_of, leb_yes, eqb_yes}
 
@@ -19,12 +19,12 @@ above_zero (suc n) e = omega arith
 
 pub pass_to_zero : (l : List Delivery) → pass_to l 0 ≡ some l
 unfolding pass_to
-pass_to_zero [] = if_true (eqb 0 0) _ _ refl
-pass_to_zero (x ∷ xs) = if_true (eqb 0 0) _ _ refl
+pass_to_zero [] = when_true (eqb 0 0) _ _ refl
+pass_to_zero (x ∷ xs) = when_true (eqb 0 0) _ _ refl
 
 pass_to_past : (x : Delivery) (xs : List Delivery) (n : ℕ) → 1 ≤ n → x.count ≤ n → pass_to (x ∷ xs) n ≡ pass_to xs (n - x.count)
 unfolding pass_to
-pass_to_past x xs n h k = if_false (eqb n 0) _ _ (not_zero n h) ∙ if_true (leb x.count n) _ _ (leb_yes x.count n k)
+pass_to_past x xs n h k = when_false (eqb n 0) _ _ (not_zero n h) ∙ when_true (leb x.count n) _ _ (leb_yes x.count n k)
 
 pub pass_to_next : (x : Delivery) (xs : List Delivery) → 1 ≤ x.count → pass_to (x ∷ xs) x.count ≡ some xs
 pass_to_next x xs h = pass_to_past x xs x.count h (omega arith) ∙ ap (pass_to xs) nothing_left ∙ pass_to_zero xs

@@ -8,7 +8,7 @@ use Rattle.std.proofs.Math.Option.{Option, none, some}
 use Rattle.std.proofs.lemmas.List.{length-replicate}
 use Rattle.srt_protocol.specs.Cells.{cell_size, cells_of, max_cells}
 use Rattle.srt_protocol.specs.Laws.CellLaws.{overwritten_length}
-use Rattle.srt_group_model.specs.Laws.Reason.{if_true, if_elim, by_test, not_both, or_yes_left, and_left, and_right}
+use Rattle.srt_group_model.specs.Laws.Reason.{when_true, if_elim, by_test, not_both, or_yes_left, and_left, and_right}
 use Rattle.srt_group_model.specs.State.{State, is_backup, Making}
 use Rattle.srt_group_model.specs.Validity.{is_invalid}
 use Rattle.srt_group_model.specs.Guards.{Step, refuse, Check, guard, Put}
@@ -115,7 +115,7 @@ reaches_valid g n calls accepted lent =
 
 first_refuses : (c : Check) (checks : List Check) (s : State) (body : Step) → c.fails ≡ true → (guard (c ∷ checks) s body).code ≡ c.code
 unfolding guard
-first_refuses c checks s body e = ap (λ (step : Step). step.code) (if_true c.fails (refuse c.code s) (guard checks s body) e)
+first_refuses c checks s body e = ap (λ (step : Step). step.code) (when_true c.fails (refuse c.code s) (guard checks s body) e)
 
 pub unfit_length : (store length : ℕ) (small : Bool) → eqb store length ≡ false → eqb length 0 ≡ false
     → ((not (eqb length 0) && not (eqb store length)) || small) ≡ true

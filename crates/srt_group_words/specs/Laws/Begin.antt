@@ -7,7 +7,7 @@ use Rattle.srt_protocol.specs.declared.error.Outcome.{Outcome}
 use Rattle.srt_protocol.specs.declared.error.Outcome.TheVariants.{Accepted, Refused}
 use Rattle.srt_protocol.specs.Errors.{error_number, outcome_number}
 use Rattle.srt_protocol.specs.Cells.{overwritten}
-use Rattle.srt_group_model.specs.Laws.Reason.{if_true, if_false, or_yes_right}
+use Rattle.srt_group_model.specs.Laws.Reason.{when_true, when_false, or_yes_right}
 use Rattle.srt_group_model.specs.Guards.{no_answer}
 use Rattle.srt_group_model.specs.Lent.{Lent, Call}
 use Rattle.srt_group_model.specs.Answers.{values_of}
@@ -156,7 +156,7 @@ poll_refused call w t store output answer long room {code} begun other {answer'}
 
 module _ (w : List ℕ) (t : Tables) (store : ℕ) (used : List ℕ) where
   unfit_refused : set_unfit w used ≡ true → BeginsValid w t store used 5 used
-  unfit_refused unfit = record { is = sym (if_true (set_unfit w used) 5 _ unfit); ready = λ zero. absurd (omega (arith, zero)) }
+  unfit_refused unfit = record { is = sym (when_true (set_unfit w used) 5 _ unfit); ready = λ zero. absurd (omega (arith, zero)) }
 
   pub record_unfit : length w < record_size → BeginsValid w t store used 5 used
   record_unfit short = unfit_refused (ap (λ (b : Bool). b || not (eqb (length used) set_size)) (lt-ltb (length w) record_size short))
@@ -173,6 +173,6 @@ module _ (w : List ℕ) (t : Tables) (store : ℕ) (used : List ℕ) where
       ∙ ap not (eq-eqb (length used) set_size size)
       in
       record {
-        is = begun.same ∙ ap outcome_number begun.begins.is ∙ sym (if_false (set_unfit w used) 5 _ fits);
+        is = begun.same ∙ ap outcome_number begun.begins.is ∙ sym (when_false (set_unfit w used) 5 _ fits);
         ready = λ on. stored_ready begun on long;
       }

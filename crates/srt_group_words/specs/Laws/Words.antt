@@ -8,7 +8,7 @@ use Rattle.std.proofs.Math.ListN.{length}
 use Rattle.srt_protocol.specs.Cells.{overwritten}
 use Rattle.srt_protocol.specs.Laws.CellLaws.{overwritten_length}
 use Rattle.srt_group_model.specs.Tools.{if_true◌then◌else◌}
-use Rattle.srt_group_model.specs.Laws.Reason.{if_true, if_false, or_yes_right}
+use Rattle.srt_group_model.specs.Laws.Reason.{when_true, when_false, or_yes_right}
 use Rattle.srt_group_model.specs.Guards.{Answer, no_answer}
 use Rattle.srt_group_model.specs.Lent.{Lent, Call, takes, perform}
 use Rattle.srt_group_model.specs.declared.Core.{Core}
@@ -68,7 +68,7 @@ few_refused {call} {says} {other} {w} few =
       holds =
           subst (λ (b : Bool). Promise ((b || other) || are_short w.tables) (asking call w.bytes) (state_in w)
           (showing (parts_in w) w.tables w.bytes 5 no_answer 0)) (sym few) refl;
-      said = sym (if_true (are_few says w) w.answer _ few);
+      said = sym (when_true (are_few says w) w.answer _ few);
       behind = refl;
     }
 
@@ -93,7 +93,7 @@ module _ (call : Call) (says : Says) (other : Bool) (w : List ℕ) (t : Tables) 
             subst (λ (b : Bool). Promise ((b || other) || are_short t) (asking call bytes) (state_of (parts_of (group_of w)) t)
             (showing (parts_of (group_of w')) t' bytes' code given rows))
             (sym enough) moved;
-        said = said ∙ sym (if_false (are_few says (words w t bytes answer)) answer _ enough);
+        said = said ∙ sym (when_false (are_few says (words w t bytes answer)) answer _ enough);
         behind = behind;
       }
     where
