@@ -41,46 +41,46 @@ pub finish-requires : goal.finish-requires
 finish-requires c = let l = c.loop-turns in (l.invariant.14, roomy_same c.requires.1.1 refl l.invariant.10 l.invariant.11 l.invariant.12 l.invariant.13)
 
 pub shape_of-members-then-state-eq-ENDED : goal.shape_of-members-then-state-eq-ENDED
-shape_of-members-then-state-eq-ENDED c = c.finish.auto.1.0 ∙ c.loop-turns.invariant.0
+shape_of-members-then-state-eq-ENDED c = c.finish.auto.members ∙ c.loop-turns.invariant.0
 
 pub shape_of-pending-then-state-eq-ENDED : goal.shape_of-pending-then-state-eq-ENDED
-shape_of-pending-then-state-eq-ENDED c = c.finish.auto.1.1.0 ∙ c.loop-turns.invariant.1
+shape_of-pending-then-state-eq-ENDED c = c.finish.auto.pending ∙ c.loop-turns.invariant.1
 
 pub shape_of-waiting-then-state-eq-ENDED : goal.shape_of-waiting-then-state-eq-ENDED
-shape_of-waiting-then-state-eq-ENDED c = c.finish.auto.1.1.1.0 ∙ c.loop-turns.invariant.2
+shape_of-waiting-then-state-eq-ENDED c = c.finish.auto.waiting ∙ c.loop-turns.invariant.2
 
 pub shape_of-history-then-state-eq-ENDED : goal.shape_of-history-then-state-eq-ENDED
-shape_of-history-then-state-eq-ENDED c = c.finish.auto.1.1.1.1.0 ∙ c.loop-turns.invariant.3
+shape_of-history-then-state-eq-ENDED c = c.finish.auto.history ∙ c.loop-turns.invariant.3
 
 pub shape_of-sources-then-state-eq-ENDED : goal.shape_of-sources-then-state-eq-ENDED
-shape_of-sources-then-state-eq-ENDED c = c.finish.auto.1.1.1.1.1.0 ∙ c.loop-turns.invariant.4
+shape_of-sources-then-state-eq-ENDED c = c.finish.auto.sources ∙ c.loop-turns.invariant.4
 
 pub shape_of-store-then-state-eq-ENDED : goal.shape_of-store-then-state-eq-ENDED
-shape_of-store-then-state-eq-ENDED c = c.finish.auto.1.1.1.1.1.1.0 ∙ c.loop-turns.invariant.5
+shape_of-store-then-state-eq-ENDED c = c.finish.auto.store ∙ c.loop-turns.invariant.5
 
 pub shape_of-output-then-state-eq-ENDED : goal.shape_of-output-then-state-eq-ENDED
-shape_of-output-then-state-eq-ENDED c = c.finish.auto.1.1.1.1.1.1.1.0 ∙ c.loop-turns.invariant.6
+shape_of-output-then-state-eq-ENDED c = c.finish.auto.output ∙ c.loop-turns.invariant.6
 
 pub shape_of-list-then-state-eq-ENDED : goal.shape_of-list-then-state-eq-ENDED
-shape_of-list-then-state-eq-ENDED c = c.finish.auto.1.1.1.1.1.1.1.1.0 ∙ c.loop-turns.invariant.7
+shape_of-list-then-state-eq-ENDED c = c.finish.auto.list ∙ c.loop-turns.invariant.7
 
 pub shape_of-used-then-state-eq-ENDED : goal.shape_of-used-then-state-eq-ENDED
-shape_of-used-then-state-eq-ENDED c = c.finish.auto.1.1.1.1.1.1.1.1.1.0 ∙ c.loop-turns.invariant.8
+shape_of-used-then-state-eq-ENDED c = c.finish.auto.used ∙ c.loop-turns.invariant.8
 
 pub shape_of-block-then-state-eq-ENDED : goal.shape_of-block-then-state-eq-ENDED
 shape_of-block-then-state-eq-ENDED c = c.loop-turns.invariant.9
 
 pub shape_of-buffer-then-state-eq-ENDED : goal.shape_of-buffer-then-state-eq-ENDED
-shape_of-buffer-then-state-eq-ENDED c = c.finish.auto.1.1.1.1.1.1.1.1.1.1.0 ∙ c.loop-turns.invariant.10
+shape_of-buffer-then-state-eq-ENDED c = c.finish.auto.buffer ∙ c.loop-turns.invariant.10
 
 pub shape_of-rows-then-state-eq-ENDED : goal.shape_of-rows-then-state-eq-ENDED
-shape_of-rows-then-state-eq-ENDED c = c.finish.auto.1.1.1.1.1.1.1.1.1.1.1.0 ∙ c.loop-turns.invariant.11
+shape_of-rows-then-state-eq-ENDED c = c.finish.auto.rows ∙ c.loop-turns.invariant.11
 
 pub shape_of-answers-then-state-eq-ENDED : goal.shape_of-answers-then-state-eq-ENDED
-shape_of-answers-then-state-eq-ENDED c = c.finish.auto.1.1.1.1.1.1.1.1.1.1.1.1.0 ∙ c.loop-turns.invariant.12
+shape_of-answers-then-state-eq-ENDED c = c.finish.auto.answers ∙ c.loop-turns.invariant.12
 
 pub shape_of-out-then-state-eq-ENDED : goal.shape_of-out-then-state-eq-ENDED
-shape_of-out-then-state-eq-ENDED c = c.finish.auto.1.1.1.1.1.1.1.1.1.1.1.1.1.0 ∙ c.loop-turns.invariant.13
+shape_of-out-then-state-eq-ENDED c = c.finish.auto.out ∙ c.loop-turns.invariant.13
 
 pub shape_of-members-else-state-eq-ENDED : goal.shape_of-members-else-state-eq-ENDED
 shape_of-members-else-state-eq-ENDED c = c.loop-turns.invariant.0

@@ -19,18 +19,18 @@ cleared width bytes numbers between after same e malformed =
     rw zeros (malformed_line width bytes numbers malformed)
 
 pub shape_of-numbers-in_default : goal.shape_of-numbers-in_default
-shape_of-numbers-in_default c = c.clear.auto.0 ∙ c.read_columns.auto.1.1.0
+shape_of-numbers-in_default c = c.clear.auto.numbers ∙ c.read_columns.auto.numbers
 
 pub returns-in_default : goal.returns-in_default
 returns-in_default c =
     let a = c.args in
     let numbers = a.numbers.now in
     let refused = columns_refused a.width a.line.now numbers _ _ c.read_columns.ensures c.in_default.is in
-    cleared a.width a.line.now numbers c.read_columns.new.1.1.0 _ c.read_columns.auto.1.1.0 c.clear.ensures
+    cleared a.width a.line.now numbers c.read_columns.new.numbers _ c.read_columns.auto.numbers c.clear.ensures
     (not_well_formed (length numbers) a.width a.line.now refused)
 
 pub shape_of-numbers-then-end-line : goal.shape_of-numbers-then-end-line
-shape_of-numbers-then-end-line c = c.read_columns.auto.1.1.0
+shape_of-numbers-then-end-line c = c.read_columns.auto.numbers
 
 pub returns-then-end-line : goal.returns-then-end-line
 returns-then-end-line c =
@@ -41,12 +41,12 @@ returns-then-end-line c =
     line_of_columns a.width a.line.now numbers _ (sym c.if-end-line.true ∙ found.1) found.0 (read.put found.0)
 
 pub shape_of-numbers : goal.shape_of-numbers
-shape_of-numbers c = c.clear-2.auto.0 ∙ c.read_columns.auto.1.1.0
+shape_of-numbers c = c.clear-2.auto.numbers ∙ c.read_columns.auto.numbers
 
 pub returns : goal.returns
 returns c =
     let a = c.args in
     let numbers = a.numbers.now in
     let found = columns_end a.width a.line.now numbers _ _ _ c.read_columns.ensures c.in-UpTo.is in
-    cleared a.width a.line.now numbers c.read_columns.new.1.1.0 _ c.read_columns.auto.1.1.0 c.clear-2.ensures
+    cleared a.width a.line.now numbers c.read_columns.new.numbers _ c.read_columns.auto.numbers c.clear-2.ensures
     (well_formed_length (length numbers) a.width a.line.now (λ e. c.if-end-line.false (found.1 ∙ sym e)))

@@ -31,6 +31,6 @@ returns c =
     let a = c.args in
     let fits : a.size + length a.bytes.now ≤ length a.buffer.now = omega arith in
     record {
-      same = c.copy_in.auto.0;
+      same = c.copy_in.auto.buffer;
       held = λ line h. rw c.copy_in.ensures (held_append a.buffer.now line a.bytes.now a.size h fits);
     }

@@ -36,7 +36,7 @@ within-buffer width buffer size numbers after answer h read =
     short line held = omega (arith, ap length (held.within h), length-take-le size buffer h)
 
 pub shape_of-numbers-then-buffer-size : goal.shape_of-numbers-then-buffer-size
-shape_of-numbers-then-buffer-size c = c.clear.auto.0
+shape_of-numbers-then-buffer-size c = c.clear.auto.numbers
 
 pub returns-then-buffer-size : goal.returns-then-buffer-size
 returns-then-buffer-size c =
@@ -47,7 +47,7 @@ pub slice_bounds-read_line-end : goal.slice_bounds-read_line-end
 slice_bounds-read_line-end c = sym (length-take-le _ _ (omega arith))
 
 pub shape_of-numbers : goal.shape_of-numbers
-shape_of-numbers c = c.read_line.auto.1.1.0
+shape_of-numbers c = c.read_line.auto.numbers
 
 pub returns : goal.returns
 returns c =

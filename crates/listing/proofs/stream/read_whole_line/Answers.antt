@@ -28,7 +28,7 @@ returns-then-block-from c =
     whole_not_found a.block.now a.from a.width a.numbers.now _ refl (λ begins inside feed. omega arith)
 
 pub shape_of-numbers-in_default : goal.shape_of-numbers-in_default
-shape_of-numbers-in_default c = c.read_columns.auto.1.1.0
+shape_of-numbers-in_default c = c.read_columns.auto.numbers
 
 pub returns-in_default : goal.returns-in_default
 returns-in_default c =
@@ -37,7 +37,7 @@ returns-in_default c =
     let stream = drop a.from a.block.now in
     let read : ColumnsRead a.width stream numbers _ _ = columns-of-rest a.block.now a.from a.width numbers _ _ c.read_columns.ensures in
     let refused = columns_refused a.width stream numbers _ _ read c.in_default.is in
-    whole_not_found a.block.now a.from a.width numbers _ c.read_columns.auto.1.1.0
+    whole_not_found a.block.now a.from a.width numbers _ c.read_columns.auto.numbers
     (λ begins inside feed. true≢false (sym begins ∙ refused))
 
 pub overflow_add-end : goal.overflow_add-end
@@ -54,7 +54,7 @@ pub overflow_add-result : goal.overflow_add-result
 overflow_add-result c = omega arith
 
 pub shape_of-numbers-then-block-end-eq10 : goal.shape_of-numbers-then-block-end-eq10
-shape_of-numbers-then-block-end-eq10 c = c.read_columns.auto.1.1.0
+shape_of-numbers-then-block-end-eq10 c = c.read_columns.auto.numbers
 
 pub returns-then-block-end-eq10 : goal.returns-then-block-end-eq10
 returns-then-block-end-eq10 c =
@@ -64,11 +64,11 @@ returns-then-block-end-eq10 c =
     let read : ColumnsRead a.width stream numbers _ _ = columns-of-rest a.block.now a.from a.width numbers _ _ c.read_columns.ensures in
     let found = columns_end a.width stream numbers _ _ _ read c.in-UpTo.is in
     let inside : a.from + c.in-UpTo.size < length a.block.now = c.if-end-block.true in
-    rw found.1 (whole_found a.block.now a.from a.width numbers _ c.read_columns.auto.1.1.0 found.0
+    rw found.1 (whole_found a.block.now a.from a.width numbers _ c.read_columns.auto.numbers found.0
     (rw found.1 at inside) (rw found.1 at c.if-block-end-eq10.true) (read.put found.0))
 
 pub shape_of-numbers-else-block-end-eq10 : goal.shape_of-numbers-else-block-end-eq10
-shape_of-numbers-else-block-end-eq10 c = c.read_columns.auto.1.1.0
+shape_of-numbers-else-block-end-eq10 c = c.read_columns.auto.numbers
 
 pub returns-else-block-end-eq10 : goal.returns-else-block-end-eq10
 returns-else-block-end-eq10 c =
@@ -77,11 +77,11 @@ returns-else-block-end-eq10 c =
     let stream = drop a.from a.block.now in
     let read : ColumnsRead a.width stream numbers _ _ = columns-of-rest a.block.now a.from a.width numbers _ _ c.read_columns.ensures in
     let found = columns_end a.width stream numbers _ _ _ read c.in-UpTo.is in
-    whole_not_found a.block.now a.from a.width numbers _ c.read_columns.auto.1.1.0
+    whole_not_found a.block.now a.from a.width numbers _ c.read_columns.auto.numbers
     (λ begins inside feed. c.if-block-end-eq10.false (rw found.1 feed))
 
 pub shape_of-numbers-else-end-block : goal.shape_of-numbers-else-end-block
-shape_of-numbers-else-end-block c = c.read_columns.auto.1.1.0
+shape_of-numbers-else-end-block c = c.read_columns.auto.numbers
 
 pub returns-else-end-block : goal.returns-else-end-block
 returns-else-end-block c =
@@ -90,5 +90,5 @@ returns-else-end-block c =
     let stream = drop a.from a.block.now in
     let read : ColumnsRead a.width stream numbers _ _ = columns-of-rest a.block.now a.from a.width numbers _ _ c.read_columns.ensures in
     let found = columns_end a.width stream numbers _ _ _ read c.in-UpTo.is in
-    whole_not_found a.block.now a.from a.width numbers _ c.read_columns.auto.1.1.0
+    whole_not_found a.block.now a.from a.width numbers _ c.read_columns.auto.numbers
     (λ begins inside feed. omega (arith, found.1))

@@ -41,7 +41,7 @@ returns-then-block-from c =
     nothing-taken a.block.now a.from a.buffer.now a.size c.if-block-from.true
 
 pub shape_of-buffer-then-feed-block : goal.shape_of-buffer-then-feed-block
-shape_of-buffer-then-feed-block c = c.append-grown.auto.0
+shape_of-buffer-then-feed-block c = c.append-grown.auto.buffer
 
 pub returns-then-feed-block : goal.returns-then-feed-block
 returns-then-feed-block c =
@@ -49,7 +49,7 @@ returns-then-feed-block c =
     let place = c.feed_place-feed.ensures in
     let inside = c.if-feed-block.true in
     record {
-      same = c.append-grown.auto.0;
+      same = c.append-grown.auto.buffer;
       held = λ line h. held-first-line line _ _ _ _ place.before (c.append-grown.ensures.held line h);
       ended = sym (place.feed inside);
       rest = place.rest inside;
@@ -59,7 +59,7 @@ returns-then-feed-block c =
     }
 
 pub shape_of-buffer : goal.shape_of-buffer
-shape_of-buffer c = c.append-grown.auto.0
+shape_of-buffer c = c.append-grown.auto.buffer
 
 pub returns : goal.returns
 returns c =
@@ -68,7 +68,7 @@ returns c =
     let done : c.feed_place-feed.result ≡ length a.block.now = omega (arith, place.inside) in
     let none = place.none done in
     record {
-      same = c.append-grown.auto.0;
+      same = c.append-grown.auto.buffer;
       held = λ line h. held-first-line line _ _ _ _ place.before (c.append-grown.ensures.held line h);
       ended = sym none;
       rest = drop_at_end a.block.now _ done ∙ sym (first_line_all (drop a.from a.block.now) none).1;

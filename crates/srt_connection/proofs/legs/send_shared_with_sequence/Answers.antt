@@ -1,6 +1,6 @@
 -- `send_shared_with_sequence` meets its contract: it fails at the first of the definition's three tests that does.
 use mathlib.Core.Path.{sym, ◌∙◌}
-use borrow.Author.Tests.{eq-eqb, ne_eqb, le-leb, lt-leb, not-true, not-false}
+use borrow.Author.Tests.{eq-eqb, ne_eqb, le-leb, lt-leb}
 use Rattle.srt_group_model.specs.Tools.{if_true◌then◌else◌}
 use Rattle.srt_group_model.specs.Legs.{can_send, send_shared_with_sequence}
 use Rattle.srt_connection.specs.Laws.Answers.{window_left}
@@ -8,14 +8,14 @@ use Rattle.srt_connection.proofs.legs.send_shared_with_sequence.Goals as goal
 
 pub returns-then-not-can_send : goal.returns-then-not-can_send
 unfolding send_shared_with_sequence if_true◌then◌else◌
-returns-then-not-can_send c = rw (← c.can_send.ensures, not-true c.can_send.result c.if-not-can_send.true)
+returns-then-not-can_send c = rw (← c.can_send.ensures, c.if-not-can_send.true)
 
 pub returns-then-sequence-leg : goal.returns-then-sequence-leg
 unfolding send_shared_with_sequence if_true◌then◌else◌
 returns-then-sequence-leg c =
     rw (
       ← c.can_send.ensures,
-      not-false c.can_send.result c.if-not-can_send.false,
+      c.if-not-can_send.false,
       ne_eqb _ _ c.if-sequence-leg.true,
     )
 
@@ -24,7 +24,7 @@ unfolding send_shared_with_sequence if_true◌then◌else◌
 returns-then-leg-size c =
     rw (
       ← c.can_send.ensures,
-      not-false c.can_send.result c.if-not-can_send.false,
+      c.if-not-can_send.false,
       eq-eqb _ _ c.if-sequence-leg.false,
       lt-leb _ _ c.if-leg-size.true,
     )
@@ -32,15 +32,14 @@ returns-then-leg-size c =
 pub after_send-sender-requires : goal.after_send-sender-requires
 after_send-sender-requires c =
     window_left c.args.leg
-    (sym c.can_send.ensures ∙ not-false
-    c.can_send.result c.if-not-can_send.false)
+    (sym c.can_send.ensures ∙ c.if-not-can_send.false)
 
 pub returns : goal.returns
 unfolding send_shared_with_sequence if_true◌then◌else◌
 returns c =
     rw (
       ← c.can_send.ensures,
-      not-false c.can_send.result c.if-not-can_send.false,
+      c.if-not-can_send.false,
       eq-eqb _ _ c.if-sequence-leg.false,
       le-leb _ _ c.if-leg-size.false,
       c.after_send-sender.ensures,

@@ -1,7 +1,6 @@
 -- `demote_stale_backup_carrier` meets its contract: each return is a law of Stale.antt.
 use mathlib.Core.Path.{sym, ◌∙◌}
 use native.Mathlib.Omega.{arith}
-use borrow.Author.Tests.{not-true, not-false}
 use Rattle.srt_group_model.specs.Members.{is_active}
 use Rattle.srt_group_members.specs.Laws.Scan.{found_row}
 use Rattle.srt_group_backup.specs.Laws.Stale.{trip_fits, none_active_none_demoted, no_standby_none_demoted, not_stale_none_demoted, stale_demoted}
@@ -14,7 +13,7 @@ pub returns-then-not-has_standby : goal.returns-then-not-has_standby
 returns-then-not-has_standby c =
     no_standby_none_demoted _ _ _ _
     (sym c.in-At.is ∙ c.first_active-found.ensures)
-    c.has_standby.ensures (not-true _ c.if-not-has_standby.true)
+    c.has_standby.ensures c.if-not-has_standby.true
 
 pub leg_at-requires : goal.leg_at-requires
 leg_at-requires c =
@@ -31,7 +30,7 @@ pub returns-then-not-is_stale : goal.returns-then-not-is_stale
 returns-then-not-is_stale c =
     not_stale_none_demoted _ _ _ _
     (sym c.in-At.is ∙ c.first_active-found.ensures)
-    c.leg_at.ensures c.is_stale.ensures (not-true _ c.if-not-is_stale.true)
+    c.leg_at.ensures c.is_stale.ensures c.if-not-is_stale.true
 
 pub turn_at-requires : goal.turn_at-requires
 turn_at-requires c =
@@ -43,7 +42,7 @@ returns c =
     stale_demoted _ _ _ _
     (sym c.in-At.is ∙ c.first_active-found.ensures)
     c.has_standby.ensures
-    (not-false _ c.if-not-has_standby.false)
+    c.if-not-has_standby.false
     c.leg_at.ensures
     c.is_stale.ensures
-    (not-false _ c.if-not-is_stale.false) c.turn_at.ensures
+    c.if-not-is_stale.false c.turn_at.ensures

@@ -1,6 +1,6 @@
 -- `take_over_backup_flight` meets its contract: each return is one of the three cases of a take-over.
 use native.Mathlib.Omega.{arith}
-use borrow.Author.Tests.{not-true, not-false}
+use borrow.Author.Tests.{not-true}
 use Rattle.srt_group_backup.specs.Laws.TakeOver.{no_take_over, took_over_nothing, took_over_flight}
 use borrow.Author.Rules.{rules}
 use Rattle.srt_group_tables.specs.Ring.{arrays}
@@ -25,7 +25,7 @@ returns-then-left-eq0 c =
     _ _
     c.membership_at-membership.ensures
     c.takes_over.ensures
-    (not-false _ c.if-not-takes_over.false)
+    c.if-not-takes_over.false
     c.trim_by_carrier-trimmed.ensures
     c.if-left-eq0.true c.align_carrier-outcome-then-left-eq0.ensures
 
@@ -44,7 +44,7 @@ returns c =
     _ _
     c.membership_at-membership.ensures
     c.takes_over.ensures
-    (not-false _ c.if-not-takes_over.false)
+    c.if-not-takes_over.false
     c.trim_by_carrier-trimmed.ensures
     c.if-left-eq0.false
     c.replay_flight-flight.ensures

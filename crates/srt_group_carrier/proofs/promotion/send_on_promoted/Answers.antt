@@ -1,6 +1,5 @@
 -- `send_on_promoted` meets its contract: what the take-over gives if it is refused, 29, or the payload is kept.
 use native.Mathlib.Omega.{arith}
-use borrow.Author.Tests.{not-true, not-false}
 use Rattle.srt_protocol.specs.declared.error.Error.TheVariants.{PromotionSendFailed}
 use Rattle.srt_group_carrier.specs.Laws.Flows.{flows_stopped, flows_then, sent_as, own_sent, own_refused, lendable_taken}
 use Rattle.srt_group_carrier.proofs.promotion.send_on_promoted.Goals as goal
@@ -26,7 +25,7 @@ returns-then-not-send_on c =
     let few = c.requires.1.0 in
     let lent = lendable_taken (omega (arith, few)) c.requires.0.lent took c.take_over-taken.ensures.1 in
     flows_then _ _ _ _ _ _ _ _ _ _ (omega (arith, few)) c.requires.0.lent.arrays_long took c.take_over-taken.ensures.1 _ c.in_default.is c.requires.0.lent.list_long
-    (own_refused _ _ _ _ _ _ _ _ _ _ _ _ c.requires.0.below (sent_as (not-true _ c.if-not-send_on.true) c.send_on.ensures) PromotionSendFailed lent (omega (arith, few, took.few)))
+    (own_refused _ _ _ _ _ _ _ _ _ _ _ _ c.requires.0.below (sent_as c.if-not-send_on.true c.send_on.ensures) PromotionSendFailed lent (omega (arith, few, took.few)))
 
 pub keep_sent-requires : goal.keep_sent-requires
 keep_sent-requires c =
@@ -52,4 +51,4 @@ returns c =
     let took = c.take_over-taken.ensures.0 in
     let few = c.requires.1.0 in
     flows_then _ _ _ _ _ _ _ _ _ _ (omega (arith, few)) c.requires.0.lent.arrays_long took c.take_over-taken.ensures.1 _ c.in_default.is c.requires.0.lent.list_long
-    (own_sent _ _ _ _ _ _ _ _ _ _ _ _ c.requires.0.below (sent_as (not-false _ c.if-not-send_on.false) c.send_on.ensures) _ c.requires.0.lent.arrays_long (omega (arith, few, took.few)) c.keep_sent.ensures)
+    (own_sent _ _ _ _ _ _ _ _ _ _ _ _ c.requires.0.below (sent_as c.if-not-send_on.false c.send_on.ensures) _ c.requires.0.lent.arrays_long (omega (arith, few, took.few)) c.keep_sent.ensures)

@@ -1,7 +1,7 @@
 -- `backup_stability_timeout_micros` meets its contract: 5, 6, 2, 3, nothing without a sender, or the timeout.
 use Rattle.srt_group_model.specs.Lent.{look_backup_stability_timeout_micros}
 use mathlib.Core.Path.{sym, ◌∙◌}
-use borrow.Author.Tests.{lt-ltb, le-ltb, not-true, not-false}
+use borrow.Author.Tests.{lt-ltb, le-ltb}
 use Rattle.srt_group_shown.specs.Tables.{tables}
 use Rattle.srt_group.specs.Made.{parts_of}
 use Rattle.srt_group_shown.specs.Laws.Steps.{rows_unbroken}
@@ -40,7 +40,7 @@ pub returns-then-not-has_sender : goal.returns-then-not-has_sender
 returns-then-not-has_sender c =
     let a = c.args in
     no_timeout_shown a.id (parts_of a.group) (tables a.members.now a.pending.now a.waiting.now a.history.now a.sources.now) c.begin-begun.ensures c.in_default.is (le-ltb _ _ c.if-id-gt-LARGEST_32.false) _ (sym c.in-At.is ∙ c.find-found.ensures) _ c.leg_at-leg.ensures
-    (sym c.has_sender.ensures ∙ not-true _ c.if-not-has_sender.true)
+    (sym c.has_sender.ensures ∙ c.if-not-has_sender.true)
 
 pub stability_timeout-requires : goal.stability_timeout-requires
 stability_timeout-requires c =
@@ -51,4 +51,4 @@ pub returns : goal.returns
 returns c =
     let a = c.args in
     timeout_shown a.id (parts_of a.group) (tables a.members.now a.pending.now a.waiting.now a.history.now a.sources.now) c.begin-begun.ensures c.in_default.is (le-ltb _ _ c.if-id-gt-LARGEST_32.false) _ (sym c.in-At.is ∙ c.find-found.ensures) _ c.leg_at-leg.ensures
-    (sym c.has_sender.ensures ∙ not-false _ c.if-not-has_sender.false) _ c.stability_timeout.ensures
+    (sym c.has_sender.ensures ∙ c.if-not-has_sender.false) _ c.stability_timeout.ensures

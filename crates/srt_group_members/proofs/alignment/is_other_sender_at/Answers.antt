@@ -1,5 +1,4 @@
 -- `is_other_sender_at` meets its contract: one law for each answer.
-use borrow.Author.Tests.{not-true, not-false}
 use Rattle.srt_group_members.specs.Laws.Alignment.{same_is_not_other, unconnected_is_no_sender, other_if_started}
 use Rattle.srt_group_members.proofs.alignment.is_other_sender_at.Goals as goal
 
@@ -9,11 +8,11 @@ returns-then-membership-id c = same_is_not_other _ _ c.membership_at-membership.
 pub returns-then-not-is_connected_at : goal.returns-then-not-is_connected_at
 returns-then-not-is_connected_at c =
     unconnected_is_no_sender _ _ c.is_connected_at.ensures
-    (not-true c.is_connected_at.result c.if-not-is_connected_at.true)
+    c.if-not-is_connected_at.true
 
 pub returns : goal.returns
 returns c =
     other_if_started _ _ c.membership_at-membership.ensures
     c.if-membership-id.false c.is_connected_at.ensures
-    (not-false c.is_connected_at.result c.if-not-is_connected_at.false)
+    c.if-not-is_connected_at.false
     c.sender_at-sender.ensures

@@ -1,5 +1,4 @@
 -- `first_in_rank_with` meets its contract: one law for each answer.
-use borrow.Author.Tests.{not-true, not-false}
 use Rattle.srt_group_members.specs.Laws.Rank.{first_unless_standby, first_alone, first_still, first_now, row_of_found}
 use Rattle.srt_group_members.proofs.promotion.first_in_rank_with.Goals as goal
 
@@ -8,12 +7,12 @@ is_standby_at-requires c = c.requires.0
 
 pub returns-then-not-is_standby_at : goal.returns-then-not-is_standby_at
 returns-then-not-is_standby_at c =
-    first_unless_standby _ _ _ c.is_standby_at.ensures (not-true c.is_standby_at.result c.if-not-is_standby_at.true)
+    first_unless_standby _ _ _ c.is_standby_at.ensures c.if-not-is_standby_at.true
 
 pub returns-in_default : goal.returns-in_default
 returns-in_default c =
     first_alone _ _ _ c.in_default.is c.is_standby_at.ensures
-    (not-false c.is_standby_at.result c.if-not-is_standby_at.false)
+    c.if-not-is_standby_at.false
 
 pub outranks_at-requires : goal.outranks_at-requires
 outranks_at-requires c = (
@@ -29,6 +28,4 @@ returns-then-outranks_at c =
 pub returns : goal.returns
 returns c =
     first_now _ _ _ _ c.in-At.is
-    c.is_standby_at.ensures (not-false
-    c.is_standby_at.result
-    c.if-not-is_standby_at.false) c.outranks_at.ensures c.if-outranks_at.false
+    c.is_standby_at.ensures c.if-not-is_standby_at.false c.outranks_at.ensures c.if-outranks_at.false

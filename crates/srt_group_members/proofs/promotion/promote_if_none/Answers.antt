@@ -1,11 +1,10 @@
 -- `promote_if_none` meets its contract.
-use borrow.Author.Tests.{not-true, not-false}
 use Rattle.srt_group_members.specs.Laws.Rank.{promoted_not_in_backup, promoted_not_needed, promoted_if_none}
 use Rattle.srt_group_members.proofs.promotion.promote_if_none.Goals as goal
 
 pub returns-then-not-is_backup : goal.returns-then-not-is_backup
 returns-then-not-is_backup c =
-    promoted_not_in_backup _ _ _ c.is_backup.ensures (not-true c.is_backup.result c.if-not-is_backup.true)
+    promoted_not_in_backup _ _ _ c.is_backup.ensures c.if-not-is_backup.true
 
 pub returns-then-has_active_member : goal.returns-then-has_active_member
 returns-then-has_active_member c =
@@ -14,8 +13,6 @@ returns-then-has_active_member c =
 
 pub returns : goal.returns
 returns c =
-    promoted_if_none _ _ _ c.is_backup.ensures (not-false
-    c.is_backup.result
-    c.if-not-is_backup.false)
+    promoted_if_none _ _ _ c.is_backup.ensures c.if-not-is_backup.false
     c.has_active_member.ensures c.if-has_active_member.false
     c.promote_backup_member.ensures

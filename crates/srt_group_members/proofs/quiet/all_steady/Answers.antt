@@ -1,6 +1,5 @@
 -- `all_steady` meets its contract. The loop's invariant: it is for the members that are left to say.
 use mathlib.Core.Path.{refl}
-use borrow.Author.Tests.{not-true, not-false}
 use Rattle.srt_group_members.specs.Quiet.{is_steady}
 use Rattle.srt_group_members.specs.Laws.Scan.{all_on, all_fails, all_done}
 use native.Mathlib.Omega.{arith}
@@ -15,13 +14,13 @@ is_steady_at-requires c = omega arith
 pub returns-then-not-is_steady_at : goal.returns-then-not-is_steady_at
 returns-then-not-is_steady_at c =
     all_fails is_steady _ _ _ c.loop-i-test.true c.loop-i.invariant.1
-    c.is_steady_at.ensures (not-true c.is_steady_at.result c.if-not-is_steady_at.true)
+    c.is_steady_at.ensures c.if-not-is_steady_at.true
 
 pub loop-i-preserved : goal.loop-i-preserved
 loop-i-preserved c = (
   omega arith,
   all_on is_steady _ _ _ c.loop-i-test.true c.loop-i.invariant.1
-      c.is_steady_at.ensures (not-false c.is_steady_at.result c.if-not-is_steady_at.false),
+      c.is_steady_at.ensures c.if-not-is_steady_at.false,
 )
 
 pub returns : goal.returns

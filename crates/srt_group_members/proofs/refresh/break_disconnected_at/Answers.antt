@@ -1,5 +1,4 @@
 -- `break_disconnected_at` meets its contract: one law for each way out.
-use borrow.Author.Tests.{not-true, not-false}
 use Rattle.srt_group_members.specs.Laws.Refresh.{broken_already, not_broken, broken_now}
 use Rattle.srt_group_members.proofs.refresh.break_disconnected_at.Goals as goal
 
@@ -8,10 +7,9 @@ returns-then-membership-eq-BROKEN c = broken_already _ _ c.membership_at-members
 
 pub returns-then-not-is_disconnected_at : goal.returns-then-not-is_disconnected_at
 returns-then-not-is_disconnected_at c =
-    not_broken _ _ c.is_disconnected_at.ensures (not-true c.is_disconnected_at.result c.if-not-is_disconnected_at.true)
+    not_broken _ _ c.is_disconnected_at.ensures c.if-not-is_disconnected_at.true
 
 pub returns : goal.returns
 returns c =
-    broken_now _ _ c.is_disconnected_at.ensures (not-false
-    c.is_disconnected_at.result c.if-not-is_disconnected_at.false)
+    broken_now _ _ c.is_disconnected_at.ensures c.if-not-is_disconnected_at.false
     c.turn_at.ensures

@@ -1,5 +1,4 @@
 -- `requalify_at` meets its contract: the member is left out, or its alignment is refused, or it turns.
-use borrow.Author.Tests.{not-true, not-false}
 use Rattle.srt_group_model.specs.Members.{requalify}
 use Rattle.srt_group_members.specs.Refresh.{requalifies, requalified_state}
 use Rattle.srt_group_members.specs.Laws.Refresh.{turn_left_out, turn_refused, turn_made}
@@ -13,7 +12,7 @@ pub returns-then-not-requalifies_at : goal.returns-then-not-requalifies_at
 unfolding requalify requalifies requalified_state
 returns-then-not-requalifies_at c =
     turn_left_out requalifies _ _ _ _ _ c.requires.1 c.requalifies_at.ensures
-    (not-true c.requalifies_at.result c.if-not-requalifies_at.true)
+    c.if-not-requalifies_at.true
 
 pub align_member_sequence-requires : goal.align_member_sequence-requires
 align_member_sequence-requires c = c.requires.0
@@ -25,10 +24,8 @@ pub returns-then-not-align_member_sequence : goal.returns-then-not-align_member_
 unfolding requalify requalifies requalified_state
 returns-then-not-align_member_sequence c =
     turn_refused requalifies _ _ _ _ _ c.requires.1
-    c.requalifies_at.ensures (not-false
-    c.requalifies_at.result
-    c.if-not-requalifies_at.false) c.align_member_sequence.ensures
-    (not-true c.align_member_sequence.result c.if-not-align_member_sequence.true)
+    c.requalifies_at.ensures c.if-not-requalifies_at.false c.align_member_sequence.ensures
+    c.if-not-align_member_sequence.true
 
 pub requalified_state-state-requires : goal.requalified_state-state-requires
 requalified_state-state-requires c =
@@ -61,10 +58,6 @@ returns c =
     turn_made requalifies _ _ _ _ _
     c.requires.1
     c.requalifies_at.ensures
-    (not-false
-    c.requalifies_at.result
-    c.if-not-requalifies_at.false)
-    c.align_member_sequence.ensures (not-false
-    c.align_member_sequence.result
-    c.if-not-align_member_sequence.false)
+    c.if-not-requalifies_at.false
+    c.align_member_sequence.ensures c.if-not-align_member_sequence.false
     c.requalified_state-state.ensures c.turn_at.ensures

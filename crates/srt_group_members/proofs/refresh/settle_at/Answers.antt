@@ -1,5 +1,4 @@
 -- `settle_at` meets its contract: the member is left out, or its alignment is refused, or it turns.
-use borrow.Author.Tests.{not-true, not-false}
 use Rattle.srt_group_model.specs.Members.{settle}
 use Rattle.srt_group_members.specs.Refresh.{settles, settled_state}
 use Rattle.srt_group_members.specs.Laws.Refresh.{turn_left_out, turn_refused, turn_made}
@@ -13,7 +12,7 @@ pub returns-then-not-settles_at : goal.returns-then-not-settles_at
 unfolding settle settles settled_state
 returns-then-not-settles_at c =
     turn_left_out settles _ _ _ _ _ c.requires.1 c.settles_at.ensures
-    (not-true c.settles_at.result c.if-not-settles_at.true)
+    c.if-not-settles_at.true
 
 pub align_member_sequence-requires : goal.align_member_sequence-requires
 align_member_sequence-requires c = c.requires.0
@@ -25,10 +24,8 @@ pub returns-then-not-align_member_sequence : goal.returns-then-not-align_member_
 unfolding settle settles settled_state
 returns-then-not-align_member_sequence c =
     turn_refused settles _ _ _ _ _ c.requires.1
-    c.settles_at.ensures (not-false
-    c.settles_at.result
-    c.if-not-settles_at.false) c.align_member_sequence.ensures
-    (not-true c.align_member_sequence.result c.if-not-align_member_sequence.true)
+    c.settles_at.ensures c.if-not-settles_at.false c.align_member_sequence.ensures
+    c.if-not-align_member_sequence.true
 
 pub turn_at-requires : goal.turn_at-requires
 turn_at-requires c =
@@ -52,10 +49,6 @@ unfolding settle settles settled_state
 returns c =
     turn_made settles _ _ _ _ _
     c.requires.1
-    c.settles_at.ensures (not-false
-    c.settles_at.result
-    c.if-not-settles_at.false)
-    c.align_member_sequence.ensures (not-false
-    c.align_member_sequence.result
-    c.if-not-align_member_sequence.false) c.settled_state.ensures
+    c.settles_at.ensures c.if-not-settles_at.false
+    c.align_member_sequence.ensures c.if-not-align_member_sequence.false c.settled_state.ensures
     c.turn_at.ensures

@@ -1,6 +1,5 @@
 -- `all_disconnected` meets its contract. The loop's invariant: it is for the members that are left to say.
 use mathlib.Core.Path.{refl}
-use borrow.Author.Tests.{not-true, not-false}
 use Rattle.srt_group_members.specs.Scan.{leg_disconnected}
 use Rattle.srt_group_members.specs.Laws.Scan.{all_on, all_fails, all_done}
 use native.Mathlib.Omega.{arith}
@@ -15,13 +14,13 @@ is_disconnected_at-requires c = omega arith
 pub returns-then-not-is_disconnected_at : goal.returns-then-not-is_disconnected_at
 returns-then-not-is_disconnected_at c =
     all_fails leg_disconnected _ _ _ c.loop-i-test.true c.loop-i.invariant.1
-    c.is_disconnected_at.ensures (not-true c.is_disconnected_at.result c.if-not-is_disconnected_at.true)
+    c.is_disconnected_at.ensures c.if-not-is_disconnected_at.true
 
 pub loop-i-preserved : goal.loop-i-preserved
 loop-i-preserved c = (
   omega arith,
   all_on leg_disconnected _ _ _ c.loop-i-test.true c.loop-i.invariant.1
-      c.is_disconnected_at.ensures (not-false c.is_disconnected_at.result c.if-not-is_disconnected_at.false),
+      c.is_disconnected_at.ensures c.if-not-is_disconnected_at.false,
 )
 
 pub returns : goal.returns

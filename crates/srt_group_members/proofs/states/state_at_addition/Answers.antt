@@ -1,5 +1,4 @@
 -- `state_at_addition` meets its contract: its tests are the definition's.
-use borrow.Author.Tests.{not-true, not-false}
 use Rattle.srt_group_model.specs.Tools.{if_true◌then◌else◌}
 use Rattle.srt_group_model.specs.Calls.{state_at_addition}
 use Rattle.srt_group_members.proofs.states.state_at_addition.Goals as goal
@@ -11,7 +10,7 @@ returns-then-is_backup c =
       ← c.is_backup.ensures,
       c.if-is_backup.true,
       ← c.is_connected.ensures,
-      not-true c.is_connected.result c.if-not-is_connected.true,
+      c.if-not-is_connected.true,
     )
 
 pub returns-then-not-is_connected : goal.returns-then-not-is_connected
@@ -21,7 +20,7 @@ returns-then-not-is_connected c =
       ← c.is_backup.ensures,
       c.if-is_backup.false,
       ← c.is_connected.ensures,
-      not-true c.is_connected.result c.if-not-is_connected.true,
+      c.if-not-is_connected.true,
     )
 
 pub returns-then-not-is_backup : goal.returns-then-not-is_backup
@@ -29,9 +28,9 @@ unfolding state_at_addition if_true◌then◌else◌
 returns-then-not-is_backup c =
     rw (
       ← c.is_backup-2.ensures,
-      not-true c.is_backup-2.result c.if-not-is_backup.true,
+      c.if-not-is_backup.true,
       ← c.is_connected.ensures,
-      not-false c.is_connected.result c.if-not-is_connected.false,
+      c.if-not-is_connected.false,
     )
 
 pub returns-then-has_active_member : goal.returns-then-has_active_member
@@ -39,9 +38,9 @@ unfolding state_at_addition if_true◌then◌else◌
 returns-then-has_active_member c =
     rw (
       ← c.is_backup-2.ensures,
-      not-false c.is_backup-2.result c.if-not-is_backup.false,
+      c.if-not-is_backup.false,
       ← c.is_connected.ensures,
-      not-false c.is_connected.result c.if-not-is_connected.false,
+      c.if-not-is_connected.false,
       ← c.has_active_member.ensures,
       c.if-has_active_member.true,
     )
@@ -51,9 +50,9 @@ unfolding state_at_addition if_true◌then◌else◌
 returns c =
     rw (
       ← c.is_backup-2.ensures,
-      not-false c.is_backup-2.result c.if-not-is_backup.false,
+      c.if-not-is_backup.false,
       ← c.is_connected.ensures,
-      not-false c.is_connected.result c.if-not-is_connected.false,
+      c.if-not-is_connected.false,
       ← c.has_active_member.ensures,
       c.if-has_active_member.false,
     )

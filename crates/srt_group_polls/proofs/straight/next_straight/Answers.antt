@@ -1,5 +1,4 @@
 -- `next_straight` meets its contract: where every test was passed, the packet can be given straight.
-use borrow.Author.Tests.{not-false}
 use native.Mathlib.Omega.{arith}
 use Rattle.srt_group_polls.specs.Laws.StraightPolls.{turn_has_row, all_passed}
 use Rattle.srt_group_polls.proofs.straight.next_straight.Goals as goal
@@ -18,6 +17,6 @@ membership_at-membership-requires c = search turn_has_row
 pub returns : goal.returns
 returns c =
     all_passed c.args.core _ _ _ c.in-At.is c.in_turn-found.ensures _ c.requires.1
-    (not-false _ c.if-not-quiet.false) (omega (arith, c.if-core-gt0.false)) c.if-core-eq0.false
-    c.in-Some.is c.before.before.before.before.before.before.before.before.before.Front-at.ensures (not-false _ c.if-not-is_alone_at.false) c.is_alone_at.ensures
+    c.if-not-quiet.false (omega (arith, c.if-core-gt0.false)) c.if-core-eq0.false
+    c.in-Some.is c.before.before.before.before.before.before.before.before.before.Front-at.ensures c.if-not-is_alone_at.false c.is_alone_at.ensures
     c.if-is_held.false c.is_held.ensures c.membership_at-membership.ensures

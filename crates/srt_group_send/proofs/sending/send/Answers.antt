@@ -2,7 +2,6 @@
 use mathlib.Core.Path.{sym, subst, ◌∙◌}
 use Prim.Native.Nat.{ℕ}
 use native.Mathlib.Omega.{arith}
-use borrow.Author.Tests.{not-true, not-false}
 use Rattle.cell_set.specs.Sets.{LowestFree}
 use Rattle.srt_group_model.specs.Laws.Reason.{not_both}
 use Rattle.srt_group_send.specs.Laws.Performed.{send_lendable, send_fit, few_members, long_refused, full_refused, broadcast_performed, cell_there, cell_storable, backup_performed}
@@ -15,11 +14,11 @@ returns-then-payload-gt-CELL c =
 pub refresh_and_send-requires : goal.refresh_and_send-requires
 refresh_and_send-requires c =
     let ready = c.requires.0 in
-    (send_lendable ready _ c.requires.1, (send_fit ready _ c.requires.1, (few_members ready c.args.list.now c.requires.1, ((λ in_backup. not_both in_backup (sym c.is_backup.ensures ∙ not-true _ c.if-not-is_backup.true)), omega (arith, c.if-payload-gt-CELL.false)))))
+    (send_lendable ready _ c.requires.1, (send_fit ready _ c.requires.1, (few_members ready c.args.list.now c.requires.1, ((λ in_backup. not_both in_backup (sym c.is_backup.ensures ∙ c.if-not-is_backup.true)), omega (arith, c.if-payload-gt-CELL.false)))))
 
 pub returns-then-not-is_backup : goal.returns-then-not-is_backup
 returns-then-not-is_backup c =
-    broadcast_performed _ _ _ _ _ _ _ c.requires.0 c.requires.1 (omega (arith, c.well_formed)) (sym c.is_backup.ensures ∙ not-true _ c.if-not-is_backup.true) c.if-payload-gt-CELL.false c.refresh_and_send.ensures
+    broadcast_performed _ _ _ _ _ _ _ c.requires.0 c.requires.1 (omega (arith, c.well_formed)) (sym c.is_backup.ensures ∙ c.if-not-is_backup.true) c.if-payload-gt-CELL.false c.refresh_and_send.ensures
 
 pub lowest_free-lowest-requires : goal.lowest_free-lowest-requires
 lowest_free-lowest-requires c =
@@ -27,23 +26,23 @@ lowest_free-lowest-requires c =
 
 pub returns-in_default : goal.returns-in_default
 returns-in_default c =
-    full_refused _ _ _ _ _ _ _ c.requires.0 c.requires.1 (omega (arith, c.well_formed)) c.if-payload-gt-CELL.false (sym c.is_backup.ensures ∙ not-false _ c.if-not-is_backup.false)
+    full_refused _ _ _ _ _ _ _ c.requires.0 c.requires.1 (omega (arith, c.well_formed)) c.if-payload-gt-CELL.false (sym c.is_backup.ensures ∙ c.if-not-is_backup.false)
     (subst (λ (n : ℕ). LowestFree c.args.used.now n c.lowest_free-lowest.result) c.cells_of.ensures c.lowest_free-lowest.ensures) c.in_default.is
 
 pub refresh_and_send-sent-requires : goal.refresh_and_send-sent-requires
 refresh_and_send-sent-requires c =
     let ready = c.requires.0 in
     let lowest = subst (λ (n : ℕ). LowestFree c.args.used.now n c.lowest_free-lowest.result) c.cells_of.ensures c.lowest_free-lowest.ensures in
-    let there = cell_there c.args.time.0 c.args.payload.now _ _ c.args.store.now c.args.list.now _ ready c.requires.1 (omega (arith, c.well_formed)) _ (sym c.is_backup.ensures ∙ not-false _ c.if-not-is_backup.false) c.if-payload-gt-CELL.false lowest c.in-Cell.is in
+    let there = cell_there c.args.time.0 c.args.payload.now _ _ c.args.store.now c.args.list.now _ ready c.requires.1 (omega (arith, c.well_formed)) _ (sym c.is_backup.ensures ∙ c.if-not-is_backup.false) c.if-payload-gt-CELL.false lowest c.in-Cell.is in
     (send_lendable ready _ c.requires.1, (send_fit ready _ c.requires.1, (few_members ready c.args.list.now c.requires.1, ((λ in_backup. omega (arith, there)), omega (arith, c.if-payload-gt-CELL.false)))))
 
 pub store_sent-requires : goal.store_sent-requires
 store_sent-requires c =
     let lowest = subst (λ (n : ℕ). LowestFree c.args.used.now n c.lowest_free-lowest.result) c.cells_of.ensures c.lowest_free-lowest.ensures in
-    cell_storable c.args.time.0 c.args.payload.now _ _ c.args.store.now c.args.list.now _ c.requires.0 c.requires.1 (omega (arith, c.well_formed)) _ (sym c.is_backup.ensures ∙ not-false _ c.if-not-is_backup.false) c.if-payload-gt-CELL.false lowest c.in-Cell.is
+    cell_storable c.args.time.0 c.args.payload.now _ _ c.args.store.now c.args.list.now _ c.requires.0 c.requires.1 (omega (arith, c.well_formed)) _ (sym c.is_backup.ensures ∙ c.if-not-is_backup.false) c.if-payload-gt-CELL.false lowest c.in-Cell.is
 
 pub returns : goal.returns
 returns c =
     let lowest = subst (λ (n : ℕ). LowestFree c.args.used.now n c.lowest_free-lowest.result) c.cells_of.ensures c.lowest_free-lowest.ensures in
-    backup_performed _ _ _ _ _ _ _ c.requires.0 c.requires.1 (omega (arith, c.well_formed)) _ (sym c.is_backup.ensures ∙ not-false _ c.if-not-is_backup.false) c.if-payload-gt-CELL.false lowest c.in-Cell.is
-    c.refresh_and_send-sent.ensures c.store_sent.ensures c.store_sent.auto.0
+    backup_performed _ _ _ _ _ _ _ c.requires.0 c.requires.1 (omega (arith, c.well_formed)) _ (sym c.is_backup.ensures ∙ c.if-not-is_backup.false) c.if-payload-gt-CELL.false lowest c.in-Cell.is
+    c.refresh_and_send-sent.ensures c.store_sent.ensures c.store_sent.auto.store

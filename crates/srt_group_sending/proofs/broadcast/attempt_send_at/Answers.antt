@@ -1,7 +1,7 @@
 -- `attempt_send_at` meets its contract: one law for each way out.
 use mathlib.Core.Path.{sym, ◌∙◌}
 use native.Mathlib.Omega.{arith}
-use borrow.Author.Tests.{not-true, not-false}
+use borrow.Author.Tests.{not-true}
 use Rattle.srt_group_sending.specs.Laws.Broadcast.{not_attempted, attempt_marked, attempt_noted}
 use Rattle.srt_group_sending.proofs.broadcast.attempt_send_at.Goals as goal
 
@@ -11,9 +11,7 @@ returns-then-not-is_active_at c = search (not_attempted, not-true)
 pub returns-in_default : goal.returns-in_default
 returns-in_default c =
     attempt_marked _ _ _ _ _ _ _
-    c.is_active_at.ensures (not-false
-    c.is_active_at.result
-    c.if-not-is_active_at.false)
+    c.is_active_at.ensures c.if-not-is_active_at.false
     c.leg_at.ensures (sym
     c.in_default.is ∙
     c.send_shared_with_sequence-result.ensures)
@@ -43,9 +41,7 @@ pub returns : goal.returns
 returns c =
     attempt_noted _ _ _ _ _ _ _
     c.is_active_at.ensures
-    (not-false
-    c.is_active_at.result
-    c.if-not-is_active_at.false)
+    c.if-not-is_active_at.false
     c.leg_at.ensures
     _ (sym c.in-Ok.is ∙
     c.send_shared_with_sequence-result.ensures)

@@ -2,7 +2,6 @@
 use mathlib.Core.Path.{refl, ap, sym, ◌∙◌}
 use Prim.Native.Nat.{ℕ}
 use native.Mathlib.Omega.{arith}
-use borrow.Author.Tests.{not-true, not-false}
 use Rattle.srt_protocol.specs.Sequence.{sequence_before}
 use Rattle.srt_group_tables.specs.Laws.Ring.{trimmed_one, trimmed_there, trimmed_all}
 use Rattle.srt_group_tables.proofs.history.drop_before.Goals as goal
@@ -14,13 +13,13 @@ pub returns-then-not-word_before : goal.returns-then-not-word_before
 returns-then-not-word_before c =
     trimmed_there _ _ _ _ _ c.loop-length.invariant (omega arith)
     (ap (λ (n : ℕ). sequence_before n c.args.oldest) (sym c.sequence_of.ensures)
-    ∙ sym c.word_before.ensures ∙ not-true _ c.if-not-word_before.true)
+    ∙ sym c.word_before.ensures ∙ c.if-not-word_before.true)
 
 pub loop-length-preserved : goal.loop-length-preserved
 loop-length-preserved c =
     trimmed_one _ _ _ _ _ c.loop-length.invariant (omega arith)
     (ap (λ (n : ℕ). sequence_before n c.args.oldest) (sym c.sequence_of.ensures)
-    ∙ sym c.word_before.ensures ∙ not-false _ c.if-not-word_before.false)
+    ∙ sym c.word_before.ensures ∙ c.if-not-word_before.false)
 
 pub returns : goal.returns
 returns c = trimmed_all _ _ _ _ _ c.loop-length.invariant (omega arith)

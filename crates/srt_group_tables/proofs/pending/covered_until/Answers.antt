@@ -1,6 +1,5 @@
 -- `covered_until` meets its contract. The loop's invariant: the packets passed are covered.
 use native.Mathlib.Omega.{arith}
-use borrow.Author.Tests.{not-true, not-false}
 use Rattle.srt_group_tables.specs.Laws.Covered.{covering_start, covering_one, covering_ends, covering_all}
 use Rattle.srt_group_tables.proofs.pending.covered_until.Goals as goal
 
@@ -16,7 +15,7 @@ is_covered-requires c = omega arith
 pub returns-then-not-is_covered : goal.returns-then-not-is_covered
 returns-then-not-is_covered c =
     covering_ends _ _ _ _ _ _ c.loop-at.invariant c.sequence_at.ensures c.is_covered.ensures
-    (not-true c.is_covered.result c.if-not-is_covered.true)
+    c.if-not-is_covered.true
 
 pub overflow_add-at : goal.overflow_add-at
 overflow_add-at c = omega arith
@@ -27,7 +26,7 @@ loop-at-smaller c = omega arith
 pub loop-at-preserved : goal.loop-at-preserved
 loop-at-preserved c =
     covering_one _ _ _ _ _ _ c.loop-at.invariant (omega arith) c.sequence_at.ensures c.is_covered.ensures
-    (not-false c.is_covered.result c.if-not-is_covered.false)
+    c.if-not-is_covered.false
 
 pub returns : goal.returns
 returns c = covering_all _ _ _ _ _ _ c.loop-at.invariant (omega arith)

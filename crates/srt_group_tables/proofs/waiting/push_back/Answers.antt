@@ -1,6 +1,6 @@
 -- `push_back` meets its contract: the part that was lent comes back as the event's row.
 use mathlib.Core.Path.{sym, subst}
-use mathlib.Core.List.{List, ◌∷◌, ◌++◌}
+use mathlib.Core.List.{List, [], ◌∷◌, ◌++◌}
 use Prim.Native.Nat.{ℕ, ◌+◌}
 use native.Mathlib.Omega.{arith}
 use lib.ListN.{length}
