@@ -34,9 +34,9 @@ guard_coded codes (c ∷ cs) s body h k =
 
 look_coded : (about : About) (s : State) (answer : Answer) → Coded (0 ∷ look_codes about) (guard (look_checks about s) s (accept s answer))
 unfolding look_codes look_checks any all
-look_coded about_group s answer = guard_coded _ _ s _ refl record { is = refl }
-look_coded (about_time time) s answer = guard_coded _ _ s _ refl record { is = refl }
-look_coded (about_member id) s answer = guard_coded _ _ s _ refl record { is = refl }
+look_coded about_group s _ = guard_coded _ _ s _ refl record { is = refl }
+look_coded (about_time time) s _ = guard_coded _ _ s _ refl record { is = refl }
+look_coded (about_member id) s _ = guard_coded _ _ s _ refl record { is = refl }
 
 add_body_coded : (id weight : ℕ) (l : Leg) (s : State) → Coded (0 ∷ 6 ∷ 2 ∷ 20 ∷ 21 ∷ 22 ∷ []) (add_body id weight l s)
 unfolding add_body any

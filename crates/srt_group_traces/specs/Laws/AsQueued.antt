@@ -248,14 +248,14 @@ module _ (g : Making) (calls : List Asked) where
   -- one call, by the packet that it gave
   call_gives : (when : When) (s : State) (log m : List Mark) (o : Option Packet) → Shape when o s m → AllIn g calls (m ++ log) → All (GivenToQueue g calls) (given_as_queued (m ++ log) o)
   unfolding given_as_queued last_put
-  call_gives when s log m none shape h = tt
+  call_gives when s _ m none shape h = tt
   call_gives when s log m (some p) shape h =
       subst (λ (z : List Mark). All (GivenToQueue g calls) (given_as_queued (z ++ log) (some p))) (sym shape.is)
       (given_to_queue g calls (last_put (shape.before ++ log)) p.member p.content (subst (λ (z : List Mark). AllIn g calls (z ++ log)) shape.is h).0, tt)
 
   calls_give : (log : List Mark) (s : State) (more : List Asked) → AllIn g calls (log_after more s ++ log) → All (GivenToQueue g calls) (delivered_as_queued log more s)
   unfolding delivered_as_queued log_after
-  calls_give log s [] h = tt
+  calls_give _ s [] h = tt
   calls_give log s (call ∷ more) h =
       let s' = (do_call call s).state in
       let m = (do_call call s).log in

@@ -457,16 +457,20 @@ pub record Cut (store : List ℕ) (s : State) (x y : List Row) (calls : List Ask
 pub runs_cut : (x y : List Row) {store : List ℕ} {s : State} {calls : List Asked} → Runs store s (x ++ y) calls → Cut store s x y calls
 unfolding state_after
 runs_cut [] y {store} {s} {calls} r = record { front = []; back = calls; left = store; is = refl; first_part = ends; second_part = r }
-runs_cut (_ ∷ x) y (passes row refused more) =
-    let c = runs_cut x y more in
-    record { front = c.front; back = c.back; left = c.left; is = c.is; first_part = passes row refused c.first_part; second_part = c.second_part }
-runs_cut (_ ∷ x) y (goes_on {store = store} line call is more) =
-    let c = runs_cut x y more in
-    record {
-      front = asking store call ∷ c.front;
-      back = c.back;
-      left = c.left;
-      is = ap (λ (l : List Asked). asking store call ∷ l) c.is;
-      first_part = goes_on line call is c.first_part;
-      second_part = c.second_part;
-    }
+runs_cut (row ∷ x) y {store} {s} {calls} r = go (λ a b calls' more. runs_cut x y {store = a} {s = b} {calls = calls'} more) store s row calls r
+  where
+    -- one row more, by what is cut of the rows behind it
+    go : ((a : List ℕ) (b : State) (calls' : List Asked) → Runs a b (x ++ y) calls' → Cut a b x y calls') → (store : List ℕ) (s : State) (row : Row) (calls : List Asked) → Runs store s (row ∷ (x ++ y)) calls → Cut store s (row ∷ x) y calls
+    go behind store s _ calls (passes row refused more) =
+        let c = behind _ _ _ more in
+        record { front = c.front; back = c.back; left = c.left; is = c.is; first_part = passes row refused c.first_part; second_part = c.second_part }
+    go behind store s _ _ (goes_on line call is more) =
+        let c = behind _ _ _ more in
+        record {
+          front = asking store call ∷ c.front;
+          back = c.back;
+          left = c.left;
+          is = ap (λ (l : List Asked). asking store call ∷ l) c.is;
+          first_part = goes_on line call is c.first_part;
+          second_part = c.second_part;
+        }

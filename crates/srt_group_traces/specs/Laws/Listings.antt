@@ -187,7 +187,7 @@ unfolding state_after
 no_rows ends = refl
 
 -- an accepted addition of a connected leg that names a first sequence leaves the base set
-addition_sets : (addition : Row) {store : List ℕ} {s : State} {calls : List Asked} → Runs store s (addition ∷ []) calls → is_accepted 2 addition ≡ true
+addition_sets : {store : List ℕ} {s : State} (addition : Row) {calls : List Asked} → Runs store s (addition ∷ []) calls → is_accepted 2 addition ≡ true
     → column 3 addition.input ≡ connected
     → eqb (column 5 addition.input) no_sequence ≡ false
     → next_receive_sequence (state_after calls s).receive ≡ none
@@ -202,7 +202,7 @@ addition_sets _ (goes_on {store = store} {s = s} line call is more) added connec
     (addition_sets_base (lending store) (column 1 line) (column 2 line) (leg_of_line line) [] s (ap (λ (n : ℕ). eqb n 1) connects) named)
     (eq_of (do_call (asking store call) s).code 0 (and_right (eqb (column 0 line) 2) _ both)) (ap (λ (t : State). next_receive_sequence t.receive) (sym (no_rows more)) ∙ unset)
 
-addition_verb : (addition : Row) {store : List ℕ} {s : State} {calls : List Asked} → Runs store s (addition ∷ []) calls → is_accepted 2 addition ≡ true
+addition_verb : {store : List ℕ} {s : State} (addition : Row) {calls : List Asked} → Runs store s (addition ∷ []) calls → is_accepted 2 addition ≡ true
     → column 0 addition.input ≡ 2
 addition_verb _ (passes row refused more) added = not_both (and_right (eqb (column 0 row.output) 2) _ added) refused
 addition_verb _ (goes_on {store = store} {s = s} line call is more) added =

@@ -104,9 +104,9 @@ guard_not_six (c ∷ cs) s body none_fails h =
 
 look_not_six : (about : About) (s : State) (answer : Answer) → breaks_rule s ≡ false → NotSix (guard (look_checks about s) s (accept s answer))
 unfolding look_checks six_tested any
-look_not_six about_group s answer h = guard_not_six _ s _ (rw h) refl
-look_not_six (about_time time) s answer h = guard_not_six _ s _ (rw h) refl
-look_not_six (about_member id) s answer h = guard_not_six _ s _ (rw h) refl
+look_not_six about_group s _ h = guard_not_six _ s _ (rw h) refl
+look_not_six (about_time time) s _ h = guard_not_six _ s _ (rw h) refl
+look_not_six (about_member id) s _ h = guard_not_six _ s _ (rw h) refl
 
 -- a call that is lent no store
 unlent_not_six : (store output list : ℕ) (c : Call) (s : State) → takes_store c ≡ false → brings_packets c ≡ false → breaks_rule s ≡ false
