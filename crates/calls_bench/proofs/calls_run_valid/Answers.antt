@@ -4,4 +4,4 @@ use Rattle.calls_bench.proofs.calls_run_valid.Goals as goal
 pub step_each-after-requires : goal.step_each-after-requires
 step_each-after-requires c =
     let accepted = c.in_default.is in
-    let begun = c.begin_poll-begun.ensures in (begun.ready accepted, begun.room accepted)
+    let begun = c.begin_poll-begun.ensures in record { ready = begun.ready accepted; output_size_in_bounds = begun.room accepted }

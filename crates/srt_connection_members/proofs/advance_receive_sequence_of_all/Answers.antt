@@ -6,15 +6,14 @@ use Rattle.srt_group_model.specs.State.{on_leg}
 use Rattle.srt_connection_members.specs.Laws.Members.{changing_start, changing_on, changing_done}
 use Rattle.srt_connection_members.proofs.advance_receive_sequence_of_all.Goals as goal
 
-advance-receive-sequence-at-requires :
-    tie.Need-advance-receive-sequence-at-requires invariant-loop decreases-loop
-advance-receive-sequence-at-requires c κs = omega (arith, c.before.before.loop.invariant.1.long)
-
 pub loop-i-init : goal.loop-i-init
 loop-i-init c = (
   omega arith,
   changing_start (on_leg (advance_receive_sequence c.args.sequence)) c.args.members.now,
 )
+
+pub advance_receive_sequence_at-requires : goal.advance_receive_sequence_at-requires
+advance_receive_sequence_at-requires c = omega (arith, c.loop-i.invariant.1.long)
 
 pub loop-i-preserved : goal.loop-i-preserved
 loop-i-preserved c = (

@@ -6,13 +6,13 @@ use Rattle.replay_rows.specs.Laws.Rows.{none_told, one_more_told}
 use Rattle.replay_rows.proofs.rows.tell_lines.Goals as goal
 
 pub loop-index-init : goal.loop-index-init
-loop-index-init c = (omega arith, refl, refl, refl, refl, refl, refl, refl, refl, refl, refl, none_told c.args.rows.now c.args.answers.now c.requires.0)
+loop-index-init c = (omega arith, refl, refl, refl, refl, refl, refl, refl, refl, refl, refl, none_told c.args.rows.now c.args.answers.now c.requires.standing)
 
 pub tell_row-told-requires : goal.tell_row-told-requires
-tell_row-told-requires c = let l = c.loop-index in let p = c.requires.1 in (l.invariant.11.stands, (omega (arith, c.loop-index-test.true, p.0), omega (arith, c.loop-index-test.true, p.1, l.invariant.10)))
+tell_row-told-requires c = let l = c.loop-index in let p = c.requires.count_in_bounds in record { standing = l.invariant.11.stands; index_in_bounds = (omega (arith, c.loop-index-test.true, p.0), omega (arith, c.loop-index-test.true, p.1, l.invariant.10)) }
 
 pub overflow_add-index : goal.overflow_add-index
-overflow_add-index c = let room = c.well_formed.1.1.1.1.1.1.1.1.1.1.1.0 in omega (arith, c.loop-index-test.true, c.requires.1.0, room.0, room.1)
+overflow_add-index c = let room = c.well_formed.1.1.1.1.1.1.1.1.1.1.1.0 in omega (arith, c.loop-index-test.true, c.requires.count_in_bounds.0, room.0, room.1)
 
 pub loop-index-smaller : goal.loop-index-smaller
 loop-index-smaller c = omega (arith, c.loop-index-test.true, c.loop-index.invariant.0)

@@ -21,7 +21,7 @@ invariant-loop-index l =
     × (length l.list ≡ length l.initial.list)
     × (length l.used ≡ length l.initial.used)
     × (length l.answers ≡ length l.initial.answers)
-    × RowsTold (cut l.index 8 l.rows) l.initial.made l.initial.group (tables l.initial.members l.initial.pending l.initial.waiting l.initial.history l.initial.sources) (record { l.made = l.made; l.group = l.group })
+    × RowsTold (cut l.index 8 l.rows) l.initial.made l.initial.group (tables l.initial.members l.initial.pending l.initial.waiting l.initial.history l.initial.sources) (record { made = l.made; group = l.group })
     (tables l.members l.pending l.waiting l.history l.sources) (room l.store l.output l.list) l.used (cut l.index 6 l.answers)
 
 abbrev pub decreases-loop-index : goal.decreases-loop-index

@@ -10,7 +10,7 @@ offset_bounds-steps-at c =
     let steps = c.well_formed.1.1.1.1.1.1.1.1.1.1.1.1.0 in search (rules, c.loop-at.invariant.1.0, steps.1)
 
 pub step-stepped-requires : goal.step-stepped-requires
-step-stepped-requires c = (search rules, search (rules, c.loop-at.invariant.1.1.1.1.1.1.0, c.requires.1))
+step-stepped-requires c = record { ready = search rules; list_size_in_bounds = search (rules, c.loop-at.invariant.1.1.1.1.1.1.0, c.requires.list_size_in_bounds) }
 
 pub offset_bounds-steps-at-in-loop-at : goal.offset_bounds-steps-at-in-loop-at
 offset_bounds-steps-at-in-loop-at c =

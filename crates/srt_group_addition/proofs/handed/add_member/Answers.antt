@@ -3,9 +3,9 @@ use Rattle.srt_group_shown.specs.Laws.Steps.{unbroken_of, nothing_delivered, per
 use Rattle.srt_group_addition.proofs.handed.add_member.Goals as goal
 
 pub add_leg-requires : goal.add_leg-requires
-add_leg-requires c = (c.requires.0.long.members, c.requires.1)
+add_leg-requires c = (c.requires.ready.long.members, c.requires.has_row)
 
 pub returns : goal.returns
 returns c =
-    let ready = c.requires.0 in
+    let ready = c.requires.ready in
     performs_keeping ready nothing_delivered (c.add_leg.ensures.over _ _ _ _ _ _ (unbroken_of ready))

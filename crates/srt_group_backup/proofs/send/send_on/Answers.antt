@@ -7,7 +7,7 @@ returns-in_default c = search own_not_sent
 
 pub write_sent-requires : goal.write_sent-requires
 write_sent-requires c =
-    c.requires.1
+    c.requires.sent_row_size_in_bounds
 
 pub returns : goal.returns
 returns c = search own_sent

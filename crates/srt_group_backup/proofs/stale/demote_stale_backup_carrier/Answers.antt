@@ -24,7 +24,7 @@ pub is_stale-requires : goal.is_stale-requires
 is_stale-requires c =
     trip_fits _ _ _
     (found_row is_active _ _ _ (sym c.in-At.is ∙ c.first_active-found.ensures))
-    c.requires.1 c.leg_at.ensures
+    c.requires.all_fit c.leg_at.ensures
 
 pub returns-then-not-is_stale : goal.returns-then-not-is_stale
 returns-then-not-is_stale c =

@@ -7,10 +7,10 @@ pub returns-then-remaining_window_packets-entries : goal.returns-then-remaining_
 returns-then-remaining_window_packets-entries c = search no_room_to_replay
 
 pub replay_entries-played-requires : goal.replay_entries-played-requires
-replay_entries-played-requires c = (search rules, search rules)
+replay_entries-played-requires c = record { length_le_max_history = search rules; list_size_in_bounds = search rules }
 
 pub put_leg_at-requires-2 : goal.put_leg_at-requires-2
-put_leg_at-requires-2 c = c.requires.1.0
+put_leg_at-requires-2 c = c.requires.has_row
 
 pub returns : goal.returns
 returns c = search replayed_with_room

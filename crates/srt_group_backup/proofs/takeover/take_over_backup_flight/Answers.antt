@@ -10,16 +10,16 @@ pub returns-then-not-takes_over : goal.returns-then-not-takes_over
 returns-then-not-takes_over c = search (no_take_over, not-true)
 
 pub trim_by_carrier-trimmed-requires : goal.trim_by_carrier-trimmed-requires
-trim_by_carrier-trimmed-requires c = ((search rules, search rules), search rules)
+trim_by_carrier-trimmed-requires c = record { length_le_max_history = (search rules, search rules); row_size_in_bounds = search rules }
 
 pub align_carrier-outcome-requires-then-left-eq0 : goal.align_carrier-outcome-requires-then-left-eq0
-align_carrier-outcome-requires-then-left-eq0 c = c.requires.1.0.1
+align_carrier-outcome-requires-then-left-eq0 c = c.requires.index_lt_count.1
 
 pub returns-then-left-eq0 : goal.returns-then-left-eq0
 returns-then-left-eq0 c =
     let args = c.args in
     took_over_nothing _ _ _ _
-    c.requires.1.0.0
+    c.requires.index_lt_count.0
     args.sending args.ring
     (arrays args.history.now args.sources.now)
     _ _
@@ -31,14 +31,13 @@ returns-then-left-eq0 c =
 
 pub replay_flight-flight-requires : goal.replay_flight-flight-requires
 replay_flight-flight-requires c =
-    let pre = c.requires in
-    ((c.trim_by_carrier-trimmed.ensures.fits, pre.0.1), (omega arith, pre.1.1))
+    let pre = (c.requires.length_le_max_history, (c.requires.index_lt_count, c.requires.list_size_in_bounds)) in record { length_le_max_history = (c.trim_by_carrier-trimmed.ensures.fits, pre.0.1); has_row = omega arith; list_size_in_bounds = pre.1.1 }
 
 pub returns : goal.returns
 returns c =
     let args = c.args in
     took_over_flight _ _ _ _
-    c.requires.1.0.0
+    c.requires.index_lt_count.0
     args.sending args.ring
     (arrays args.history.now args.sources.now)
     _ _

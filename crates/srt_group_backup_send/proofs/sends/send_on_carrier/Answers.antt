@@ -6,20 +6,16 @@ use Rattle.srt_group_backup_send.specs.Laws.BackupSend.{number_fits}
 use Rattle.srt_group_backup_send.proofs.sends.send_on_carrier.Goals as goal
 
 pub take_over-taken-requires : goal.take_over-taken-requires
-take_over-taken-requires c =
-    (c.requires.0, omega arith)
+take_over-taken-requires c = record { sendable = c.requires.sendable; sent_bound = omega arith }
 
 pub returns-in-Refused : goal.returns-in-Refused
 returns-in-Refused c =
-    flows_stopped _ _ _ _ _ _ _ _ _ _ (omega arith) c.requires.0.lent.arrays_long c.take_over-taken.ensures.0 c.take_over-taken.ensures.1 _ _ c.in-Refused.is
+    flows_stopped _ _ _ _ _ _ _ _ _ _ (omega arith) c.requires.sendable.lent.arrays_long c.take_over-taken.ensures.took_over c.take_over-taken.ensures.trim_follows _ _ c.in-Refused.is
 
 pub send_at_place-requires : goal.send_at_place-requires
 send_at_place-requires c =
-    let took = c.take_over-taken.ensures.0 in
-    let fit = taken_fit _ _ took (omega (arith, c.well_formed)) c.requires.1.0 in (
-      record { below = c.requires.0.below; lent = lendable_taken (omega arith) c.requires.0.lent took c.take_over-taken.ensures.1 },
-      (omega (arith, took.few), record { sequence_fits = number_fits _ _ _ _ c.requires.0.below fit; cell_fits = c.requires.1.1.0; length_fits = c.requires.1.1.1 }),
-    )
+    let took = c.take_over-taken.ensures.took_over in
+    let fit = taken_fit _ _ took (omega (arith, c.well_formed)) c.requires.numbers_fit in record { sendable = record { below = c.requires.sendable.below; lent = lendable_taken (omega arith) c.requires.sendable.lent took c.take_over-taken.ensures.trim_follows }; sent_bound = (omega (arith, took.few), record { sequence_fits = number_fits _ _ _ _ c.requires.sendable.below fit; cell_fits = c.requires.cell_lt_cells_in_word.0; length_fits = c.requires.cell_lt_cells_in_word.1 }) }
 
 pub shape_of-members : goal.shape_of-members
 shape_of-members c =
@@ -27,5 +23,5 @@ shape_of-members c =
 
 pub returns : goal.returns
 returns c =
-    flows_then _ _ _ _ _ _ _ _ _ _ (omega arith) c.requires.0.lent.arrays_long c.take_over-taken.ensures.0 c.take_over-taken.ensures.1 _ c.in_default.is c.requires.0.lent.list_long
+    flows_then _ _ _ _ _ _ _ _ _ _ (omega arith) c.requires.sendable.lent.arrays_long c.take_over-taken.ensures.took_over c.take_over-taken.ensures.trim_follows _ c.in_default.is c.requires.sendable.lent.list_long
     c.send_at_place.ensures

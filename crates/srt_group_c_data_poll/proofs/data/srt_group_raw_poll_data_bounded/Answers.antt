@@ -2,12 +2,7 @@
 use Rattle.srt_group_words.specs.Laws.Words.{record_refused, answer_refused}
 use Rattle.srt_group_words.specs.Laws.Begin.{poll_ready, poll_on, poll_performed, poll_refused}
 use Rattle.srt_group_refusals.specs.Laws.Polled.{data_poll_refused}
-use borrow.Author.Rules.{rules}
 use Rattle.srt_group_c_data_poll.proofs.data.srt_group_raw_poll_data_bounded.Goals as goal
-
-slice-aggregate-srt-group-valid-poll-data-bounded :
-    tie.Need-slice-aggregate-srt-group-valid-poll-data-bounded
-slice-aggregate-srt-group-valid-poll-data-bounded c = search rules
 
 pub returns-then-record-lt-RECORD : goal.returns-then-record-lt-RECORD
 returns-then-record-lt-RECORD c = search record_refused
@@ -19,7 +14,7 @@ pub returns-then-code-ne0 : goal.returns-then-code-ne0
 returns-then-code-ne0 c = poll_refused _ _ _ _ _ _ c.if-record-lt-RECORD.false c.if-answer-lt-POLLED.false c.begin_poll-code.ensures c.if-code-ne0.true c.put_eight.ensures (data_poll_refused _ _ _ _ _ _ c.begin_poll-code.ensures.begins)
 
 pub srt_group_valid_poll_data_bounded-requires : goal.srt_group_valid_poll_data_bounded-requires
-srt_group_valid_poll_data_bounded-requires c = (poll_ready c.begin_poll-code.ensures c.if-code-ne0.false c.if-record-lt-RECORD.false, (c.begin_poll-code.ensures.begins.room (poll_on c.begin_poll-code.ensures c.if-code-ne0.false), c.if-answer-lt-POLLED.false))
+srt_group_valid_poll_data_bounded-requires c = record { ready_words = poll_ready c.begin_poll-code.ensures c.if-code-ne0.false c.if-record-lt-RECORD.false; output_size_in_bounds = (c.begin_poll-code.ensures.begins.room (poll_on c.begin_poll-code.ensures c.if-code-ne0.false), c.if-answer-lt-POLLED.false) }
 
 pub returns : goal.returns
 returns c = poll_performed c.if-record-lt-RECORD.false c.if-answer-lt-POLLED.false c.begin_poll-code.ensures c.if-code-ne0.false c.srt_group_valid_poll_data_bounded.ensures

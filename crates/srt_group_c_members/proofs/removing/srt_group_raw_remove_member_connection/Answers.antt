@@ -12,4 +12,4 @@ pub returns-then-record-lt-RECORD : goal.returns-then-record-lt-RECORD
 returns-then-record-lt-RECORD c = search leg_refused
 
 pub returns : goal.returns
-returns c = promised_leg_back c.remove_member_connection-removed.result.outcome _ _ c.put_removed.ensures.same c.remove_member_connection-removed.ensures.1 (row_gives _ _ _ nothing_lent c.if-record-lt-RECORD.false c.read_group.ensures _ _ _ _ _ c.remove_member_connection-removed.ensures.0 c.put_removed.ensures)
+returns c = promised_leg_back c.remove_member_connection-removed.result.outcome _ _ c.put_removed.ensures.same c.remove_member_connection-removed.ensures.row_after (row_gives _ _ _ nothing_lent c.if-record-lt-RECORD.false c.read_group.ensures _ _ _ _ _ c.remove_member_connection-removed.ensures.promised_row c.put_removed.ensures)

@@ -5,22 +5,22 @@ use Rattle.srt_group_words.specs.Words.{sent_words}
 use Rattle.srt_group_c_send.proofs.sends.srt_group_valid_send.Goals as goal
 
 pub read_identity-requires : goal.read_identity-requires
-read_identity-requires c = c.requires.0.long
+read_identity-requires c = c.requires.ready_words.long
 
 pub read_core-requires : goal.read_core-requires
-read_core-requires c = c.requires.0.long
+read_core-requires c = c.requires.ready_words.long
 
 pub read_sending-requires : goal.read_sending-requires
-read_sending-requires c = c.requires.0.long
+read_sending-requires c = c.requires.ready_words.long
 
 pub read_ring-requires : goal.read_ring-requires
-read_ring-requires c = c.requires.0.long
+read_ring-requires c = c.requires.ready_words.long
 
 pub send-sent-requires : goal.send-sent-requires
-send-sent-requires c = (parts_ready _ c.read_identity.ensures c.read_core.ensures c.read_sending.ensures c.read_ring.ensures c.requires.0, c.requires.1.0)
+send-sent-requires c = record { ready = parts_ready _ c.read_identity.ensures c.read_core.ensures c.read_sending.ensures c.read_ring.ensures c.requires.ready_words; list_size_in_bounds = c.requires.list_size_in_bounds.0 }
 
 pub put_send-requires : goal.put_send-requires
-put_send-requires c = ((c.requires.0.long, c.requires.1.1), code_small c.send-sent.ensures)
+put_send-requires c = record { record_size_in_bounds = (c.requires.ready_words.long, c.requires.list_size_in_bounds.1); code_bound = code_small c.send-sent.ensures }
 
 pub returns : goal.returns
-returns c = performs_sent _ c.read_identity.ensures c.read_core.ensures c.read_sending.ensures c.read_ring.ensures _ _ _ c.requires.0.long _ _ _ sent_words _ _ _ _ _ _ c.send-sent.ensures.rows c.send-sent.ensures.performs c.put_send.ensures
+returns c = performs_sent _ c.read_identity.ensures c.read_core.ensures c.read_sending.ensures c.read_ring.ensures _ _ _ c.requires.ready_words.long _ _ _ sent_words _ _ _ _ _ _ c.send-sent.ensures.rows c.send-sent.ensures.performs c.put_send.ensures

@@ -8,16 +8,15 @@ use Rattle.srt_group_carrier.proofs.promotion.send_after_promotion.Goals as goal
 
 pub first_active-found-requires : goal.first_active-found-requires
 first_active-found-requires c =
-    omega (arith, c.requires.0.lent.rows, c.promote_after_failure.ensures.long)
+    omega (arith, c.requires.sendable.lent.rows, c.promote_after_failure.ensures.long)
 
 pub returns-in_default : goal.returns-in_default
 returns-in_default c =
-    none_promoted _ _ _ _ _ _ _ _ _ _ _ c.promote_after_failure.ensures (sym c.in_default.is ∙ c.first_active-found.ensures) c.requires.0.lent (omega (arith, c.requires.1.0))
+    none_promoted _ _ _ _ _ _ _ _ _ _ _ c.promote_after_failure.ensures (sym c.in_default.is ∙ c.first_active-found.ensures) c.requires.sendable.lent (omega (arith, c.requires.sent_bound.0))
 
 pub send_on_promoted-requires : goal.send_on_promoted-requires
 send_on_promoted-requires c =
-    let found = sym c.in-At.is ∙ c.first_active-found.ensures in
-    (record { below = found_row is_active _ _ _ found; lent = lendable_with _ c.requires.0.lent c.promote_after_failure.ensures.long }, c.requires.1)
+    let found = sym c.in-At.is ∙ c.first_active-found.ensures in record { sendable = record { below = found_row is_active _ _ _ found; lent = lendable_with _ c.requires.sendable.lent c.promote_after_failure.ensures.long }; sent_bound = c.requires.sent_bound }
 
 pub shape_of-members : goal.shape_of-members
 shape_of-members c =

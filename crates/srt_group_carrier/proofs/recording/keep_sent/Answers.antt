@@ -6,18 +6,17 @@ use Rattle.srt_group_carrier.specs.Laws.Recording.{recorded_by}
 use Rattle.srt_group_carrier.proofs.recording.keep_sent.Goals as goal
 
 pub remember_send-kept-requires : goal.remember_send-kept-requires
-remember_send-kept-requires c =
-    (c.requires.1.0, (c.requires.1.1.0, c.requires.1.1.1.0))
+remember_send-kept-requires c = record { length_le_max_history = c.requires.length_le_max_history; packs = c.requires.packs; used_len = c.requires.used_len.0 }
 
 pub overflow_add-result : goal.overflow_add-result
 overflow_add-result c =
-    omega (arith, c.requires.1.1.1.1)
+    omega (arith, c.requires.used_len.1)
 
 pub returns : goal.returns
 returns c =
     record {
       outcome = refl;
       rows = refl;
-      recorded = recorded_by c.leg_at-leg.ensures (ap (λ (x : Membership). x.id) c.membership_at-membership.ensures) c.remember_send-kept.ensures.0;
-      follows = c.remember_send-kept.ensures.1;
+      recorded = recorded_by c.leg_at-leg.ensures (ap (λ (x : Membership). x.id) c.membership_at-membership.ensures) c.remember_send-kept.ensures.send_recorded;
+      follows = c.remember_send-kept.ensures.send_follows;
     }

@@ -8,10 +8,8 @@ use Rattle.srt_group_carrier.proofs.recording.remember_send.Goals as goal
 
 pub free_dropped-requires-2 : goal.free_dropped-requires-2
 free_dropped-requires-2 c =
-    let fits = push_fits c.args.ring c.requires.0.0 in
-    ((omega (arith, fits, ap (λ (q : HistoryRing). q.length) c.push_back-pushed.ensures), c.record_backup_send-kept.ensures.fits), ((recorded_long c.requires.0.1 c.record_backup_send-kept.ensures).history, c.take.ensures.long))
+    let fits = push_fits c.args.ring c.requires.length_le_max_history.0 in record { length_le_max_history = (omega (arith, fits, ap (λ (q : HistoryRing). q.length) c.push_back-pushed.ensures), c.record_backup_send-kept.ensures.fits); history_len = ((recorded_long c.requires.length_le_max_history.1 c.record_backup_send-kept.ensures).history, c.take.ensures.long) }
 
 pub returns : goal.returns
 returns c =
-    let recorded = c.record_backup_send-kept.ensures in
-    (recorded, send_remembered _ _ _ _ _ _ _ c.requires.0.1 c.requires.1.0 c.requires.0.0 recorded _ c.push_back-pushed.ensures c.free_dropped.ensures c.take.ensures c.free_dropped-2.ensures)
+    let recorded = c.record_backup_send-kept.ensures in record { send_recorded = recorded; send_follows = send_remembered _ _ _ _ _ _ _ c.requires.length_le_max_history.1 c.requires.packs c.requires.length_le_max_history.0 recorded _ c.push_back-pushed.ensures c.free_dropped.ensures c.take.ensures c.free_dropped-2.ensures }

@@ -5,11 +5,10 @@ use Rattle.srt_group_collecting.proofs.collecting.collect_member_event.Goals as 
 
 pub retain_group_packet-requires : goal.retain_group_packet-requires
 retain_group_packet-requires c =
-    let pre = c.requires in
-    (pre.0.there, (pre.0.holdable c.if-event-eq0.true, pre.1))
+    let pre = (c.requires.collectable, c.requires.used_len) in record { has_row = pre.0.there; holdable = pre.0.holdable c.if-event-eq0.true; used_len = pre.1 }
 
 pub returns-then-event-eq0 : goal.returns-then-event-eq0
-returns-then-event-eq0 c = (search collected_data, search data_freed)
+returns-then-event-eq0 c = record { collected = search collected_data; freed = search data_freed }
 
 pub returns : goal.returns
-returns c = (search collected_other, search event_kept)
+returns c = record { collected = search collected_other; freed = search event_kept }

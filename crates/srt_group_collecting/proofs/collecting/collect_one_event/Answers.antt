@@ -6,12 +6,11 @@ use Rattle.srt_group_collecting.specs.Laws.Follows.{follows_same}
 use Rattle.srt_group_collecting.proofs.collecting.collect_one_event.Goals as goal
 
 pub returns-in_default : goal.returns-in_default
-returns-in_default c = (search collects_none, search follows_same)
+returns-in_default c = record { collects = search collects_none; follows = search follows_same }
 
 pub take_front-requires : goal.take_front-requires
-take_front-requires c = (search rules, ((search in_turn_inside, search rules), search rules))
+take_front-requires c = record { usable = search rules; index_lt_members = (search in_turn_inside, search rules); used_len = search rules }
 
 pub returns : goal.returns
 returns c =
-    let taken = c.take_front.ensures in
-    (collects_one _ _ _ _ _ (search) (search) _ _ _ _ _ c.in-At.is c.in_turn-found.ensures taken.0, taken.1)
+    let taken = (c.take_front.ensures.visits, c.take_front.ensures.follows) in record { collects = collects_one _ _ _ _ _ (search) (search) _ _ _ _ _ c.in-At.is c.in_turn-found.ensures taken.0; follows = taken.1 }

@@ -11,42 +11,42 @@ pub loop-left-init : goal.loop-left-init
 loop-left-init c = (search emptying_start, search follows_same)
 
 pub is_settled-requires : goal.is_settled-requires
-is_settled-requires c = ((search rules, search held_most), search rules)
+is_settled-requires c = record { pending_size_in_bounds = (search rules, search held_most); pending_value = search rules }
 
 pub returns-then-is_settled : goal.returns-then-is_settled
 returns-then-is_settled c =
     let args = c.args in
-    let loop = c.loop-left in (
-      emptying_settled args.sequence args.core args.budget args.members.now args.pending.now args.waiting.now _ loop.visited _ _ _
-          loop.invariant.0 c.loop-left-test.true c.is_settled.ensures c.if-is_settled.true,
-      loop.invariant.1,
-    )
+    let loop = c.loop-left in record {
+      empties = emptying_settled args.sequence args.core args.budget args.members.now args.pending.now args.waiting.now _ loop.visited _ _ _
+          loop.invariant.0 c.loop-left-test.true c.is_settled.ensures c.if-is_settled.true;
+      follows = loop.invariant.1;
+    }
 
 pub collect_one_event-visited-requires : goal.collect_one_event-visited-requires
-collect_one_event-visited-requires c = (search rules, (search rules, search rules))
+collect_one_event-visited-requires c = record { usable = search rules; waiting_lt_max_waiting = search rules; used_len = search rules }
 
 pub shape_of-members-then-visited-eq0 : goal.shape_of-members-then-visited-eq0
-shape_of-members-then-visited-eq0 c = omega (arith, c.requires.1.1, c.loop-left.invariant.1.long, c.loop-left.invariant.0.members_long, c.loop-left.invariant.0.pending_long, c.loop-left.invariant.0.waiting_long, c.collect_one_event-visited.ensures.0.visits.members_long, c.collect_one_event-visited.ensures.0.visits.pending_long, c.collect_one_event-visited.ensures.0.visits.waiting_long, c.collect_one_event-visited.ensures.1.long)
+shape_of-members-then-visited-eq0 c = omega (arith, c.requires.used_len, c.loop-left.invariant.1.long, c.loop-left.invariant.0.members_long, c.loop-left.invariant.0.pending_long, c.loop-left.invariant.0.waiting_long, c.collect_one_event-visited.ensures.collects.visits.members_long, c.collect_one_event-visited.ensures.collects.visits.pending_long, c.collect_one_event-visited.ensures.collects.visits.waiting_long, c.collect_one_event-visited.ensures.follows.long)
 
 pub shape_of-pending-then-visited-eq0 : goal.shape_of-pending-then-visited-eq0
-shape_of-pending-then-visited-eq0 c = omega (arith, c.requires.1.1, c.loop-left.invariant.1.long, c.loop-left.invariant.0.members_long, c.loop-left.invariant.0.pending_long, c.loop-left.invariant.0.waiting_long, c.collect_one_event-visited.ensures.0.visits.members_long, c.collect_one_event-visited.ensures.0.visits.pending_long, c.collect_one_event-visited.ensures.0.visits.waiting_long, c.collect_one_event-visited.ensures.1.long)
+shape_of-pending-then-visited-eq0 c = omega (arith, c.requires.used_len, c.loop-left.invariant.1.long, c.loop-left.invariant.0.members_long, c.loop-left.invariant.0.pending_long, c.loop-left.invariant.0.waiting_long, c.collect_one_event-visited.ensures.collects.visits.members_long, c.collect_one_event-visited.ensures.collects.visits.pending_long, c.collect_one_event-visited.ensures.collects.visits.waiting_long, c.collect_one_event-visited.ensures.follows.long)
 
 pub shape_of-waiting-then-visited-eq0 : goal.shape_of-waiting-then-visited-eq0
-shape_of-waiting-then-visited-eq0 c = omega (arith, c.requires.1.1, c.loop-left.invariant.1.long, c.loop-left.invariant.0.members_long, c.loop-left.invariant.0.pending_long, c.loop-left.invariant.0.waiting_long, c.collect_one_event-visited.ensures.0.visits.members_long, c.collect_one_event-visited.ensures.0.visits.pending_long, c.collect_one_event-visited.ensures.0.visits.waiting_long, c.collect_one_event-visited.ensures.1.long)
+shape_of-waiting-then-visited-eq0 c = omega (arith, c.requires.used_len, c.loop-left.invariant.1.long, c.loop-left.invariant.0.members_long, c.loop-left.invariant.0.pending_long, c.loop-left.invariant.0.waiting_long, c.collect_one_event-visited.ensures.collects.visits.members_long, c.collect_one_event-visited.ensures.collects.visits.pending_long, c.collect_one_event-visited.ensures.collects.visits.waiting_long, c.collect_one_event-visited.ensures.follows.long)
 
 pub shape_of-used-then-visited-eq0 : goal.shape_of-used-then-visited-eq0
-shape_of-used-then-visited-eq0 c = omega (arith, c.requires.1.1, c.loop-left.invariant.1.long, c.loop-left.invariant.0.members_long, c.loop-left.invariant.0.pending_long, c.loop-left.invariant.0.waiting_long, c.collect_one_event-visited.ensures.0.visits.members_long, c.collect_one_event-visited.ensures.0.visits.pending_long, c.collect_one_event-visited.ensures.0.visits.waiting_long, c.collect_one_event-visited.ensures.1.long)
+shape_of-used-then-visited-eq0 c = omega (arith, c.requires.used_len, c.loop-left.invariant.1.long, c.loop-left.invariant.0.members_long, c.loop-left.invariant.0.pending_long, c.loop-left.invariant.0.waiting_long, c.collect_one_event-visited.ensures.collects.visits.members_long, c.collect_one_event-visited.ensures.collects.visits.pending_long, c.collect_one_event-visited.ensures.collects.visits.waiting_long, c.collect_one_event-visited.ensures.follows.long)
 
 pub returns-then-visited-eq0 : goal.returns-then-visited-eq0
 returns-then-visited-eq0 c =
     let args = c.args in
     let loop = c.loop-left in
-    let collect_one_event = c.collect_one_event-visited in (
-      emptying_ended args.sequence args.core args.budget args.members.now args.pending.now args.waiting.now _ loop.visited _ _ _
+    let collect_one_event = c.collect_one_event-visited in record {
+      empties = emptying_ended args.sequence args.core args.budget args.members.now args.pending.now args.waiting.now _ loop.visited _ _ _
           loop.invariant.0 c.loop-left-test.true c.is_settled.ensures c.if-is_settled.false collect_one_event.result _ _ _ collect_one_event.ensures.0 c.flag-emptied.result
-          (zero_unset collect_one_event.result.took c.if-visited-eq0.true) c.flag-emptied.ensures,
-      follows_then loop.invariant.1 collect_one_event.ensures.1,
-    )
+          (zero_unset collect_one_event.result.took c.if-visited-eq0.true) c.flag-emptied.ensures;
+      follows = follows_then loop.invariant.1 collect_one_event.ensures.1;
+    }
 
 pub overflow_sub-left : goal.overflow_sub-left
 overflow_sub-left c = omega (arith, c.loop-left-test.true)
@@ -66,13 +66,13 @@ loop-left-preserved c =
     )
 
 pub is_held-held-requires : goal.is_held-held-requires
-is_held-held-requires c = ((search rules, search held_most), search rules)
+is_held-held-requires c = record { pending_size_in_bounds = (search rules, search held_most); pending_value = search rules }
 
 pub returns : goal.returns
 returns c =
     let args = c.args in
-    let loop = c.loop-left in (
-      emptying_spent args.sequence args.core args.budget args.members.now args.pending.now args.waiting.now _ loop.visited _ _ _
-          loop.invariant.0 c.loop-left-test.false c.is_held-held.ensures c.or_continue-after.ensures,
-      follows_continued _ _ _ _ _ _ _ _ _ _ loop.invariant.1 c.or_continue-after.ensures,
-    )
+    let loop = c.loop-left in record {
+      empties = emptying_spent args.sequence args.core args.budget args.members.now args.pending.now args.waiting.now _ loop.visited _ _ _
+          loop.invariant.0 c.loop-left-test.false c.is_held-held.ensures c.or_continue-after.ensures;
+      follows = follows_continued _ _ _ _ _ _ _ _ _ _ loop.invariant.1 c.or_continue-after.ensures;
+    }

@@ -10,19 +10,19 @@ pub loop-left-init : goal.loop-left-init
 loop-left-init c = (search holding_start, search follows_same)
 
 pub visit_until_held-visited-requires : goal.visit_until_held-visited-requires
-visit_until_held-visited-requires c = (search rules, search rules)
+visit_until_held-visited-requires c = record { usable = search rules; used_len = search rules }
 
 pub shape_of-used-then-visited-eq0 : goal.shape_of-used-then-visited-eq0
-shape_of-used-then-visited-eq0 c = omega (arith, c.requires.1, c.loop-left.invariant.1.long, c.loop-left.invariant.0.members_long, c.loop-left.invariant.0.pending_long, c.loop-left.invariant.0.waiting_long, c.visit_until_held-visited.ensures.0.members_long, c.visit_until_held-visited.ensures.0.pending_long, c.visit_until_held-visited.ensures.0.waiting_long, c.visit_until_held-visited.ensures.1.long)
+shape_of-used-then-visited-eq0 c = omega (arith, c.requires.used_len, c.loop-left.invariant.1.long, c.loop-left.invariant.0.members_long, c.loop-left.invariant.0.pending_long, c.loop-left.invariant.0.waiting_long, c.visit_until_held-visited.ensures.held_visit.members_long, c.visit_until_held-visited.ensures.held_visit.pending_long, c.visit_until_held-visited.ensures.held_visit.waiting_long, c.visit_until_held-visited.ensures.follows.long)
 
 pub returns-then-visited-eq0 : goal.returns-then-visited-eq0
 returns-then-visited-eq0 c =
     let args = c.args in
-    let visit-until-held = c.visit_until_held-visited in (
-      holding_ended args.core args.budget args.members.now args.pending.now args.waiting.now _ _ visit-until-held.result _ _ _ _ _ _
-          c.loop-left-test.true c.loop-left.invariant.0 visit-until-held.ensures.0 (zero_unset visit-until-held.result.more c.if-visited-eq0.true),
-      follows_then c.loop-left.invariant.1 visit-until-held.ensures.1,
-    )
+    let visit-until-held = c.visit_until_held-visited in record {
+      gathers = holding_ended args.core args.budget args.members.now args.pending.now args.waiting.now _ _ visit-until-held.result _ _ _ _ _ _
+          c.loop-left-test.true c.loop-left.invariant.0 visit-until-held.ensures.0 (zero_unset visit-until-held.result.more c.if-visited-eq0.true);
+      follows = follows_then c.loop-left.invariant.1 visit-until-held.ensures.1;
+    }
 
 pub loop-left-preserved : goal.loop-left-preserved
 loop-left-preserved c =
@@ -35,8 +35,8 @@ loop-left-preserved c =
 
 pub returns : goal.returns
 returns c =
-    let args = c.args in (
-      holding_done args.core args.budget args.members.now args.pending.now args.waiting.now _ c.loop-left.visited _ _ _
-          c.loop-left-test.false c.loop-left.invariant.0,
-      c.loop-left.invariant.1,
-    )
+    let args = c.args in record {
+      gathers = holding_done args.core args.budget args.members.now args.pending.now args.waiting.now _ c.loop-left.visited _ _ _
+          c.loop-left-test.false c.loop-left.invariant.0;
+      follows = c.loop-left.invariant.1;
+    }

@@ -7,7 +7,7 @@ use Rattle.srt_group_collecting.proofs.collecting.reserve_at.Goals as goal
 
 pub reserve_packet-account-requires : goal.reserve_packet-account-requires
 reserve_packet-account-requires c =
-    subst (λ (a : Account). Fits (reserve c.args.count a)) (sym c.account_at.ensures) c.requires.1
+    subst (λ (a : Account). Fits (reserve c.args.count a)) (sym c.account_at.ensures) c.requires.fits
 
 pub returns : goal.returns
 returns c =

@@ -8,23 +8,19 @@ pub turn_past-requires : goal.turn_past-requires
 turn_past-requires c = (search rules, search rules)
 
 pub turn_past-next-requires : goal.turn_past-next-requires
-turn_past-next-requires c = (c.requires.1.0.0, c.requires.0.members_few)
+turn_past-next-requires c = (c.requires.index_lt_members.0, c.requires.usable.members_few)
 
 pub collect_member_event-after-requires : goal.collect_member_event-after-requires
 collect_member_event-after-requires c =
-    let pre = c.requires in
-    let polled = c.poll_event_for_group_at-polled.ensures in (
-      collectable _ _ _ _ pre.0 _ pre.1.0.0 _ _ _ _ _ _ _ c.turn_past-next.ensures polled.changed c.in-Event.is polled.gave pre.1.0.1,
-      pre.1.1,
-    )
+    let pre = (c.requires.usable, (c.requires.index_lt_members, c.requires.used_len)) in
+    let polled = c.poll_event_for_group_at-polled.ensures in record { collectable = collectable _ _ _ _ pre.0 _ pre.1.0.0 _ _ _ _ _ _ _ c.turn_past-next.ensures polled.changed c.in-Event.is polled.gave pre.1.0.1; used_len = pre.1.1 }
 
 pub returns-in-Nothing : goal.returns-in-Nothing
-returns-in-Nothing c = (search visits_nothing, search follows_nothing)
+returns-in-Nothing c = record { visits = search visits_nothing; follows = search follows_nothing }
 
 pub returns-in-Continuation : goal.returns-in-Continuation
 returns-in-Continuation c =
-    let long = c.requires.1.1 in
-    (search visits_spent, search follows_spent)
+    let long = c.requires.used_len in record { visits = search visits_spent; follows = search follows_spent }
 
 pub returns-in-Event : goal.returns-in-Event
 returns-in-Event c =
@@ -32,7 +28,4 @@ returns-in-Event c =
     let told = c.in-Event.is in
     let turned = c.turn_past-next.ensures in
     let whose = c.membership_at-membership.ensures in
-    let collected = c.collect_member_event-after.ensures in (
-      visits_event _ _ _ _ _ _ _ polled.changed _ _ _ _ _ _ _ turned told polled.gave whose collected.0,
-      follows_event _ _ _ _ _ _ _ polled.changed _ _ _ _ _ _ _ _ _ c.requires.1.0.0 turned told polled.gave whose collected.0 collected.1,
-    )
+    let collected = (c.collect_member_event-after.ensures.collected, c.collect_member_event-after.ensures.freed) in record { visits = visits_event _ _ _ _ _ _ _ polled.changed _ _ _ _ _ _ _ turned told polled.gave whose collected.0; follows = follows_event _ _ _ _ _ _ _ polled.changed _ _ _ _ _ _ _ _ _ c.requires.index_lt_members.0 turned told polled.gave whose collected.0 collected.1 }

@@ -7,19 +7,19 @@ use Rattle.srt_group_model.specs.Laws.Flag.{zero_unset, other_set}
 use Rattle.srt_group_collecting.proofs.collecting.visit_until_held.Goals as goal
 
 pub returns-then-here-gt0 : goal.returns-then-here-gt0
-returns-then-here-gt0 c = (search held_waits, search follows_same)
+returns-then-here-gt0 c = record { held_visit = search held_waits; follows = search follows_same }
 
 pub collect_one_event-visited-requires : goal.collect_one_event-visited-requires
-collect_one_event-visited-requires c = (search rules, (search rules, search rules))
+collect_one_event-visited-requires c = record { usable = search rules; waiting_lt_max_waiting = search rules; used_len = search rules }
 
 pub returns-then-visited-eq0 : goal.returns-then-visited-eq0
 returns-then-visited-eq0 c =
     let args = c.args in
-    let collect_one_event = c.collect_one_event-visited in (
-      held_none args.visits args.before args.members.now args.pending.now args.waiting.now c.requires.0 collect_one_event.result _ _ _
-          c.if-here-gt0.false collect_one_event.ensures.0 (zero_unset collect_one_event.result.took c.if-visited-eq0.true),
-      collect_one_event.ensures.1,
-    )
+    let collect_one_event = c.collect_one_event-visited in record {
+      held_visit = held_none args.visits args.before args.members.now args.pending.now args.waiting.now c.requires.usable collect_one_event.result _ _ _
+          c.if-here-gt0.false collect_one_event.ensures.0 (zero_unset collect_one_event.result.took c.if-visited-eq0.true);
+      follows = collect_one_event.ensures.1;
+    }
 
 pub returns : goal.returns
 returns c =
@@ -27,9 +27,9 @@ returns c =
     let collect_one_event = c.collect_one_event-visited in
     let ends-with-none-held = c.ends_with_none_held-asked in
     let or_continue = c.or_continue-after in
-    let has_pending_data = c.has_pending_data in (
-      held_one args.visits args.before args.members.now args.pending.now args.waiting.now c.requires.0 collect_one_event.result _ _ _
+    let has_pending_data = c.has_pending_data in record {
+      held_visit = held_one args.visits args.before args.members.now args.pending.now args.waiting.now c.requires.usable collect_one_event.result _ _ _
           c.if-here-gt0.false collect_one_event.ensures.0 ends-with-none-held.result has_pending_data.result or_continue.result c.flag-more.result
-          (other_set collect_one_event.result.took c.if-visited-eq0.false) ends-with-none-held.ensures or_continue.ensures has_pending_data.ensures c.flag-more.ensures,
-      follows_continued _ _ _ _ _ _ _ _ _ _ collect_one_event.ensures.1 or_continue.ensures,
-    )
+          (other_set collect_one_event.result.took c.if-visited-eq0.false) ends-with-none-held.ensures or_continue.ensures has_pending_data.ensures c.flag-more.ensures;
+      follows = follows_continued _ _ _ _ _ _ _ _ _ _ collect_one_event.ensures.1 or_continue.ensures;
+    }

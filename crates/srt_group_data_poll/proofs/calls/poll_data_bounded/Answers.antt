@@ -14,7 +14,7 @@ returns-in-Refused c =
 pub poll_data_bounded-poll-requires : goal.poll_data_bounded-poll-requires
 poll_data_bounded-poll-requires c =
     let accepted = c.in_default.is in
-    let begun = c.begin_poll-begun.ensures in (begun.ready accepted, begun.room accepted)
+    let begun = c.begin_poll-begun.ensures in record { ready = begun.ready accepted; output_size_in_bounds = begun.room accepted }
 
 pub returns : goal.returns
 returns c =

@@ -5,13 +5,13 @@ use Rattle.srt_group_data_poll.specs.Laws.Polling.{usable, sending_fits, writabl
 use Rattle.srt_group_data_poll.proofs.polls.poll_data_bounded.Goals as goal
 
 pub poll_data_bounded-polled-requires : goal.poll_data_bounded-polled-requires
-poll_data_bounded-polled-requires c = (search usable, (search sending_fits, search rules))
+poll_data_bounded-polled-requires c = record { usable = search usable; sending_fit = search sending_fits; used_len = search rules }
 
 pub write_payload-requires : goal.write_payload-requires
 write_payload-requires c = search (rules, writable)
 
 pub returns : goal.returns
 returns c =
-    performed _ _ _ _ _ _ c.poll_data_bounded-polled.ensures.0 c.args.store.now c.args.output.now _ c.requires.0 c.requires.1
+    performed _ _ _ _ _ _ c.poll_data_bounded-polled.ensures.polls_data c.args.store.now c.args.output.now _ c.requires.ready c.requires.output_size_in_bounds
     _ _ (omega (arith, c.well_formed.1.1.1.1.1.1.1.1.1.1.1.1.0))
-    c.poll_data_bounded-polled.ensures.1 c.write_payload.ensures
+    c.poll_data_bounded-polled.ensures.follows c.write_payload.ensures

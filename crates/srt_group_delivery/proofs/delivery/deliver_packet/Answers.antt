@@ -9,10 +9,8 @@ advance_receive_sequence_of_all-requires c = search rows_kept
 pub remove_covered-left-requires : goal.remove_covered-left-requires
 remove_covered-left-requires c =
     let covers = c.covered_places-covered.ensures in
-    let given = c.requires.0 in
-    ((given.pending_long, given.held_few), covers.within)
+    let given = c.requires.deliverable in record { pending_size_in_bounds = (given.pending_long, given.held_few); within = covers.within }
 
 pub returns : goal.returns
 returns c =
-    let covers = c.covered_places-covered.ensures in
-    delivered_and_freed _ _ _ _ _ _ _ _ _ _ _ (search delivered_all) covers (search)
+    let covers = c.covered_places-covered.ensures in let whole = delivered_and_freed _ _ _ _ _ _ _ _ _ _ _ (search delivered_all) covers (search) in record { delivered = whole.0; follows = whole.1 }

@@ -5,10 +5,9 @@ use borrow.Author.Rules.{rules}
 use Rattle.srt_group_delivery.proofs.delivery.release_covered.Goals as goal
 
 pub release_range-requires : goal.release_range-requires
-release_range-requires c = (search rows_kept, (search rules, search rules))
+release_range-requires c = record { row_size_in_bounds = search rows_kept; pending_size_in_bounds = search rules; used_len = search rules }
 
 pub returns : goal.returns
 returns c =
-    let low = c.release_range-begun.ensures in
-    let high = c.release_range.ensures in
-    (released_then low.0 high.0, freed_packets _ _ low.1 high.1)
+    let low = (c.release_range-begun.ensures.released, c.release_range-begun.ensures.freed) in
+    let high = (c.release_range.ensures.released, c.release_range.ensures.freed) in record { released = released_then low.0 high.0; freed = freed_packets _ _ low.1 high.1 }

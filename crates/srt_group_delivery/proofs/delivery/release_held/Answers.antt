@@ -4,4 +4,4 @@ use Rattle.srt_group_delivery.specs.Laws.UsedByDelivery.{that_freed}
 use Rattle.srt_group_delivery.proofs.delivery.release_held.Goals as goal
 
 pub returns : goal.returns
-returns c = search (that_released, that_freed)
+returns c = record { released = search (that_released, that_freed); freed = search (that_released, that_freed) }

@@ -9,7 +9,7 @@ pub loop-at-init : goal.loop-at-init
 loop-at-init c = search (rules, released_start, freed_start)
 
 pub release_held-core-requires : goal.release_held-core-requires
-release_held-core-requires c = (search rows_still, ((search rules, search rules), search rules))
+release_held-core-requires c = record { row_size_in_bounds = search rows_still; pending_size_in_bounds = (search rules, search rules); used_len = search rules }
 
 pub overflow_add-at : goal.overflow_add-at
 overflow_add-at c = omega arith
@@ -22,5 +22,4 @@ loop-at-preserved c = search (rules, released_on, freed_on)
 
 pub returns : goal.returns
 returns c =
-    let args = c.args in
-    range_done args.pending.now args.from c.loop-at.at args.end (omega (arith, c.loop-at.invariant.0)) (c.loop-at.invariant.1, c.loop-at.invariant.2)
+    let args = c.args in let whole = range_done args.pending.now args.from c.loop-at.at args.end (omega (arith, c.loop-at.invariant.0)) (c.loop-at.invariant.1, c.loop-at.invariant.2) in record { released = whole.0; freed = whole.1 }

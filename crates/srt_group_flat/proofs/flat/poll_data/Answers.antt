@@ -4,4 +4,4 @@ use borrow.Author.Rules.{rules}
 use Rattle.srt_group_flat.proofs.flat.poll_data.Goals as goal
 
 pub returns : goal.returns
-returns c = (search poll_in_words, search rules)
+returns c = record { promised = search poll_in_words; cleared = search rules }

@@ -4,4 +4,4 @@ use borrow.Author.Rules.{rules}
 use Rattle.srt_group_flat.proofs.flat.send.Goals as goal
 
 pub returns : goal.returns
-returns c = (search send_in_words, search rules)
+returns c = record { promised = search send_in_words; cleared_sent = search rules }

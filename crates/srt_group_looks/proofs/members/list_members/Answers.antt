@@ -12,18 +12,17 @@ loop-i-init c = (omega arith, nothing_written c.args.members.now c.args.list.now
 
 pub list_member-requires : goal.list_member-requires
 list_member-requires c =
-    let a = c.args in
-    (omega (arith, c.requires.0), omega (arith, c.requires.1, written_length c.loop-i.i a.members.now a.list.now _ (omega (arith, c.requires.1)) c.loop-i.invariant.1))
+    let a = c.args in record { has_row = omega (arith, c.requires.row_size_in_bounds); member_row_size_in_bounds = omega (arith, c.requires.member_row_size_in_bounds, written_length c.loop-i.i a.members.now a.list.now _ (omega (arith, c.requires.member_row_size_in_bounds)) c.loop-i.invariant.1) }
 
 pub loop-i-preserved : goal.loop-i-preserved
 loop-i-preserved c =
     let a = c.args in
-    (omega arith, row_written c.loop-i.i a.members.now a.list.now _ _ (omega (arith, c.requires.1)) c.loop-i.invariant.1 c.list_member.ensures)
+    (omega arith, row_written c.loop-i.i a.members.now a.list.now _ _ (omega (arith, c.requires.member_row_size_in_bounds)) c.loop-i.invariant.1 c.list_member.ensures)
 
 pub shape_of-list : goal.shape_of-list
 shape_of-list c =
     let a = c.args in
-    written_length c.loop-i.i a.members.now a.list.now _ (omega (arith, c.requires.1)) c.loop-i.invariant.1
+    written_length c.loop-i.i a.members.now a.list.now _ (omega (arith, c.requires.member_row_size_in_bounds)) c.loop-i.invariant.1
 
 pub returns : goal.returns
 returns c =

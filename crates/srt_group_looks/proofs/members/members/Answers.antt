@@ -20,8 +20,7 @@ returns-in-Refused c =
 pub list_members-requires : goal.list_members-requires
 list_members-requires c =
     let a = c.args in
-    let unbroken = begun_unbroken (parts_of a.group) (tables a.members.now a.pending.now a.waiting.now a.history.now a.sources.now) c.begin-begun.ensures c.in_default.is in
-    (rows_unbroken unbroken, room_there (parts_of a.group) (tables a.members.now a.pending.now a.waiting.now a.history.now a.sources.now) unbroken a.list.now c.if-list-lt-LIST_LENGTH.false)
+    let unbroken = begun_unbroken (parts_of a.group) (tables a.members.now a.pending.now a.waiting.now a.history.now a.sources.now) c.begin-begun.ensures c.in_default.is in record { row_size_in_bounds = rows_unbroken unbroken; member_row_size_in_bounds = room_there (parts_of a.group) (tables a.members.now a.pending.now a.waiting.now a.history.now a.sources.now) unbroken a.list.now c.if-list-lt-LIST_LENGTH.false }
 
 pub returns : goal.returns
 returns c =

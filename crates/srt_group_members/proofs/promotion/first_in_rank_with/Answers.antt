@@ -3,7 +3,7 @@ use Rattle.srt_group_members.specs.Laws.Rank.{first_unless_standby, first_alone,
 use Rattle.srt_group_members.proofs.promotion.first_in_rank_with.Goals as goal
 
 pub is_standby_at-requires : goal.is_standby_at-requires
-is_standby_at-requires c = c.requires.0
+is_standby_at-requires c = c.requires.has_row
 
 pub returns-then-not-is_standby_at : goal.returns-then-not-is_standby_at
 returns-then-not-is_standby_at c =
@@ -15,10 +15,7 @@ returns-in_default c =
     c.if-not-is_standby_at.false
 
 pub outranks_at-requires : goal.outranks_at-requires
-outranks_at-requires c = (
-  row_of_found _ _ _ c.requires.1 c.in-At.is,
-  c.requires.0,
-)
+outranks_at-requires c = record { has_row = row_of_found _ _ _ c.requires.row_found c.in-At.is; has_row_2 = c.requires.has_row }
 
 pub returns-then-outranks_at : goal.returns-then-outranks_at
 returns-then-outranks_at c =

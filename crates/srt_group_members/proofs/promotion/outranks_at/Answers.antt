@@ -3,10 +3,10 @@ use Rattle.srt_group_members.specs.Laws.Rank.{outranks_by_weight, outranked_by_w
 use Rattle.srt_group_members.proofs.promotion.outranks_at.Goals as goal
 
 pub membership_at-first-requires : goal.membership_at-first-requires
-membership_at-first-requires c = c.requires.0
+membership_at-first-requires c = c.requires.has_row
 
 pub membership_at-second-requires : goal.membership_at-second-requires
-membership_at-second-requires c = c.requires.1
+membership_at-second-requires c = c.requires.has_row_2
 
 pub returns-then-second-first : goal.returns-then-second-first
 returns-then-second-first c =

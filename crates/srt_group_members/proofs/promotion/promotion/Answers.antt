@@ -8,10 +8,7 @@ pub loop-left-init : goal.loop-left-init
 loop-left-init c = ranking_start _ _
 
 pub first_in_rank_with-best-requires : goal.first_in_rank_with-best-requires
-first_in_rank_with-best-requires c = (
-  omega (arith, c.loop-left.invariant.within),
-  ranking_row _ _ _ _ c.requires c.loop-left.invariant,
-)
+first_in_rank_with-best-requires c = record { has_row = omega (arith, c.loop-left.invariant.within); row_found = ranking_row _ _ _ _ c.requires c.loop-left.invariant }
 
 pub loop-left-preserved : goal.loop-left-preserved
 loop-left-preserved c =

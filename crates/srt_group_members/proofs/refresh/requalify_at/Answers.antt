@@ -6,16 +6,16 @@ use native.Mathlib.Omega.{arith}
 use Rattle.srt_group_members.proofs.refresh.requalify_at.Goals as goal
 
 pub requalifies_at-requires : goal.requalifies_at-requires
-requalifies_at-requires c = omega (arith, c.requires.1)
+requalifies_at-requires c = omega (arith, c.requires.index_lt_count)
 
 pub returns-then-not-requalifies_at : goal.returns-then-not-requalifies_at
 unfolding requalify requalifies requalified_state
 returns-then-not-requalifies_at c =
-    turn_left_out requalifies _ _ _ _ _ c.requires.1 c.requalifies_at.ensures
+    turn_left_out requalifies _ _ _ _ _ c.requires.index_lt_count c.requalifies_at.ensures
     c.if-not-requalifies_at.true
 
 pub align_member_sequence-requires : goal.align_member_sequence-requires
-align_member_sequence-requires c = c.requires.0
+align_member_sequence-requires c = c.requires.row_size_in_bounds
 
 pub shape_of-members-then-not-align_member_sequence : goal.shape_of-members-then-not-align_member_sequence
 shape_of-members-then-not-align_member_sequence c = c.align_member_sequence.ensures.long
@@ -23,7 +23,7 @@ shape_of-members-then-not-align_member_sequence c = c.align_member_sequence.ensu
 pub returns-then-not-align_member_sequence : goal.returns-then-not-align_member_sequence
 unfolding requalify requalifies requalified_state
 returns-then-not-align_member_sequence c =
-    turn_refused requalifies _ _ _ _ _ c.requires.1
+    turn_refused requalifies _ _ _ _ _ c.requires.index_lt_count
     c.requalifies_at.ensures c.if-not-requalifies_at.false c.align_member_sequence.ensures
     c.if-not-align_member_sequence.true
 
@@ -31,7 +31,7 @@ pub requalified_state-state-requires : goal.requalified_state-state-requires
 requalified_state-state-requires c =
     omega (
       arith,
-      c.requires.0,
+      c.requires.row_size_in_bounds,
       c.align_member_sequence.ensures.long,
     )
 
@@ -39,8 +39,8 @@ pub turn_at-requires : goal.turn_at-requires
 turn_at-requires c =
     omega (
       arith,
-      c.requires.0,
-      c.requires.1,
+      c.requires.row_size_in_bounds,
+      c.requires.index_lt_count,
       c.align_member_sequence.ensures.long,
     )
 
@@ -56,7 +56,7 @@ pub returns : goal.returns
 unfolding requalify requalifies requalified_state
 returns c =
     turn_made requalifies _ _ _ _ _
-    c.requires.1
+    c.requires.index_lt_count
     c.requalifies_at.ensures
     c.if-not-requalifies_at.false
     c.align_member_sequence.ensures c.if-not-align_member_sequence.false

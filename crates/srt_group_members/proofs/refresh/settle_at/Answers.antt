@@ -6,16 +6,16 @@ use native.Mathlib.Omega.{arith}
 use Rattle.srt_group_members.proofs.refresh.settle_at.Goals as goal
 
 pub settles_at-requires : goal.settles_at-requires
-settles_at-requires c = omega (arith, c.requires.1)
+settles_at-requires c = omega (arith, c.requires.index_lt_count)
 
 pub returns-then-not-settles_at : goal.returns-then-not-settles_at
 unfolding settle settles settled_state
 returns-then-not-settles_at c =
-    turn_left_out settles _ _ _ _ _ c.requires.1 c.settles_at.ensures
+    turn_left_out settles _ _ _ _ _ c.requires.index_lt_count c.settles_at.ensures
     c.if-not-settles_at.true
 
 pub align_member_sequence-requires : goal.align_member_sequence-requires
-align_member_sequence-requires c = c.requires.0
+align_member_sequence-requires c = c.requires.row_size_in_bounds
 
 pub shape_of-members-then-not-align_member_sequence : goal.shape_of-members-then-not-align_member_sequence
 shape_of-members-then-not-align_member_sequence c = c.align_member_sequence.ensures.long
@@ -23,7 +23,7 @@ shape_of-members-then-not-align_member_sequence c = c.align_member_sequence.ensu
 pub returns-then-not-align_member_sequence : goal.returns-then-not-align_member_sequence
 unfolding settle settles settled_state
 returns-then-not-align_member_sequence c =
-    turn_refused settles _ _ _ _ _ c.requires.1
+    turn_refused settles _ _ _ _ _ c.requires.index_lt_count
     c.settles_at.ensures c.if-not-settles_at.false c.align_member_sequence.ensures
     c.if-not-align_member_sequence.true
 
@@ -31,8 +31,8 @@ pub turn_at-requires : goal.turn_at-requires
 turn_at-requires c =
     omega (
       arith,
-      c.requires.0,
-      c.requires.1,
+      c.requires.row_size_in_bounds,
+      c.requires.index_lt_count,
       c.align_member_sequence.ensures.long,
     )
 
@@ -48,7 +48,7 @@ pub returns : goal.returns
 unfolding settle settles settled_state
 returns c =
     turn_made settles _ _ _ _ _
-    c.requires.1
+    c.requires.index_lt_count
     c.settles_at.ensures c.if-not-settles_at.false
     c.align_member_sequence.ensures c.if-not-align_member_sequence.false c.settled_state.ensures
     c.turn_at.ensures

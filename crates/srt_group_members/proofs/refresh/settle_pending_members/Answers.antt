@@ -7,7 +7,7 @@ pub loop-i-init : goal.loop-i-init
 loop-i-init c = stepping_start _ _ _
 
 pub settle_at-requires : goal.settle_at-requires
-settle_at-requires c = (omega (arith, c.loop-i.invariant.long), c.loop-i-test.true)
+settle_at-requires c = record { row_size_in_bounds = omega (arith, c.loop-i.invariant.long); index_lt_count = c.loop-i-test.true }
 
 pub overflow_add-i : goal.overflow_add-i
 overflow_add-i c = omega (arith, c.loop-i-test.true)

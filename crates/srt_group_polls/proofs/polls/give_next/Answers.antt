@@ -25,25 +25,18 @@ refreshed c =
 
 pub returns-then-here-gt0 : goal.returns-then-here-gt0
 returns-then-here-gt0 c =
-    let given = c.give_waiting.ensures in
-    (event_next _ _ _ _ _ _ _ _ _ (search) (search) (given _ _), follows_given _ _ _ _ _ _ _ (search) (given _ _))
+    let given = c.give_waiting.ensures in record { polls_from = event_next _ _ _ _ _ _ _ _ _ (search) (search) (given _ _); follows = follows_given _ _ _ _ _ _ _ (search) (given _ _) }
 
 pub refresh_all_states-refreshed-requires : goal.refresh_all_states-refreshed-requires
-refresh_all_states-refreshed-requires c = rows_there _ _ _ _ c.requires.0
+refresh_all_states-refreshed-requires c = rows_there _ _ _ _ c.requires.usable
 
 pub deliver_next-requires : goal.deliver_next-requires
 deliver_next-requires c =
-    let start = c.before.before.before.before.before.before.before.before.before.before.before.before in (
-      usable_refreshed _ start.requires.1.0 _ _ _ _ start.requires.0 _ _ (refreshed c.before.before.before.before),
-      (still_none_waits (omega (arith, c.if-here-gt0.false)) (refreshed c.before.before.before.before), start.requires.1.1.0),
-    )
+    let start = c.before.before.before.before.before.before.before.before.before.before.before.before in record { usable = usable_refreshed _ start.requires.1.0 _ _ _ _ start.requires.0 _ _ (refreshed c.before.before.before.before); waiting_value = still_none_waits (omega (arith, c.if-here-gt0.false)) (refreshed c.before.before.before.before); used_len = start.requires.1.1.0 }
 
 pub shape_of-members : goal.shape_of-members
-shape_of-members c = omega (arith, (refreshed c.before.before.before.before.before.before.before.before.before.before.before.before.before).members_long, c.deliver_next.ensures.0.members_long)
+shape_of-members c = omega (arith, (refreshed c.before.before.before.before.before.before.before.before.before.before.before.before.before).members_long, c.deliver_next.ensures.polls_from.members_long)
 
 pub returns : goal.returns
 returns c =
-    let delivered = c.deliver_next.ensures in (
-      packet_next _ _ _ _ _ _ _ _ _ _ _ _ _ (omega (arith, c.if-here-gt0.false)) (refreshed c.before.before.before.before.before.before.before.before.before.before.before.before.before) delivered.0,
-      follows_then (follows_refreshed _ _ _ _ _ _ _ c.requires.1.1.0 (refreshed c.before.before.before.before.before.before.before.before.before.before.before.before.before)) delivered.1,
-    )
+    let delivered = (c.deliver_next.ensures.polls_from, c.deliver_next.ensures.follows) in record { polls_from = packet_next _ _ _ _ _ _ _ _ _ _ _ _ _ (omega (arith, c.if-here-gt0.false)) (refreshed c.before.before.before.before.before.before.before.before.before.before.before.before.before) delivered.0; follows = follows_then (follows_refreshed _ _ _ _ _ _ _ c.requires.used_len (refreshed c.before.before.before.before.before.before.before.before.before.before.before.before.before)) delivered.1 }

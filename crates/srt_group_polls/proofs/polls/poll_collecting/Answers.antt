@@ -26,33 +26,21 @@ begun c =
     c.if1.branch
 
 pub refresh_pending_states-begun-requires : goal.refresh_pending_states-begun-requires
-refresh_pending_states-begun-requires c = rows_there _ _ _ _ c.requires.0
+refresh_pending_states-begun-requires c = rows_there _ _ _ _ c.requires.usable
 
 pub collect_until_held-gathered-requires : goal.collect_until_held-gathered-requires
 collect_until_held-gathered-requires c =
-    let start = c.before.before.before.before.before.before.before.before.before.before in (
-      usable_begun _ start.requires.1.0 start.args.core _ _ _ start.requires.0 _ _ (begun c.before.before.before.before),
-      start.requires.1.1.0,
-    )
+    let start = c.before.before.before.before.before.before.before.before.before.before in record { usable = usable_begun _ start.requires.1.0 start.args.core _ _ _ start.requires.0 _ _ (begun c.before.before.before.before); used_len = start.requires.1.1.0 }
 
 pub give_next-requires : goal.give_next-requires
 give_next-requires c =
     let join = c.before.before.before.before.before.before.before.before.before.before.before.before.before.before.before.before.before in
-    let known = known_begun _ _ join.before.before.before.before.before.before.requires.1.1.1 _ _ _ (begun join) in (
-      c.collect_until_held-gathered.ensures.0.usable,
-      (
-        join.before.before.before.before.before.before.requires.1.0,
-        (
-          c.collect_until_held-gathered.ensures.1.long,
-          λ none_waits. known_gathered _ _ known _ _ _ _ _ _ _ c.collect_until_held-gathered.ensures.0 none_waits,
-        ),
-      ),
-    )
+    let known = known_begun _ _ join.before.before.before.before.before.before.requires.1.1.1 _ _ _ (begun join) in record { usable = c.collect_until_held-gathered.ensures.gathers.usable; sending_fit = join.before.before.before.before.before.before.requires.1.0; used_len = c.collect_until_held-gathered.ensures.follows.long; known = λ none_waits. known_gathered _ _ known _ _ _ _ _ _ _ c.collect_until_held-gathered.ensures.gathers none_waits }
 
 pub shape_of-members : goal.shape_of-members
 shape_of-members c =
-    let given = c.give_next.ensures in
-    let gathered = c.collect_until_held-gathered.ensures in
+    let given = (c.give_next.ensures.polls_from, c.give_next.ensures.follows) in
+    let gathered = (c.collect_until_held-gathered.ensures.gathers, c.collect_until_held-gathered.ensures.follows) in
     let join = c.before.before.before.before.before.before.before.before.before.before.before.before.before.before.before.before.before.before.before.before.before.before.before.before.before.before in
     omega (arith, join.before.before.before.before.before.before.requires.1.1.0, (begun join).members_long, gathered.0.members_long, gathered.0.pending_long, gathered.0.waiting_long, gathered.1.long, given.0.members_long, given.0.pending_long, given.0.waiting_long, given.1.long)
 
@@ -60,9 +48,9 @@ pub returns : goal.returns
 returns c =
     let give_next = c.give_next in
     let join = c.before.before.before.before.before.before.before.before.before.before.before.before.before.before.before.before.before.before.before.before.before.before.before.before.before.before in
-    let start = join.before.before.before.before.before.before in (
-      polls_event _ _ start.args.core _ _ _ _ _ (begun join) c.collect_until_held-gathered.result _ _ _ c.collect_until_held-gathered.ensures.0 _ _ _ _
-          give_next.ensures.0,
-      follows_then (follows_begun _ start.args.core _ _ _ _ _ start.requires.1.1.0 (begun join))
-          (follows_then c.collect_until_held-gathered.ensures.1 give_next.ensures.1),
-    )
+    let start = join.before.before.before.before.before.before in record {
+      by_index = polls_event _ _ start.args.core _ _ _ _ _ (begun join) c.collect_until_held-gathered.result _ _ _ c.collect_until_held-gathered.ensures.gathers _ _ _ _
+          give_next.ensures.0;
+      follows = follows_then (follows_begun _ start.args.core _ _ _ _ _ start.requires.1.1.0 (begun join))
+          (follows_then c.collect_until_held-gathered.ensures.follows give_next.ensures.1);
+    }

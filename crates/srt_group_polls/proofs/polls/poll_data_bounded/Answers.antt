@@ -5,7 +5,7 @@ use Rattle.srt_group_collecting.specs.Laws.Follows.{follows_same}
 use Rattle.srt_group_polls.proofs.polls.poll_data_bounded.Goals as goal
 
 pub returns-then-max_events-eq0 : goal.returns-then-max_events-eq0
-returns-then-max_events-eq0 c = (search none_allowed, search follows_same)
+returns-then-max_events-eq0 c = record { polls_data = search none_allowed; follows = search follows_same }
 
 pub returns : goal.returns
-returns c = (search some_allowed, search rules)
+returns c = record { polls_data = search some_allowed; follows = search rules }

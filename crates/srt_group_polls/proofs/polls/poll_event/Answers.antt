@@ -6,27 +6,22 @@ use Rattle.srt_group_polls.specs.Laws.StraightPolls.{goes_at, polls_straight, fo
 use Rattle.srt_group_polls.proofs.polls.poll_event.Goals as goal
 
 pub is_quiet-quiet-requires : goal.is_quiet-quiet-requires
-is_quiet-quiet-requires c = rows_there _ _ _ _ c.requires.0
+is_quiet-quiet-requires c = rows_there _ _ _ _ c.requires.usable
 
 pub next_straight-next-requires : goal.next_straight-next-requires
-next_straight-next-requires c = (deliverable _ _ _ _ c.requires.0, λ told. sym c.is_quiet-quiet.ensures ∙ told)
+next_straight-next-requires c = record { deliverable = deliverable _ _ _ _ c.requires.usable; known = λ told. sym c.is_quiet-quiet.ensures ∙ told }
 
 pub give_straight-requires : goal.give_straight-requires
 give_straight-requires c =
-    let straight = goes_at _ _ _ _ _ c.in-At.is c.next_straight-next.ensures in
-    ((straight.inside, c.requires.0.members_few), (rows_there _ _ _ _ c.requires.0, c.requires.1.1))
+    let straight = goes_at _ _ _ _ _ c.in-At.is c.next_straight-next.ensures in record { index_lt_members = (straight.inside, c.requires.usable.members_few); row_size_in_bounds = rows_there _ _ _ _ c.requires.usable; used_len = c.requires.used_len }
 
 pub returns-in-At : goal.returns-in-At
 returns-in-At c =
     let straight = goes_at _ _ _ _ _ c.in-At.is c.next_straight-next.ensures in
-    let given = c.give_straight.ensures in (
-      polls_straight c.args.core _ _ _ c.requires.0 _ _ straight _ _ given.0 c.args.sending _,
-      follows_straight c.args.core _ _ _ c.requires.0 _ _ straight _ _ given.0 _ _ given.1,
-    )
+    let given = (c.give_straight.ensures.given, c.give_straight.ensures.freed) in record { by_index = polls_straight c.args.core _ _ _ c.requires.usable _ _ straight _ _ given.0 c.args.sending _; follows = follows_straight c.args.core _ _ _ c.requires.usable _ _ straight _ _ given.0 _ _ given.1 }
 
 pub poll_collecting-requires : goal.poll_collecting-requires
-poll_collecting-requires c =
-    (c.requires.0, (c.requires.1.0, (c.requires.1.1, λ told. sym c.is_quiet-quiet.ensures ∙ told)))
+poll_collecting-requires c = record { usable = c.requires.usable; sending_fit = c.requires.sending_fit; used_len = c.requires.used_len; known = λ told. sym c.is_quiet-quiet.ensures ∙ told }
 
 pub returns : goal.returns
-returns c = c.poll_collecting.ensures
+returns c = record { by_index = c.poll_collecting.ensures.by_index; follows = c.poll_collecting.ensures.follows }

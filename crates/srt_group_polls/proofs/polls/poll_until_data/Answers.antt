@@ -12,31 +12,31 @@ pub loop-left-init : goal.loop-left-init
 loop-left-init c = (search passing_start, search follows_same)
 
 pub poll_event-poll-requires : goal.poll_event-poll-requires
-poll_event-poll-requires c = (search rules, (search rules, search rules))
+poll_event-poll-requires c = record { usable = search rules; sending_fit = search rules; used_len = search rules }
 
 pub shape_of-members-then-passed-eq0 : goal.shape_of-members-then-passed-eq0
-shape_of-members-then-passed-eq0 c = omega (arith, c.requires.1.1, c.loop-left.invariant.1.long, c.loop-left.invariant.0.members_long, c.loop-left.invariant.0.pending_long, c.loop-left.invariant.0.waiting_long, (c.poll_event-poll.ensures.0 0).members_long, (c.poll_event-poll.ensures.0 0).pending_long, (c.poll_event-poll.ensures.0 0).waiting_long, c.poll_event-poll.ensures.1.long)
+shape_of-members-then-passed-eq0 c = omega (arith, c.requires.used_len, c.loop-left.invariant.1.long, c.loop-left.invariant.0.members_long, c.loop-left.invariant.0.pending_long, c.loop-left.invariant.0.waiting_long, (c.poll_event-poll.ensures.by_index 0).members_long, (c.poll_event-poll.ensures.by_index 0).pending_long, (c.poll_event-poll.ensures.by_index 0).waiting_long, c.poll_event-poll.ensures.follows.long)
 
 pub shape_of-pending-then-passed-eq0 : goal.shape_of-pending-then-passed-eq0
-shape_of-pending-then-passed-eq0 c = omega (arith, c.requires.1.1, c.loop-left.invariant.1.long, c.loop-left.invariant.0.members_long, c.loop-left.invariant.0.pending_long, c.loop-left.invariant.0.waiting_long, (c.poll_event-poll.ensures.0 0).members_long, (c.poll_event-poll.ensures.0 0).pending_long, (c.poll_event-poll.ensures.0 0).waiting_long, c.poll_event-poll.ensures.1.long)
+shape_of-pending-then-passed-eq0 c = omega (arith, c.requires.used_len, c.loop-left.invariant.1.long, c.loop-left.invariant.0.members_long, c.loop-left.invariant.0.pending_long, c.loop-left.invariant.0.waiting_long, (c.poll_event-poll.ensures.by_index 0).members_long, (c.poll_event-poll.ensures.by_index 0).pending_long, (c.poll_event-poll.ensures.by_index 0).waiting_long, c.poll_event-poll.ensures.follows.long)
 
 pub shape_of-waiting-then-passed-eq0 : goal.shape_of-waiting-then-passed-eq0
-shape_of-waiting-then-passed-eq0 c = omega (arith, c.requires.1.1, c.loop-left.invariant.1.long, c.loop-left.invariant.0.members_long, c.loop-left.invariant.0.pending_long, c.loop-left.invariant.0.waiting_long, (c.poll_event-poll.ensures.0 0).members_long, (c.poll_event-poll.ensures.0 0).pending_long, (c.poll_event-poll.ensures.0 0).waiting_long, c.poll_event-poll.ensures.1.long)
+shape_of-waiting-then-passed-eq0 c = omega (arith, c.requires.used_len, c.loop-left.invariant.1.long, c.loop-left.invariant.0.members_long, c.loop-left.invariant.0.pending_long, c.loop-left.invariant.0.waiting_long, (c.poll_event-poll.ensures.by_index 0).members_long, (c.poll_event-poll.ensures.by_index 0).pending_long, (c.poll_event-poll.ensures.by_index 0).waiting_long, c.poll_event-poll.ensures.follows.long)
 
 pub shape_of-used-then-passed-eq0 : goal.shape_of-used-then-passed-eq0
-shape_of-used-then-passed-eq0 c = omega (arith, c.requires.1.1, c.loop-left.invariant.1.long, c.loop-left.invariant.0.members_long, c.loop-left.invariant.0.pending_long, c.loop-left.invariant.0.waiting_long, (c.poll_event-poll.ensures.0 0).members_long, (c.poll_event-poll.ensures.0 0).pending_long, (c.poll_event-poll.ensures.0 0).waiting_long, c.poll_event-poll.ensures.1.long)
+shape_of-used-then-passed-eq0 c = omega (arith, c.requires.used_len, c.loop-left.invariant.1.long, c.loop-left.invariant.0.members_long, c.loop-left.invariant.0.pending_long, c.loop-left.invariant.0.waiting_long, (c.poll_event-poll.ensures.by_index 0).members_long, (c.poll_event-poll.ensures.by_index 0).pending_long, (c.poll_event-poll.ensures.by_index 0).waiting_long, c.poll_event-poll.ensures.follows.long)
 
 pub returns-then-passed-eq0 : goal.returns-then-passed-eq0
 returns-then-passed-eq0 c =
     let args = c.args in
     let loop = c.loop-left in
     let poll_event = c.poll_event-poll in
-    let pass-event = c.pass_event-passed in (
-      passing_ended (sends args.sending) args.time.0 args.visits args.core args.members.now args.pending.now args.waiting.now
+    let pass-event = c.pass_event-passed in record {
+      polls_data = passing_ended (sends args.sending) args.time.0 args.visits args.core args.members.now args.pending.now args.waiting.now
           _ loop.answer _ _ _ loop.invariant.0 c.loop-left-test.true poll_event.result _ _ _ poll_event.ensures.0
-          pass-event.result pass-event.ensures (zero_unset pass-event.result.event c.if-passed-eq0.true),
-      follows_passed _ _ _ _ _ _ _ _ _ pass-event.ensures (follows_then loop.invariant.1 poll_event.ensures.1),
-    )
+          pass-event.result pass-event.ensures (zero_unset pass-event.result.event c.if-passed-eq0.true);
+      follows = follows_passed _ _ _ _ _ _ _ _ _ pass-event.ensures (follows_then loop.invariant.1 poll_event.ensures.1);
+    }
 
 pub overflow_sub-left : goal.overflow_sub-left
 overflow_sub-left c = omega (arith, c.loop-left-test.true)
@@ -59,8 +59,8 @@ loop-left-preserved c =
 pub returns : goal.returns
 returns c =
     let args = c.args in
-    let loop = c.loop-left in (
-      passing_spent (sends args.sending) args.time.0 args.visits args.core args.members.now args.pending.now args.waiting.now
-          _ loop.answer _ _ _ loop.invariant.0 c.loop-left-test.false,
-      loop.invariant.1,
-    )
+    let loop = c.loop-left in record {
+      polls_data = passing_spent (sends args.sending) args.time.0 args.visits args.core args.members.now args.pending.now args.waiting.now
+          _ loop.answer _ _ _ loop.invariant.0 c.loop-left-test.false;
+      follows = loop.invariant.1;
+    }

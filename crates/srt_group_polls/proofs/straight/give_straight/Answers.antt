@@ -3,8 +3,8 @@ use Rattle.srt_group_polls.specs.Laws.StraightPolls.{given_all}
 use Rattle.srt_group_polls.proofs.straight.give_straight.Goals as goal
 
 pub returns : goal.returns
-returns c = (
-  given_all c.args.core _ _ _ _ _ c.args.packet c.word_further-next.ensures c.pop_at.ensures c.release_data_reservation_at.ensures
-      c.advance_receive_sequence_of_all.ensures,
-  c.free.ensures,
-)
+returns c = record {
+  given = given_all c.args.core _ _ _ _ _ c.args.packet c.word_further-next.ensures c.pop_at.ensures c.release_data_reservation_at.ensures
+      c.advance_receive_sequence_of_all.ensures;
+  freed = c.free.ensures;
+}

@@ -8,15 +8,14 @@ front_at-first-requires c = search turn_has_row
 
 pub is_held-requires : goal.is_held-requires
 is_held-requires c =
-    let given = c.requires.0 in
-    ((given.pending_long, given.held_few), given.ascending)
+    let given = c.requires.deliverable in record { pending_size_in_bounds = (given.pending_long, given.held_few); pending_value = given.ascending }
 
 pub membership_at-membership-requires : goal.membership_at-membership-requires
 membership_at-membership-requires c = search turn_has_row
 
 pub returns : goal.returns
 returns c =
-    all_passed c.args.core _ _ _ c.in-At.is c.in_turn-found.ensures _ c.requires.1
+    all_passed c.args.core _ _ _ c.in-At.is c.in_turn-found.ensures _ c.requires.known
     c.if-not-quiet.false (omega (arith, c.if-core-gt0.false)) c.if-core-eq0.false
     c.in-Some.is c.before.before.before.before.before.before.before.before.before.Front-at.ensures c.if-not-is_alone_at.false c.is_alone_at.ensures
     c.if-is_held.false c.is_held.ensures c.membership_at-membership.ensures

@@ -12,8 +12,7 @@ returns-in-Refused c =
     enqueue_refused _ _ _ _ _ _ _ _ _ _ c.push_at-pushed.ensures c.in-Refused.is
 
 pub reserve_leg_at-requires : goal.reserve_leg_at-requires
-reserve_leg_at-requires c =
-    (omega (arith, c.requires.there, c.push_at-pushed.ensures.changed.long), room_left _ _ _ c.args.payload.now _ c.args.store.now c.args.used.now c.requires _ _ c.push_at-pushed.ensures c.in_default.is)
+reserve_leg_at-requires c = record { has_row = omega (arith, c.requires.there, c.push_at-pushed.ensures.changed.long); count_bound = room_left _ _ _ c.args.payload.now _ c.args.store.now c.args.used.now c.requires _ _ c.push_at-pushed.ensures c.in_default.is }
 
 pub take-requires : goal.take-requires
 take-requires c =

@@ -6,7 +6,7 @@ use Rattle.srt_connection_members.specs.Laws.Members.{reservation_changed}
 use Rattle.srt_group_queueing.proofs.queueing.reserve_leg_at.Goals as goal
 
 pub overflow_add-reserved : goal.overflow_add-reserved
-overflow_add-reserved c = omega (arith, c.requires.1, c.reservation_at.ensures)
+overflow_add-reserved c = omega (arith, c.requires.count_bound, c.reservation_at.ensures)
 
 pub returns : goal.returns
 returns c =

@@ -15,10 +15,7 @@ pub is_invalid-broken-requires : goal.is_invalid-broken-requires
 is_invalid-broken-requires c =
     let a = c.args in
     let long = are_long (tables a.members.now a.pending.now a.waiting.now a.history.now a.sources.now)
-    (sym c.are_short.ensures ∙ c.if-are_short.false) in (
-      (long.members, (long.pending, long.waiting)),
-      (record { history = long.history; sources = long.sources }, (c.cells_given-cells.ensures.1, omega arith)),
-    )
+    (sym c.are_short.ensures ∙ c.if-are_short.false) in record { members_size_in_bounds = (long.members, (long.pending, long.waiting)); long = record { history = long.history; sources = long.sources }; cells_le_max_cells = (c.cells_given-cells.ensures.1, omega arith) }
 
 pub returns-then-broken : goal.returns-then-broken
 returns-then-broken c =

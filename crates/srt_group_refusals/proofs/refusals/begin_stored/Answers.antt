@@ -22,10 +22,7 @@ pub is_invalid-requires : goal.is_invalid-requires
 is_invalid-requires c =
     let a = c.args in
     let long = are_long (tables a.members.now a.pending.now a.waiting.now a.history.now a.sources.now)
-    (sym c.are_short.ensures ∙ c.if-are_short.false) in (
-      (long.members, (long.pending, long.waiting)),
-      (record { history = long.history; sources = long.sources }, (omega (arith, c.cells_of-cells.ensures), c.requires)),
-    )
+    (sym c.are_short.ensures ∙ c.if-are_short.false) in record { members_size_in_bounds = (long.members, (long.pending, long.waiting)); long = record { history = long.history; sources = long.sources }; cells_le_max_cells = (omega (arith, c.cells_of-cells.ensures), c.requires) }
 
 pub returns-then-is_invalid : goal.returns-then-is_invalid
 returns-then-is_invalid c =

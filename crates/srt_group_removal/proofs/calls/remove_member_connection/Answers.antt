@@ -13,36 +13,37 @@ use Rattle.srt_group_removal.proofs.calls.remove_member_connection.Goals as goal
 
 pub returns-then-row-lt-ROW : goal.returns-then-row-lt-ROW
 returns-then-row-lt-ROW c =
-    let a = c.args in (
-      row_refused (call_remove_member_connection a.id) (parts_of a.group)
-          (tables a.members.now a.pending.now a.waiting.now a.history.now a.sources.now) a.row.now c.if-row-lt-ROW.true,
-      refl,
-    )
+    let a = c.args in record {
+      promised_row = row_refused (call_remove_member_connection a.id) (parts_of a.group)
+          (tables a.members.now a.pending.now a.waiting.now a.history.now a.sources.now) a.row.now c.if-row-lt-ROW.true;
+      row_after = refl;
+    }
 
 pub returns-in-Refused : goal.returns-in-Refused
 returns-in-Refused c =
-    let a = c.args in (
-      removal_refused a.id (parts_of a.group)
+    let a = c.args in record {
+      promised_row = removal_refused a.id (parts_of a.group)
           (tables a.members.now a.pending.now a.waiting.now a.history.now a.sources.now) a.row.now c.if-row-lt-ROW.false
-          c.begin-begun.ensures _ c.in-Refused.is,
-      refl,
-    )
+          c.begin-begun.ensures _ c.in-Refused.is;
+      row_after = refl;
+    }
 
 pub remove_named-removed-requires : goal.remove_named-removed-requires
 remove_named-removed-requires c =
-    let a = c.args in (
-      any_removable
+    let a = c.args in record {
+      any_removable = any_removable
           (begun_unbroken (parts_of a.group)
-          (tables a.members.now a.pending.now a.waiting.now a.history.now a.sources.now) c.begin-begun.ensures c.in_default.is),
-      (omega (arith, c.if-row-lt-ROW.false), search rules),
-    )
+          (tables a.members.now a.pending.now a.waiting.now a.history.now a.sources.now) c.begin-begun.ensures c.in_default.is);
+      has_row = omega (arith, c.if-row-lt-ROW.false);
+      used_len = search rules;
+    }
 
 pub returns : goal.returns
 returns c =
     let a = c.args in
-    let removes = c.remove_named-removed.ensures in (
-      removal_promised a.id (parts_of a.group)
+    let removes = (c.remove_named-removed.ensures.steps_removal, (c.remove_named-removed.ensures.row_after, c.remove_named-removed.ensures.follows)) in record {
+      promised_row = removal_promised a.id (parts_of a.group)
           (tables a.members.now a.pending.now a.waiting.now a.history.now a.sources.now) a.row.now c.if-row-lt-ROW.false
-          c.begin-begun.ensures c.in_default.is c.remove_named-removed.result _ _ _ removes.0,
-      removes.1.0,
-    )
+          c.begin-begun.ensures c.in_default.is c.remove_named-removed.result _ _ _ removes.0;
+      row_after = removes.1.0;
+    }

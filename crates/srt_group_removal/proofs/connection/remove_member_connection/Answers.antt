@@ -5,11 +5,8 @@ use Rattle.srt_group_removal.proofs.connection.remove_member_connection.Goals as
 
 pub remove_named-requires : goal.remove_named-requires
 remove_named-requires c =
-    let pre = c.requires in (any_removable (unbroken_of pre.0), (pre.1, pre.0.shows.cells.long))
+    let pre = (c.requires.ready, c.requires.has_row) in record { any_removable = any_removable (unbroken_of pre.0); has_row = pre.1; used_len = pre.0.shows.cells.long }
 
 pub returns : goal.returns
 returns c =
-    let removes = c.remove_named.ensures in (
-      removal_performed c.requires.0 c.args.id _ _ _ _ _ removes.0 removes.1.1,
-      removes.1.0,
-    )
+    let removes = (c.remove_named.ensures.steps_removal, (c.remove_named.ensures.row_after, c.remove_named.ensures.follows)) in record { performs = removal_performed c.requires.ready c.args.id _ _ _ _ _ removes.0 removes.1.1; row_after = removes.1.0 }

@@ -7,34 +7,26 @@ use Rattle.srt_group_removal.proofs.connection.remove_named.Goals as goal
 
 pub returns-then-id-gt-LARGEST_32 : goal.returns-then-id-gt-LARGEST_32
 returns-then-id-gt-LARGEST_32 c =
-    let a = c.args in (
-      unfit_removal a.id a.core a.members.now a.pending.now a.row.now c.if-id-gt-LARGEST_32.true,
-      (refl, follows_same a.core a.members.now a.pending.now a.used.now c.requires.1.1),
-    )
+    let a = c.args in record { steps_removal = unfit_removal a.id a.core a.members.now a.pending.now a.row.now c.if-id-gt-LARGEST_32.true; row_after = refl; follows = follows_same a.core a.members.now a.pending.now a.used.now c.requires.used_len }
 
 pub returns-in_default : goal.returns-in_default
 returns-in_default c =
-    let a = c.args in (
-      unknown_removal a.id a.core a.members.now a.pending.now c.if-id-gt-LARGEST_32.false a.row.now (sym c.in_default.is ∙ c.find-found.ensures),
-      (refl, follows_same a.core a.members.now a.pending.now a.used.now c.requires.1.1),
-    )
+    let a = c.args in record { steps_removal = unknown_removal a.id a.core a.members.now a.pending.now c.if-id-gt-LARGEST_32.false a.row.now (sym c.in_default.is ∙ c.find-found.ensures); row_after = refl; follows = follows_same a.core a.members.now a.pending.now a.used.now c.requires.used_len }
 
 pub remove_member_at-removed-requires : goal.remove_member_at-removed-requires
 remove_member_at-removed-requires c =
-    let a = c.args in (
-      c.requires.0.each _ (found_below a.core.counts.members a.id _ a.members.now (sym c.in-At.is ∙ c.find-found.ensures)),
-      c.requires.1.1,
-    )
+    let a = c.args in record { removable = c.requires.any_removable.each _ (found_below a.core.counts.members a.id _ a.members.now (sym c.in-At.is ∙ c.find-found.ensures)); used_len = c.requires.used_len }
 
 pub give_back-requires : goal.give_back-requires
-give_back-requires c = c.requires.1.0
+give_back-requires c = c.requires.has_row
 
 pub returns : goal.returns
 returns c =
     let a = c.args in
     let gives = c.give_back.ensures in
-    let removes = c.remove_member_at-removed.ensures in (
-      named_removed a.id a.core a.members.now a.pending.now c.if-id-gt-LARGEST_32.false _ _ _ _ _ _ (sym c.in-At.is ∙ c.find-found.ensures)
-          removes.0 gives,
-      (row_given gives, removes.1),
-    )
+    let removes = (c.remove_member_at-removed.ensures.removes, c.remove_member_at-removed.ensures.follows) in record {
+      steps_removal = named_removed a.id a.core a.members.now a.pending.now c.if-id-gt-LARGEST_32.false _ _ _ _ _ _ (sym c.in-At.is ∙ c.find-found.ensures)
+          removes.0 gives;
+      row_after = row_given gives;
+      follows = removes.1;
+    }

@@ -7,14 +7,13 @@ pub retirement_base-base-requires : goal.retirement_base-base-requires
 retirement_base-base-requires c = search taken_held
 
 pub bound_group_owned_pending-after-requires : goal.bound_group_owned_pending-after-requires
-bound_group_owned_pending-after-requires c = (taken_held _ _ _ _ c.requires.0 _ _ _ c.take_out-taken.ensures.0, (search rules, c.retirement_base-base.ensures.1))
+bound_group_owned_pending-after-requires c = record { held = taken_held _ _ _ _ c.requires.removable _ _ _ c.take_out-taken.ensures.takes_out; used_len = search rules; base_le_largest_sequence = c.retirement_base-base.ensures.upper_bound }
 
 pub returns : goal.returns
 returns c =
-    let may = c.requires.0 in
-    let takes = c.take_out-taken.ensures in
-    let retires = c.bound_group_owned_pending-after.ensures in
-    removed_and_followed _ _ _ _ may _ _ _ takes.0
-    (removed_all _ _ _ _ may _ _ _ takes.0 _ _ c.leg_at-leg.ensures c.largest_window-limit.ensures c.retirement_base-base.ensures.0
+    let may = c.requires.removable in
+    let takes = (c.take_out-taken.ensures.takes_out, c.take_out-taken.ensures.follows) in
+    let retires = (c.bound_group_owned_pending-after.ensures.retires, c.bound_group_owned_pending-after.ensures.follows_held) in let whole = removed_and_followed _ _ _ _ may _ _ _ takes.0
+    (removed_all _ _ _ _ may _ _ _ takes.0 _ _ c.leg_at-leg.ensures c.largest_window-limit.ensures c.retirement_base-base.ensures.value
     retires.0)
-    takes.1 retires.1
+    takes.1 retires.1 in record { removes = whole.0; follows = whole.1 }

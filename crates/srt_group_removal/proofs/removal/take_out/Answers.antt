@@ -11,7 +11,7 @@ add_account-own-requires c =
     subst (λ (m : Membership). Fits (add_account m.account start.args.core.own)) (sym c.membership_at-membership.ensures) start.requires.0.sum
 
 pub returns : goal.returns
-returns c = taken_and_freed c.requires.0.there
-    (taken_all _ _ _ _ _ _ c.requires.0.there c.membership_at-membership.ensures c.own_packets.ensures c.remove_member.ensures
+returns c = let whole = taken_and_freed c.requires.removable.there
+    (taken_all _ _ _ _ _ _ c.requires.removable.there c.membership_at-membership.ensures c.own_packets.ensures c.remove_member.ensures
     refl c.lowered-round.ensures c.add_account-own.ensures)
-    c.free_queue_at.ensures
+    c.free_queue_at.ensures in record { takes_out = whole.0; follows = whole.1 }

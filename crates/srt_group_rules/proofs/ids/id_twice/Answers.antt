@@ -6,7 +6,7 @@ use native.Mathlib.Omega.{arith}
 use Rattle.srt_group_rules.proofs.ids.id_twice.Goals as goal
 
 pub loop-index-init : goal.loop-index-init
-loop-index-init c = (apart_start _, subst (TakenBefore _ 0) (sym c.requires.1) (taken_start _))
+loop-index-init c = (apart_start _, subst (TakenBefore _ 0) (sym c.requires.table_value) (taken_start _))
 
 pub returns-then-is_repeated : goal.returns-then-is_repeated
 returns-then-is_repeated c = search twice_here

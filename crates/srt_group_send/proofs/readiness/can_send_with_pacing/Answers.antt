@@ -10,13 +10,11 @@ refresh_states-after-requires c = c.requires.rows
 
 pub ready_members-requires : goal.ready_members-requires
 ready_members-requires c =
-    let refreshes = c.refresh_states-after.ensures in
-    (omega (arith, c.requires.rows, refreshes.members_long, ap (λ (k : Counts). k.members) refreshes.counts_same), members_refreshed _ _ _ _ _ c.args.used.now _ _ refreshes c.requires)
+    let refreshes = c.refresh_states-after.ensures in record { row_size_in_bounds = omega (arith, c.requires.rows, refreshes.members_long, ap (λ (k : Counts). k.members) refreshes.counts_same); all_fit = members_refreshed _ _ _ _ _ c.args.used.now _ _ refreshes c.requires }
 
 pub trim_and_test-requires : goal.trim_and_test-requires
 trim_and_test-requires c =
-    let refreshes = c.refresh_states-after.ensures in
-    ((c.requires.fits, c.requires.history_long), (omega (arith, c.requires.rows, c.ready_members.ensures.long, refreshes.members_long, ap (λ (k : Counts). k.members) refreshes.counts_same), c.requires.used_long))
+    let refreshes = c.refresh_states-after.ensures in record { length_le_max_history = (c.requires.fits, c.requires.history_long); row_size_in_bounds = (omega (arith, c.requires.rows, c.ready_members.ensures.long, refreshes.members_long, ap (λ (k : Counts). k.members) refreshes.counts_same), c.requires.used_long) }
 
 pub returns-then-is_backup : goal.returns-then-is_backup
 returns-then-is_backup c =

@@ -4,15 +4,13 @@ use Rattle.srt_group_send.specs.Laws.Readiness.{trimmed_ready}
 use Rattle.srt_group_send.proofs.readiness.trim_and_test.Goals as goal
 
 pub trim_by_carrier-trimmed-requires : goal.trim_by_carrier-trimmed-requires
-trim_by_carrier-trimmed-requires c = (c.requires.0, c.requires.1.0)
+trim_by_carrier-trimmed-requires c = record { length_le_max_history = c.requires.length_le_max_history; row_size_in_bounds = c.requires.row_size_in_bounds.0 }
 
 pub free_dropped-requires : goal.free_dropped-requires
-free_dropped-requires c =
-    ((omega (arith, c.requires.0.0), omega (arith, c.trim_by_carrier-trimmed.ensures.fits)), (c.requires.0.1, c.requires.1.1))
+free_dropped-requires c = record { length_le_max_history = (omega (arith, c.requires.length_le_max_history.0), omega (arith, c.trim_by_carrier-trimmed.ensures.fits)); history_len = (c.requires.length_le_max_history.1, c.requires.row_size_in_bounds.1) }
 
 pub backup_send_ready-ready-requires : goal.backup_send_ready-ready-requires
-backup_send_ready-ready-requires c =
-    (c.requires.1.0, c.requires.0.1)
+backup_send_ready-ready-requires c = record { row_size_in_bounds = c.requires.row_size_in_bounds.0; history_len = c.requires.length_le_max_history.1 }
 
 pub returns : goal.returns
 returns c =

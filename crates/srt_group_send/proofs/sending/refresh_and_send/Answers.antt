@@ -3,20 +3,19 @@ use Rattle.srt_group_send.specs.Laws.Sends.{numbers_refreshed, lendable_refreshe
 use Rattle.srt_group_send.proofs.sending.refresh_and_send.Goals as goal
 
 pub refresh_states-after-requires : goal.refresh_states-after-requires
-refresh_states-after-requires c = c.requires.0.rows
+refresh_states-after-requires c = c.requires.lendable.rows
 
 pub above_limit-requires : goal.above_limit-requires
 above_limit-requires c =
-    (lendable_refreshed _ _ _ _ _ _ c.refresh_states-after.ensures c.requires.0).rows
+    (lendable_refreshed _ _ _ _ _ _ c.refresh_states-after.ensures c.requires.lendable).rows
 
 pub returns-then-above_limit : goal.returns-then-above_limit
 returns-then-above_limit c =
-    limit_made _ _ _ _ _ _ c.refresh_states-after.ensures _ _ _ c.above_limit.ensures c.if-above_limit.true c.requires.0
+    limit_made _ _ _ _ _ _ c.refresh_states-after.ensures _ _ _ c.above_limit.ensures c.if-above_limit.true c.requires.lendable
 
 pub send_mode-sent-requires : goal.send_mode-sent-requires
 send_mode-sent-requires c =
-    let refreshes = c.refresh_states-after.ensures in
-    (lendable_refreshed _ _ _ _ _ _ refreshes c.requires.0, (numbers_refreshed _ _ _ _ _ _ refreshes c.requires.1.0, (few_refreshed refreshes c.requires.1.1.0, c.requires.1.1.1)))
+    let refreshes = c.refresh_states-after.ensures in record { lendable = lendable_refreshed _ _ _ _ _ _ refreshes c.requires.lendable; numbers_fit = numbers_refreshed _ _ _ _ _ _ refreshes c.requires.fit_shown; count_le_max_members = (few_refreshed refreshes c.requires.members_le_max_members.0, c.requires.members_le_max_members.1) }
 
 pub returns : goal.returns
 returns c =

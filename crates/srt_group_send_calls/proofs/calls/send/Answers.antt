@@ -23,8 +23,7 @@ returns-in-Refused c =
 
 pub send-sent-requires : goal.send-sent-requires
 send-sent-requires c =
-    let accepted = c.in_default.is in
-    (c.begin_stored-begun.ensures.ready accepted, c.if-list-lt-SENT_LENGTH.false)
+    let accepted = c.in_default.is in record { ready = c.begin_stored-begun.ensures.ready accepted; list_size_in_bounds = c.if-list-lt-SENT_LENGTH.false }
 
 pub answer_of-requires : goal.answer_of-requires
 answer_of-requires c = sent_coded c.send-sent.ensures

@@ -19,22 +19,22 @@ returns-in_default c =
 
 pub membership_at-membership-requires : goal.membership_at-membership-requires
 membership_at-membership-requires c =
-    c.requires.0
+    c.requires.has_row
 
 pub put_leg_at-requires : goal.put_leg_at-requires
 put_leg_at-requires c =
-    c.requires.0
+    c.requires.has_row
 
 pub write_sent-requires : goal.write_sent-requires
 write_sent-requires c =
-    let room = c.requires.1 in
+    let room = c.requires.list_size_in_bounds in
     omega arith
 
 pub overflow_add-result : goal.overflow_add-result
 overflow_add-result c =
     omega (
       arith,
-      c.requires.1.1,
+      c.requires.list_size_in_bounds.1,
     )
 
 pub returns : goal.returns

@@ -7,7 +7,7 @@ pub loop-i-init : goal.loop-i-init
 loop-i-init c = attempting_start _ _ _ _ _ _
 
 pub attempt_send_at-sent-requires : goal.attempt_send_at-sent-requires
-attempt_send_at-sent-requires c = (search rules, (search rules, search rules))
+attempt_send_at-sent-requires c = record { has_row = search rules; list_size_in_bounds = (search rules, search rules) }
 
 pub loop-i-preserved : goal.loop-i-preserved
 loop-i-preserved c = search attempting_on

@@ -20,14 +20,14 @@ leg_at-requires c =
     )
 
 pub backup_member_ready-requires : goal.backup_member_ready-requires
-backup_member_ready-requires c = (
-  omega (
+backup_member_ready-requires c = record {
+  has_row = omega (
     arith,
     found_row is_active _ _ _ (sym c.in-At.is ∙
         c.first_active-found.ensures),
-  ),
-  c.requires.1,
-)
+  );
+  history_len = c.requires.history_len;
+}
 
 pub returns-then-can_send : goal.returns-then-can_send
 returns-then-can_send c =
@@ -44,14 +44,14 @@ returns-in_default-standby c =
     c.if-can_send.false (sym c.in_default-standby.is ∙ c.promotion-standby.ensures)
 
 pub backup_member_ready-requires-2 : goal.backup_member_ready-requires-2
-backup_member_ready-requires-2 c = (
-  omega (
+backup_member_ready-requires-2 c = record {
+  has_row = omega (
     arith,
     promotion_below _ _ _ (sym c.in-At-standby.is ∙
         c.promotion-standby.ensures),
-  ),
-  c.requires.1,
-)
+  );
+  history_len = c.requires.history_len;
+}
 
 pub returns : goal.returns
 returns c =

@@ -7,19 +7,19 @@ use Rattle.srt_group_collecting.specs.Laws.Follows.{follows_same}
 use Rattle.srt_group_skip.proofs.skip.deliver_nearest.Goals as goal
 
 pub returns-in_default : goal.returns-in_default
-returns-in_default c = search (none_to_deliver, follows_same)
+returns-in_default c = record { by_index = search (none_to_deliver, follows_same); follows = search (none_to_deliver, follows_same) }
 
 pub packet-packet-requires : goal.packet-packet-requires
 packet-packet-requires c = search (rules, nearest_in_table)
 
 pub deliver-requires : goal.deliver-requires
-deliver-requires c = search deliverable_based
+deliver-requires c = record { deliverable = search deliverable_based; used_len = search deliverable_based }
 
 pub returns : goal.returns
 returns c =
-    let delivered = c.deliver.ensures in (
-      λ ws.
+    let delivered = (c.deliver.ensures.by_index, c.deliver.ensures.follows) in record {
+      by_index = λ ws.
           let here = delivered.0 ws in
-          search delivered_first,
-      search follows_based,
-    )
+          search delivered_first;
+      follows = search follows_based;
+    }

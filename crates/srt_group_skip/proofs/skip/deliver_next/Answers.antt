@@ -4,12 +4,11 @@ use Rattle.srt_group_delivery.specs.Laws.Delivery.{deliverable}
 use Rattle.srt_group_skip.proofs.skip.deliver_next.Goals as goal
 
 pub returns-then-core-ne0 : goal.returns-then-core-ne0
-returns-then-core-ne0 c = search next_at_base
+returns-then-core-ne0 c = record { polls_from = search next_at_base; follows = search next_at_base }
 
 pub deliver_nearest-requires : goal.deliver_nearest-requires
-deliver_nearest-requires c = search deliverable
+deliver_nearest-requires c = record { deliverable = search deliverable; used_len = search deliverable }
 
 pub returns : goal.returns
 returns c =
-    let delivered = c.deliver_nearest.ensures in
-    (next_nearest _ _ _ _ _ _ _ _ _ (search) (search) (delivered.0 _), delivered.1)
+    let delivered = (c.deliver_nearest.ensures.by_index, c.deliver_nearest.ensures.follows) in record { polls_from = next_nearest _ _ _ _ _ _ _ _ _ (search) (search) (delivered.0 _); follows = delivered.1 }

@@ -7,21 +7,18 @@ use Rattle.srt_group_skip.proofs.skip.skip_after.Goals as goal
 
 pub returns-then-core-gt0 : goal.returns-then-core-gt0
 returns-then-core-gt0 c =
-    let given = c.give_waiting.ensures in
-    (λ tested time. event_first _ _ _ _ _ _ _ _ _ _ tested time (search) (given _ _), follows_given _ _ _ _ _ _ _ (search) (given _ _))
+    let given = c.give_waiting.ensures in record { polls = λ tested time. event_first _ _ _ _ _ _ _ _ _ _ tested time (search) (given _ _); follows = follows_given _ _ _ _ _ _ _ (search) (given _ _) }
 
 pub skip_to_nearest-requires : goal.skip_to_nearest-requires
-skip_to_nearest-requires c = search deliverable
+skip_to_nearest-requires c = record { deliverable = search deliverable; used_len = search deliverable }
 
 pub returns-then-collected-ne0 : goal.returns-then-collected-ne0
 returns-then-collected-ne0 c =
-    let skipped = c.skip_to_nearest.ensures in
-    (λ tested time. skipped_if_empty _ _ _ _ _ _ _ _ _ _ tested time (search) (search other_set) (skipped.0 _ tested time), skipped.1)
+    let skipped = (c.skip_to_nearest.ensures.by_index, c.skip_to_nearest.ensures.follows) in record { polls = λ tested time. skipped_if_empty _ _ _ _ _ _ _ _ _ _ tested time (search) (search other_set) (skipped.0 _ tested time); follows = skipped.1 }
 
 pub deliver-requires : goal.deliver-requires
-deliver-requires c = search deliverable
+deliver-requires c = record { deliverable = search deliverable; used_len = search deliverable }
 
 pub returns : goal.returns
 returns c =
-    let delivered = c.deliver.ensures in
-    (λ tested time. stays_if_not_empty _ _ _ _ _ _ _ _ _ _ tested time (search) (search zero_unset) (delivered.0 _), delivered.1)
+    let delivered = (c.deliver.ensures.by_index, c.deliver.ensures.follows) in record { polls = λ tested time. stays_if_not_empty _ _ _ _ _ _ _ _ _ _ tested time (search) (search zero_unset) (delivered.0 _); follows = delivered.1 }

@@ -8,18 +8,14 @@ pub base_stays-requires : goal.base_stays-requires
 base_stays-requires c = search deliverable
 
 pub deliver-requires : goal.deliver-requires
-deliver-requires c = search deliverable
+deliver-requires c = record { deliverable = search deliverable; used_len = search deliverable }
 
 pub returns-then-base_stays : goal.returns-then-base_stays
 returns-then-base_stays c =
     let stays = c.base_stays.ensures in
-    let delivered = c.deliver.ensures in
-    (gap_stays _ _ _ _ _ _ _ (search) stays _ _ _ (search) (delivered.0 _), delivered.1)
+    let delivered = (c.deliver.ensures.by_index, c.deliver.ensures.follows) in record { polls_from = gap_stays _ _ _ _ _ _ _ (search) stays _ _ _ (search) (delivered.0 _); follows = delivered.1 }
 
 pub returns : goal.returns
 returns c =
     let collected = c.collect_until_empty-collected in
-    let skipped = c.skip_after.ensures in (
-      gap_passed _ _ _ _ _ _ _ (search) c.base_stays.ensures c.if-base_stays.false collected.result _ _ _ collected.ensures.0 _ _ _ _ skipped.0,
-      follows_then collected.ensures.1 skipped.1,
-    )
+    let skipped = (c.skip_after.ensures.polls, c.skip_after.ensures.follows) in record { polls_from = gap_passed _ _ _ _ _ _ _ (search) c.base_stays.ensures c.if-base_stays.false collected.result _ _ _ collected.ensures.0 _ _ _ _ skipped.0; follows = follows_then collected.ensures.1 skipped.1 }

@@ -7,21 +7,20 @@ use Rattle.srt_group_collecting.specs.Laws.Follows.{follows_same}
 use Rattle.srt_group_skip.proofs.skip.skip_to_nearest.Goals as goal
 
 pub returns-in_default : goal.returns-in_default
-returns-in_default c = search (none_to_skip_to, follows_same)
+returns-in_default c = record { by_index = search (none_to_skip_to, follows_same); follows = search (none_to_skip_to, follows_same) }
 
 pub packet-packet-requires : goal.packet-packet-requires
 packet-packet-requires c = search (rules, nearest_in_table)
 
 pub deliver-requires : goal.deliver-requires
 deliver-requires c =
-    let start = c.before.before.before.before.before.before.before.before.before.before.before.before.before.before in
-    (deliverable_skipped _ _ _ _ _ _ c.skip_to-skipped.ensures start.requires.0, start.requires.1)
+    let start = c.before.before.before.before.before.before.before.before.before.before.before.before.before.before in record { deliverable = deliverable_skipped _ _ _ _ _ _ c.skip_to-skipped.ensures start.requires.0; used_len = start.requires.1 }
 
 pub returns : goal.returns
 returns c =
-    let delivered = c.deliver.ensures in (
-      λ ws tested time.
+    let delivered = (c.deliver.ensures.by_index, c.deliver.ensures.follows) in record {
+      by_index = λ ws tested time.
           let here = delivered.0 ws in
-          search skipped_to,
-      search follows_skipped,
-    )
+          search skipped_to;
+      follows = search follows_skipped;
+    }

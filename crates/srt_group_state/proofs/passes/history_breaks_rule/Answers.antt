@@ -8,7 +8,7 @@ pub returns-then-ring-gt-MAX_HISTORY : goal.returns-then-ring-gt-MAX_HISTORY
 returns-then-ring-gt-MAX_HISTORY c = history_long c.args.ring (arrays c.args.history.now c.args.sources.now) c.if-ring-gt-MAX_HISTORY.true
 
 pub loop-index-init : goal.loop-index-init
-loop-index-init c = passing_start _ _ _ _ _ c.requires.1
+loop-index-init c = passing_start _ _ _ _ _ c.requires.marking
 
 pub returns-then-entry_breaks_rule : goal.returns-then-entry_breaks_rule
 returns-then-entry_breaks_rule c = history_stopped c.args.ring (arrays c.args.history.now c.args.sources.now) c.loop-index.invariant c.loop-index-test.true (entry_broken c.args.ring (arrays c.args.history.now c.args.sources.now) _ _ _ _ c.entry_at-entry.ensures _ c.entry_breaks_rule.ensures c.if-entry_breaks_rule.true)

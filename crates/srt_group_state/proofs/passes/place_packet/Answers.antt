@@ -9,4 +9,4 @@ pub returns-then-not-mark : goal.returns-then-not-mark
 returns-then-not-mark c = place_refused _ _ _ _ _ _ c.packet_breaks_rule.ensures _ _ c.mark.ensures c.if-not-mark.true
 
 pub returns : goal.returns
-returns c = place_found _ _ _ c.requires.0.1 c.requires.1.0 _ _ _ _ c.packet_breaks_rule.ensures c.if-packet_breaks_rule-packet.false _ _ c.mark.ensures c.if-not-mark.false _ c.account_place.ensures
+returns c = place_found _ _ _ c.requires.row_size_in_bounds.1 c.requires.members_value _ _ _ _ c.packet_breaks_rule.ensures c.if-packet_breaks_rule-packet.false _ _ c.mark.ensures c.if-not-mark.false _ c.account_place.ensures

@@ -4,4 +4,4 @@ use Rattle.srt_group_tables.proofs.pending.covered_places.Goals as goal
 
 pub returns : goal.returns
 returns c =
-    places_covered _ _ _ _ _ c.requires.1.0 c.requires.1.1.0 c.requires.1.1.1 _ _ c.covered_until-low.ensures c.covered_until-end.ensures
+    places_covered _ _ _ _ _ c.requires.pending_value c.requires.small c.requires.placed _ _ c.covered_until-low.ensures c.covered_until-end.ensures

@@ -13,7 +13,7 @@ pub returns-else-sequence_at-sequence : goal.returns-else-sequence_at-sequence
 returns-else-sequence_at-sequence c =
     let placed = c.place-at.ensures in
     sym
-    (find_other _ _ _ _ placed c.requires.1 c.if-at-count.true
+    (find_other _ _ _ _ placed c.requires.pending_value c.if-at-count.true
     (λ is. c.if-sequence_at-sequence.false (c.sequence_at.ensures ∙ is)))
 
 pub returns-else-at-count : goal.returns-else-at-count

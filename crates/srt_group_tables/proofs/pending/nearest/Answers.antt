@@ -27,7 +27,7 @@ returns-then-wrapped-count c =
       within = omega arith;
       is =
           sym
-          (nearest_wraps _ _ _ _ (omega arith) c.requires.1 (ap (λ (n : ℕ). n + half) c.sequence_at-lowest.ensures)
+          (nearest_wraps _ _ _ _ (omega arith) c.requires.pending_value (ap (λ (n : ℕ). n + half) c.sequence_at-lowest.ensures)
           c.place-wrapped.ensures c.if-wrapped-count.true);
     }
 
@@ -38,6 +38,6 @@ returns c =
       within = omega arith;
       is =
           sym
-          (nearest_lowest _ _ _ _ (omega arith) c.requires.1 (ap (λ (n : ℕ). n + half) c.sequence_at-lowest.ensures)
+          (nearest_lowest _ _ _ _ (omega arith) c.requires.pending_value (ap (λ (n : ℕ). n + half) c.sequence_at-lowest.ensures)
           c.place-wrapped.ensures (omega arith));
     }

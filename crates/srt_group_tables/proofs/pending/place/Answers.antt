@@ -16,7 +16,7 @@ sequence_at-requires c = omega arith
 
 pub returns-then-sequence_at-sequence : goal.returns-then-sequence_at-sequence
 returns-then-sequence_at-sequence c =
-    placed_behind c.args.pending.now c.args.count c.args.sequence c.requires.1 (c.args.count - 1) (omega arith) (omega arith)
+    placed_behind c.args.pending.now c.args.count c.args.sequence c.requires.pending_value (c.args.count - 1) (omega arith) (omega arith)
     (omega (arith, c.sequence_at.ensures, c.if-sequence_at-sequence.true))
 
 pub sequence_at-requires-2 : goal.sequence_at-requires-2
@@ -24,12 +24,12 @@ sequence_at-requires-2 c = omega arith
 
 pub returns-then-sequence-sequence_at : goal.returns-then-sequence-sequence_at
 returns-then-sequence-sequence_at c =
-    placed_first c.args.pending.now c.args.count c.args.sequence c.requires.1
+    placed_first c.args.pending.now c.args.count c.args.sequence c.requires.pending_value
     (omega (arith, c.sequence_at-2.ensures, c.if-sequence-sequence_at.true))
 
 pub loop-low-init : goal.loop-low-init
 loop-low-init c =
-    between_below c.args.pending.now c.args.count c.args.sequence c.requires.1 (between_all _ _ _) (c.args.count - 1) (omega arith)
+    between_below c.args.pending.now c.args.count c.args.sequence c.requires.pending_value (between_all _ _ _) (c.args.count - 1) (omega arith)
     (omega arith) (omega (arith, c.sequence_at.ensures, c.if-sequence_at-sequence.false))
 
 pub overflow_sub-middle : goal.overflow_sub-middle
@@ -49,7 +49,7 @@ loop-low-smaller-then-sequence_at-sequence-2 c = omega arith
 
 pub loop-low-preserved-then-sequence_at-sequence-2 : goal.loop-low-preserved-then-sequence_at-sequence-2
 loop-low-preserved-then-sequence_at-sequence-2 c =
-    between_above c.args.pending.now c.args.count c.args.sequence c.requires.1
+    between_above c.args.pending.now c.args.count c.args.sequence c.requires.pending_value
     c.loop-low.invariant _ (omega arith) (omega (arith, c.sequence_at-in-loop-low.ensures, c.if-sequence_at-sequence-2.true))
 
 pub loop-low-smaller : goal.loop-low-smaller
@@ -57,7 +57,7 @@ loop-low-smaller c = omega arith
 
 pub loop-low-preserved : goal.loop-low-preserved
 loop-low-preserved c =
-    between_below c.args.pending.now c.args.count c.args.sequence c.requires.1
+    between_below c.args.pending.now c.args.count c.args.sequence c.requires.pending_value
     c.loop-low.invariant _ (omega arith) (omega arith) (omega (arith, c.sequence_at-in-loop-low.ensures, c.if-sequence_at-sequence-2.false))
 
 pub returns : goal.returns

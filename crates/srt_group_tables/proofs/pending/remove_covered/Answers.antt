@@ -4,5 +4,5 @@ use Rattle.srt_group_tables.proofs.pending.remove_covered.Goals as goal
 
 pub returns : goal.returns
 returns c =
-    covered_removed _ _ _ _ c.args.covered c.requires.1 c.remove_range.ensures
+    covered_removed _ _ _ _ c.args.covered c.requires.within c.remove_range.ensures
     c.remove_range-2.ensures
