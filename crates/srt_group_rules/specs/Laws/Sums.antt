@@ -330,7 +330,7 @@ module _ (t : List ℕ) (count : ℕ) (pending : List ℕ) (n : ℕ) (own : Acco
       (any_same (member_sum_wrong (packets n pending)) (member_differs t accounts) count (member_at t) index_of (λ i below. member_is i below))
       (ap₂ ◌||◌
       (any_nowhere (is_unreserved (members_of count t)) n (packet_at pending) (λ k below. whole.reserved k below))
-      (ap (unlike own) (sym whole.own_val)))
+      (ap (unlike own) (sym whole.own)))
       ∙ or_swap (any (member_differs t accounts) (tab count index_of)) (unlike own (account_at accounts own_place))
     where
       or_swap : (a b : Bool) → (a || (false || b)) ≡ (b || a)
