@@ -17,13 +17,11 @@ returns-in_default c = search replay_stopped
 
 pub overflow_add-index : goal.overflow_add-index
 overflow_add-index c =
-    let pre = (c.requires.length_le_max_history, c.requires.list_size_in_bounds) in
     omega (arith, c.loop-index-test.true)
 
 pub loop-index-preserved : goal.loop-index-preserved
 loop-index-preserved c =
-    let args = c.args in
-    let pre = (c.requires.length_le_max_history, c.requires.list_size_in_bounds) in (
+    let args = c.args in (
       omega (arith, c.loop-index-test.true),
       replaying_on _ _ args.ring (arrays args.history.now args.sources.now) _ _ _ _ _ _
           c.loop-index.invariant.1
@@ -37,6 +35,5 @@ loop-index-preserved c =
 pub returns : goal.returns
 returns c =
     let args = c.args in
-    let pre = (c.requires.length_le_max_history, c.requires.list_size_in_bounds) in
     replay_done _ _ args.ring (arrays args.history.now args.sources.now) _ _ _ _ _ _
     c.loop-index.invariant.1 c.loop-index-test.false (omega (arith, c.loop-index.invariant.0))

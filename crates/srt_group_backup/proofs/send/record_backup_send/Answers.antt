@@ -9,15 +9,13 @@ use borrow.Author.Rules.{rules}
 use Rattle.srt_group_backup.proofs.send.record_backup_send.Goals as goal
 
 pub trim_backup_history-requires : goal.trim_backup_history-requires
-trim_backup_history-requires c =
-    let pre = (c.requires.length_le_max_history, c.requires.packs) in (
-      subst (λ (r : HistoryRing). r.length ≤ max_history) (sym c.push_back-pushed.ensures) (push_fits _ pre.0.0),
-      search rules,
-    )
+trim_backup_history-requires c = (
+  subst (λ (r : HistoryRing). r.length ≤ max_history) (sym c.push_back-pushed.ensures) (push_fits _ c.requires.length_le_max_history.0),
+  search rules,
+)
 
 pub returns : goal.returns
 returns c =
-    let pre = (c.requires.length_le_max_history, c.requires.packs) in
-    send_recorded _ _ _ _ _ _ _ pre.0.1 pre.1 pre.0.0
+    send_recorded _ _ _ _ _ _ _ c.requires.length_le_max_history.1 c.requires.packs c.requires.length_le_max_history.0
     c.store.ensures
     c.with_number_after-numbers.ensures c.push_back-pushed.ensures c.trim_backup_history.ensures

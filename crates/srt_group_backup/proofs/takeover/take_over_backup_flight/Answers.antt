@@ -30,8 +30,7 @@ returns-then-left-eq0 c =
     c.if-left-eq0.true c.align_carrier-outcome-then-left-eq0.ensures
 
 pub replay_flight-flight-requires : goal.replay_flight-flight-requires
-replay_flight-flight-requires c =
-    let pre = (c.requires.length_le_max_history, (c.requires.index_lt_count, c.requires.list_size_in_bounds)) in record { length_le_max_history = (c.trim_by_carrier-trimmed.ensures.fits, pre.0.1); has_row = omega arith; list_size_in_bounds = pre.1.1 }
+replay_flight-flight-requires c = record { length_le_max_history = (c.trim_by_carrier-trimmed.ensures.fits, c.requires.length_le_max_history.1); has_row = omega arith; list_size_in_bounds = c.requires.list_size_in_bounds }
 
 pub returns : goal.returns
 returns c =

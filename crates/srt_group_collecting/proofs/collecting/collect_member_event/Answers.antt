@@ -4,8 +4,7 @@ use Rattle.srt_group_collecting.specs.Laws.Used.{data_freed, event_kept}
 use Rattle.srt_group_collecting.proofs.collecting.collect_member_event.Goals as goal
 
 pub retain_group_packet-requires : goal.retain_group_packet-requires
-retain_group_packet-requires c =
-    let pre = (c.requires.collectable, c.requires.used_len) in record { has_row = pre.0.there; holdable = pre.0.holdable c.if-event-eq0.true; used_len = pre.1 }
+retain_group_packet-requires c = record { has_row = c.requires.collectable.there; holdable = c.requires.collectable.holdable c.if-event-eq0.true; used_len = c.requires.used_len }
 
 pub returns-then-event-eq0 : goal.returns-then-event-eq0
 returns-then-event-eq0 c = record { collected = search collected_data; freed = search data_freed }

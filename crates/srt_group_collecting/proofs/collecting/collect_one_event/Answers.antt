@@ -12,5 +12,4 @@ pub take_front-requires : goal.take_front-requires
 take_front-requires c = record { usable = search rules; index_lt_members = (search in_turn_inside, search rules); used_len = search rules }
 
 pub returns : goal.returns
-returns c =
-    let taken = (c.take_front.ensures.visits, c.take_front.ensures.follows) in record { collects = collects_one _ _ _ _ _ (search) (search) _ _ _ _ _ c.in-At.is c.in_turn-found.ensures taken.0; follows = taken.1 }
+returns c = record { collects = collects_one _ _ _ _ _ (search) (search) _ _ _ _ _ c.in-At.is c.in_turn-found.ensures c.take_front.ensures.visits; follows = c.take_front.ensures.follows }

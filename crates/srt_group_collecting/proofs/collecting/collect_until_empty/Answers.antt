@@ -40,12 +40,11 @@ shape_of-used-then-visited-eq0 c = omega (arith, c.requires.used_len, c.loop-lef
 pub returns-then-visited-eq0 : goal.returns-then-visited-eq0
 returns-then-visited-eq0 c =
     let args = c.args in
-    let loop = c.loop-left in
-    let collect_one_event = c.collect_one_event-visited in record {
+    let loop = c.loop-left in record {
       empties = emptying_ended args.sequence args.core args.budget args.members.now args.pending.now args.waiting.now _ loop.visited _ _ _
-          loop.invariant.0 c.loop-left-test.true c.is_settled.ensures c.if-is_settled.false collect_one_event.result _ _ _ collect_one_event.ensures.0 c.flag-emptied.result
-          (zero_unset collect_one_event.result.took c.if-visited-eq0.true) c.flag-emptied.ensures;
-      follows = follows_then loop.invariant.1 collect_one_event.ensures.1;
+          loop.invariant.0 c.loop-left-test.true c.is_settled.ensures c.if-is_settled.false c.collect_one_event-visited.result _ _ _ c.collect_one_event-visited.ensures.collects c.flag-emptied.result
+          (zero_unset c.collect_one_event-visited.result.took c.if-visited-eq0.true) c.flag-emptied.ensures;
+      follows = follows_then loop.invariant.1 c.collect_one_event-visited.ensures.follows;
     }
 
 pub overflow_sub-left : goal.overflow_sub-left
@@ -57,12 +56,11 @@ loop-left-smaller c = omega (arith, c.loop-left-test.true)
 pub loop-left-preserved : goal.loop-left-preserved
 loop-left-preserved c =
     let args = c.args in
-    let loop = c.loop-left in
-    let collect_one_event = c.collect_one_event-visited in (
+    let loop = c.loop-left in (
       emptying_on args.sequence args.core args.budget args.members.now args.pending.now args.waiting.now _ loop.visited _ _ _
-          loop.invariant.0 c.loop-left-test.true c.is_settled.ensures c.if-is_settled.false collect_one_event.result _ _ _ collect_one_event.ensures.0
-          (other_set collect_one_event.result.took c.if-visited-eq0.false),
-      follows_then loop.invariant.1 collect_one_event.ensures.1,
+          loop.invariant.0 c.loop-left-test.true c.is_settled.ensures c.if-is_settled.false c.collect_one_event-visited.result _ _ _ c.collect_one_event-visited.ensures.collects
+          (other_set c.collect_one_event-visited.result.took c.if-visited-eq0.false),
+      follows_then loop.invariant.1 c.collect_one_event-visited.ensures.follows,
     )
 
 pub is_held-held-requires : goal.is_held-held-requires

@@ -17,20 +17,18 @@ shape_of-used-then-visited-eq0 c = omega (arith, c.requires.used_len, c.loop-lef
 
 pub returns-then-visited-eq0 : goal.returns-then-visited-eq0
 returns-then-visited-eq0 c =
-    let args = c.args in
-    let visit-until-held = c.visit_until_held-visited in record {
-      gathers = holding_ended args.core args.budget args.members.now args.pending.now args.waiting.now _ _ visit-until-held.result _ _ _ _ _ _
-          c.loop-left-test.true c.loop-left.invariant.0 visit-until-held.ensures.0 (zero_unset visit-until-held.result.more c.if-visited-eq0.true);
-      follows = follows_then c.loop-left.invariant.1 visit-until-held.ensures.1;
+    let args = c.args in record {
+      gathers = holding_ended args.core args.budget args.members.now args.pending.now args.waiting.now _ _ c.visit_until_held-visited.result _ _ _ _ _ _
+          c.loop-left-test.true c.loop-left.invariant.0 c.visit_until_held-visited.ensures.held_visit (zero_unset c.visit_until_held-visited.result.more c.if-visited-eq0.true);
+      follows = follows_then c.loop-left.invariant.1 c.visit_until_held-visited.ensures.follows;
     }
 
 pub loop-left-preserved : goal.loop-left-preserved
 loop-left-preserved c =
-    let args = c.args in
-    let visit-until-held = c.visit_until_held-visited in (
-      holding_on args.core args.budget args.members.now args.pending.now args.waiting.now _ _ visit-until-held.result _ _ _ _ _ _
-          c.loop-left-test.true c.loop-left.invariant.0 visit-until-held.ensures.0 (other_set visit-until-held.result.more c.if-visited-eq0.false),
-      follows_then c.loop-left.invariant.1 visit-until-held.ensures.1,
+    let args = c.args in (
+      holding_on args.core args.budget args.members.now args.pending.now args.waiting.now _ _ c.visit_until_held-visited.result _ _ _ _ _ _
+          c.loop-left-test.true c.loop-left.invariant.0 c.visit_until_held-visited.ensures.held_visit (other_set c.visit_until_held-visited.result.more c.if-visited-eq0.false),
+      follows_then c.loop-left.invariant.1 c.visit_until_held-visited.ensures.follows,
     )
 
 pub returns : goal.returns

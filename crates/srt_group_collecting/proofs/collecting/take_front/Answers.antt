@@ -12,8 +12,7 @@ turn_past-next-requires c = (c.requires.index_lt_members.0, c.requires.usable.me
 
 pub collect_member_event-after-requires : goal.collect_member_event-after-requires
 collect_member_event-after-requires c =
-    let pre = (c.requires.usable, (c.requires.index_lt_members, c.requires.used_len)) in
-    let polled = c.poll_event_for_group_at-polled.ensures in record { collectable = collectable _ _ _ _ pre.0 _ pre.1.0.0 _ _ _ _ _ _ _ c.turn_past-next.ensures polled.changed c.in-Event.is polled.gave pre.1.0.1; used_len = pre.1.1 }
+    let polled = c.poll_event_for_group_at-polled.ensures in record { collectable = collectable _ _ _ _ c.requires.usable _ c.requires.index_lt_members.0 _ _ _ _ _ _ _ c.turn_past-next.ensures polled.changed c.in-Event.is polled.gave c.requires.index_lt_members.1; used_len = c.requires.used_len }
 
 pub returns-in-Nothing : goal.returns-in-Nothing
 returns-in-Nothing c = record { visits = search visits_nothing; follows = search follows_nothing }
@@ -27,5 +26,4 @@ returns-in-Event c =
     let polled = c.poll_event_for_group_at-polled.ensures in
     let told = c.in-Event.is in
     let turned = c.turn_past-next.ensures in
-    let whose = c.membership_at-membership.ensures in
-    let collected = (c.collect_member_event-after.ensures.collected, c.collect_member_event-after.ensures.freed) in record { visits = visits_event _ _ _ _ _ _ _ polled.changed _ _ _ _ _ _ _ turned told polled.gave whose collected.0; follows = follows_event _ _ _ _ _ _ _ polled.changed _ _ _ _ _ _ _ _ _ c.requires.index_lt_members.0 turned told polled.gave whose collected.0 collected.1 }
+    let whose = c.membership_at-membership.ensures in record { visits = visits_event _ _ _ _ _ _ _ polled.changed _ _ _ _ _ _ _ turned told polled.gave whose c.collect_member_event-after.ensures.collected; follows = follows_event _ _ _ _ _ _ _ polled.changed _ _ _ _ _ _ _ _ _ c.requires.index_lt_members.0 turned told polled.gave whose c.collect_member_event-after.ensures.collected c.collect_member_event-after.ensures.freed }

@@ -14,22 +14,20 @@ collect_one_event-visited-requires c = record { usable = search rules; waiting_l
 
 pub returns-then-visited-eq0 : goal.returns-then-visited-eq0
 returns-then-visited-eq0 c =
-    let args = c.args in
-    let collect_one_event = c.collect_one_event-visited in record {
-      held_visit = held_none args.visits args.before args.members.now args.pending.now args.waiting.now c.requires.usable collect_one_event.result _ _ _
-          c.if-here-gt0.false collect_one_event.ensures.0 (zero_unset collect_one_event.result.took c.if-visited-eq0.true);
-      follows = collect_one_event.ensures.1;
+    let args = c.args in record {
+      held_visit = held_none args.visits args.before args.members.now args.pending.now args.waiting.now c.requires.usable c.collect_one_event-visited.result _ _ _
+          c.if-here-gt0.false c.collect_one_event-visited.ensures.collects (zero_unset c.collect_one_event-visited.result.took c.if-visited-eq0.true);
+      follows = c.collect_one_event-visited.ensures.follows;
     }
 
 pub returns : goal.returns
 returns c =
     let args = c.args in
-    let collect_one_event = c.collect_one_event-visited in
     let ends-with-none-held = c.ends_with_none_held-asked in
     let or_continue = c.or_continue-after in
     let has_pending_data = c.has_pending_data in record {
-      held_visit = held_one args.visits args.before args.members.now args.pending.now args.waiting.now c.requires.usable collect_one_event.result _ _ _
-          c.if-here-gt0.false collect_one_event.ensures.0 ends-with-none-held.result has_pending_data.result or_continue.result c.flag-more.result
-          (other_set collect_one_event.result.took c.if-visited-eq0.false) ends-with-none-held.ensures or_continue.ensures has_pending_data.ensures c.flag-more.ensures;
-      follows = follows_continued _ _ _ _ _ _ _ _ _ _ collect_one_event.ensures.1 or_continue.ensures;
+      held_visit = held_one args.visits args.before args.members.now args.pending.now args.waiting.now c.requires.usable c.collect_one_event-visited.result _ _ _
+          c.if-here-gt0.false c.collect_one_event-visited.ensures.collects ends-with-none-held.result has_pending_data.result or_continue.result c.flag-more.result
+          (other_set c.collect_one_event-visited.result.took c.if-visited-eq0.false) ends-with-none-held.ensures or_continue.ensures has_pending_data.ensures c.flag-more.ensures;
+      follows = follows_continued _ _ _ _ _ _ _ _ _ _ c.collect_one_event-visited.ensures.follows or_continue.ensures;
     }

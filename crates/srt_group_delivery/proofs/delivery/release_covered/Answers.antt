@@ -8,6 +8,4 @@ pub release_range-requires : goal.release_range-requires
 release_range-requires c = record { row_size_in_bounds = search rows_kept; pending_size_in_bounds = search rules; used_len = search rules }
 
 pub returns : goal.returns
-returns c =
-    let low = (c.release_range-begun.ensures.released, c.release_range-begun.ensures.freed) in
-    let high = (c.release_range.ensures.released, c.release_range.ensures.freed) in record { released = released_then low.0 high.0; freed = freed_packets _ _ low.1 high.1 }
+returns c = record { released = released_then c.release_range-begun.ensures.released c.release_range.ensures.released; freed = freed_packets _ _ c.release_range-begun.ensures.freed c.release_range.ensures.freed }

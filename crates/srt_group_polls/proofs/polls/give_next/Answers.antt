@@ -38,5 +38,4 @@ pub shape_of-members : goal.shape_of-members
 shape_of-members c = omega (arith, (refreshed c.before.before.before.before.before.before.before.before.before.before.before.before.before).members_long, c.deliver_next.ensures.polls_from.members_long)
 
 pub returns : goal.returns
-returns c =
-    let delivered = (c.deliver_next.ensures.polls_from, c.deliver_next.ensures.follows) in record { polls_from = packet_next _ _ _ _ _ _ _ _ _ _ _ _ _ (omega (arith, c.if-here-gt0.false)) (refreshed c.before.before.before.before.before.before.before.before.before.before.before.before.before) delivered.0; follows = follows_then (follows_refreshed _ _ _ _ _ _ _ c.requires.used_len (refreshed c.before.before.before.before.before.before.before.before.before.before.before.before.before)) delivered.1 }
+returns c = record { polls_from = packet_next _ _ _ _ _ _ _ _ _ _ _ _ _ (omega (arith, c.if-here-gt0.false)) (refreshed c.before.before.before.before.before.before.before.before.before.before.before.before.before) c.deliver_next.ensures.polls_from; follows = follows_then (follows_refreshed _ _ _ _ _ _ _ c.requires.used_len (refreshed c.before.before.before.before.before.before.before.before.before.before.before.before.before)) c.deliver_next.ensures.follows }

@@ -39,18 +39,15 @@ give_next-requires c =
 
 pub shape_of-members : goal.shape_of-members
 shape_of-members c =
-    let given = (c.give_next.ensures.polls_from, c.give_next.ensures.follows) in
-    let gathered = (c.collect_until_held-gathered.ensures.gathers, c.collect_until_held-gathered.ensures.follows) in
     let join = c.before.before.before.before.before.before.before.before.before.before.before.before.before.before.before.before.before.before.before.before.before.before.before.before.before.before in
-    omega (arith, join.before.before.before.before.before.before.requires.1.1.0, (begun join).members_long, gathered.0.members_long, gathered.0.pending_long, gathered.0.waiting_long, gathered.1.long, given.0.members_long, given.0.pending_long, given.0.waiting_long, given.1.long)
+    omega (arith, join.before.before.before.before.before.before.requires.1.1.0, (begun join).members_long, c.collect_until_held-gathered.ensures.gathers.members_long, c.collect_until_held-gathered.ensures.gathers.pending_long, c.collect_until_held-gathered.ensures.gathers.waiting_long, c.collect_until_held-gathered.ensures.follows.long, c.give_next.ensures.polls_from.members_long, c.give_next.ensures.polls_from.pending_long, c.give_next.ensures.polls_from.waiting_long, c.give_next.ensures.follows.long)
 
 pub returns : goal.returns
 returns c =
-    let give_next = c.give_next in
     let join = c.before.before.before.before.before.before.before.before.before.before.before.before.before.before.before.before.before.before.before.before.before.before.before.before.before.before in
     let start = join.before.before.before.before.before.before in record {
       by_index = polls_event _ _ start.args.core _ _ _ _ _ (begun join) c.collect_until_held-gathered.result _ _ _ c.collect_until_held-gathered.ensures.gathers _ _ _ _
-          give_next.ensures.0;
+          c.give_next.ensures.polls_from;
       follows = follows_then (follows_begun _ start.args.core _ _ _ _ _ start.requires.1.1.0 (begun join))
-          (follows_then c.collect_until_held-gathered.ensures.follows give_next.ensures.1);
+          (follows_then c.collect_until_held-gathered.ensures.follows c.give_next.ensures.follows);
     }

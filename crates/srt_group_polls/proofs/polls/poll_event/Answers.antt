@@ -17,8 +17,7 @@ give_straight-requires c =
 
 pub returns-in-At : goal.returns-in-At
 returns-in-At c =
-    let straight = goes_at _ _ _ _ _ c.in-At.is c.next_straight-next.ensures in
-    let given = (c.give_straight.ensures.given, c.give_straight.ensures.freed) in record { by_index = polls_straight c.args.core _ _ _ c.requires.usable _ _ straight _ _ given.0 c.args.sending _; follows = follows_straight c.args.core _ _ _ c.requires.usable _ _ straight _ _ given.0 _ _ given.1 }
+    let straight = goes_at _ _ _ _ _ c.in-At.is c.next_straight-next.ensures in record { by_index = polls_straight c.args.core _ _ _ c.requires.usable _ _ straight _ _ c.give_straight.ensures.given c.args.sending _; follows = follows_straight c.args.core _ _ _ c.requires.usable _ _ straight _ _ c.give_straight.ensures.given _ _ c.give_straight.ensures.freed }
 
 pub poll_collecting-requires : goal.poll_collecting-requires
 poll_collecting-requires c = record { usable = c.requires.usable; sending_fit = c.requires.sending_fit; used_len = c.requires.used_len; known = λ told. sym c.is_quiet-quiet.ensures ∙ told }

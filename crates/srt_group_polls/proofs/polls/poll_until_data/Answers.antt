@@ -30,12 +30,11 @@ pub returns-then-passed-eq0 : goal.returns-then-passed-eq0
 returns-then-passed-eq0 c =
     let args = c.args in
     let loop = c.loop-left in
-    let poll_event = c.poll_event-poll in
     let pass-event = c.pass_event-passed in record {
       polls_data = passing_ended (sends args.sending) args.time.0 args.visits args.core args.members.now args.pending.now args.waiting.now
-          _ loop.answer _ _ _ loop.invariant.0 c.loop-left-test.true poll_event.result _ _ _ poll_event.ensures.0
+          _ loop.answer _ _ _ loop.invariant.0 c.loop-left-test.true c.poll_event-poll.result _ _ _ c.poll_event-poll.ensures.by_index
           pass-event.result pass-event.ensures (zero_unset pass-event.result.event c.if-passed-eq0.true);
-      follows = follows_passed _ _ _ _ _ _ _ _ _ pass-event.ensures (follows_then loop.invariant.1 poll_event.ensures.1);
+      follows = follows_passed _ _ _ _ _ _ _ _ _ pass-event.ensures (follows_then loop.invariant.1 c.poll_event-poll.ensures.follows);
     }
 
 pub overflow_sub-left : goal.overflow_sub-left
@@ -48,12 +47,11 @@ pub loop-left-preserved : goal.loop-left-preserved
 loop-left-preserved c =
     let args = c.args in
     let loop = c.loop-left in
-    let poll_event = c.poll_event-poll in
     let pass-event = c.pass_event-passed in (
       passing_on (sends args.sending) args.time.0 args.visits args.core args.members.now args.pending.now args.waiting.now
-          _ loop.answer _ _ _ loop.invariant.0 c.loop-left-test.true poll_event.result _ _ _ poll_event.ensures.0
+          _ loop.answer _ _ _ loop.invariant.0 c.loop-left-test.true c.poll_event-poll.result _ _ _ c.poll_event-poll.ensures.by_index
           pass-event.result pass-event.ensures (other_set pass-event.result.event c.if-passed-eq0.false),
-      follows_passed _ _ _ _ _ _ _ _ _ pass-event.ensures (follows_then loop.invariant.1 poll_event.ensures.1),
+      follows_passed _ _ _ _ _ _ _ _ _ pass-event.ensures (follows_then loop.invariant.1 c.poll_event-poll.ensures.follows),
     )
 
 pub returns : goal.returns

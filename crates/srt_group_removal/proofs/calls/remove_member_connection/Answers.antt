@@ -40,10 +40,9 @@ remove_named-removed-requires c =
 
 pub returns : goal.returns
 returns c =
-    let a = c.args in
-    let removes = (c.remove_named-removed.ensures.steps_removal, (c.remove_named-removed.ensures.row_after, c.remove_named-removed.ensures.follows)) in record {
+    let a = c.args in record {
       promised_row = removal_promised a.id (parts_of a.group)
           (tables a.members.now a.pending.now a.waiting.now a.history.now a.sources.now) a.row.now c.if-row-lt-ROW.false
-          c.begin-begun.ensures c.in_default.is c.remove_named-removed.result _ _ _ removes.0;
-      row_after = removes.1.0;
+          c.begin-begun.ensures c.in_default.is c.remove_named-removed.result _ _ _ c.remove_named-removed.ensures.steps_removal;
+      row_after = c.remove_named-removed.ensures.row_after;
     }

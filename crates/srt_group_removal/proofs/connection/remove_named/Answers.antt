@@ -23,10 +23,9 @@ give_back-requires c = c.requires.has_row
 pub returns : goal.returns
 returns c =
     let a = c.args in
-    let gives = c.give_back.ensures in
-    let removes = (c.remove_member_at-removed.ensures.removes, c.remove_member_at-removed.ensures.follows) in record {
+    let gives = c.give_back.ensures in record {
       steps_removal = named_removed a.id a.core a.members.now a.pending.now c.if-id-gt-LARGEST_32.false _ _ _ _ _ _ (sym c.in-At.is ∙ c.find-found.ensures)
-          removes.0 gives;
+          c.remove_member_at-removed.ensures.removes gives;
       row_after = row_given gives;
-      follows = removes.1;
+      follows = c.remove_member_at-removed.ensures.follows;
     }

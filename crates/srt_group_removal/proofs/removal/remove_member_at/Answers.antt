@@ -11,9 +11,7 @@ bound_group_owned_pending-after-requires c = record { held = taken_held _ _ _ _ 
 
 pub returns : goal.returns
 returns c =
-    let may = c.requires.removable in
-    let takes = (c.take_out-taken.ensures.takes_out, c.take_out-taken.ensures.follows) in
-    let retires = (c.bound_group_owned_pending-after.ensures.retires, c.bound_group_owned_pending-after.ensures.follows_held) in let whole = removed_and_followed _ _ _ _ may _ _ _ takes.0
-    (removed_all _ _ _ _ may _ _ _ takes.0 _ _ c.leg_at-leg.ensures c.largest_window-limit.ensures c.retirement_base-base.ensures.value
-    retires.0)
-    takes.1 retires.1 in record { removes = whole.0; follows = whole.1 }
+    let may = c.requires.removable in let whole = removed_and_followed _ _ _ _ may _ _ _ c.take_out-taken.ensures.takes_out
+    (removed_all _ _ _ _ may _ _ _ c.take_out-taken.ensures.takes_out _ _ c.leg_at-leg.ensures c.largest_window-limit.ensures c.retirement_base-base.ensures.value
+    c.bound_group_owned_pending-after.ensures.retires)
+    c.take_out-taken.ensures.follows c.bound_group_owned_pending-after.ensures.follows_held in record { removes = whole.0; follows = whole.1 }

@@ -16,10 +16,9 @@ pub deliver-requires : goal.deliver-requires
 deliver-requires c = record { deliverable = search deliverable_based; used_len = search deliverable_based }
 
 pub returns : goal.returns
-returns c =
-    let delivered = (c.deliver.ensures.by_index, c.deliver.ensures.follows) in record {
-      by_index = λ ws.
-          let here = delivered.0 ws in
-          search delivered_first;
-      follows = search follows_based;
-    }
+returns c = record {
+  by_index = λ ws.
+      let here = c.deliver.ensures.by_index ws in
+      search delivered_first;
+  follows = search follows_based;
+}

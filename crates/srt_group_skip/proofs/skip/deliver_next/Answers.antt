@@ -10,5 +10,4 @@ pub deliver_nearest-requires : goal.deliver_nearest-requires
 deliver_nearest-requires c = record { deliverable = search deliverable; used_len = search deliverable }
 
 pub returns : goal.returns
-returns c =
-    let delivered = (c.deliver_nearest.ensures.by_index, c.deliver_nearest.ensures.follows) in record { polls_from = next_nearest _ _ _ _ _ _ _ _ _ (search) (search) (delivered.0 _); follows = delivered.1 }
+returns c = record { polls_from = next_nearest _ _ _ _ _ _ _ _ _ (search) (search) (c.deliver_nearest.ensures.by_index _); follows = c.deliver_nearest.ensures.follows }

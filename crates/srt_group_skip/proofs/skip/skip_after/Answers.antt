@@ -13,12 +13,10 @@ pub skip_to_nearest-requires : goal.skip_to_nearest-requires
 skip_to_nearest-requires c = record { deliverable = search deliverable; used_len = search deliverable }
 
 pub returns-then-collected-ne0 : goal.returns-then-collected-ne0
-returns-then-collected-ne0 c =
-    let skipped = (c.skip_to_nearest.ensures.by_index, c.skip_to_nearest.ensures.follows) in record { polls = λ tested time. skipped_if_empty _ _ _ _ _ _ _ _ _ _ tested time (search) (search other_set) (skipped.0 _ tested time); follows = skipped.1 }
+returns-then-collected-ne0 c = record { polls = λ tested time. skipped_if_empty _ _ _ _ _ _ _ _ _ _ tested time (search) (search other_set) (c.skip_to_nearest.ensures.by_index _ tested time); follows = c.skip_to_nearest.ensures.follows }
 
 pub deliver-requires : goal.deliver-requires
 deliver-requires c = record { deliverable = search deliverable; used_len = search deliverable }
 
 pub returns : goal.returns
-returns c =
-    let delivered = (c.deliver.ensures.by_index, c.deliver.ensures.follows) in record { polls = λ tested time. stays_if_not_empty _ _ _ _ _ _ _ _ _ _ tested time (search) (search zero_unset) (delivered.0 _); follows = delivered.1 }
+returns c = record { polls = λ tested time. stays_if_not_empty _ _ _ _ _ _ _ _ _ _ tested time (search) (search zero_unset) (c.deliver.ensures.by_index _); follows = c.deliver.ensures.follows }

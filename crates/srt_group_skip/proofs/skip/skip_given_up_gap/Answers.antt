@@ -12,10 +12,7 @@ deliver-requires c = record { deliverable = search deliverable; used_len = searc
 
 pub returns-then-base_stays : goal.returns-then-base_stays
 returns-then-base_stays c =
-    let stays = c.base_stays.ensures in
-    let delivered = (c.deliver.ensures.by_index, c.deliver.ensures.follows) in record { polls_from = gap_stays _ _ _ _ _ _ _ (search) stays _ _ _ (search) (delivered.0 _); follows = delivered.1 }
+    let stays = c.base_stays.ensures in record { polls_from = gap_stays _ _ _ _ _ _ _ (search) stays _ _ _ (search) (c.deliver.ensures.by_index _); follows = c.deliver.ensures.follows }
 
 pub returns : goal.returns
-returns c =
-    let collected = c.collect_until_empty-collected in
-    let skipped = (c.skip_after.ensures.polls, c.skip_after.ensures.follows) in record { polls_from = gap_passed _ _ _ _ _ _ _ (search) c.base_stays.ensures c.if-base_stays.false collected.result _ _ _ collected.ensures.0 _ _ _ _ skipped.0; follows = follows_then collected.ensures.1 skipped.1 }
+returns c = record { polls_from = gap_passed _ _ _ _ _ _ _ (search) c.base_stays.ensures c.if-base_stays.false c.collect_until_empty-collected.result _ _ _ c.collect_until_empty-collected.ensures.empties _ _ _ _ c.skip_after.ensures.polls; follows = follows_then c.collect_until_empty-collected.ensures.follows c.skip_after.ensures.follows }

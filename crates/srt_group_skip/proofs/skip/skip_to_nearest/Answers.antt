@@ -17,10 +17,9 @@ deliver-requires c =
     let start = c.before.before.before.before.before.before.before.before.before.before.before.before.before.before in record { deliverable = deliverable_skipped _ _ _ _ _ _ c.skip_to-skipped.ensures start.requires.0; used_len = start.requires.1 }
 
 pub returns : goal.returns
-returns c =
-    let delivered = (c.deliver.ensures.by_index, c.deliver.ensures.follows) in record {
-      by_index = λ ws tested time.
-          let here = delivered.0 ws in
-          search skipped_to;
-      follows = search follows_skipped;
-    }
+returns c = record {
+  by_index = λ ws tested time.
+      let here = c.deliver.ensures.by_index ws in
+      search skipped_to;
+  follows = search follows_skipped;
+}
