@@ -9,7 +9,7 @@ loop-index-init c = (omega arith, search (rules, freeing_starts))
 
 pub loop-index-preserved : goal.loop-index-preserved
 loop-index-preserved c =
-    (omega arith, freeing_goes_on _ _ _ c.loop-index.index _ _ (omega arith) c.loop-index.invariant.1 c.before.before.before.before.Cell-at.ensures c.free.ensures)
+    (omega arith, freeing_goes_on _ _ _ c.loop-index.index _ _ (omega arith) c.loop-index.invariant.1 c.cell_at-cell.ensures c.free.ensures)
 
 pub returns : goal.returns
 returns c = search (rules, all_freed)

@@ -17,5 +17,5 @@ pub returns : goal.returns
 returns c =
     all_passed c.args.core _ _ _ c.in-At.is c.in_turn-found.ensures _ c.requires.known
     c.if-not-quiet.false (omega (arith, c.if-core-gt0.false)) c.if-core-eq0.false
-    c.in-Some.is c.before.before.before.before.before.before.before.before.before.Front-at.ensures c.if-not-is_alone_at.false c.is_alone_at.ensures
+    c.in-Some.is c.front_at-first.ensures c.if-not-is_alone_at.false c.is_alone_at.ensures
     c.if-is_held.false c.is_held.ensures c.membership_at-membership.ensures

@@ -7,8 +7,7 @@ use Rattle.srt_group_removal.proofs.removal.take_out.Goals as goal
 
 pub add_account-own-requires : goal.add_account-own-requires
 add_account-own-requires c =
-    let start = c.before.before.before.before.before.before.before.before.before.before.before.before.before.before.before.before.before.before.before in
-    subst (λ (m : Membership). Fits (add_account m.account start.args.core.own)) (sym c.membership_at-membership.ensures) start.requires.0.sum
+    subst (λ (m : Membership). Fits (add_account m.account c.args.core.own)) (sym c.membership_at-membership.ensures) c.requires.removable.sum
 
 pub returns : goal.returns
 returns c = let whole = taken_and_freed c.requires.removable.there

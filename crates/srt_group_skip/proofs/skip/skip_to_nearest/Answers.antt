@@ -14,7 +14,7 @@ packet-packet-requires c = search (rules, nearest_in_table)
 
 pub deliver-requires : goal.deliver-requires
 deliver-requires c =
-    let start = c.before.before.before.before.before.before.before.before.before.before.before.before.before.before in record { deliverable = deliverable_skipped _ _ _ _ _ _ c.skip_to-skipped.ensures start.requires.0; used_len = start.requires.1 }
+    record { deliverable = deliverable_skipped _ _ _ _ _ _ c.skip_to-skipped.ensures c.requires.deliverable; used_len = c.requires.used_len }
 
 pub returns : goal.returns
 returns c = record {
