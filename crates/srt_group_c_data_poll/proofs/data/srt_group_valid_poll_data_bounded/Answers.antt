@@ -1,11 +1,7 @@
 -- `srt_group_valid_poll_data_bounded` meets its contract: that of the form over the parts that the words show.
 use mathlib.Core.Path.{refl}
 use Rattle.srt_group_words.specs.Laws.Words.{parts_ready, performs_said}
-use Rattle.srt_group_c_data_poll.proofs.data.srt_group_valid_poll_data_bounded.Statement.{
-  statement,
 use Rattle.srt_group_c_data_poll.proofs.data.srt_group_valid_poll_data_bounded.Goals as goal
-
-}
 
 pub read_identity-requires : goal.read_identity-requires
 read_identity-requires c = c.requires.ready_words.long

@@ -1,11 +1,7 @@
 -- `srt_group_valid_poll_event` meets its contract: that of the form over the parts that the words show.
 use mathlib.Core.Path.{refl}
 use Rattle.srt_group_words.specs.Laws.Words.{parts_ready, performs_said}
-use Rattle.srt_group_c_event_poll.proofs.events.srt_group_valid_poll_event.Statement.{
-  statement,
 use Rattle.srt_group_c_event_poll.proofs.events.srt_group_valid_poll_event.Goals as goal
-
-}
 
 pub read_identity-requires : goal.read_identity-requires
 read_identity-requires c = c.requires.ready_words.long

@@ -1,10 +1,6 @@
 -- `srt_group_raw_has_receive_continuation` meets its contract: 5 for the rows of words, or the promise of the look by value.
 use Rattle.srt_group_words.specs.Laws.Words.{record_refused, answer_refused, said_kept}
-use Rattle.srt_group_c_looks.proofs.looks.srt_group_raw_has_receive_continuation.Statement.{
-  statement,
 use Rattle.srt_group_c_looks.proofs.looks.srt_group_raw_has_receive_continuation.Goals as goal
-
-}
 
 pub returns-then-record-lt-RECORD : goal.returns-then-record-lt-RECORD
 returns-then-record-lt-RECORD c = search record_refused

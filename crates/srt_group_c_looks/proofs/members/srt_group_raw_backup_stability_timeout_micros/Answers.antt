@@ -1,10 +1,6 @@
 -- `srt_group_raw_backup_stability_timeout_micros` meets its contract: 5 for the rows of words, or the promise of the look by value.
 use Rattle.srt_group_words.specs.Laws.Words.{record_refused, answer_refused, said_kept}
-use Rattle.srt_group_c_looks.proofs.members.srt_group_raw_backup_stability_timeout_micros.Statement.{
-  statement,
 use Rattle.srt_group_c_looks.proofs.members.srt_group_raw_backup_stability_timeout_micros.Goals as goal
-
-}
 
 pub returns-then-record-lt-RECORD : goal.returns-then-record-lt-RECORD
 returns-then-record-lt-RECORD c = search record_refused

@@ -1,11 +1,7 @@
 -- `srt_group_valid_mark_member_broken` meets its contract: that of the form over the parts that the words show.
 use mathlib.Core.Path.{refl}
 use Rattle.srt_group_words.specs.Laws.Words.{parts_ready, performs_kept}
-use Rattle.srt_group_c_member_states.proofs.states.srt_group_valid_mark_member_broken.Statement.{
-  statement,
 use Rattle.srt_group_c_member_states.proofs.states.srt_group_valid_mark_member_broken.Goals as goal
-
-}
 
 pub read_identity-requires : goal.read_identity-requires
 read_identity-requires c = c.requires.long

@@ -1,11 +1,7 @@
 -- `srt_group_valid_add_member` meets its contract: that of the form over the parts that the words show.
 use mathlib.Core.Path.{refl}
 use Rattle.srt_group_words.specs.Laws.Words.{parts_ready, performs_silent}
-use Rattle.srt_group_c_members.proofs.adding.srt_group_valid_add_member.Statement.{
-  statement,
 use Rattle.srt_group_c_members.proofs.adding.srt_group_valid_add_member.Goals as goal
-
-}
 
 pub read_identity-requires : goal.read_identity-requires
 read_identity-requires c = c.requires.ready_words.long

@@ -2,11 +2,7 @@
 use Rattle.srt_group_refusals.specs.Promised.{nothing_lent}
 use Rattle.srt_group_words.specs.Laws.Words.{row_gives}
 use Rattle.srt_group_c_members.specs.Laws.LegBack.{leg_refused, promised_leg_back}
-use Rattle.srt_group_c_members.proofs.removing.srt_group_raw_remove_member_connection.Statement.{
-  statement,
 use Rattle.srt_group_c_members.proofs.removing.srt_group_raw_remove_member_connection.Goals as goal
-
-}
 
 pub returns-then-record-lt-RECORD : goal.returns-then-record-lt-RECORD
 returns-then-record-lt-RECORD c = search leg_refused

@@ -2,11 +2,7 @@
 use mathlib.Core.Path.{refl}
 use Rattle.srt_group_words.specs.Laws.Words.{parts_ready, silent_gives}
 use Rattle.srt_group_c_members.specs.Laws.LegBack.{performs_leg_back}
-use Rattle.srt_group_c_members.proofs.removing.srt_group_valid_remove_member_connection.Statement.{
-  statement,
 use Rattle.srt_group_c_members.proofs.removing.srt_group_valid_remove_member_connection.Goals as goal
-
-}
 
 pub read_identity-requires : goal.read_identity-requires
 read_identity-requires c = c.requires.ready_words.long

@@ -1,11 +1,7 @@
 -- `srt_group_valid_can_send_with_pacing` meets its contract: that of the form over the parts that the words show.
 use mathlib.Core.Path.{refl}
 use Rattle.srt_group_words.specs.Laws.Words.{parts_ready, performs_ready}
-use Rattle.srt_group_c_readiness.proofs.readiness.srt_group_valid_can_send_with_pacing.Statement.{
-  statement,
 use Rattle.srt_group_c_readiness.proofs.readiness.srt_group_valid_can_send_with_pacing.Goals as goal
-
-}
 
 pub read_identity-requires : goal.read_identity-requires
 read_identity-requires c = c.requires.ready_words.long

@@ -1,10 +1,6 @@
 -- `bound_group_owned_pending` meets its contract: a walk below the base, and one over all.
 use Rattle.srt_group_removal.specs.Laws.Retire.{first_reachable, second_reachable, bounded_downward, held_follows_then}
-use Rattle.srt_group_removal.proofs.retirement.bound_group_owned_pending.Statement.{
-  statement,
 use Rattle.srt_group_removal.proofs.retirement.bound_group_owned_pending.Goals as goal
-
-}
 
 pub retire_downward-wrapped-requires : goal.retire_downward-wrapped-requires
 retire_downward-wrapped-requires c = record { held = c.requires.held; used_len = c.requires.used_len; reachable = first_reachable c.requires.base_le_largest_sequence }
