@@ -1,5 +1,5 @@
 -- What is proved of the definitions in specs/Turns.antt: block by block the text of a listing's answers grows, whatever the cut into blocks.
-use Rattle.std.specs.Prelude.{◌≡◌, refl, ℕ, ◌<◌, Option, None, Some, List, [], ◌∷◌, ◌++◌, map, length, take}
+use Rattle.std.specs.Prelude.{◌≡◌, refl, ℕ, ◌<◌, Option, None, Some, Result, Ok, Err, OnOk, List, [], ◌∷◌, ◌++◌, map, length, take}
 use Rattle.std.specs.Io.KnownBytes.{Consumes, Appends, IsAtEnd}
 use Rattle.std.proofs.Common.{ap, sym, subst, ◌∙◌, append_assoc, append-nil}
 use Rattle.std.proofs.Math.Option.{none}
@@ -124,3 +124,10 @@ module _ {s : State} {t : Tables} {buffer : List ℕ} {left₀ left written₀ w
         text = rw (← prints_are_replay none (numbers (lines a)), all, printed, texts_append (prints_from none first) (prints_from (group_after none first) last), ← so.group)
             (appends_then written₀ written written' _ _ so.text (done.text line so.held));
       }
+
+  -- the same where it is known only of some listings that they ended, and only the outcome says whether the last line was written
+  pub whole_if : {T E A : Type 0} (outcome : Result T E) (written' : Option (List ℕ)) → ReplayedSoFar s t buffer left₀ left written₀ written
+      → (A → IsAtEnd left) → OnOk outcome (LastReplayed buffer s t written written')
+      → OnOk outcome (A → ListingReplayed left₀ left written₀ written')
+  whole_if (Ok x) written' so end done = λ a. whole so (end a) done
+  whole_if (Err e) written' so end done = tt
