@@ -7,9 +7,13 @@
 
 #![tactic(auto)]
 
+ghost use Rattle.std.specs.Prelude.{◌≤◌, length, IfOk};
+
 use listing::{Line, Written};
 use srt_protocol::time::Timestamp;
 use srt_protocol::{srt_handshake, srt_packet};
+use std::io;
+use std::io::{Read, Write};
 
 const WIDTH: usize = 21;
 
@@ -114,16 +118,37 @@ fn answer_lines(block: &[u8], out: &mut [u8]) -> usize {
     places.output
 }
 
-fn answer_input(input: &mut [u8], output: &mut [u8]) {
-    let size = io::read_full(libc::STDIN_FILENO, input);
-    let end = answer_lines(&input[..size], output);
-    if end <= output.len() {
-        io::write_all(libc::STDOUT_FILENO, &output[..end]);
+// Reads until the buffer is full or the input ends, and gives how many bytes stand at the buffer's start.
+fn read_full(input: &mut impl Read, buffer: &mut [u8]) -> io::Result<usize>
+    ensures { IfOk result (λ size. size ≤ length buffer.new) }
+{
+    let mut size: usize = 0;
+    while size < buffer.len() {
+        let got = input.read(&mut buffer[size..])?;
+        if got == 0 {
+            break;
+        }
+        size += got;
     }
+    Ok(size)
 }
 
-fn main() {
-    let mut input = io::large_buffer();
-    let mut output = io::large_buffer();
-    answer_input(&mut input, &mut output);
+fn answer_input(
+    from: &mut impl Read,
+    input: &mut [u8],
+    to: &mut impl Write,
+    output: &mut [u8],
+) -> io::Result<()> {
+    let size = read_full(from, input)?;
+    let end = answer_lines(&input[..size], output);
+    if end <= output.len() {
+        to.write_all(&output[..end])?;
+    }
+    Ok(())
+}
+
+fn main(rt: HostRuntime) -> io::Result<()> {
+    let mut input = [0u8; 65536];
+    let mut output = [0u8; 65536];
+    answer_input(&mut rt.stdin(), &mut input, &mut rt.stdout(), &mut output)
 }

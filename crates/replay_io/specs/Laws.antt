@@ -1,2 +1,3 @@
 -- What is proved. A reader who trusts the checker need not read it.
 pub mod Room
+pub mod Turns

@@ -1,2 +1,3 @@
 -- What is proved.
 pub mod Laws
+pub mod Turns

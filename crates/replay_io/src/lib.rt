@@ -2,4 +2,5 @@
 
 #![tactic(auto)]
 
+pub mod stopped; // stopped.rt: why a replay stops before the listing's end
 pub mod turns; // turns.rt: a block, and the end of the listing

@@ -1,52 +1,29 @@
-// A block is read, answered and written: no contract can say what is read or written, so what is proved of it is the part between (`answer_block`,
-// `answer_last_line`), and that the group stands from block to block.
-ghost use Rattle.std.specs.Prelude.{length};
+// A block is read, answered and written. What a file gives or takes no contract can say; over any reader and writer it says that the bytes which
+// were read are answered (`answer_block`, `answer_last_line`), that nothing else is written, and that the group stands from block to block.
+ghost use Rattle.std.specs.Prelude.{◌≤◌, length, take, IfOk, OnOk};
 ghost use Rattle.srt_group_shown.specs.Tables.{tables};
 ghost use Rattle.srt_group_replay.specs.Lines.{room, Standing};
 ghost use Rattle.replay_blocks.specs.Blocks.{Roomy};
+ghost use Rattle.replay_io.specs.Turns.{BlockRead, BlockReplayed, LastReplayed};
 
-use io::write_all;
-use libc::{STDIN_FILENO, STDOUT_FILENO};
+use crate::stopped::Stopped;
 use replay_blocks::blocks::{answer_block, answer_last_line};
 use srt_group::Group;
+use std::io::{Read, Write};
 
-// Whether there is more to read: no, since the listing ended or a call of the system failed.
-pub const ENDED: u64 = 0;
-
-pub const MORE: u64 = 1;
-
-pub const FAILED: u64 = 2;
-
-// What is kept from one block to the next: the group, if one was made (1, else 0), how many bytes the open line has, and whether there is more to read.
+// What is kept from one block to the next: the group, if one was made (1, else 0), and how many bytes the open line has.
 #[derive(Clone, Copy)]
 pub struct State {
     pub made: u64,
     pub group: Group,
     pub size: usize,
-    pub more: u64,
 }
 
-// Writes a text. An error is a line on standard error, and ends the replay.
-fn write_text(text: &[u8]) -> u64 {
-    if write_all(STDOUT_FILENO, text) {
-        return MORE;
-    }
-    os::fail(b"replay: standard output");
-    FAILED
-}
-
-// Why nothing was read: the listing ended, or an error, which is a line on standard error.
-fn why_none(got: isize) -> u64 {
-    if got == 0 {
-        return ENDED;
-    }
-    os::fail(b"replay: standard input");
-    FAILED
-}
-
-// Reads one block, answers it, and writes the text of its answers.
-pub fn turn(
-    state: State,
+// Reads one block, answers it, and writes the text of its answers. The answer is how many bytes were read: none where the listing ended.
+pub fn turn<R: Read, W: Write>(
+    input: &mut R,
+    to: &mut W,
+    state: &mut State,
     members: &mut [u64],
     pending: &mut [u64],
     waiting: &mut [u64],
@@ -61,29 +38,28 @@ pub fn turn(
     rows: &mut [u64],
     answers: &mut [u64],
     out: &mut [u8],
-) -> State
-    requires standing { Standing state.made state.group
+) -> Result<usize, Stopped>
+    requires standing { Standing state.old.made state.old.group
         (tables members.old pending.old waiting.old history.old sources.old) (room store.old output.old list.old) used.old }
     requires roomy { Roomy (length block.old) buffer.old rows.old answers.old out.old }
-    ensures { Standing result.made result.group
+    ensures standing { Standing state.new.made state.new.group
         (tables members.new pending.new waiting.new history.new sources.new) (room store.new output.new list.new) used.new }
+    ensures read { IfOk result (λ count. BlockRead (R.remaining input.old) (R.remaining input.new) count block.new) }
+    ensures replayed { IfOk result (λ count. BlockReplayed (take count block.new) buffer.old state.old
+        (tables members.old pending.old waiting.old history.old sources.old)
+        state.new (tables members.new pending.new waiting.new history.new sources.new)
+        buffer.new (W.contents to.old) (W.contents to.new)) }
 {
-    let made = state.made;
-    let group = state.group;
-    let size = state.size;
-    let got = libc::read(STDIN_FILENO, block);
-    if got <= 0 {
-        return State {
-            made,
-            group,
-            size,
-            more: why_none(got),
-        };
+    let count = match input.read(block) {
+        Ok(count) => count,
+        Err(error) => return Err(Stopped::Reading(error)),
+    };
+    if count == 0 {
+        return Ok(0);
     }
-    let count = io::count(got, block);
-    let to = answer_block(
-        made,
-        group,
+    let answered = answer_block(
+        state.made,
+        state.group,
         members,
         pending,
         waiting,
@@ -95,23 +71,26 @@ pub fn turn(
         used,
         &block[..count],
         buffer,
-        size,
+        state.size,
         rows,
         answers,
         out,
     );
-    let after = to.group;
-    let end = to.end;
-    State {
-        made: to.made,
-        group: after,
-        size: to.size,
-        more: write_text(&out[..end]),
+    let end = answered.end;
+    *state = State {
+        made: answered.made,
+        group: answered.group,
+        size: answered.size,
+    };
+    match to.write_all(&out[..end]) {
+        Ok(()) => Ok(count),
+        Err(error) => Err(Stopped::Writing(error)),
     }
 }
 
 // The line that the end of the listing ends, where there is one.
-pub fn finish(
+pub fn finish<W: Write>(
+    to: &mut W,
     state: State,
     members: &mut [u64],
     pending: &mut [u64],
@@ -122,22 +101,39 @@ pub fn finish(
     output: &mut [u8],
     list: &mut [u64],
     used: &mut [u64],
-    buffer: &mut [u8],
+    buffer: &[u8],
     rows: &mut [u64],
     answers: &mut [u64],
     out: &mut [u8],
-)
+) -> Result<(), Stopped>
     requires standing { Standing state.made state.group
         (tables members.old pending.old waiting.old history.old sources.old) (room store.old output.old list.old) used.old }
-    requires roomy { Roomy 1 buffer.old rows.old answers.old out.old }
+    requires roomy { Roomy 1 buffer.now rows.old answers.old out.old }
+    ensures { OnOk result (LastReplayed buffer.now state
+        (tables members.old pending.old waiting.old history.old sources.old)
+        (W.contents to.old) (W.contents to.new)) }
 {
-    let made = state.made;
-    let group = state.group;
-    let size = state.size;
     let answered = answer_last_line(
-        made, group, members, pending, waiting, history, sources, store, output, list, used,
-        buffer, size, rows, answers, out,
+        state.made,
+        state.group,
+        members,
+        pending,
+        waiting,
+        history,
+        sources,
+        store,
+        output,
+        list,
+        used,
+        buffer,
+        state.size,
+        rows,
+        answers,
+        out,
     );
     let end = answered.end;
-    write_text(&out[..end]);
+    match to.write_all(&out[..end]) {
+        Ok(()) => Ok(()),
+        Err(error) => Err(Stopped::Writing(error)),
+    }
 }

@@ -1,6 +1,6 @@
 -- `text_room` meets its contract.
-use Prim.Native.Nat.{ℕ}
-use lib.ListN.{length-replicate}
+use Rattle.std.proofs.Common.{ℕ}
+use Rattle.std.proofs.lemmas.List.{length-replicate}
 use Rattle.replay.proofs.text_room.Goals as goal
 
 pub returns : goal.returns

@@ -68,7 +68,7 @@ loop-index-preserved c =
     let all = length-append before text in
     let end_is : put.result ≡ l.end + length text = put.ensures.end_of in (
       omega arith,
-      put.auto.0 ∙ l.invariant.1,
+      put.auto.out ∙ l.invariant.1,
       omega (arith, ap length next),
       put.ensures.bytes
           ∙ (ap (λ (out : List ℕ). placed out l.end text) l.invariant.3

@@ -16,4 +16,4 @@ pub returns : goal.returns
 returns c =
     let a = c.args in
     let read = c.read_held_line in
-    last_line_taken a.buffer.now a.size _ _ _ _ (omega arith) (omega arith) (length-take-le 8 a.rows.now (omega arith)) read.auto.1.1.1.0 read.ensures
+    last_line_taken a.buffer.now a.size _ _ _ _ (omega arith) (omega arith) (length-take-le 8 a.rows.now (omega arith)) read.auto.numbers read.ensures

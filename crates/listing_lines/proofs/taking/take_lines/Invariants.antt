@@ -8,7 +8,7 @@ abbrev pub invariant-loop-at : goal.invariant-loop-at
 invariant-loop-at l =
     (l.at ≤ length l.block)
     × (l.count ≤ l.at)
-    × LinesTakenFrom (take l.at l.block) l.initial.buffer l.size l.initial.rows l.buffer l.rows (record { l.count = l.count; l.size = l.held })
+    × LinesTakenFrom (take l.at l.block) l.initial.buffer l.size l.initial.rows l.buffer l.rows (record { count = l.count; size = l.held })
 
 abbrev pub decreases-loop-at : goal.decreases-loop-at
 decreases-loop-at l = length l.block - l.at

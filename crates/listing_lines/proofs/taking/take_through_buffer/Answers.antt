@@ -9,7 +9,7 @@ returns-then-taken c =
     let take = c.take_line-taken in
     let read = c.read_held_line in
     taken_ended a.block.now a.from a.buffer.now a.size a.row.now _ take.result (omega arith) (omega arith) (omega arith)
-    take.ensures _ _ c.if-taken.true read.auto.1.1.1.0 read.ensures
+    take.ensures _ _ c.if-taken.true read.auto.numbers read.ensures
 
 pub returns : goal.returns
 returns c =

@@ -45,7 +45,7 @@ loop-index-preserved c =
     let row = c.write_row-end in (
       omega arith,
       omega (arith, row.ensures.most),
-      row.auto.1.0 ∙ l.invariant.2,
+      row.auto.out ∙ l.invariant.2,
       texts_further a.answers.now l.out _ l.index _ l.end _ (omega arith) refl l.invariant.3 row.ensures,
     )
 

@@ -7,7 +7,14 @@ pub take_lines-taken-requires : goal.take_lines-taken-requires
 take_lines-taken-requires c = (c.requires.roomy.whole_line, c.requires.roomy.read)
 
 pub answer_rows-answered-requires : goal.answer_rows-answered-requires
-answer_rows-answered-requires c = let taken = c.take_lines-taken.ensures in let p = c.requires.roomy in record { standing = c.requires.standing; count_in_bounds = (omega (arith, taken.few, taken.same_rows, p.read), (omega (arith, taken.few, p.told), omega (arith, taken.few, p.text))) }
+answer_rows-answered-requires c =
+    let taken = c.take_lines-taken.ensures in
+    let p = c.requires.roomy in
+    record {
+      standing = c.requires.standing;
+      count_in_bounds =
+          (omega (arith, taken.few, taken.same_rows, p.read), (omega (arith, taken.few, p.told), omega (arith, taken.few, p.text)));
+    }
 
 pub shape_of-members : goal.shape_of-members
 shape_of-members c = c.answer_rows-answered.auto.members

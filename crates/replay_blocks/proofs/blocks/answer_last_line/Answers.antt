@@ -7,7 +7,14 @@ pub take_last_line-count-requires : goal.take_last_line-count-requires
 take_last_line-count-requires c = (c.requires.roomy.whole_line, omega (arith, c.requires.roomy.read))
 
 pub answer_rows-requires : goal.answer_rows-requires
-answer_rows-requires c = let taken = c.take_last_line-count in let p = c.requires.roomy in record { standing = c.requires.standing; count_in_bounds = (omega (arith, taken.ensures.one, taken.auto.1.1.0, p.read), (omega (arith, taken.ensures.one, p.told), omega (arith, taken.ensures.one, p.text))) }
+answer_rows-requires c =
+    let taken = c.take_last_line-count in
+    let p = c.requires.roomy in
+    record {
+      standing = c.requires.standing;
+      count_in_bounds =
+          (omega (arith, taken.ensures.one, taken.auto.rows, p.read), (omega (arith, taken.ensures.one, p.told), omega (arith, taken.ensures.one, p.text)));
+    }
 
 pub shape_of-members : goal.shape_of-members
 shape_of-members c = c.answer_rows.auto.members

@@ -4,7 +4,11 @@ use Rattle.replay_blocks.specs.Laws.Blocks.{rows_answered}
 use Rattle.replay_blocks.proofs.blocks.answer_rows.Goals as goal
 
 pub tell_lines-told-requires : goal.tell_lines-told-requires
-tell_lines-told-requires c = record { standing = c.requires.standing; count_in_bounds = (c.requires.count_in_bounds.0, c.requires.count_in_bounds.1.0) }
+tell_lines-told-requires c =
+    record {
+      standing = c.requires.standing;
+      count_in_bounds = (c.requires.count_in_bounds.0, c.requires.count_in_bounds.1.0);
+    }
 
 pub write_lines-requires : goal.write_lines-requires
 write_lines-requires c = let long = c.tell_lines-told.auto.answers in (omega (arith, long, c.requires.count_in_bounds.1.0), c.requires.count_in_bounds.1.1)

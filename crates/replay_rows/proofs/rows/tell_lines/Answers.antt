@@ -9,7 +9,13 @@ pub loop-index-init : goal.loop-index-init
 loop-index-init c = (omega arith, refl, refl, refl, refl, refl, refl, refl, refl, refl, refl, none_told c.args.rows.now c.args.answers.now c.requires.standing)
 
 pub tell_row-told-requires : goal.tell_row-told-requires
-tell_row-told-requires c = let l = c.loop-index in let p = c.requires.count_in_bounds in record { standing = l.invariant.11.stands; index_in_bounds = (omega (arith, c.loop-index-test.true, p.0), omega (arith, c.loop-index-test.true, p.1, l.invariant.10)) }
+tell_row-told-requires c =
+    let l = c.loop-index in
+    let p = c.requires.count_in_bounds in
+    record {
+      standing = l.invariant.11.stands;
+      index_in_bounds = (omega (arith, c.loop-index-test.true, p.0), omega (arith, c.loop-index-test.true, p.1, l.invariant.10));
+    }
 
 pub overflow_add-index : goal.overflow_add-index
 overflow_add-index c = let room = c.well_formed.1.1.1.1.1.1.1.1.1.1.1.0 in omega (arith, c.loop-index-test.true, c.requires.count_in_bounds.0, room.0, room.1)
@@ -23,15 +29,15 @@ loop-index-preserved c =
     let l = c.loop-index in
     let told = c.tell_row-told in (
       omega (arith, c.loop-index-test.true),
-      told.auto.1.1.0 ∙ l.invariant.1,
-      told.auto.1.1.1.0 ∙ l.invariant.2,
-      told.auto.1.1.1.1.0 ∙ l.invariant.3,
-      told.auto.1.1.1.1.1.0 ∙ l.invariant.4,
-      told.auto.1.1.1.1.1.1.0 ∙ l.invariant.5,
-      told.auto.1.1.1.1.1.1.1.0 ∙ l.invariant.6,
-      told.auto.1.1.1.1.1.1.1.1.0 ∙ l.invariant.7,
-      told.auto.1.1.1.1.1.1.1.1.1.0 ∙ l.invariant.8,
-      told.auto.1.1.1.1.1.1.1.1.1.1.0 ∙ l.invariant.9,
+      told.auto.members ∙ l.invariant.1,
+      told.auto.pending ∙ l.invariant.2,
+      told.auto.waiting ∙ l.invariant.3,
+      told.auto.history ∙ l.invariant.4,
+      told.auto.sources ∙ l.invariant.5,
+      told.auto.store ∙ l.invariant.6,
+      told.auto.output ∙ l.invariant.7,
+      told.auto.list ∙ l.invariant.8,
+      told.auto.used ∙ l.invariant.9,
       told.ensures.same ∙ l.invariant.10,
       one_more_told l.index a.rows.now l.invariant.11 told.ensures,
     )

@@ -1,0 +1,133 @@
+-- What is proved of the definitions in specs/Turns.antt: block by block the text of a listing's answers grows, whatever the cut into blocks.
+use Rattle.std.specs.Prelude.{◌≡◌, refl, ℕ, ◌<◌, Option, None, Some, Result, Ok, Err, OnOk, List, [], ◌∷◌, ◌++◌, map, length, take}
+use Rattle.std.specs.Io.KnownBytes.{Consumes, Appends, IsAtEnd}
+use Rattle.std.proofs.Common.{ap, sym, subst, ◌∙◌, append_assoc, append-nil}
+use Rattle.std.proofs.Math.Option.{none}
+use mathlib.Core.List.{map-append}
+use Rattle.listing.specs.Line.{line_numbers}
+use Rattle.listing.specs.Stream.{lines, joined, ended, open_line, last_line}
+use Rattle.listing.specs.Held.{Held}
+use Rattle.listing.specs.Laws.Stream.{lines_of_blocks}
+use Rattle.listing.proofs.StreamLaws.{ended_append, open_line_append, lines_of_blocks_are_lines, held_nothing}
+use Rattle.listing_lines.specs.Answers.{state_after, answers_from}
+use Rattle.listing_lines.specs.Text.{texts}
+use Rattle.listing_lines.specs.Laws.Text.{texts_append}
+use Rattle.listing_lines.specs.Laws.Answers.{answers_append}
+use Rattle.srt_group_model.specs.Tools.{if_true◌then◌else◌}
+use Rattle.srt_group_model.specs.Listing.{replay}
+use Rattle.srt_group_shown.specs.Tables.{Tables}
+use Rattle.srt_group.specs.declared.Group.{Group}
+use Rattle.srt_group_replay.specs.Lines.{standing}
+use Rattle.replay_rows.specs.Rows.{after_line, print_of, group_after, prints_from}
+use Rattle.replay_rows.specs.Laws.Rows.{prints_are_replay}
+use Rattle.replay_blocks.specs.Blocks.{replayed, numbers}
+use Rattle.replay_io.specs.declared.turns.State.{State}
+use Rattle.replay_io.specs.Turns.{BlockRead, BlockReplayed, LastReplayed, ListingReplayed}
+
+-- ---- known bytes, one text after another
+
+appends_nothing : (u : Option (List ℕ)) → Appends u u []
+appends_nothing None = tt
+appends_nothing (Some xs) = sym (append-nil xs)
+
+appends_then : (u v w : Option (List ℕ)) (a b : List ℕ) → Appends u v a → Appends v w b → Appends u w (a ++ b)
+appends_then None v w a b x y = tt
+appends_then (Some xs) None w a b x y = absurd x
+appends_then (Some xs) (Some ys) None a b x y = y
+appends_then (Some xs) (Some ys) (Some zs) a b x y = y ∙ ap (λ (t : List ℕ). t ++ b) x ∙ append_assoc xs a b
+
+consumes_nothing : (u : Option (List ℕ)) → Consumes u u []
+consumes_nothing None = tt
+consumes_nothing (Some xs) = refl
+
+consumes_then : (u v w : Option (List ℕ)) (a b : List ℕ) → Consumes u v a → Consumes v w b → Consumes u w (a ++ b)
+consumes_then None v w a b x y = tt
+consumes_then (Some xs) None w a b x y = absurd x
+consumes_then (Some xs) (Some ys) None a b x y = y
+consumes_then (Some xs) (Some ys) (Some zs) a b x y = x ∙ ap (λ (t : List ℕ). a ++ t) y ∙ sym (append_assoc a b zs)
+
+-- ---- a turn
+
+-- where no byte was read nothing is answered
+pub none_replayed : (buffer : List ℕ) (s : State) (t : Tables) (written : Option (List ℕ)) → BlockReplayed [] buffer s t s t buffer written written
+unfolding ended open_line texts answers_from state_after
+none_replayed buffer s t written =
+    record { text = λ line h. appends_nothing written; group = λ line h. refl; held = λ line h. h }
+
+-- ---- all turns
+
+-- the beginning of a listing is read, and the lines that end in it are answered
+pub record ReplayedSoFar (s : State) (t : Tables) (buffer : List ℕ) (left₀ left written₀ written : Option (List ℕ)) : Type 0 where
+  pub beginning : List ℕ
+  pub read : Consumes left₀ left beginning
+  pub text : Appends written₀ written (texts (prints_from none (numbers (ended [] beginning))))
+  pub group : standing s.made s.group t ≡ group_after none (numbers (ended [] beginning))
+  pub held : Held (open_line [] beginning) buffer s.size
+
+pub none_so_far : (g : Group) (t : Tables) (buffer : List ℕ) (left written : Option (List ℕ))
+    → ReplayedSoFar (record { made = 0; group = g; size = 0 }) t buffer left left written written
+unfolding if_true◌then◌else◌ ended open_line texts answers_from state_after
+none_so_far g t buffer left written =
+    record { beginning = []; read = consumes_nothing left; text = appends_nothing written; group = refl; held = held_nothing buffer }
+
+-- the state after some lines, and after those behind them
+after_append : {S : Type 0} (after : S → List ℕ → S) (s : S) (a b : List (List ℕ)) → state_after after s (a ++ b) ≡ state_after after (state_after after s a) b
+unfolding state_after
+after_append after s [] b = refl
+after_append after s (line ∷ a) b = after_append after (after s line) a b
+
+module _ {s : State} {t : Tables} {buffer : List ℕ} {left₀ left written₀ written : Option (List ℕ)} where
+  -- a block more
+  pub further : {s' : State} {t' : Tables} {buffer' block : List ℕ} {left' written' : Option (List ℕ)} {count : ℕ}
+      → ReplayedSoFar s t buffer left₀ left written₀ written → BlockRead left left' count block
+      → BlockReplayed (take count block) buffer s t s' t' buffer' written written'
+      → ReplayedSoFar s' t' buffer' left₀ left' written₀ written'
+  further {block = block} {left' = left'} {written' = written'} {count = count} so read done =
+      let a = so.beginning in
+      let b = take count block in
+      let line = open_line [] a in
+      let first = numbers (ended [] a) in
+      let next = numbers (ended line b) in
+      let all : numbers (ended [] (a ++ b)) ≡ first ++ next =
+          ap numbers (ended_append [] a b) ∙ map-append (line_numbers 8 11) (ended [] a) (ended line b) in
+      let printed : prints_from none (first ++ next) ≡ prints_from none first ++ prints_from (group_after none first) next =
+          answers_append after_line print_of none first next in
+      record {
+        beginning = a ++ b;
+        read = consumes_then left₀ left left' a b so.read read.read;
+        text = rw (all, printed, texts_append (prints_from none first) (prints_from (group_after none first) next), ← so.group)
+            (appends_then written₀ written written' _ _ so.text (done.text line so.held));
+        group = done.group line so.held
+            ∙ (ap (λ (g : _). group_after g next) so.group ∙ (sym (after_append after_line none first next) ∙ ap (group_after none) (sym all)));
+        held = rw (open_line_append [] a b) (done.held line so.held);
+      }
+
+  -- the listing's end
+  pub whole : {written' : Option (List ℕ)} → ReplayedSoFar s t buffer left₀ left written₀ written → IsAtEnd left
+      → LastReplayed buffer s t written written' → ListingReplayed left₀ left written₀ written'
+  unfolding replayed replay lines_of_blocks joined
+  whole {written' = written'} so end done =
+      let a = so.beginning in
+      let line = open_line [] a in
+      let first = numbers (ended [] a) in
+      let last = numbers (last_line line) in
+      let cut : lines a ≡ ended [] a ++ last_line line =
+          ap lines (sym (append-nil a)) ∙ sym (lines_of_blocks_are_lines (a ∷ [])) in
+      let all : numbers (lines a) ≡ first ++ last =
+          ap numbers cut ∙ map-append (line_numbers 8 11) (ended [] a) (last_line line) in
+      let printed : prints_from none (first ++ last) ≡ prints_from none first ++ prints_from (group_after none first) last =
+          answers_append after_line print_of none first last in
+      record {
+        listing = a;
+        read = so.read;
+        at_end = end;
+        text = rw (← prints_are_replay none (numbers (lines a)), all, printed, texts_append (prints_from none first) (prints_from (group_after none first) last), ← so.group)
+            (appends_then written₀ written written' _ _ so.text (done.text line so.held));
+      }
+
+  -- the same where it is known only of some listings that they ended, and only the outcome says whether the last line was written
+  pub whole_if : {T E A : Type 0} (outcome : Result T E) (written' : Option (List ℕ)) → ReplayedSoFar s t buffer left₀ left written₀ written
+      → (A → IsAtEnd left) → OnOk outcome (LastReplayed buffer s t written written')
+      → OnOk outcome (A → ListingReplayed left₀ left written₀ written')
+  whole_if (Ok x) written' so end done = λ a. whole so (end a) done
+  whole_if (Err e) written' so end done = tt

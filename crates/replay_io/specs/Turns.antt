@@ -1,0 +1,39 @@
+-- WHAT A TURN OF THE REPLAY DOES, over any reader and writer: `left` are the bytes that a reader has yet to give, `written` those that a writer
+-- holds, each where it is known.
+use Rattle.std.specs.Prelude.{◌≡◌, ℕ, Option, List, ◌<◌, ◌≤◌, length, take}
+use Rattle.std.specs.Io.KnownBytes.{Consumes, Appends, IsAtEnd}
+use Rattle.listing.specs.Stream.{ended, open_line, last_line}
+use Rattle.listing.specs.Held.{Held}
+use Rattle.listing_lines.specs.Text.{texts}
+use Rattle.srt_group_shown.specs.Tables.{Tables}
+use Rattle.srt_group_replay.specs.Lines.{standing}
+use Rattle.replay_rows.specs.Rows.{group_after, prints_from}
+use Rattle.replay_blocks.specs.Blocks.{replayed, numbers}
+use Rattle.replay_io.specs.declared.turns.State.{State}
+
+-- a block is what a read gives: so many bytes, none only at the listing's end or where a block has no room
+pub record BlockRead (left left' : Option (List ℕ)) (count : ℕ) (block : List ℕ) : Type 0 where
+  pub inside : count ≤ length block
+  pub read : Consumes left left' (take count block)
+  pub at_end : count ≡ 0 → 0 < length block → IsAtEnd left'
+
+-- it is answered and written: the text of the answers to the lines that it ends, whatever line began before it; the group after them, and the
+-- line that it leaves open
+pub record BlockReplayed (block buffer : List ℕ) (s : State) (t : Tables) (s' : State) (t' : Tables) (buffer' : List ℕ) (written written' : Option (List ℕ)) : Type 0 where
+  pub text : (line : List ℕ) → Held line buffer s.size
+      → Appends written written' (texts (prints_from (standing s.made s.group t) (numbers (ended line block))))
+  pub group : (line : List ℕ) → Held line buffer s.size
+      → standing s'.made s'.group t' ≡ group_after (standing s.made s.group t) (numbers (ended line block))
+  pub held : (line : List ℕ) → Held line buffer s.size → Held (open_line line block) buffer' s'.size
+
+-- so is the line that the listing's end ends
+pub record LastReplayed (buffer : List ℕ) (s : State) (t : Tables) (written written' : Option (List ℕ)) : Type 0 where
+  pub text : (line : List ℕ) → Held line buffer s.size
+      → Appends written written' (texts (prints_from (standing s.made s.group t) (numbers (last_line line))))
+
+-- THE PROMISE of a replay: a listing is read to its end, and what is written is its replay
+pub record ListingReplayed (left left' written written' : Option (List ℕ)) : Type 0 where
+  pub listing : List ℕ
+  pub read : Consumes left left' listing
+  pub at_end : IsAtEnd left'
+  pub text : Appends written written' (replayed listing)
