@@ -1,8 +1,8 @@
 /* A gateway that receives a programme over two legs, and sends one payload. Packet 102 is lost on the first leg alone, packet 104 on both: the
  * group gives 102 from the second leg, waits for 104 as long as the latency says, and then passes over it for good.
  *
- *     tools/library                                                   makes target/staticlib/libsrt_group.a
- *     cc -std=c99 -Iinclude -o gateway examples/gateway.c target/staticlib/libsrt_group.a
+ *     tools/library                                                   makes out/libsrt_group.a
+ *     cc -std=c99 -Iinclude -o gateway examples/gateway.c out/libsrt_group.a
  *     ./gateway
  *
  * What it prints stands in gateway.out. A clock of its own, in microseconds, stands for the host's, so that every run prints the same. */

@@ -6,7 +6,7 @@ fn main() {
     println!("cargo::rerun-if-env-changed=SRT_GROUP_LIB_DIR");
     let folder = match env::var_os("SRT_GROUP_LIB_DIR") {
         Some(folder) => PathBuf::from(folder),
-        None => Path::new(env!("CARGO_MANIFEST_DIR")).join("../../target/staticlib"),
+        None => Path::new(env!("CARGO_MANIFEST_DIR")).join("../../out"),
     };
     let archive = folder.join("libsrt_group.a");
     println!("cargo::rerun-if-changed={}", archive.display());

@@ -1,5 +1,5 @@
-// The calls under plain names, for bench/calls to time. A measuring crate: no product links it. Nothing exported has a `requires`: what a
-// host lends is tested.
+// The calls under plain names, for bench/calls to time: `calls_bench_c` exports them. A measuring crate: no product links it. Nothing exported
+// has a `requires`: what a host lends is tested.
 
 #![tactic(auto)]
 
@@ -12,8 +12,7 @@ use srt_group_refusals::refusals::begin_poll;
 use srt_protocol::error::Outcome;
 
 // The steps in turn by the public calls.
-#[unsafe(no_mangle)]
-pub extern "C" fn calls_run(
+pub fn calls_run(
     record: &mut [u64; 20],
     members: &mut [u64],
     pending: &mut [u64],
@@ -35,8 +34,7 @@ pub extern "C" fn calls_run(
 }
 
 // The same by the forms for a valid state: 5 and 6 are tested once, before the first step. Answers their code.
-#[unsafe(no_mangle)]
-pub extern "C" fn calls_run_valid(
+pub fn calls_run_valid(
     record: &mut [u64; 20],
     members: &mut [u64],
     pending: &mut [u64],

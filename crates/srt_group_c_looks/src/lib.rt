@@ -1,4 +1,5 @@
-// The calls that only look for C, with the record and the answer as rows of words. Nothing but the answer's row changes.
+// The calls that only look for C, with the record and the answer as rows of words: `srt_group_c_looks_c` exports them. Nothing but the answer's row
+// changes.
 
 #![tactic(auto)]
 

@@ -12,8 +12,7 @@ use srt_group_words::record::{RECORD, read_group};
 use srt_protocol::time::Timestamp;
 
 // The group's id.
-#[unsafe(no_mangle)]
-pub extern "C" fn srt_group_raw_group_id(
+pub fn srt_group_raw_group_id(
     record: &[u64],
     members: &[u64],
     pending: &[u64],
@@ -48,8 +47,7 @@ pub extern "C" fn srt_group_raw_group_id(
 }
 
 // 0 for Broadcast, 1 for Backup.
-#[unsafe(no_mangle)]
-pub extern "C" fn srt_group_raw_mode(
+pub fn srt_group_raw_mode(
     record: &[u64],
     members: &[u64],
     pending: &[u64],
@@ -84,8 +82,7 @@ pub extern "C" fn srt_group_raw_mode(
 }
 
 // The peer group that the group is bound to, or 0.
-#[unsafe(no_mangle)]
-pub extern "C" fn srt_group_raw_peer_group_id(
+pub fn srt_group_raw_peer_group_id(
     record: &[u64],
     members: &[u64],
     pending: &[u64],
@@ -120,8 +117,7 @@ pub extern "C" fn srt_group_raw_peer_group_id(
 }
 
 // How many packets were skipped for good.
-#[unsafe(no_mangle)]
-pub extern "C" fn srt_group_raw_skipped_receive_packets(
+pub fn srt_group_raw_skipped_receive_packets(
     record: &[u64],
     members: &[u64],
     pending: &[u64],
@@ -156,8 +152,7 @@ pub extern "C" fn srt_group_raw_skipped_receive_packets(
 }
 
 // Whether a packet is held, an event waits, or the continuation is asked for.
-#[unsafe(no_mangle)]
-pub extern "C" fn srt_group_raw_has_pending_data(
+pub fn srt_group_raw_has_pending_data(
     record: &[u64],
     members: &[u64],
     pending: &[u64],
@@ -192,8 +187,7 @@ pub extern "C" fn srt_group_raw_has_pending_data(
 }
 
 // Whether the last poll stopped with work left.
-#[unsafe(no_mangle)]
-pub extern "C" fn srt_group_raw_has_receive_continuation(
+pub fn srt_group_raw_has_receive_continuation(
     record: &[u64],
     members: &[u64],
     pending: &[u64],
@@ -228,8 +222,7 @@ pub extern "C" fn srt_group_raw_has_receive_continuation(
 }
 
 // How long until pacing lets a member send, in microseconds.
-#[unsafe(no_mangle)]
-pub extern "C" fn srt_group_raw_time_until_send(
+pub fn srt_group_raw_time_until_send(
     record: &[u64],
     members: &[u64],
     pending: &[u64],

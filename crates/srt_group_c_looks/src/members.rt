@@ -11,8 +11,7 @@ use srt_group_looks::{member, members};
 use srt_group_words::record::{RECORD, read_group};
 
 // A member: its id, weight, label, its leg's state, whether it was admitted, its reserved sum, and its collision's expected and actual peer group.
-#[unsafe(no_mangle)]
-pub extern "C" fn srt_group_raw_member(
+pub fn srt_group_raw_member(
     record: &[u64],
     members: &[u64],
     pending: &[u64],
@@ -49,8 +48,7 @@ pub extern "C" fn srt_group_raw_member(
 }
 
 // How long the member may be silent as the carrier of a Backup group, in microseconds; 0 for a leg without a sender.
-#[unsafe(no_mangle)]
-pub extern "C" fn srt_group_raw_backup_stability_timeout_micros(
+pub fn srt_group_raw_backup_stability_timeout_micros(
     record: &[u64],
     members: &[u64],
     pending: &[u64],
@@ -87,8 +85,7 @@ pub extern "C" fn srt_group_raw_backup_stability_timeout_micros(
 }
 
 // All members as rows of a lent list, in the order of their addition. The answer is how many rows were filled.
-#[unsafe(no_mangle)]
-pub extern "C" fn srt_group_raw_members(
+pub fn srt_group_raw_members(
     record: &[u64],
     members: &[u64],
     pending: &[u64],

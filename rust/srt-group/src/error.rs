@@ -11,7 +11,7 @@ impl Error {
 
     /// Whether a call that gives this refusal has changed nothing at all.
     ///
-    /// So it is after every one but 22 to 29 (law `refusal-leaves-everything`, `crates/srt_group_model/specs/laws/Refusals.antt`). Those are:
+    /// So it is after every one but 22 to 29 (law `refusal_leaves_everything`, `crates/srt_group_model/specs/Laws/Refusals.antt`). Those are:
     ///
     /// - an addition's 22, [`AlignmentFailed`](Error::AlignmentFailed), after which the leg **is** a member;
     /// - a send's 22 to 29, after which members' states may have moved and [`Group::sent`](crate::Group::sent) has the sends that were made, all
@@ -38,7 +38,7 @@ impl fmt::Display for Error {
 
 impl std::error::Error for Error {}
 
-/// The outcome of a call by its number. A call ends with 0 or with one of its codes (law `call-code`, Codes).
+/// The outcome of a call by its number. A call ends with 0 or with one of its codes (law `call_code`, Codes).
 pub(crate) fn outcome(code: u32) -> Result<(), Error> {
     match (code, Error::of(code)) {
         (0, _) => Ok(()),

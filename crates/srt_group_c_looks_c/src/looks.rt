@@ -1,0 +1,172 @@
+// The looks at the group.
+ghost use Rattle.std.specs.Prelude.{false};
+ghost use Rattle.srt_group_model.specs.Lent.{call_look, look_group_id, look_mode, look_peer_group_id, look_skipped_receive_packets};
+ghost use Rattle.srt_group_model.specs.Lent.{look_has_pending_data, look_has_receive_continuation, look_time_until_send};
+ghost use Rattle.srt_group_shown.specs.Tables.{tables};
+ghost use Rattle.srt_group_refusals.specs.Promised.{nothing_lent};
+ghost use Rattle.srt_group_words.specs.Words.{in_words, words, PromisedWords};
+
+use srt_group_c_looks::looks;
+
+// The group's id.
+#[unsafe(no_mangle)]
+pub extern "C" fn srt_group_raw_group_id(
+    record: &[u64],
+    members: &[u64],
+    pending: &[u64],
+    waiting: &[u64],
+    history: &[u64],
+    sources: &[u64],
+    answer: &mut [u64],
+) -> u32
+    ensures { PromisedWords (call_look look_group_id) (in_words 1) false
+        (words «record».now
+        (tables members.now pending.now waiting.now history.now sources.now)
+        nothing_lent answer.old) result
+        (words «record».now
+        (tables members.now pending.now waiting.now history.now sources.now)
+        nothing_lent answer.new) }
+{
+    looks::srt_group_raw_group_id(record, members, pending, waiting, history, sources, answer)
+}
+
+// 0 for Broadcast, 1 for Backup.
+#[unsafe(no_mangle)]
+pub extern "C" fn srt_group_raw_mode(
+    record: &[u64],
+    members: &[u64],
+    pending: &[u64],
+    waiting: &[u64],
+    history: &[u64],
+    sources: &[u64],
+    answer: &mut [u64],
+) -> u32
+    ensures { PromisedWords (call_look look_mode) (in_words 1) false
+        (words «record».now
+        (tables members.now pending.now waiting.now history.now sources.now)
+        nothing_lent answer.old) result
+        (words «record».now
+        (tables members.now pending.now waiting.now history.now sources.now)
+        nothing_lent answer.new) }
+{
+    looks::srt_group_raw_mode(record, members, pending, waiting, history, sources, answer)
+}
+
+// The peer group that the group is bound to, or 0.
+#[unsafe(no_mangle)]
+pub extern "C" fn srt_group_raw_peer_group_id(
+    record: &[u64],
+    members: &[u64],
+    pending: &[u64],
+    waiting: &[u64],
+    history: &[u64],
+    sources: &[u64],
+    answer: &mut [u64],
+) -> u32
+    ensures { PromisedWords (call_look look_peer_group_id) (in_words 1) false
+        (words «record».now
+        (tables members.now pending.now waiting.now history.now sources.now)
+        nothing_lent answer.old) result
+        (words «record».now
+        (tables members.now pending.now waiting.now history.now sources.now)
+        nothing_lent answer.new) }
+{
+    looks::srt_group_raw_peer_group_id(record, members, pending, waiting, history, sources, answer)
+}
+
+// How many packets were skipped for good.
+#[unsafe(no_mangle)]
+pub extern "C" fn srt_group_raw_skipped_receive_packets(
+    record: &[u64],
+    members: &[u64],
+    pending: &[u64],
+    waiting: &[u64],
+    history: &[u64],
+    sources: &[u64],
+    answer: &mut [u64],
+) -> u32
+    ensures { PromisedWords (call_look look_skipped_receive_packets) (in_words 1) false
+        (words «record».now
+        (tables members.now pending.now waiting.now history.now sources.now)
+        nothing_lent answer.old) result
+        (words «record».now
+        (tables members.now pending.now waiting.now history.now sources.now)
+        nothing_lent answer.new) }
+{
+    looks::srt_group_raw_skipped_receive_packets(
+        record, members, pending, waiting, history, sources, answer,
+    )
+}
+
+// Whether a packet is held, an event waits, or the continuation is asked for.
+#[unsafe(no_mangle)]
+pub extern "C" fn srt_group_raw_has_pending_data(
+    record: &[u64],
+    members: &[u64],
+    pending: &[u64],
+    waiting: &[u64],
+    history: &[u64],
+    sources: &[u64],
+    answer: &mut [u64],
+) -> u32
+    ensures { PromisedWords (call_look look_has_pending_data) (in_words 1) false
+        (words «record».now
+        (tables members.now pending.now waiting.now history.now sources.now)
+        nothing_lent answer.old) result
+        (words «record».now
+        (tables members.now pending.now waiting.now history.now sources.now)
+        nothing_lent answer.new) }
+{
+    looks::srt_group_raw_has_pending_data(
+        record, members, pending, waiting, history, sources, answer,
+    )
+}
+
+// Whether the last poll stopped with work left.
+#[unsafe(no_mangle)]
+pub extern "C" fn srt_group_raw_has_receive_continuation(
+    record: &[u64],
+    members: &[u64],
+    pending: &[u64],
+    waiting: &[u64],
+    history: &[u64],
+    sources: &[u64],
+    answer: &mut [u64],
+) -> u32
+    ensures { PromisedWords (call_look look_has_receive_continuation) (in_words 1) false
+        (words «record».now
+        (tables members.now pending.now waiting.now history.now sources.now)
+        nothing_lent answer.old) result
+        (words «record».now
+        (tables members.now pending.now waiting.now history.now sources.now)
+        nothing_lent answer.new) }
+{
+    looks::srt_group_raw_has_receive_continuation(
+        record, members, pending, waiting, history, sources, answer,
+    )
+}
+
+// How long until pacing lets a member send, in microseconds.
+#[unsafe(no_mangle)]
+pub extern "C" fn srt_group_raw_time_until_send(
+    record: &[u64],
+    members: &[u64],
+    pending: &[u64],
+    waiting: &[u64],
+    history: &[u64],
+    sources: &[u64],
+    time: u64,
+    answer: &mut [u64],
+) -> u32
+    ensures { PromisedWords (call_look (look_time_until_send time)) (in_words 1) false
+        (words «record».now
+        (tables members.now pending.now waiting.now history.now sources.now)
+        nothing_lent answer.old) result
+        (words «record».now
+        (tables members.now pending.now waiting.now history.now sources.now)
+        nothing_lent answer.new) }
+{
+    looks::srt_group_raw_time_until_send(
+        record, members, pending, waiting, history, sources, time, answer,
+    )
+}
