@@ -23,8 +23,8 @@ deliver_next-requires c =
     -- made or left out, it is the definition's refresh
     let refreshed : Refreshes (sends c.args.sending) refresh_states c.args.gathered.core c.args.members.now c.if-not-quiet.refreshed c.if-not-quiet.members =
     elim c.if-not-quiet.branch [
-      then-not-quiet w ↦ rw (w.refreshed-is, w.members-is) w.refresh_all_states-refreshed.ensures
-    | else-not-quiet w ↦ rw (w.refreshed-is, w.members-is) (refresh_left_out _ _ _ (c.requires.known c.if-here-gt0.false) w.if-not-quiet.false)
+      | then-not-quiet w ↦ rw (w.refreshed-is, w.members-is) w.refresh_all_states-refreshed.ensures
+      | else-not-quiet w ↦ rw (w.refreshed-is, w.members-is) (refresh_left_out _ _ _ (c.requires.known c.if-here-gt0.false) w.if-not-quiet.false)
     ] in
     record {
       usable = usable_refreshed _ c.requires.sending_fit _ _ _ _ c.requires.usable _ _ refreshed;
@@ -37,8 +37,8 @@ shape_of-members c =
     -- made or left out, it is the definition's refresh
     let refreshed : Refreshes (sends c.args.sending) refresh_states c.args.gathered.core c.args.members.now c.if-not-quiet.refreshed c.if-not-quiet.members =
     elim c.if-not-quiet.branch [
-      then-not-quiet w ↦ rw (w.refreshed-is, w.members-is) w.refresh_all_states-refreshed.ensures
-    | else-not-quiet w ↦ rw (w.refreshed-is, w.members-is) (refresh_left_out _ _ _ (c.requires.known c.if-here-gt0.false) w.if-not-quiet.false)
+      | then-not-quiet w ↦ rw (w.refreshed-is, w.members-is) w.refresh_all_states-refreshed.ensures
+      | else-not-quiet w ↦ rw (w.refreshed-is, w.members-is) (refresh_left_out _ _ _ (c.requires.known c.if-here-gt0.false) w.if-not-quiet.false)
     ] in
     omega (arith, refreshed.members_long, c.deliver_next.ensures.polls_from.members_long)
 
@@ -47,8 +47,8 @@ returns c =
     -- made or left out, it is the definition's refresh
     let refreshed : Refreshes (sends c.args.sending) refresh_states c.args.gathered.core c.args.members.now c.if-not-quiet.refreshed c.if-not-quiet.members =
     elim c.if-not-quiet.branch [
-      then-not-quiet w ↦ rw (w.refreshed-is, w.members-is) w.refresh_all_states-refreshed.ensures
-    | else-not-quiet w ↦ rw (w.refreshed-is, w.members-is) (refresh_left_out _ _ _ (c.requires.known c.if-here-gt0.false) w.if-not-quiet.false)
+      | then-not-quiet w ↦ rw (w.refreshed-is, w.members-is) w.refresh_all_states-refreshed.ensures
+      | else-not-quiet w ↦ rw (w.refreshed-is, w.members-is) (refresh_left_out _ _ _ (c.requires.known c.if-here-gt0.false) w.if-not-quiet.false)
     ] in
     record {
       polls_from = packet_next _ _ _ _ _ _ _ _ _ _ _ _ _ (omega (arith, c.if-here-gt0.false)) refreshed c.deliver_next.ensures.polls_from;

@@ -20,8 +20,8 @@ collect_until_held-gathered-requires c =
     -- made or left out, it is the definition's refresh
     let begun : Refreshes (sends c.args.sending) refresh_pending_states (continued 0 c.args.core) c.args.members.now c.if-not-quiet.begun c.if-not-quiet.members =
     elim c.if-not-quiet.branch [
-      then-not-quiet w ↦ rw (w.begun-is, w.members-is) w.refresh_pending_states-begun.ensures
-    | else-not-quiet w ↦ rw (w.begun-is, w.members-is) (settling_left_out _ _ _ c.requires.known w.if-not-quiet.false)
+      | then-not-quiet w ↦ rw (w.begun-is, w.members-is) w.refresh_pending_states-begun.ensures
+      | else-not-quiet w ↦ rw (w.begun-is, w.members-is) (settling_left_out _ _ _ c.requires.known w.if-not-quiet.false)
     ] in
     record {
       usable = usable_begun _ c.requires.sending_fit c.args.core _ _ _ c.requires.usable _ _ begun;
@@ -33,8 +33,8 @@ give_next-requires c =
     -- made or left out, it is the definition's refresh
     let begun : Refreshes (sends c.args.sending) refresh_pending_states (continued 0 c.args.core) c.args.members.now c.if-not-quiet.begun c.if-not-quiet.members =
     elim c.if-not-quiet.branch [
-      then-not-quiet w ↦ rw (w.begun-is, w.members-is) w.refresh_pending_states-begun.ensures
-    | else-not-quiet w ↦ rw (w.begun-is, w.members-is) (settling_left_out _ _ _ c.requires.known w.if-not-quiet.false)
+      | then-not-quiet w ↦ rw (w.begun-is, w.members-is) w.refresh_pending_states-begun.ensures
+      | else-not-quiet w ↦ rw (w.begun-is, w.members-is) (settling_left_out _ _ _ c.requires.known w.if-not-quiet.false)
     ] in
     let known = known_begun _ _ c.requires.known _ _ _ begun in
     let gathered = c.collect_until_held-gathered in
@@ -50,8 +50,8 @@ shape_of-members c =
     -- made or left out, it is the definition's refresh
     let begun : Refreshes (sends c.args.sending) refresh_pending_states (continued 0 c.args.core) c.args.members.now c.if-not-quiet.begun c.if-not-quiet.members =
     elim c.if-not-quiet.branch [
-      then-not-quiet w ↦ rw (w.begun-is, w.members-is) w.refresh_pending_states-begun.ensures
-    | else-not-quiet w ↦ rw (w.begun-is, w.members-is) (settling_left_out _ _ _ c.requires.known w.if-not-quiet.false)
+      | then-not-quiet w ↦ rw (w.begun-is, w.members-is) w.refresh_pending_states-begun.ensures
+      | else-not-quiet w ↦ rw (w.begun-is, w.members-is) (settling_left_out _ _ _ c.requires.known w.if-not-quiet.false)
     ] in
     let gathered = c.collect_until_held-gathered.ensures in
     let given = c.give_next.ensures in
@@ -62,8 +62,8 @@ returns c =
     -- made or left out, it is the definition's refresh
     let begun : Refreshes (sends c.args.sending) refresh_pending_states (continued 0 c.args.core) c.args.members.now c.if-not-quiet.begun c.if-not-quiet.members =
     elim c.if-not-quiet.branch [
-      then-not-quiet w ↦ rw (w.begun-is, w.members-is) w.refresh_pending_states-begun.ensures
-    | else-not-quiet w ↦ rw (w.begun-is, w.members-is) (settling_left_out _ _ _ c.requires.known w.if-not-quiet.false)
+      | then-not-quiet w ↦ rw (w.begun-is, w.members-is) w.refresh_pending_states-begun.ensures
+      | else-not-quiet w ↦ rw (w.begun-is, w.members-is) (settling_left_out _ _ _ c.requires.known w.if-not-quiet.false)
     ] in
     let gathered = c.collect_until_held-gathered in
     let given = c.give_next.ensures in
