@@ -1,8 +1,7 @@
 // Why a replay stops before the listing's end: reading or writing failed.
 
 use std::error::Error;
-use std::fmt;
-use std::io;
+use std::{fmt, io};
 
 #[derive(Debug, Drop)]
 pub enum Stopped {

@@ -1,7 +1,7 @@
 -- What is proved of the definitions in specs/Turns.antt: block by block the text of a listing's answers grows, whatever the cut into blocks.
-use Rattle.std.specs.Prelude.{◌≡◌, refl, ℕ, ◌<◌, Option, None, Some, Result, Ok, Err, OnOk, List, [], ◌∷◌, ◌++◌, map, length, take}
+use Rattle.std.specs.Prelude.{◌≡◌, refl, ℕ, Option, None, Some, Result, Ok, Err, OnOk, List, [], ◌∷◌, ◌++◌, take}
 use Rattle.std.specs.Io.KnownBytes.{Consumes, Appends, IsAtEnd}
-use Rattle.std.proofs.Common.{ap, sym, subst, ◌∙◌, append_assoc, append-nil}
+use Rattle.std.proofs.Common.{ap, sym, ◌∙◌, append_assoc, append-nil}
 use Rattle.std.proofs.Math.Option.{none}
 use mathlib.Core.List.{map-append}
 use Rattle.listing.specs.Line.{line_numbers}
@@ -89,9 +89,9 @@ module _ {s : State} {t : Tables} {buffer : List ℕ} {left₀ left written₀ w
       let first = numbers (ended [] a) in
       let next = numbers (ended line b) in
       let all : numbers (ended [] (a ++ b)) ≡ first ++ next =
-          ap numbers (ended_append [] a b) ∙ map-append (line_numbers 8 11) (ended [] a) (ended line b) in
+      ap numbers (ended_append [] a b) ∙ map-append (line_numbers 8 11) (ended [] a) (ended line b) in
       let printed : prints_from none (first ++ next) ≡ prints_from none first ++ prints_from (group_after none first) next =
-          answers_append after_line print_of none first next in
+      answers_append after_line print_of none first next in
       record {
         beginning = a ++ b;
         read = consumes_then left₀ left left' a b so.read read.read;
@@ -112,11 +112,11 @@ module _ {s : State} {t : Tables} {buffer : List ℕ} {left₀ left written₀ w
       let first = numbers (ended [] a) in
       let last = numbers (last_line line) in
       let cut : lines a ≡ ended [] a ++ last_line line =
-          ap lines (sym (append-nil a)) ∙ sym (lines_of_blocks_are_lines (a ∷ [])) in
+      ap lines (sym (append-nil a)) ∙ sym (lines_of_blocks_are_lines (a ∷ [])) in
       let all : numbers (lines a) ≡ first ++ last =
-          ap numbers cut ∙ map-append (line_numbers 8 11) (ended [] a) (last_line line) in
+      ap numbers cut ∙ map-append (line_numbers 8 11) (ended [] a) (last_line line) in
       let printed : prints_from none (first ++ last) ≡ prints_from none first ++ prints_from (group_after none first) last =
-          answers_append after_line print_of none first last in
+      answers_append after_line print_of none first last in
       record {
         listing = a;
         read = so.read;
