@@ -1,7 +1,6 @@
 -- WHAT THE REPLAY WRITES for a listing, and what the code promises of a block of it: the text of the answers to the lines that the block ends, the
 -- group after them, and the line that it leaves open. A block may be cut anywhere (laws, `blocks_replayed`).
 use Rattle.std.specs.Prelude.{◌≡◌, List, map, ℕ, ◌*◌, ◌≤◌, length, take}
-use Rattle.std.proofs.Math.Option.{Option}
 use Rattle.listing.specs.Line.{line_numbers}
 use Rattle.listing.specs.Stream.{lines, ended, open_line, last_line}
 use Rattle.listing.specs.Held.{Held}

@@ -1,6 +1,5 @@
 -- `run` meets its contract: each turn answers a block more, and the last one the listing's end.
 use Rattle.std.proofs.Common.{◌<◌, length, arith}
-use Rattle.srt_group_shown.specs.Tables.{tables}
 use Rattle.replay_io.specs.Laws.Turns.{none_so_far, further, whole_if}
 use Rattle.replay.proofs.run.Goals as goal
 

@@ -1,25 +1,23 @@
 -- What is proved of the definitions in specs/Blocks.antt, with what the proofs need.
-use Rattle.std.specs.Prelude.{◌≡◌, refl, List, [], map, ℕ, ◌*◌, ◌≤◌, length, take}
-use Rattle.std.proofs.Common.{ap, sym, subst, ◌∙◌}
-use Rattle.std.proofs.Math.Option.{Option, none}
+use Rattle.std.specs.Prelude.{◌≡◌, List, [], map, ℕ}
+use Rattle.std.proofs.Common.{ap, ◌∙◌}
+use Rattle.std.proofs.Math.Option.{none}
 use Rattle.listing.specs.Line.{cut, line_numbers}
-use Rattle.listing.specs.Stream.{lines, joined, ended, last_line}
-use Rattle.listing.specs.Held.{Held}
+use Rattle.listing.specs.Stream.{lines, joined}
 use Rattle.listing_lines.specs.Text.{texts, LinesWritten}
 use Rattle.listing_lines.specs.Taken.{LinesTakenFrom, LastLineTaken}
 use Rattle.listing_lines.specs.Answers.{written_for_blocks}
 use Rattle.listing_lines.specs.Laws.Answers.{written_is_answers}
 use Rattle.listing_lines.specs.declared.LinesTaken.{LinesTaken}
-use Rattle.srt_group_model.specs.State.{State}
 use Rattle.srt_group_model.specs.Lent.{Lent}
 use Rattle.srt_group_model.specs.Listing.{Line, replay}
 use Rattle.srt_group_shown.specs.Tables.{Tables}
 use Rattle.srt_group.specs.declared.Group.{Group}
-use Rattle.srt_group_replay.specs.Lines.{standing, Standing}
+use Rattle.srt_group_replay.specs.Lines.{standing}
 use Rattle.replay_rows.specs.declared.rows.GroupAfter.{GroupAfter}
 use Rattle.replay_blocks.specs.declared.blocks.Answered.{Answered}
 use Rattle.replay_rows.specs.Rows.{after_line, print_of, group_after, prints_from, RowsTold}
-use Rattle.replay_blocks.specs.Blocks.{replayed, numbers, RowsAnswered, BlockAnswered, LastAnswered}
+use Rattle.replay_blocks.specs.Blocks.{replayed, RowsAnswered, BlockAnswered, LastAnswered}
 use Rattle.replay_rows.specs.Laws.Rows.{prints_are_replay}
 
 -- However a listing is cut into blocks: what is written block by block, the group and the open line carried on, is what the whole prints.

@@ -1,7 +1,7 @@
 -- What is proved of the definitions in specs/Turns.antt: block by block the text of a listing's answers grows, whatever the cut into blocks.
-use Rattle.std.specs.Prelude.{◌≡◌, refl, ℕ, ◌<◌, Option, None, Some, Result, Ok, Err, OnOk, List, [], ◌∷◌, ◌++◌, map, length, take}
+use Rattle.std.specs.Prelude.{◌≡◌, refl, ℕ, Option, None, Some, Result, Ok, Err, OnOk, List, [], ◌∷◌, ◌++◌, take}
 use Rattle.std.specs.Io.KnownBytes.{Consumes, Appends, IsAtEnd}
-use Rattle.std.proofs.Common.{ap, sym, subst, ◌∙◌, append_assoc, append-nil}
+use Rattle.std.proofs.Common.{ap, sym, ◌∙◌, append_assoc, append-nil}
 use Rattle.std.proofs.Math.Option.{none}
 use mathlib.Core.List.{map-append}
 use Rattle.listing.specs.Line.{line_numbers}

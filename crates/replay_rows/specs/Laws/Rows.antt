@@ -11,10 +11,9 @@ use Rattle.listing_lines.specs.Laws.Rows.{cut_sum, cut_one, back, cut_behind}
 use Rattle.listing_lines.specs.Laws.Answers.{answers_append}
 use Rattle.srt_group_model.specs.State.{State}
 use Rattle.srt_group_model.specs.Lent.{Lent}
-use Rattle.srt_group_model.specs.Listing.{Line, column, Told, tell, replay_from}
+use Rattle.srt_group_model.specs.Listing.{Line, Told, replay_from}
 use Rattle.srt_group_shown.specs.Tables.{Tables}
 use Rattle.srt_group.specs.declared.Group.{Group}
-use Rattle.srt_group_listing.specs.declared.Printed.{Printed}
 use Rattle.srt_group_listing.specs.Telling.{numbers_of}
 use Rattle.srt_group_replay.specs.declared.Replayed.{Replayed}
 use Rattle.srt_group_replay.specs.Lines.{standing, Standing, TellsLine}

@@ -10,7 +10,7 @@ use lib.ListN.{length, take, drop, length-set}
 use native.Mathlib.Nat.{suc-mul, zero-mul}
 use lib.Seq.{take_all}
 use Rattle.listing.specs.Column.{column}
-use Rattle.listing.specs.Line.{values, begins_with_columns}
+use Rattle.listing.specs.Line.{begins_with_columns}
 use Rattle.listing.proofs.LineLaws.{columns_too_short, columns_malformed, columns_more, values_more, columns_done, values_done, no_columns}
 use Rattle.listing.proofs.PlacedLaws.{append_nil}
 use Rattle.listing.specs.declared.Column.{Column}

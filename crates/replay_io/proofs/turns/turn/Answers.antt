@@ -1,5 +1,4 @@
 -- `turn` meets its contract: where no byte was read nothing is answered.
-use Rattle.srt_group_shown.specs.Tables.{tables}
 use Rattle.replay_io.specs.Laws.Turns.{none_replayed}
 use Rattle.replay_io.proofs.turns.turn.Goals as goal
 

@@ -1,7 +1,6 @@
 -- `tell_lines` meets its contract: each turn tells one row more.
 use native.Mathlib.Omega.{arith}
 use mathlib.Core.Path.{◌≡◌, refl, ◌∙◌}
-use Rattle.srt_group_replay.specs.Lines.{room}
 use Rattle.replay_rows.specs.Laws.Rows.{none_told, one_more_told}
 use Rattle.replay_rows.proofs.rows.tell_lines.Goals as goal
 
