@@ -6,7 +6,6 @@ use Rattle.srt_protocol.specs.declared.error.Error.{Error}
 use Rattle.srt_protocol.specs.Errors.{error_number}
 use Rattle.srt_protocol.specs.Cells.{overwritten}
 use Rattle.srt_group_model.specs.Tools.{bit}
-use Rattle.srt_group_model.specs.Guards.{Answer, no_answer}
 use Rattle.srt_group_model.specs.Answers.{member_values, shown_values, values_of}
 use Rattle.srt_group_model.specs.declared.MemberShown.{MemberShown}
 use Rattle.srt_group_looks.specs.Looks.{number_code, number_answer, optional_code, optional_answer, truth_code, truth_answer, member_code, member_answer, members_code, rows_filled}
