@@ -1,6 +1,7 @@
 // A block is read, answered and written. What a file gives or takes no contract can say; over any reader and writer it says that the bytes which
 // were read are answered (`answer_block`, `answer_last_line`), that nothing else is written, and that the group stands from block to block.
-ghost use Rattle.std.specs.Prelude.{◌≤◌, length, take, IfOk, OnOk};
+ghost use Rattle.std.specs.Prelude.{length, take, IfOk, OnOk};
+ghost use Rattle.std.specs.Io.KnownBytes.{Appends};
 ghost use Rattle.srt_group_shown.specs.Tables.{tables};
 ghost use Rattle.srt_group_replay.specs.Lines.{room, Standing};
 ghost use Rattle.replay_blocks.specs.Blocks.{Roomy};
@@ -17,6 +18,16 @@ pub struct State {
     pub made: u64,
     pub group: Group,
     pub size: usize,
+}
+
+// Writes a text, all of it or to the first error.
+fn write_text<W: Write>(to: &mut W, text: &[u8]) -> Result<(), Stopped>
+    ensures { OnOk result (Appends (W.contents to.old) (W.contents to.new) text.now) }
+{
+    match to.write_all(text) {
+        Ok(()) => Ok(()),
+        Err(error) => Err(Stopped::Writing(error)),
+    }
 }
 
 // Reads one block, answers it, and writes the text of its answers. The answer is how many bytes were read: none where the listing ended.
@@ -82,10 +93,8 @@ pub fn turn<R: Read, W: Write>(
         group: answered.group,
         size: answered.size,
     };
-    match to.write_all(&out[..end]) {
-        Ok(()) => Ok(count),
-        Err(error) => Err(Stopped::Writing(error)),
-    }
+    write_text(to, &out[..end])?;
+    Ok(count)
 }
 
 // The line that the end of the listing ends, where there is one.
@@ -132,8 +141,5 @@ pub fn finish<W: Write>(
         out,
     );
     let end = answered.end;
-    match to.write_all(&out[..end]) {
-        Ok(()) => Ok(()),
-        Err(error) => Err(Stopped::Writing(error)),
-    }
+    write_text(to, &out[..end])
 }
