@@ -25,14 +25,14 @@ pub returns-then-byte-gt57 : goal.returns-then-byte-gt57
 returns-then-byte-gt57 c =
     let l = c.loop-at in
     let bytes = c.args.bytes.now in
-    sym (digits_at_above bytes l.at (omega arith) l.value c.if-byte-lt48.false c.if-byte-gt57.true) ∙ l.invariant.2
+    sym (digits_at_above bytes l.at (omega arith) l.value (omega arith) c.if-byte-gt57.true) ∙ l.invariant.2
 
 pub returns-then-not-fits_with_digit : goal.returns-then-not-fits_with_digit
 returns-then-not-fits_with_digit c =
     let l = c.loop-at in
     let bytes = c.args.bytes.now in
     let large = ltb-false _ _ (sym c.fits_with_digit.ensures ∙ c.if-not-fits_with_digit.true) in
-    sym (digits_at_too_large bytes l.at (omega arith) l.value c.if-byte-lt48.false c.if-byte-gt57.false large) ∙ l.invariant.2
+    sym (digits_at_too_large bytes l.at (omega arith) l.value (omega arith) c.if-byte-gt57.false large) ∙ l.invariant.2
 
 pub overflow_mul-value : goal.overflow_mul-value
 overflow_mul-value c =
@@ -49,7 +49,7 @@ loop-at-preserved c =
     let l = c.loop-at in
     let bytes = c.args.bytes.now in
     let small : c.loop-at.value * 10 + (get_or c.args.bytes.now c.loop-at.at 0 - 48) < 2 ^ 64 = ltb-true _ _ (sym c.fits_with_digit.ensures ∙ c.if-not-fits_with_digit.false) in
-    (omega arith, small, sym (digits_at_digit bytes l.at (omega arith) l.value c.if-byte-lt48.false c.if-byte-gt57.false) ∙ l.invariant.2)
+    (omega arith, small, sym (digits_at_digit bytes l.at (omega arith) l.value (omega arith) c.if-byte-gt57.false) ∙ l.invariant.2)
 
 pub returns : goal.returns
 returns c =
