@@ -20,7 +20,7 @@ pub enum GroupMode {
     Backup,
 }
 
-// Words of the record (`group-of` in crates/srt_group_words/specs/Record.antt; docs/TABLES.md).
+// Words of the record (`group_of` in crates/srt_group_words/specs/Record.antt; docs/TABLES.md).
 const ID: usize = 0;
 const MODE: usize = 2;
 const PEER: usize = 3;
