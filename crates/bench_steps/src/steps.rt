@@ -8,13 +8,13 @@ ghost use Rattle.srt_group_shown.specs.Ready.{Ready};
 use srt_group::Group;
 use srt_group_collecting::collecting::MAX_VISITS;
 use srt_group_data_poll::calls;
-use srt_group_data_poll::calls::DataAnswer;
+use srt_group_data_poll::calls::GroupDataPoll;
 use srt_group_data_poll::polls::poll_data_bounded;
-use srt_group_model::{Core, Data, Identity, Sending};
-use srt_group_polls::polls::OptionalPacket;
+use srt_group_model::{Core, Data, Identity, Packet, Sending};
 use srt_group_queueing::calls as queueing_calls;
 use srt_group_queueing::queueing::queue_data;
 use srt_group_tables::history::HistoryRing;
+use srt_protocol::error::{Error, outcome_number};
 use srt_protocol::time::Timestamp;
 
 // The answers that are no sequence: no packet, and a poll that was refused.
@@ -37,7 +37,7 @@ pub struct Stepped {
 }
 
 // The leg of a step, and its sequence.
-const LEG: u64 = 4294967296;
+pub const LEG: u64 = 4294967296;
 
 // A packet of this sequence, its source time the same number.
 fn packet_of(sequence: u64) -> Data {
@@ -53,17 +53,17 @@ fn packet_of(sequence: u64) -> Data {
 }
 
 // The sequence of the packet that a poll gave.
-fn given(gave: OptionalPacket) -> u64 {
+fn given(gave: Option<Packet>) -> u64 {
     match gave {
-        OptionalPacket::Some(packet) => packet.content.sequence,
-        OptionalPacket::None => NO_PACKET,
+        Some(packet) => packet.content.sequence,
+        None => NO_PACKET,
     }
 }
 
-fn answered(answer: DataAnswer) -> u64 {
+fn answered(answer: Result<GroupDataPoll, Error>) -> u64 {
     match answer {
-        DataAnswer::Refused(_) => NOT_POLLED,
-        DataAnswer::Polled(poll) => {
+        Err(_) => NOT_POLLED,
+        Ok(poll) => {
             let packet = poll.packet;
             given(packet)
         }
@@ -118,7 +118,7 @@ fn call(
     );
     Called {
         group,
-        answer: outcome.number() as u64,
+        answer: outcome_number(outcome) as u64,
     }
 }
 
@@ -136,15 +136,12 @@ pub fn call_each(
     payload: &[u8],
     time: u64,
 ) -> Group {
-    let mut at: usize = 0;
-    while at < steps.len() {
-        let word = steps[at];
+    for word in steps.iter_mut() {
         let called = call(
-            group, members, pending, waiting, history, sources, store, output, word, payload, time,
+            group, members, pending, waiting, history, sources, store, output, *word, payload, time,
         );
         group = called.group;
-        steps[at] = called.answer;
-        at += 1;
+        *word = called.answer;
     }
     group
 }
@@ -217,7 +214,7 @@ fn step(
     );
     Stepped {
         core,
-        answer: outcome.number() as u64,
+        answer: outcome_number(outcome) as u64,
     }
 }
 
@@ -243,16 +240,13 @@ pub fn step_each(
         (tables members.old pending.old waiting.old history.now sources.now) (length store.old) used.old }
     requires output_size_in_bounds { output_size ≤ length output.old }
 {
-    let mut at: usize = 0;
-    while at < steps.len() {
-        let word = steps[at];
+    for word in steps.iter_mut() {
         let stepped = step(
             identity, core, sending, ring, members, pending, waiting, history, sources, store,
-            output, used, word, payload, time,
+            output, used, *word, payload, time,
         );
         core = stepped.core;
-        steps[at] = stepped.answer;
-        at += 1;
+        *word = stepped.answer;
     }
     core
 }

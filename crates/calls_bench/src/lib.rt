@@ -8,8 +8,7 @@ pub mod record; // record.rt: the record as a row of words
 use crate::record::{put_group, read_group};
 use bench_steps::steps::{call_each, step_each};
 use srt_group::Group;
-use srt_group_refusals::refusals::begin_poll;
-use srt_protocol::error::Outcome;
+use srt_group_refusals::refusals::LentGroup;
 
 // The steps in turn by the public calls.
 pub fn calls_run(
@@ -47,29 +46,25 @@ pub fn calls_run_valid(
     payload: &[u8],
     time: u64,
 ) -> u32 {
+    let group = read_group(record);
     let Group {
         identity,
         core,
         sending,
         ring,
-    } = read_group(record);
+    } = group;
     let mut used = [0u64; 32];
-    let begun = begin_poll(
-        identity,
-        core,
-        sending,
-        ring,
+    let lent = LentGroup {
+        group,
         members,
         pending,
         waiting,
         history,
         sources,
-        store.len(),
-        output.len(),
-        &mut used,
-    );
-    if let Outcome::Refused(error) = begun {
-        return error.number();
+    };
+    let begun = lent.begin_poll(store.len(), output.len(), &mut used);
+    if let Err(error) = begun {
+        return u32::from(error);
     }
     let after = step_each(
         identity, core, sending, ring, members, pending, waiting, history, sources, store, output,

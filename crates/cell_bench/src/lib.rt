@@ -11,13 +11,14 @@ ghost use Rattle.srt_group_shown.specs.Ready.{Ready};
 ghost use Rattle.srt_group.specs.Made.{parts_of};
 ghost use Rattle.cell_bench.specs.Made.{group_of};
 
-use cell_set::{FreeCell, free, lowest_free, take};
+use cell_set::{free, lowest_free, take};
 use srt_connection_members::pop_at;
 use srt_group::Group;
 use srt_group_members::accounts::NO_PACKETS;
 use srt_group_model::{Core, Counts, Data, Identity, Receiving, Sending, Visit};
 use srt_group_queueing::queueing::queue_data;
 use srt_group_tables::history::HistoryRing;
+use srt_protocol::error::outcome_number;
 use srt_protocol::received_payload::MAX_CELLS;
 use srt_protocol::time::Timestamp;
 
@@ -28,8 +29,8 @@ pub extern "C" fn set_lowest(used: &[u64], cells: usize) -> usize
 {
     let found = lowest_free(used, cells);
     match found {
-        FreeCell::Cell(cell) => cell,
-        FreeCell::Full => MAX_CELLS,
+        Some(cell) => cell,
+        None => MAX_CELLS,
     }
 }
 
@@ -134,7 +135,7 @@ pub extern "C" fn queue_one(
         content,
         payload,
     );
-    outcome.number()
+    outcome_number(outcome)
 }
 
 // The front event goes, and its cell is free again.

@@ -1,12 +1,9 @@
 -- A set of cells in set-size words, a bit to each, and what taking, freeing and searching do to it. `occurs` is the model's:
 -- how often a cell is named.
-use Rattle.std.specs.Prelude.{◌≡◌, true, false, List, ℕ, ◌-◌, ◌*◌, ◌^◌, ◌≤◌, ◌<◌, eqb, length, get_or}
-use Rattle.std.proofs.Math.Option.{Option, none, some}
+use Rattle.std.specs.Prelude.{◌≡◌, true, false, List, ℕ, ◌-◌, ◌*◌, ◌^◌, ◌≤◌, ◌<◌, eqb, length, get_or, None, Option, Some}
 use Rattle.srt_group_model.specs.Cells.{is_among, lowest_free}
 use Rattle.srt_group_model.specs.Sound.{occurs}
 use Rattle.cell_set.specs.Bits.{set_size, bit_at}
-use Rattle.cell_set.specs.declared.FreeCell.{FreeCell}
-use Rattle.cell_set.specs.declared.FreeCell.TheVariants.{Cell, Full}
 
 -- ---- definitions
 
@@ -27,18 +24,14 @@ pub record Freed (cells before after : List ℕ) : Type 0 where
   pub gone : (n : ℕ) → is_among n cells ≡ true → bit_at after n ≡ 0
   pub others : (n : ℕ) → is_among n cells ≡ false → bit_at after n ≡ bit_at before n
 
-abbrev pub free_cell_of : Option ℕ → FreeCell
-free_cell_of none = Full
-free_cell_of (some c) = Cell c
-
 -- the cell that is found lies in the store, and is free
-abbrev pub CanTake : List ℕ → ℕ → FreeCell → Type 0
-CanTake words cells Full = Unit {0}
-CanTake words cells (Cell c) = (c < cells) × (bit_at words c ≡ 0)
+abbrev pub CanTake : List ℕ → ℕ → Option ℕ → Type 0
+CanTake words cells None = Unit {0}
+CanTake words cells (Some c) = (c < cells) × (bit_at words c ≡ 0)
 
-pub record LowestFree (words : List ℕ) (cells : ℕ) (r : FreeCell) : Type 0 where
+pub record LowestFree (words : List ℕ) (cells : ℕ) (r : Option ℕ) : Type 0 where
   pub free : CanTake words cells r
-  pub is : (named : List ℕ) → ShowsCells words named → r ≡ free_cell_of (lowest_free cells 0 named)
+  pub is : (named : List ℕ) → ShowsCells words named → r ≡ lowest_free cells 0 named
 
 -- ---- the search
 

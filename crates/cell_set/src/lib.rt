@@ -16,13 +16,7 @@ pub const WORDS: usize = MAX_CELLS / 64;
 // A word whose cells are all taken.
 const FULL: u64 = 0xffff_ffff_ffff_ffff;
 
-// The lowest free cell, or that none is free.
-#[derive(Clone, Copy)]
-pub enum FreeCell {
-    Cell(usize),
-    Full,
-}
-
+#[tactic(auto, unfolding(crate::specs::Bits::bit, crate::specs::Bits::bit_at))]
 pub fn is_used(used: &[u64], cell: usize) -> bool
     requires { (length used.now ≡ set_size) × (cell < max_cells) }
     ensures { result ≡ eqb (bit_at used.now cell) 1 }
@@ -52,6 +46,7 @@ pub fn free(used: &mut [u64], cell: usize)
 }
 
 // Marks a cell in the pass of code 6: one that is beyond the store, or named before, is refused.
+#[tactic(auto, using(crate::specs::Laws::Marks::beyond_refused, crate::specs::Laws::Marks::again_refused, crate::specs::Laws::Marks::cell_marked))]
 pub fn mark(used: &mut [u64], cells: usize, cell: u64) -> bool
     requires { Marking cells used.old }
     ensures { Marks cells (cell ∷ []) used.old result used.new }
@@ -72,11 +67,7 @@ pub fn clear(used: &mut [u64])
     requires { length used.old ≡ set_size }
     ensures { ShowsCells used.new [] }
 {
-    let mut at: usize = 0;
-    while at < WORDS {
-        used[at] = 0;
-        at += 1;
-    }
+    used.fill(0);
 }
 
 // The first word that is not full, or WORDS.
@@ -84,28 +75,22 @@ fn first_word(used: &[u64]) -> usize
     requires { length used.now ≡ set_size }
     ensures { FirstWord used.now result }
 {
-    let mut at: usize = 0;
-    while at < WORDS {
-        if used[at] != FULL {
-            return at;
-        }
-        at += 1;
-    }
-    WORDS
+    used.iter().position(|word| *word != FULL).unwrap_or(WORDS)
 }
 
 // The lowest of so many cells that is free: where the trailing ones of the first word end that is not full.
-pub fn lowest_free(used: &[u64], cells: usize) -> FreeCell
+#[tactic(auto, using(crate::specs::Laws::Sets::ones_inside))]
+pub fn lowest_free(used: &[u64], cells: usize) -> Option<usize>
     requires { (length used.now ≡ set_size) × (cells ≤ max_cells) }
     ensures { LowestFree used.now cells result }
 {
     let at = first_word(used);
     if WORDS <= at {
-        return FreeCell::Full;
+        return None;
     }
     let cell = at * 64 + u64::trailing_zeros(!used[at]) as usize;
     if cell < cells {
-        return FreeCell::Cell(cell);
+        return Some(cell);
     }
-    FreeCell::Full
+    None
 }

@@ -9,7 +9,7 @@
 
 ghost use Rattle.std.specs.Prelude.{◌≤◌, length, IfOk};
 
-use listing::{Line, Written};
+use listing::MalformedLine;
 use srt_protocol::time::Timestamp;
 use srt_protocol::{srt_handshake, srt_packet};
 use std::io;
@@ -17,111 +17,80 @@ use std::io::{Read, Write};
 
 const WIDTH: usize = 21;
 
-// An answer, or that there is none.
-#[derive(Clone, Copy)]
-enum Answer {
-    Number(u64),
-    OutOfRange,
-}
-
-fn as_number(yes: bool) -> Answer {
-    if yes {
-        Answer::Number(1)
-    } else {
-        Answer::Number(0)
-    }
-}
-
 // An operation on two sequence numbers, or on an id.
-fn run_on_numbers(operation: u64, a: u32, b: u32) -> Answer {
+fn run_on_numbers(operation: u64, a: u32, b: u32) -> bool {
     if operation == 1 {
-        return as_number(srt_packet::sequence_less_than(a, b));
+        return srt_packet::sequence_less_than(a, b);
     }
-    as_number(srt_handshake::is_group_id(a as u64))
+    srt_handshake::is_group_id(u64::from(a))
 }
 
-// 1: a is before b. 2: microseconds from b to a. 3: b microseconds after a. 4: a is a group's id.
-fn run_leaf(operation: u64, a: u64, b: u64) -> Answer {
-    if operation == 2 {
-        return Answer::Number(Timestamp(a).saturating_sub(Timestamp(b)));
+// 1: a is before b. 2: microseconds from b to a. 3: b microseconds after a. 4: a is a group's id. No answer is there for an
+// unknown operation or an argument beyond its range.
+fn run_leaf(operation: u64, a: u64, b: u64) -> Option<u64> {
+    match operation {
+        1 | 4 => {
+            let a = u32::try_from(a).ok()?;
+            let b = u32::try_from(b).ok()?;
+            Some(u64::from(run_on_numbers(operation, a, b)))
+        }
+        2 => Some(Timestamp(a).saturating_sub(Timestamp(b))),
+        3 => Some(Timestamp(a).add_micros(b).0),
+        _ => None,
     }
-    if operation == 3 {
-        return Answer::Number(Timestamp(a).add_micros(b).0);
-    }
-    if operation == 0 || 4 < operation || 0xFFFF_FFFF < a || 0xFFFF_FFFF < b {
-        return Answer::OutOfRange;
-    }
-    run_on_numbers(operation, a as u32, b as u32)
 }
 
 // Writes two numbers as a line at a place, and gives the place after it. What has no room is not written.
 fn write_pair(out: &mut [u8], at: usize, first: u64, second: u64) -> usize {
-    let pair = [first, second];
-    let Written::End(end) = listing::write_line(out, at, WIDTH, &pair) else {
-        return at;
-    };
-    end
+    listing::write_line(out, at, WIDTH, &[first, second]).unwrap_or(at)
 }
 
 // Writes the answer of one line at a place, and gives the place after it.
-fn write_answer(out: &mut [u8], at: usize, operation: u64, answer: Answer) -> usize {
+fn write_answer(out: &mut [u8], at: usize, operation: u64, answer: Option<u64>) -> usize {
     match answer {
-        Answer::Number(number) => write_pair(out, at, operation, number),
-        Answer::OutOfRange => write_pair(out, at, 0, 2),
+        Some(number) => write_pair(out, at, operation, number),
+        None => write_pair(out, at, 0, 2),
     }
 }
 
+// The answer of a line that a buffer holds, at a place, and the place after it.
 fn answer_line(line: &[u8], size: usize, out: &mut [u8], at: usize) -> usize {
     let mut numbers = [0u64; 3];
-    let Line::Numbers = listing::read_held_line(line, size, WIDTH, &mut numbers) else {
-        return write_answer(out, at, 0, Answer::OutOfRange);
+    let answer = match listing::read_held_line(line, size, WIDTH, &mut numbers) {
+        Ok(()) => run_leaf(numbers[0], numbers[1], numbers[2]),
+        Err(MalformedLine) => None,
     };
-    write_answer(
-        out,
-        at,
-        numbers[0],
-        run_leaf(numbers[0], numbers[1], numbers[2]),
-    )
+    write_answer(out, at, numbers[0], answer)
 }
 
-// How far the input is read and the output written.
-#[derive(Clone, Copy)]
-struct Places {
-    input: usize,
-    output: usize,
-}
-
-// The answer of the line that starts at a place of the block.
-fn answer_next(block: &[u8], out: &mut [u8], places: Places) -> Places {
+// The answer of a block's first line, at a place: the block behind it, and the place after the answer.
+fn answer_next<'a>(block: &'a [u8], out: &mut [u8], at: usize) -> (&'a [u8], usize) {
     let mut line = [0u8; 64];
-    let taken = listing::take_line(block, places.input, &mut line, 0);
-    Places {
-        input: taken.next,
-        output: answer_line(&line, taken.size, out, places.output),
-    }
+    let taken = listing::take_line(block, &mut line, 0);
+    let end = answer_line(&line, taken.size, out, at);
+    (taken.rest.unwrap_or(&[]), end)
 }
 
 // The answers of all lines of a block, from the start of an output. There are no more lines than bytes.
 fn answer_lines(block: &[u8], out: &mut [u8]) -> usize {
-    let mut places = Places {
-        input: 0,
-        output: 0,
-    };
-    let mut lines: usize = 0;
-    while lines < block.len() {
-        if block.len() <= places.input {
-            return places.output;
+    let mut rest = block;
+    let mut end: usize = 0;
+    for _ in 0..block.len() {
+        if rest.is_empty() {
+            break;
         }
-        places = answer_next(block, out, places);
-        lines += 1;
+        let next = answer_next(rest, out, end);
+        rest = next.0;
+        end = next.1;
     }
-    places.output
+    end
 }
 
 // Reads until the buffer is full or the input ends, and gives how many bytes stand at the buffer's start.
 fn read_full(input: &mut impl Read, buffer: &mut [u8]) -> io::Result<usize>
     ensures { IfOk result (λ size. size ≤ length buffer.new) }
 {
+    // A read gives any number of bytes, and no method of the library fills a buffer or stops at the input's end.
     let mut size: usize = 0;
     while size < buffer.len() {
         let got = input.read(&mut buffer[size..])?;

@@ -12,11 +12,8 @@ use lib.Seq.{drop-drop, take-suc-set, append_snoc}
 use borrow.Author.Tests.{le-leb, lt-leb, eq-eqb, ne_eqb, leb-true, eqb-true, eqb-false}
 use Rattle.listing.proofs.Cases.{by_cases}
 use Rattle.listing.specs.Column.{column}
-use Rattle.listing.specs.Line.{cut, all_numbers, values, begins_with_columns, well_formed, line_numbers, LineRead, ColumnsRead}
-use Rattle.listing.specs.declared.Column.TheVariants.{Number, Malformed}
-use Rattle.listing.specs.declared.Columns.{Columns}
-use Rattle.listing.specs.declared.Columns.TheVariants.{UpTo, NoColumns}
-use Rattle.listing.specs.declared.Line.TheVariants.{Numbers, MalformedLine}
+use Rattle.listing.specs.Line.{cut, all_numbers, values, begins_with_columns, well_formed, line_numbers, line_answer, LineRead, ColumnsRead}
+use Rattle.std.specs.Prelude.{Option, Some, None}
 
 -- a test that holds where another does, and the other way round, has the same answer
 same_test : (a b : Bool) → (a ≡ true → b ≡ true) → (b ≡ true → a ≡ true) → a ≡ b
@@ -34,12 +31,12 @@ begins_too_short count width bytes h =
     let short : length bytes < suc count * width = omega (arith, suc-mul count width) in
     rw (lt-leb _ _ short)
 
-begins_malformed : (count width : ℕ) (bytes : List ℕ) → column (take width bytes) ≡ Malformed → begins_with_columns (suc count) width bytes ≡ false
+begins_malformed : (count width : ℕ) (bytes : List ℕ) → column (take width bytes) ≡ None → begins_with_columns (suc count) width bytes ≡ false
 unfolding begins_with_columns all_numbers cut
 begins_malformed count width bytes e = rw e (and-false (leb (suc count * width) (length bytes)))
 
 begins_with_number :
-    (count width value : ℕ) (bytes : List ℕ) → width ≤ length bytes → column (take width bytes) ≡ Number value
+    (count width value : ℕ) (bytes : List ℕ) → width ≤ length bytes → column (take width bytes) ≡ Some value
     → begins_with_columns (suc count) width bytes ≡ begins_with_columns count width (drop width bytes)
 unfolding begins_with_columns all_numbers cut
 begins_with_number count width value bytes h e =
@@ -52,7 +49,7 @@ begins_with_number count width value bytes h e =
     rw (e, room)
 
 values_with_number :
-    (count width value : ℕ) (bytes : List ℕ) → column (take width bytes) ≡ Number value
+    (count width value : ℕ) (bytes : List ℕ) → column (take width bytes) ≡ Some value
     → values (cut (suc count) width bytes) ≡ value ∷ values (cut count width (drop width bytes))
 unfolding values cut
 values_with_number count width value bytes e = rw e
@@ -66,13 +63,13 @@ module _ (count width : ℕ) (bytes : List ℕ) (at index : ℕ) (more : index <
       rw one (begins_too_short (count - (index + 1)) width (drop at bytes) (omega arith))
 
   pub columns_malformed :
-      column (take width (drop at bytes)) ≡ Malformed → begins_with_columns (count - index) width (drop at bytes) ≡ false
+      column (take width (drop at bytes)) ≡ None → begins_with_columns (count - index) width (drop at bytes) ≡ false
   columns_malformed e =
       let one : count - index ≡ suc (count - (index + 1)) = omega arith in
       rw one (begins_malformed (count - (index + 1)) width (drop at bytes) e)
 
   pub columns_more :
-      (value : ℕ) → width ≤ length bytes - at → column (take width (drop at bytes)) ≡ Number value
+      (value : ℕ) → width ≤ length bytes - at → column (take width (drop at bytes)) ≡ Some value
       → begins_with_columns (count - index) width (drop at bytes)
       ≡ begins_with_columns (count - (index + 1)) width (drop (at + width) bytes)
   columns_more value h e =
@@ -81,7 +78,7 @@ module _ (count width : ℕ) (bytes : List ℕ) (at index : ℕ) (more : index <
       rw (one, ← drop-drop width at bytes) (begins_with_number (count - (index + 1)) width value (drop at bytes) (omega arith) e)
 
   pub values_more :
-      (value : ℕ) (numbers : List ℕ) → index < length numbers → column (take width (drop at bytes)) ≡ Number value
+      (value : ℕ) (numbers : List ℕ) → index < length numbers → column (take width (drop at bytes)) ≡ Some value
       → take index numbers ++ values (cut (count - index) width (drop at bytes))
       ≡ take (index + 1) (set numbers index value) ++ values (cut (count - (index + 1)) width (drop (at + width) bytes))
   values_more value numbers h e =
@@ -100,21 +97,21 @@ values_done count width bytes at index h = let none : count - index ≡ 0 = omeg
 
 -- what the answer of `read_columns` says
 module _ (width : ℕ) (bytes numbers after : List ℕ) where
-  pub no_columns : begins_with_columns (length numbers) width bytes ≡ false → ColumnsRead width bytes numbers after NoColumns
+  pub no_columns : begins_with_columns (length numbers) width bytes ≡ false → ColumnsRead width bytes numbers after None
   no_columns e = record { end = rw e; put = λ t. absurd (true≢false (sym t ∙ e)) }
 
   pub columns_end :
-      (answer : Columns) (end : ℕ) → ColumnsRead width bytes numbers after answer → answer ≡ UpTo end
+      (answer : Option ℕ) (end : ℕ) → ColumnsRead width bytes numbers after answer → answer ≡ Some end
       → (begins_with_columns (length numbers) width bytes ≡ true) × (end ≡ length numbers * width)
   columns_end answer end r e = by_cases (begins_with_columns (length numbers) width bytes)
-      (λ t. let same : UpTo end ≡ UpTo (length numbers * width) = sym e ∙ (r.end ∙ rw t) in (t, cc))
-      (λ f. let never : UpTo end ≡ NoColumns = sym e ∙ (r.end ∙ rw f) in let z : ◌≡◌ {A = ℕ} 0 1 = cc in absurd (omega arith))
+      (λ t. let same : Some end ≡ Some (length numbers * width) = sym e ∙ (r.end ∙ rw t) in (t, cc))
+      (λ f. let never : Some end ≡ None = sym e ∙ (r.end ∙ rw f) in let z : ◌≡◌ {A = ℕ} 0 1 = cc in absurd (omega arith))
 
   pub columns_refused :
-      (answer : Columns) → ColumnsRead width bytes numbers after answer → answer ≡ NoColumns
+      (answer : Option ℕ) → ColumnsRead width bytes numbers after answer → answer ≡ None
       → begins_with_columns (length numbers) width bytes ≡ false
   columns_refused answer r e = by_cases (begins_with_columns (length numbers) width bytes)
-      (λ t. let never : UpTo (length numbers * width) ≡ NoColumns = sym (r.end ∙ rw t) ∙ e in let z : ◌≡◌ {A = ℕ} 0 1 = cc in absurd (omega arith))
+      (λ t. let never : Some (length numbers * width) ≡ None = sym (r.end ∙ rw t) ∙ e in let z : ◌≡◌ {A = ℕ} 0 1 = cc in absurd (omega arith))
       (λ f. f)
 
 -- a line of its columns' length is well-formed where it begins with its columns
@@ -136,14 +133,14 @@ not_well_formed count width bytes h = by_cases (eqb (length bytes) (count * widt
 -- a malformed line reads as zeros
 pub malformed_line :
     (width : ℕ) (bytes numbers : List ℕ) → well_formed (length numbers) width bytes ≡ false
-    → LineRead width bytes numbers (replicate (length numbers) 0) MalformedLine
+    → LineRead width bytes numbers (replicate (length numbers) 0) (line_answer false)
 unfolding line_numbers
 malformed_line width bytes numbers e = record { form = rw e; put = rw e }
 
 pub line_of_columns :
     (width : ℕ) (bytes numbers after : List ℕ) → length bytes ≡ length numbers * width
     → begins_with_columns (length numbers) width bytes ≡ true → after ≡ values (cut (length numbers) width bytes)
-    → LineRead width bytes numbers after Numbers
+    → LineRead width bytes numbers after (line_answer true)
 unfolding line_numbers
 line_of_columns width bytes numbers after e t put =
     let well : well_formed (length numbers) width bytes ≡ true = well_formed_begins (length numbers) width bytes e ∙ t in

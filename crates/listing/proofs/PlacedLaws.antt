@@ -8,10 +8,10 @@ use lib.Dec.{leb}
 use borrow.Author.Tests.{le-leb, lt-leb}
 use mathlib.Core.Path.{◌≡◌, refl, ap, sym, subst, ◌∙◌}
 use mathlib.Core.List.{List, [], ◌∷◌, ◌++◌, append_assoc}
-use lib.ListN.{length, take, drop, get_or, set, replicate, length-append, length-drop, length-set, length-replicate, replicate-append-replicate, take-append-drop}
-use lib.Seq.{append_snoc, drop-cons, drop-set-lt, get_or-set_same, take-set-le, length-take-le, take-suc, take_at, drop-length, drop-append-add, drop-drop, set_split}
+use lib.ListN.{length, take, drop, set, length-append, length-drop, length-set, take-append-drop}
+use lib.Seq.{append_snoc, drop-cons, drop-set-lt, get_or-set_same, take-set-le, length-take-le, take_at, drop-append-add, drop-drop, set_split}
 use Rattle.listing.specs.Placed.{placed, Placed, PlacedOrRefused}
-use Rattle.listing.specs.declared.Written.TheVariants.{End, NoRoom}
+use Rattle.std.specs.Prelude.{Some, None}
 
 pub append_nil : (s : List ℕ) → s ++ [] ≡ s
 append_nil [] = refl
@@ -22,6 +22,15 @@ unfolding placed
 length_placed buffer at text h =
     let inside : at ≤ length buffer = omega arith in
     simp (length-append, length-drop, length-take-le at buffer inside) (omega arith)
+
+-- a part of a buffer with a text in its place
+pub placed_part :
+    (buffer : List ℕ) (at end : ℕ) (text part : List ℕ) → end ≡ at + length text → part ≡ text
+    → take at buffer ++ (part ++ drop (end - at) (drop at buffer)) ≡ placed buffer at text
+unfolding placed
+placed_part buffer at end text part e f =
+    let behind : at + (end - at) ≡ at + length text = omega arith in
+    rw (f, drop-drop (end - at) at buffer, behind)
 
 pub placed_nothing : (buffer : List ℕ) (at : ℕ) → placed buffer at [] ≡ buffer
 unfolding placed
@@ -76,33 +85,6 @@ placed_byte_more buffer at text byte h =
     let long : length (placed buffer at text) ≡ length buffer = length_placed buffer at text (omega arith) in
     set_placed (placed buffer at text) (at + length text) byte (omega arith) ∙ placed_behind buffer at text (byte ∷ []) (omega arith)
 
--- one more of equal bytes behind those that are placed
-pub placed_one_more :
-    (buffer : List ℕ) (at count byte : ℕ) → at + count < length buffer
-    → set (placed buffer at (replicate count byte)) (at + count) byte ≡ placed buffer at (replicate (count + 1) byte)
-placed_one_more buffer at count byte h =
-    let long = length-replicate count byte in
-    let here : at + length (replicate count byte) ≡ at + count = omega arith in
-    let more : replicate count byte ++ (byte ∷ []) ≡ replicate (count + 1) byte = replicate-append-replicate count 1 byte in
-    rw (← here, ← more) (placed_byte_more buffer at (replicate count byte) byte (omega arith))
-
--- one more of some bytes behind those that are placed
-pub placed_next :
-    (buffer : List ℕ) (at : ℕ) (bytes : List ℕ) (index : ℕ) → index < length bytes → at + index < length buffer
-    → set (placed buffer at (take index bytes)) (at + index) (get_or bytes index 0) ≡ placed buffer at (take (index + 1) bytes)
-placed_next buffer at bytes index g h =
-    let long : length (take index bytes) ≡ index = length-take-le index bytes (omega arith) in
-    let here : at + length (take index bytes) ≡ at + index = omega arith in
-    let more : take index bytes ++ (get_or bytes index 0 ∷ []) ≡ take (index + 1) bytes = rw add-one (sym (take-suc bytes index 0 g)) in
-    rw (← here, ← more) (placed_byte_more buffer at (take index bytes) (get_or bytes index 0) (omega arith))
-
--- a text as long as the buffer, placed at its start, is the whole
-pub placed_whole : (buffer text : List ℕ) → length text ≡ length buffer → placed buffer 0 text ≡ text
-unfolding placed
-placed_whole buffer text e =
-    let end : 0 + length text ≡ length buffer = omega arith in
-    rw (end, drop-length buffer) (append_nil text)
-
 -- a text's last byte stored first, and the rest of the text placed before it
 pub placed_last_byte_first :
     (buffer : List ℕ) (end : ℕ) (text : List ℕ) (byte : ℕ) → length text < end → end ≤ length buffer
@@ -124,13 +106,13 @@ placed_last_byte_first buffer end text byte h g =
 -- what is answered of a text that has room, and of one that has none
 pub text_placed :
     (buffer : List ℕ) (at : ℕ) (text after : List ℕ) (end : ℕ) → at + length text ≤ length buffer
-    → Placed buffer at text after end → PlacedOrRefused buffer at text after (End end)
+    → Placed buffer at text after end → PlacedOrRefused buffer at text after (Some end)
 text_placed buffer at text after end h p =
     let room : leb (at + length text) (length buffer) ≡ true = le-leb _ _ h in
-    record { bytes = rw room p.bytes; end_of = rw room (ap End p.end_of) }
+    record { bytes = rw room p.bytes; end_of = rw room (ap Some p.end_of) }
 
 pub text_refused :
-    (buffer : List ℕ) (at : ℕ) (text : List ℕ) → length buffer < at + length text → PlacedOrRefused buffer at text buffer NoRoom
+    (buffer : List ℕ) (at : ℕ) (text : List ℕ) → length buffer < at + length text → PlacedOrRefused buffer at text buffer None
 text_refused buffer at text h =
     let no_room : leb (at + length text) (length buffer) ≡ false = lt-leb _ _ h in
     record { bytes = rw no_room; end_of = rw no_room }

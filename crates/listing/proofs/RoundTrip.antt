@@ -12,12 +12,12 @@ use lib.Seq.{append_snoc}
 use borrow.Author.Tests.{lt-ltb, le-leb, ne_eqb, ltb-true, ltb-false, leb-true, eqb-true, eqb-false}
 use Rattle.listing.proofs.Cases.{by_cases}
 use Rattle.listing.proofs.ColumnLaws.{value_of_digit_more}
-use Rattle.listing.proofs.TextLaws.{leading_digits, digits_of_one, digits_of_more, digits_by_last}
+use Rattle.listing.proofs.TextLaws.{digits_of_one, digits_of_more, digits_some}
 use Rattle.listing.proofs.PlacedLaws.{append_nil}
 use Rattle.listing.proofs.WholeLaws.{both}
 use Rattle.listing.specs.Column.{is_digit, after_spaces, all_digits, decimal_value, digits_read, number_in_64_bits, column}
 use Rattle.listing.specs.Text.{digits, right_justified}
-use Rattle.listing.specs.declared.Column.TheVariants.{Number, Malformed}
+use Rattle.std.specs.Prelude.{Some, None}
 
 -- a digit behind digits
 all_digits_snoc : (bytes : List ℕ) (digit : ℕ) → digit < 10 → all_digits bytes ≡ true → all_digits (bytes ++ ((digit + 48) ∷ [])) ≡ true
@@ -62,9 +62,6 @@ digits_facts (suc most) number h = by_cases (ltb number 10)
     no_value_before : (number : ℕ) → decimal_value [] * 10 + number ≡ number
     no_value_before number = omega arith
 
-digits_some : (number : ℕ) → 0 < length (digits number)
-digits_some number = rw (digits_by_last number) (omega (arith, length-append (leading_digits (number / 10)) ((number % 10 + 48) ∷ [])))
-
 -- spaces before what begins with a digit
 after_spaces_digits : (count : ℕ) (bytes : List ℕ) → all_digits bytes ≡ true → 0 < length bytes → after_spaces (replicate count 32 ++ bytes) ≡ bytes
 unfolding after_spaces all_digits
@@ -82,7 +79,7 @@ digits_read_some [] e h = absurd (omega arith)
 digits_read_some (byte ∷ bytes) e h = rw e
 
 -- reading what was written gives the number back
-pub column_of_number : (width number : ℕ) → number < 2 ^ 64 → column (right_justified width number) ≡ Number number
+pub column_of_number : (width number : ℕ) → number < 2 ^ 64 → column (right_justified width number) ≡ Some number
 unfolding column right_justified
 column_of_number width number h =
     let facts = digits_facts (suc number) number (omega arith) in
@@ -150,26 +147,26 @@ unfoldable pub NoLeadingZeros : List ℕ → Type 0
 NoLeadingZeros [] = Unit {0}
 NoLeadingZeros (byte ∷ bytes) = byte ≡ 48 → bytes ≡ []
 
-read_back : (bytes : List ℕ) (number : ℕ) → digits_read bytes ≡ Number number → NoLeadingZeros bytes → digits number ≡ bytes
+read_back : (bytes : List ℕ) (number : ℕ) → digits_read bytes ≡ Some number → NoLeadingZeros bytes → digits number ≡ bytes
 unfolding digits_read NoLeadingZeros
 read_back [] number e z = let zero_one : ◌≡◌ {A = ℕ} 0 1 = cc in absurd (omega arith)
 read_back (byte ∷ bytes) number e z = by_cases (all_digits (byte ∷ bytes))
     (λ t. by_cases (ltb (decimal_value (byte ∷ bytes)) (2 ^ 64))
     (λ fits.
-    let there : Number (decimal_value (byte ∷ bytes)) ≡ Number number = rw (t, fits) at e in
+    let there : Some (decimal_value (byte ∷ bytes)) ≡ Some number = rw (t, fits) at e in
     let value : decimal_value (byte ∷ bytes) ≡ number = cc in
     ap digits (sym value) ∙ digits_of_value byte bytes t z)
     (λ large.
-    let never : Malformed ≡ Number number = rw (t, large) at e in
+    let never : None ≡ Some number = rw (t, large) at e in
     let zero_one : ◌≡◌ {A = ℕ} 0 1 = cc in
     absurd (omega arith)))
     (λ f.
-    let never : Malformed ≡ Number number = rw f at e in
+    let never : None ≡ Some number = rw f at e in
     let zero_one : ◌≡◌ {A = ℕ} 0 1 = cc in
     absurd (omega arith))
 
 -- writing what was read from a column without leading zeros gives the bytes back
-pub number_of_column : (bytes : List ℕ) (number : ℕ) → column bytes ≡ Number number → NoLeadingZeros (after_spaces bytes) → right_justified (length bytes) number ≡ bytes
+pub number_of_column : (bytes : List ℕ) (number : ℕ) → column bytes ≡ Some number → NoLeadingZeros (after_spaces bytes) → right_justified (length bytes) number ≡ bytes
 unfolding column right_justified
 number_of_column bytes number e no_zeros =
     let same : digits number ≡ after_spaces bytes = read_back (after_spaces bytes) number e no_zeros in

@@ -2,63 +2,63 @@
 use Prim.Native.Nat.{ℕ, suc, ◌+◌, ◌-◌, ◌<◌, ◌≤◌}
 use native.Mathlib.Omega.{arith}
 use mathlib.Core.Bool.{true, false, true≢false}
-use mathlib.Core.Path.{◌≡◌, refl, ap, sym, ◌∙◌}
+use mathlib.Core.Path.{◌≡◌, refl, subst, ap, sym, ◌∙◌}
 use mathlib.Core.List.{List, [], ◌∷◌, ◌++◌, append_assoc}
 use lib.Dec.{leb, eqb}
-use lib.ListN.{length, take, drop, get_or, length-append, length-drop, drop_of_length-le}
-use lib.Seq.{append_snoc, take-suc, get_or-drop, length-take-le}
-use borrow.Author.Tests.{eq-eqb, ne_eqb, leb-true, leb-false}
+use lib.ListN.{length, take, drop, length-append, drop_of_length-le}
+use lib.Seq.{append_snoc, length-take-le}
+use Rattle.std.specs.Prelude.{nat_eq, nat_lt, Some, None}
+use Rattle.std.specs.List.{position, position_or_len}
+use Rattle.std.proofs.lemmas.Option.{cond_some, none-some}
+use borrow.Author.Tests.{ltb-true, ltb-false, leb-true, leb-false}
 use Rattle.listing.proofs.Cases.{by_cases}
-use Rattle.listing.proofs.ColumnLaws.{drop_at_byte, drop_at_end}
 use Rattle.listing.proofs.PlacedLaws.{append_nil, upto_placed, length_placed}
 use Rattle.listing.specs.Placed.{placed}
 use Rattle.listing.specs.Stream.{lines, in_front, joined, has_feed, first_line, after_feed, ended, open_line, last_line}
 use Rattle.listing.specs.Laws.Stream.{lines_of_blocks}
 use Rattle.listing.specs.Held.{Held}
 
--- the byte at a place of a block, where it is a line feed and where not
-module _ (block : List ℕ) (at : ℕ) (inside : at < length block) where
-  pub has_feed_here : get_or block at 0 ≡ 10 → has_feed (drop at block) ≡ true
-  unfolding has_feed
-  has_feed_here e = rw (drop_at_byte block at inside, eq-eqb _ _ e)
+-- the place of a stream's first line feed, or its end where it has none
+pub record FeedIn (stream : List ℕ) (at : ℕ) : Type 0 where
+  pub inside : at ≤ length stream
+  pub before : take at stream ≡ first_line stream
+  pub feed : at < length stream → has_feed stream ≡ true
+  pub none : at ≡ length stream → has_feed stream ≡ false
+  pub rest : at < length stream → drop (at + 1) stream ≡ after_feed stream
 
-  pub first_line_here : get_or block at 0 ≡ 10 → first_line (drop at block) ≡ []
-  unfolding first_line
-  first_line_here e = rw (drop_at_byte block at inside, eq-eqb _ _ e)
+feed_later : (byte : ℕ) (stream : List ℕ) (at : ℕ) → eqb byte 10 ≡ false → FeedIn stream at → FeedIn (byte ∷ stream) (suc at)
+unfolding has_feed first_line after_feed
+feed_later byte stream at f later =
+    record {
+      inside = omega (arith, later.inside);
+      before = rw (f, later.before);
+      feed = λ h. rw f (later.feed (omega arith));
+      none = λ h. rw f (later.none (omega arith));
+      rest = λ h. let next : suc at + 1 ≡ suc (at + 1) = omega arith in rw (f, next) (later.rest (omega arith));
+    }
 
-  pub after_feed_here : get_or block at 0 ≡ 10 → after_feed (drop at block) ≡ drop (at + 1) block
-  unfolding after_feed
-  after_feed_here e = rw (drop_at_byte block at inside, eq-eqb _ _ e)
+pub feed_found : (stream : List ℕ) → FeedIn stream (position_or_len (λ byte. nat_eq byte 10) stream)
+unfolding has_feed first_line after_feed
+feed_found [] = record { inside = omega arith; before = refl; feed = λ h. absurd (omega arith); none = λ h. refl; rest = λ h. absurd (omega arith) }
+feed_found (byte ∷ stream) = by_cases (eqb byte 10)
+    (λ t. rw t (record { inside = omega arith; before = rw t; feed = λ h. rw t; none = λ h. absurd (omega arith); rest = λ h. rw t }))
+    (λ f.
+    let one : 1 + position_or_len (λ b. nat_eq b 10) stream ≡ suc (position_or_len (λ b. nat_eq b 10) stream) = omega arith in
+    rw (f, one) (feed_later byte stream _ f (feed_found stream)))
 
-  pub has_feed_later : (get_or block at 0 ≡ 10 → ⊥) → has_feed (drop at block) ≡ has_feed (drop (at + 1) block)
-  unfolding has_feed
-  has_feed_later e = rw (drop_at_byte block at inside, ne_eqb _ _ e)
+-- where the place of the first line feed is known, and where there is none
+pub feed_at : (stream : List ℕ) (at : ℕ) → position (λ byte. nat_eq byte 10) stream ≡ Some at → FeedIn stream at × (at < length stream)
+feed_at stream at e =
+    let parts = cond_some (nat_lt (position_or_len (λ byte. nat_eq byte 10) stream) (length stream)) (position_or_len (λ byte. nat_eq byte 10) stream) at e in
+    let here = ltb-true (position_or_len (λ byte. nat_eq byte 10) stream) (length stream) parts.0 in
+    (subst (FeedIn stream) parts.1 (feed_found stream), omega (arith, parts.1))
 
-  pub first_line_longer : (get_or block at 0 ≡ 10 → ⊥) → first_line (drop at block) ≡ get_or block at 0 ∷ first_line (drop (at + 1) block)
-  unfolding first_line
-  first_line_longer e = rw (drop_at_byte block at inside, ne_eqb _ _ e)
-
-  pub after_feed_later : (get_or block at 0 ≡ 10 → ⊥) → after_feed (drop at block) ≡ after_feed (drop (at + 1) block)
-  unfolding after_feed
-  after_feed_later e = rw (drop_at_byte block at inside, ne_eqb _ _ e)
-
-  -- the bytes from a place up to here, and the one here
-  pub part_longer : (from : ℕ) → from ≤ at → take (at + 1 - from) (drop from block) ≡ take (at - from) (drop from block) ++ (get_or block at 0 ∷ [])
-  part_longer from h =
-      let one : at + 1 - from ≡ suc (at - from) = omega arith in
-      let place : from + (at - from) ≡ at = omega arith in
-      let left = length-drop from block in
-      rw (one, take-suc (drop from block) (at - from) 0 (omega arith), get_or-drop from block (at - from) 0, place)
-
--- at the end of a block
-module _ (block : List ℕ) (at : ℕ) (done : at ≡ length block) where
-  pub has_feed_none : has_feed (drop at block) ≡ false
-  unfolding has_feed
-  has_feed_none = rw (drop_at_end block at done)
-
-  pub first_line_none : first_line (drop at block) ≡ []
-  unfolding first_line
-  first_line_none = rw (drop_at_end block at done)
+pub no_feed_at : (stream : List ℕ) → position (λ byte. nat_eq byte 10) stream ≡ None → has_feed stream ≡ false
+no_feed_at stream e =
+    let found = feed_found stream in
+    by_cases (nat_lt (position_or_len (λ byte. nat_eq byte 10) stream) (length stream))
+    (λ t. let never : Some (position_or_len (λ byte. nat_eq byte 10) stream) ≡ None = rw t at e in absurd (none-some _ (sym never)))
+    (λ f. let past = ltb-false (position_or_len (λ byte. nat_eq byte 10) stream) (length stream) f in found.none (omega (arith, found.inside)))
 
 -- without a line feed the first line is all there is, and nothing follows it
 pub first_line_all : (stream : List ℕ) → has_feed stream ≡ false → (first_line stream ≡ stream) × (after_feed stream ≡ [])

@@ -3,13 +3,12 @@ use Prim.Native.Nat.{ℕ, zero, suc, ◌+◌, ◌-◌, ◌*◌, ◌/◌, ◌%◌
 use native.Mathlib.Omega.{arith}
 use native.Mathlib.Nat.{pow-suc, suc-mul}
 use native.Mathlib.Numerals.{add-one}
-use mathlib.Core.Bool.{Bool, true, false, cond}
 use mathlib.Core.Path.{◌≡◌, refl, ap, sym, ◌∙◌}
 use mathlib.Core.List.{List, [], ◌∷◌, ◌++◌, append_assoc}
-use lib.Dec.{ltb, eqb}
+use lib.Dec.{ltb}
 use lib.ListN.{length, take, drop, get_or, replicate, length-append, length-replicate, replicate-append-replicate, take-append-drop}
 use lib.Seq.{take-suc}
-use borrow.Author.Tests.{lt-ltb, le-ltb, ltb-true, ltb-false, ne_eqb, eqb-true, eqb-false}
+use borrow.Author.Tests.{lt-ltb, le-ltb, ltb-true, ltb-false}
 use Rattle.listing.proofs.Cases.{by_cases, cond_equal}
 use Rattle.listing.proofs.ColumnLaws.{drop_at_byte, drop_at_end}
 use Rattle.listing.proofs.PlacedLaws.{append_nil, placed_over}
@@ -37,50 +36,18 @@ unfolding digits digits_within
 digits_of_more number h =
     rw (le-ltb _ _ h, digits_within_more number (suc (number / 10)) (number / 10) (omega arith) (omega arith))
 
--- the digits before the last one, of what they make
-unfoldable pub leading_digits : ℕ → List ℕ
-leading_digits rest = cond (eqb rest 0) [] (digits rest)
-
-pub no_leading_digits : leading_digits 0 ≡ []
-unfolding leading_digits
-no_leading_digits = refl
-
-pub digits_by_last : (number : ℕ) → digits number ≡ leading_digits (number / 10) ++ ((number % 10 + 48) ∷ [])
-unfolding leading_digits
-digits_by_last number = by_test (eqb (number / 10) 0) refl where
-  by_test :
-      (test : Bool) → eqb (number / 10) 0 ≡ test
-      → digits number ≡ cond test [] (digits (number / 10)) ++ ((number % 10 + 48) ∷ [])
-  by_test true e =
-      let none = eqb-true (number / 10) 0 e in
-      let same : number + 48 ≡ number % 10 + 48 = omega arith in
-      digits_of_one number (omega arith) ∙ rw same
-  by_test false e =
-      let some : number / 10 ≡ 0 → ⊥ = eqb-false (number / 10) 0 e in
-      digits_of_more number (omega arith)
-
-leading_digits_are_digits : (rest : ℕ) → 0 < rest → leading_digits rest ≡ digits rest
-unfolding leading_digits
-leading_digits_are_digits rest h = let some : rest ≡ 0 → ⊥ = λ e. omega arith in rw (ne_eqb _ _ some)
-
-pub leading_digits_by_last :
-    (rest : ℕ) → 0 < rest → leading_digits rest ≡ leading_digits (rest / 10) ++ ((rest % 10 + 48) ∷ [])
-leading_digits_by_last rest h = leading_digits_are_digits rest h ∙ digits_by_last rest
-
-pub length_digits_by_last : (number : ℕ) → length (digits number) ≡ length (leading_digits (number / 10)) + 1
-length_digits_by_last number = rw (digits_by_last number) (length-append (leading_digits (number / 10)) ((number % 10 + 48) ∷ []))
-
-pub length_leading_digits : (rest : ℕ) → 0 < rest → length (leading_digits rest) ≡ length (leading_digits (rest / 10)) + 1
-length_leading_digits rest h =
-    rw (leading_digits_by_last rest h) (length-append (leading_digits (rest / 10)) ((rest % 10 + 48) ∷ []))
-
-length_digits_of_more : (number : ℕ) → 10 ≤ number → length (digits number) ≡ length (digits (number / 10)) + 1
+pub length_digits_of_more : (number : ℕ) → 10 ≤ number → length (digits number) ≡ length (digits (number / 10)) + 1
 length_digits_of_more number h =
     rw (digits_of_more number h) (length-append (digits (number / 10)) ((number % 10 + 48) ∷ []))
 
+pub digits_some : (number : ℕ) → 0 < length (digits number)
+digits_some number =
+    by_cases (ltb number 10) (λ small. rw (digits_of_one number (ltb-true number 10 small)) (omega arith))
+    (λ large. omega (arith, length_digits_of_more number (ltb-false number 10 large)))
+
 -- a number of at least 10^k has more than k digits
 pub digits_from_power : (k number : ℕ) → 10 ^ k ≤ number → k < length (digits number)
-digits_from_power zero number h = omega (arith, length_digits_by_last number)
+digits_from_power zero number h = digits_some number
 digits_from_power (suc k) number h =
     let more : 10 ≤ number = omega (arith, pow-suc 10 k, one_power k) in
     let here : 10 ^ k ≤ number / 10 = omega (arith, pow-suc 10 k) in

@@ -3,19 +3,20 @@
 use Prim.Native.Nat.{ℕ, zero, suc, ◌+◌, ◌*◌, ◌<◌, ◌≤◌}
 use native.Mathlib.Omega.{arith}
 use native.Mathlib.Nat.{zero-mul, suc-mul}
+use denote.Ref.{Bor}
 use mathlib.Core.Bool.{Bool, true, false, ◌&&◌, true≢false}
 use mathlib.Core.Path.{◌≡◌, refl, ap, sym, subst, ◌∙◌}
 use mathlib.Core.List.{List, [], ◌∷◌, ◌++◌}
 use lib.Dec.{leb, eqb}
 use lib.ListN.{length, take, drop, get_or, length-append, length-drop, take-append-drop}
-use lib.Seq.{drop-append-add, drop-drop, take-append-le, drop-append-le, drop-cons, get_or_at, get_or-drop, length-take-le}
+use lib.Seq.{drop-append-add, take-append-le, drop-append-le, drop-cons, get_or_at, length-take-le}
 use borrow.Author.Tests.{le-leb, eq-eqb, ne_eqb, leb-true, eqb-true}
 use Rattle.listing.proofs.Cases.{by_cases}
 use Rattle.listing.specs.Column.{column, after_spaces, all_digits, digits_read, is_digit}
 use Rattle.listing.specs.Line.{cut, is_number, all_numbers, values, begins_with_columns, well_formed, line_numbers}
 use Rattle.listing.specs.Stream.{has_feed, first_line, after_feed}
 use Rattle.listing.specs.Held.{WholeRead, whole_here}
-use Rattle.listing.specs.declared.Whole.TheVariants.{Next, NotWhole}
+use Rattle.std.specs.Prelude.{Some, None}
 
 pub both : (a b : Bool) → (a && b) ≡ true → (a ≡ true) × (b ≡ true)
 both true b h = (refl, h)
@@ -161,41 +162,32 @@ not_whole_here count width stream never = by_cases (whole_here count width strea
     absurd (never facts.0 facts.1 facts.2))
     (λ f. f)
 
--- the answer where the columns from a place on end at a line feed, and where not
-module _ (block : List ℕ) (from width : ℕ) (numbers after : List ℕ) (same : length after ≡ length numbers) where
-  pub whole_found :
-      begins_with_columns (length numbers) width (drop from block) ≡ true → from + length numbers * width < length block
-      → get_or block (from + length numbers * width) 0 ≡ 10 → after ≡ values (cut (length numbers) width (drop from block))
-      → WholeRead block from width numbers after (Next (from + length numbers * width + 1))
-  whole_found begins inside feed put =
-      let left = length-drop from block in
-      let facts = whole_line (length numbers) width (drop from block) begins (omega arith) (get_or-drop from block (length numbers * width) 0 ∙ feed) in
-      let here : whole_here (length numbers) width (drop from block) ≡ true = rw (facts.0, facts.1) in
-      record { found = rw here; put = λ t. put ∙ sym facts.2; same = same }
-
-  pub whole_not_found :
-      (begins_with_columns (length numbers) width (drop from block) ≡ true → from + length numbers * width < length block
-      → get_or block (from + length numbers * width) 0 ≡ 10 → ⊥)
-      → WholeRead block from width numbers after NotWhole
-  whole_not_found never =
-      let left = length-drop from block in
-      let none : whole_here (length numbers) width (drop from block) ≡ false =
-      not_whole_here (length numbers) width (drop from block)
-      (λ begins inside feed. never begins (omega arith) (sym (get_or-drop from block (length numbers * width) 0) ∙ feed)) in
-      record { found = rw none; put = λ t. absurd (true≢false (sym t ∙ none)); same = same }
-
 -- behind a well-formed first line and its line feed the stream goes on
-pub whole_line_rest :
-    (count width : ℕ) (block : List ℕ) (from : ℕ) → whole_here count width (drop from block) ≡ true
-    → drop (from + count * width + 1) block ≡ after_feed (drop from block)
+pub whole_line_rest : (count width : ℕ) (stream : List ℕ) → whole_here count width stream ≡ true → drop (count * width + 1) stream ≡ after_feed stream
 unfolding well_formed
-whole_line_rest count width block from h =
-    let stream = drop from block in
+whole_line_rest count width stream h =
     let line = first_line stream in
     let parts = both (has_feed stream) (well_formed count width line) h in
     let long : length line ≡ count * width = eqb-true _ _ (both (eqb (length line) (count * width)) (all_numbers (cut count width line)) parts.1).0 in
-    let place : from + count * width + 1 ≡ from + (length line + 1) = omega arith in
-    let split : stream ≡ line ++ (10 ∷ after_feed stream) = feed_behind_first_line stream parts.0 in
-    ap (λ (n : ℕ). drop n block) place
-    ∙ (sym (drop-drop (length line + 1) from block)
-    ∙ (ap (drop (length line + 1)) split ∙ drop-append-add line (10 ∷ after_feed stream) 1))
+    let place : count * width + 1 ≡ length line + 1 = omega arith in
+    ap (λ (n : ℕ). drop n stream) place
+    ∙ (ap (drop (length line + 1)) (feed_behind_first_line stream parts.0) ∙ drop-append-add line (10 ∷ after_feed stream) 1)
+
+-- the answer where the columns end at a line feed, and where not
+module _ (block : List ℕ) (width : ℕ) (numbers after : List ℕ) (same : length after ≡ length numbers) where
+  pub whole_found :
+      (rest : Bor (List ℕ)) → begins_with_columns (length numbers) width block ≡ true → length numbers * width < length block
+      → get_or block (length numbers * width) 0 ≡ 10 → after ≡ values (cut (length numbers) width block)
+      → rest.now ≡ drop (length numbers * width + 1) block → WholeRead block width numbers after (Some rest)
+  whole_found rest begins inside feed put behind =
+      let facts = whole_line (length numbers) width block begins inside feed in
+      let here : whole_here (length numbers) width block ≡ true = rw (facts.0, facts.1) in
+      record { found = (here, behind ∙ whole_line_rest (length numbers) width block here); put = λ t. put ∙ sym facts.2; same = same }
+
+  pub whole_not_found :
+      (begins_with_columns (length numbers) width block ≡ true → length numbers * width < length block
+      → get_or block (length numbers * width) 0 ≡ 10 → ⊥)
+      → WholeRead block width numbers after None
+  whole_not_found never =
+      let none : whole_here (length numbers) width block ≡ false = not_whole_here (length numbers) width block never in
+      record { found = none; put = λ t. absurd (true≢false (sym t ∙ none)); same = same }

@@ -1,9 +1,7 @@
 -- What a column of a listing is and reads as (document 01, "The replay listing": numbers, each right-justified in its
 -- columns): spaces, then one or more decimal digits to the right edge. Its value is the decimal value of the digits.
 -- Anything else is malformed, and so is a value of 2^64 or more. The width is the number of bytes.
-use Rattle.std.specs.Prelude.{ℕ, ◌+◌, ◌-◌, ◌*◌, ◌^◌, ◌≤◌, ◌≡◌, Bool, true, cond, ◌&&◌, List, [], ◌∷◌, ltb, leb, eqb, length, drop}
-use Rattle.listing.specs.declared.Column.{Column}
-use Rattle.listing.specs.declared.Column.TheVariants.{Number, Malformed}
+use Rattle.std.specs.Prelude.{ℕ, ◌+◌, ◌-◌, ◌*◌, ◌^◌, ◌≤◌, ◌≡◌, Bool, true, cond, ◌&&◌, List, [], ◌∷◌, ltb, leb, eqb, length, drop, Option, Some, None}
 
 -- a space is byte 32
 abbrev pub is_space : ℕ → Bool
@@ -29,17 +27,17 @@ decimal_value [] = 0
 decimal_value (byte ∷ bytes) = (byte - 48) * 10 ^ length bytes + decimal_value bytes
 
 -- a number, where it fits 64 bits
-abbrev pub number_in_64_bits : ℕ → Column
-number_in_64_bits value = cond (ltb value (2 ^ 64)) (Number value) Malformed
+abbrev pub number_in_64_bits : ℕ → Option ℕ
+number_in_64_bits value = cond (ltb value (2 ^ 64)) (Some value) None
 
 -- what one or more digits read as
-unfoldable pub digits_read : List ℕ → Column
-digits_read [] = Malformed
+unfoldable pub digits_read : List ℕ → Option ℕ
+digits_read [] = None
 digits_read (byte ∷ bytes) =
-    cond (all_digits (byte ∷ bytes)) (number_in_64_bits (decimal_value (byte ∷ bytes))) Malformed
+    cond (all_digits (byte ∷ bytes)) (number_in_64_bits (decimal_value (byte ∷ bytes))) None
 
 -- what a column reads as
-unfoldable pub column : List ℕ → Column
+unfoldable pub column : List ℕ → Option ℕ
 column bytes = digits_read (after_spaces bytes)
 
 -- bytes begin with so many spaces: what follows begins with none

@@ -1,28 +1,23 @@
 -- What a line of a listing is and reads as (document 01, "The replay listing": so many decimal numbers a line, each in
 -- its columns): exactly its columns' bytes, and each column a number; else it is malformed as a whole. Which of its
 -- numbers are used is for the caller. The count of columns and their width are parameters.
-use Rattle.std.specs.Prelude.{ℕ, zero, suc, ◌*◌, Bool, true, false, cond, ◌&&◌, ◌≡◌, List, [], ◌∷◌, leb, eqb, length, take, drop, replicate}
+use Rattle.std.specs.Prelude.{ℕ, zero, suc, ◌*◌, Bool, true, false, cond, ◌&&◌, ◌≡◌, List, [], ◌∷◌, leb, eqb, length, take, drop, replicate, Option, Some, None, Result, Ok, Err}
 use Rattle.listing.specs.Column.{column}
-use Rattle.listing.specs.declared.Column.{Column}
-use Rattle.listing.specs.declared.Column.TheVariants.{Number, Malformed}
-use Rattle.listing.specs.declared.Columns.{Columns}
-use Rattle.listing.specs.declared.Columns.TheVariants.{UpTo, NoColumns}
-use Rattle.listing.specs.declared.Line.{Line}
-use Rattle.listing.specs.declared.Line.TheVariants.{Numbers, MalformedLine}
+use Rattle.listing.specs.declared.MalformedLine.{MalformedLine}
 
 -- the columns that bytes begin with: cut at each width
 unfoldable pub cut : ℕ → ℕ → List ℕ → List (List ℕ)
 cut zero width bytes = []
 cut (suc count) width bytes = take width bytes ∷ cut count width (drop width bytes)
 
-abbrev pub is_number : Column → Bool
-is_number (Number value) = true
-is_number Malformed = false
+abbrev pub is_number : Option ℕ → Bool
+is_number (Some value) = true
+is_number None = false
 
 -- the number that a column reads as, 0 where it is malformed
-abbrev pub value_of : Column → ℕ
-value_of (Number value) = value
-value_of Malformed = 0
+abbrev pub value_of : Option ℕ → ℕ
+value_of (Some value) = value
+value_of None = 0
 
 -- every column reads as a number
 unfoldable pub all_numbers : List (List ℕ) → Bool
@@ -47,17 +42,17 @@ unfoldable pub line_numbers : ℕ → ℕ → List ℕ → List ℕ
 line_numbers count width bytes =
     cond (well_formed count width bytes) (values (cut count width bytes)) (replicate count 0)
 
-abbrev pub line_answer : Bool → Line
-line_answer well = cond well Numbers MalformedLine
+abbrev pub line_answer : Bool → Result (Unit {0}) MalformedLine
+line_answer well = cond well (Ok tt) (Err (record {}))
 
 -- what reading a line has to do: say its form, and put its numbers
-pub record LineRead (width : ℕ) (bytes numbers after : List ℕ) (answer : Line) : Type 0 where
+pub record LineRead (width : ℕ) (bytes numbers after : List ℕ) (answer : Result (Unit {0}) MalformedLine) : Type 0 where
   pub form : answer ≡ line_answer (well_formed (length numbers) width bytes)
   pub put : after ≡ line_numbers (length numbers) width bytes
 
 -- what reading the columns that bytes begin with has to do: say where they end, and put their numbers
-pub record ColumnsRead (width : ℕ) (bytes numbers after : List ℕ) (answer : Columns) : Type 0 where
+pub record ColumnsRead (width : ℕ) (bytes numbers after : List ℕ) (answer : Option ℕ) : Type 0 where
   pub end :
-      answer ≡ cond (begins_with_columns (length numbers) width bytes) (UpTo (length numbers * width)) NoColumns
+      answer ≡ cond (begins_with_columns (length numbers) width bytes) (Some (length numbers * width)) None
   pub put :
       begins_with_columns (length numbers) width bytes ≡ true → after ≡ values (cut (length numbers) width bytes)

@@ -1,8 +1,6 @@
 -- What writing a text into a buffer does: the text stands from a place on, and every other byte stays. Without room for
 -- the whole text nothing changes.
-use Rattle.std.specs.Prelude.{ℕ, ◌+◌, cond, ◌≡◌, List, ◌++◌, leb, length, take, drop}
-use Rattle.listing.specs.declared.Written.{Written}
-use Rattle.listing.specs.declared.Written.TheVariants.{End, NoRoom}
+use Rattle.std.specs.Prelude.{ℕ, ◌+◌, cond, ◌≡◌, List, ◌++◌, leb, length, take, drop, Option, Some, None}
 
 -- a buffer with a text in it at a place
 unfoldable pub placed : List ℕ → ℕ → List ℕ → List ℕ
@@ -14,6 +12,6 @@ pub record Placed (buffer : List ℕ) (at : ℕ) (text after : List ℕ) (end : 
   pub end_of : end ≡ at + length text
 
 -- a text is put at a place, or refused where there is no room for it
-pub record PlacedOrRefused (buffer : List ℕ) (at : ℕ) (text after : List ℕ) (answer : Written) : Type 0 where
+pub record PlacedOrRefused (buffer : List ℕ) (at : ℕ) (text after : List ℕ) (answer : Option ℕ) : Type 0 where
   pub bytes : after ≡ cond (leb (at + length text) (length buffer)) (placed buffer at text) buffer
-  pub end_of : answer ≡ cond (leb (at + length text) (length buffer)) (End (at + length text)) NoRoom
+  pub end_of : answer ≡ cond (leb (at + length text) (length buffer)) (Some (at + length text)) None

@@ -11,46 +11,14 @@ pub use reading::{read_column, read_line};
 pub use stream::{read_held_line, read_whole_line, take_line};
 pub use writing::write_line;
 
-// What a column reads as.
-#[derive(Clone, Copy)]
-pub enum Column {
-    Number(u64),
-    Malformed,
-}
+// A line that does not read as numbers.
+#[derive(Clone, Copy, Debug)]
+pub struct MalformedLine;
 
-// Where the columns end that bytes begin with.
+// What was taken of a line from a block: how many bytes the line now has in its buffer (more than the buffer's length where it
+// is longer), and the block behind its line feed, if it ended.
 #[derive(Clone, Copy)]
-pub enum Columns {
-    UpTo(usize),
-    NoColumns,
-}
-
-// What a line reads as. The numbers stand in the slice that was lent for them.
-#[derive(Clone, Copy)]
-pub enum Line {
-    Numbers,
-    MalformedLine,
-}
-
-// Where a text that was written ends.
-#[derive(Clone, Copy)]
-pub enum Written {
-    End(usize),
-    NoRoom,
-}
-
-// What was taken of a line from a block: where the block goes on, how many bytes the line now has in its buffer (more
-// than the buffer's length where it is longer), and whether the line ended.
-#[derive(Clone, Copy)]
-pub struct Taken {
-    pub next: usize,
+pub struct Taken<'a> {
     pub size: usize,
-    pub ended: bool,
-}
-
-// Where the block goes on behind a well-formed line that stands in it whole.
-#[derive(Clone, Copy)]
-pub enum Whole {
-    Next(usize),
-    NotWhole,
+    pub rest: Option<&'a [u8]>,
 }

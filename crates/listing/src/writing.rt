@@ -3,22 +3,14 @@ ghost use Rattle.std.specs.Prelude.{◌≡◌, ◌+◌, ◌-◌, ◌≤◌, leb,
 ghost use Rattle.listing.specs.Text.{digits, right_justified, line_text};
 ghost use Rattle.listing.specs.Placed.{placed, Placed, PlacedOrRefused};
 
-use crate::Written;
-
 // How many decimal digits a number has.
 fn digit_count(number: u64) -> usize
     ensures { result ≡ length (digits number) }
 {
-    let mut count: usize = 1;
-    let mut power: u64 = 10;
-    while power <= number {
-        count += 1;
-        if count == 20 {
-            return count;
-        }
-        power *= 10;
+    match number.checked_ilog10() {
+        Some(log) => log as usize + 1,
+        None => 1,
     }
-    count
 }
 
 // How wide a number's column is: the width, or as many digits as it needs.
@@ -29,30 +21,18 @@ fn column_length(width: usize, number: u64) -> usize
     if count < width { width } else { count }
 }
 
-// Puts spaces from a place on.
-fn put_spaces(out: &mut [u8], at: usize, count: usize)
-    requires { at + count ≤ length out.old }
-    ensures { out.new ≡ placed out.old at (replicate count 32) }
-{
-    let mut done: usize = 0;
-    while done < count {
-        out[at + done] = 32;
-        done += 1;
-    }
-}
-
 // Puts the digits of a number so that the last stands before a place.
 fn put_digits(out: &mut [u8], end: usize, number: u64)
     requires { (length (digits number) ≤ end) × (end ≤ length out.old) }
     ensures { out.new ≡ placed out.old (end - length (digits number)) (digits number) }
 {
-    let mut at = end - 1;
-    out[at] = (number % 10) as u8 + 48;
-    let mut rest = number / 10;
-    while rest > 0 {
-        at -= 1;
-        out[at] = (rest % 10) as u8 + 48;
+    let mut rest = number;
+    for at in (0..end).rev() {
+        out[at] = (rest % 10) as u8 + b'0';
         rest /= 10;
+        if rest == 0 {
+            return;
+        }
     }
 }
 
@@ -63,7 +43,8 @@ fn put_column(out: &mut [u8], at: usize, width: usize, number: u64) -> usize
     ensures { Placed out.old at (right_justified width number) out.new result }
 {
     let end = at + column_length(width, number);
-    put_spaces(out, at, width);
+    let full = at + width;
+    out[at..full].fill(b' ');
     put_digits(out, end, number);
     end
 }
@@ -73,14 +54,12 @@ fn has_room_for_line(width: usize, numbers: &[u64], room: usize) -> bool
     ensures { result ≡ leb (length (line_text width numbers.now)) room }
 {
     let mut left = room;
-    let mut index: usize = 0;
-    while index < numbers.len() {
-        let length = column_length(width, numbers[index]);
+    for number in numbers {
+        let length = column_length(width, *number);
         if left < length {
             return false;
         }
         left -= length;
-        index += 1;
     }
     0 < left
 }
@@ -91,24 +70,22 @@ fn put_line(out: &mut [u8], at: usize, width: usize, numbers: &[u64]) -> usize
     ensures { Placed out.old at (line_text width numbers.now) out.new result }
 {
     let mut end = at;
-    let mut index: usize = 0;
-    while index < numbers.len() {
-        end = put_column(out, end, width, numbers[index]);
-        index += 1;
+    for number in numbers {
+        end = put_column(out, end, width, *number);
     }
-    out[end] = 10;
+    out[end] = b'\n';
     end + 1
 }
 
 // Writes a line of numbers at a place, with its line feed, or changes nothing where there is no room for it.
-pub fn write_line(out: &mut [u8], at: usize, width: usize, numbers: &[u64]) -> Written
+pub fn write_line(out: &mut [u8], at: usize, width: usize, numbers: &[u64]) -> Option<usize>
     ensures { PlacedOrRefused out.old at (line_text width numbers.now) out.new result }
 {
     if out.len() < at {
-        return Written::NoRoom;
+        return None;
     }
     if !has_room_for_line(width, numbers, out.len() - at) {
-        return Written::NoRoom;
+        return None;
     }
-    Written::End(put_line(out, at, width, numbers))
+    Some(put_line(out, at, width, numbers))
 }

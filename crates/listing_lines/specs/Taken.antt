@@ -1,6 +1,6 @@
 -- Which rows a block of a listing fills: a row of 8 words for each line that the block ends, with the line's numbers, zeros where it is
 -- malformed. Said over the line that began before the block, whose bytes a buffer holds (Held.Held of `listing`).
-use Rattle.std.specs.Prelude.{ℕ, ◌-◌, ◌<◌, ◌≤◌, ◌≡◌, List, map, length, take, drop}
+use Rattle.std.specs.Prelude.{ℕ, ◌-◌, ◌<◌, ◌≤◌, ◌≡◌, List, ◌++◌, map, length, take, drop}
 use Rattle.listing.specs.Line.{cut, line_numbers}
 use Rattle.listing.specs.Stream.{ended, open_line, last_line}
 use Rattle.listing.specs.Held.{Held}
@@ -20,14 +20,14 @@ pub record LinesTakenFrom (block buffer : List ℕ) (size : ℕ) (rows buffer_af
 abbrev pub part : List ℕ → ℕ → ℕ → List ℕ
 part block from to = take (to - from) (drop from block)
 
--- the same of one line at most, from a place on
-pub record LineTakenFrom (block : List ℕ) (from : ℕ) (buffer : List ℕ) (size : ℕ) (row buffer_after row_after : List ℕ) (taken : LineTaken) : Type 0 where
-  pub moves : from < taken.next
-  pub inside : taken.next ≤ length block
+-- the same of one line at most, from the block's front
+pub record LineTakenFrom (block buffer : List ℕ) (size : ℕ) (row buffer_after row_after : List ℕ) (taken : LineTaken) : Type 0 where
+  pub front : List ℕ
+  pub split : block ≡ front ++ taken.rest.now
+  pub moves : 0 < length front
   pub one : taken.count ≤ 1
   pub lines :
-      LinesTakenFrom (part block from taken.next) buffer size row buffer_after row_after
-      (record { count = taken.count; size = taken.size })
+      LinesTakenFrom front buffer size row buffer_after row_after (record { count = taken.count; size = taken.size })
 
 -- the line that the end of the stream ends is taken, where there is one
 pub record LastLineTaken (buffer : List ℕ) (size : ℕ) (rows_after : List ℕ) (count : ℕ) : Type 0 where

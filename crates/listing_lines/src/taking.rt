@@ -3,7 +3,6 @@ ghost use Rattle.std.specs.Prelude.{◌≡◌, ◌*◌, ◌≤◌, ◌<◌, leng
 ghost use Rattle.listing_lines.specs.Taken.{LinesTakenFrom, LineTakenFrom, LastLineTaken};
 
 use crate::LinesTaken;
-use listing::Whole;
 
 // The columns of a line.
 const COLUMNS: usize = 8;
@@ -11,64 +10,58 @@ const COLUMNS: usize = 8;
 // The bytes of a column.
 const WIDTH: usize = 11;
 
-// How far a block is taken: where it goes on, how many bytes the open line has, and how many rows were filled, 0 or 1.
+// How far a block is taken: what is left of it, how many bytes the open line has, and how many rows were filled, 0 or 1.
 #[derive(Clone, Copy)]
-struct LineTaken {
-    next: usize,
+struct LineTaken<'a> {
+    rest: &'a [u8],
     size: usize,
     count: usize,
 }
 
 // Takes the bytes of a block up to the next line feed into the buffer, and reads the line that it ends.
-fn take_through_buffer(
-    block: &[u8],
-    from: usize,
+fn take_through_buffer<'a>(
+    block: &'a [u8],
     buffer: &mut [u8],
     size: usize,
     row: &mut [u64],
-) -> LineTaken
-    requires { (from < length block.now) × (88 ≤ length buffer.old) × (length row.old ≡ 8) }
-    ensures { LineTakenFrom block.now from buffer.old size row.old buffer.new row.new result }
+) -> LineTaken<'a>
+    requires { (0 < length block.now) × (88 ≤ length buffer.old) × (length row.old ≡ 8) }
+    ensures { LineTakenFrom block.now buffer.old size row.old buffer.new row.new result }
 {
-    let taken = listing::take_line(block, from, buffer, size);
-    let next = taken.next;
-    let held = taken.size;
-    if taken.ended {
-        listing::read_held_line(buffer, held, WIDTH, row);
-        return LineTaken {
-            next,
-            size: 0,
-            count: 1,
-        };
-    }
-    LineTaken {
-        next,
-        size: held,
-        count: 0,
+    let taken = listing::take_line(block, buffer, size);
+    match taken.rest {
+        Some(rest) => {
+            // The numbers of a malformed line are 0.
+            let _ = listing::read_held_line(buffer, taken.size, WIDTH, row);
+            LineTaken {
+                rest,
+                size: 0,
+                count: 1,
+            }
+        }
+        None => LineTaken {
+            rest: &[],
+            size: taken.size,
+            count: 0,
+        },
     }
 }
 
 // The same, with a quicker way for a well-formed line that stands whole in the block.
-fn take_next(
-    block: &[u8],
-    from: usize,
-    buffer: &mut [u8],
-    size: usize,
-    row: &mut [u64],
-) -> LineTaken
-    requires { (from < length block.now) × (88 ≤ length buffer.old) × (length row.old ≡ 8) }
-    ensures { LineTakenFrom block.now from buffer.old size row.old buffer.new row.new result }
+fn take_next<'a>(block: &'a [u8], buffer: &mut [u8], size: usize, row: &mut [u64]) -> LineTaken<'a>
+    requires { (0 < length block.now) × (88 ≤ length buffer.old) × (length row.old ≡ 8) }
+    ensures { LineTakenFrom block.now buffer.old size row.old buffer.new row.new result }
 {
     if size != 0 {
-        return take_through_buffer(block, from, buffer, size, row);
+        return take_through_buffer(block, buffer, size, row);
     }
-    let Whole::Next(next) = listing::read_whole_line(block, from, WIDTH, row) else {
-        return take_through_buffer(block, from, buffer, size, row);
-    };
-    LineTaken {
-        next,
-        size: 0,
-        count: 1,
+    match listing::read_whole_line(block, WIDTH, row) {
+        Some(rest) => LineTaken {
+            rest,
+            size: 0,
+            count: 1,
+        },
+        None => take_through_buffer(block, buffer, size, row),
     }
 }
 
@@ -77,14 +70,14 @@ pub fn take_lines(block: &[u8], buffer: &mut [u8], size: usize, rows: &mut [u64]
     requires { (88 ≤ length buffer.old) × (8 * length block.now ≤ length rows.old) }
     ensures { LinesTakenFrom block.now buffer.old size rows.old buffer.new rows.new result }
 {
-    let mut at: usize = 0;
+    let mut rest = block;
     let mut held = size;
     let mut count: usize = 0;
-    while at < block.len() {
+    while !rest.is_empty() {
         let begin = count * COLUMNS;
         let end = begin + COLUMNS;
-        let taken = take_next(block, at, buffer, held, &mut rows[begin..end]);
-        at = taken.next;
+        let taken = take_next(rest, buffer, held, &mut rows[begin..end]);
+        rest = taken.rest;
         held = taken.size;
         count += taken.count;
     }
@@ -99,6 +92,6 @@ pub fn take_last_line(buffer: &[u8], size: usize, rows: &mut [u64]) -> usize
     if size == 0 {
         return 0;
     }
-    listing::read_held_line(buffer, size, WIDTH, &mut rows[..COLUMNS]);
+    let _ = listing::read_held_line(buffer, size, WIDTH, &mut rows[..COLUMNS]);
     1
 }

@@ -2,8 +2,6 @@
 ghost use Rattle.std.specs.Prelude.{◌≡◌, ◌+◌, ◌*◌, ◌≤◌, length};
 ghost use Rattle.listing_lines.specs.Text.{LineWritten, LinesWritten};
 
-use listing::Written;
-
 // The columns of an answer.
 const COLUMNS: usize = 6;
 
@@ -15,7 +13,7 @@ fn write_row(row: &[u64], out: &mut [u8], at: usize) -> usize
     requires { (length row.now ≡ 6) × (at + 121 ≤ length out.old) }
     ensures { LineWritten row.now out.old at out.new result }
 {
-    let Written::End(end) = listing::write_line(out, at, WIDTH, row) else {
+    let Some(end) = listing::write_line(out, at, WIDTH, row) else {
         return at;
     };
     end
@@ -27,12 +25,10 @@ pub fn write_lines(answers: &[u64], count: usize, out: &mut [u8]) -> usize
     ensures { LinesWritten answers.now count out.new result }
 {
     let mut end: usize = 0;
-    let mut index: usize = 0;
-    while index < count {
+    for index in 0..count {
         let begin = index * COLUMNS;
         let stop = begin + COLUMNS;
         end = write_row(&answers[begin..stop], out, end);
-        index += 1;
     }
     end
 }

@@ -11,7 +11,7 @@ ghost use Rattle.replay_io.specs.Turns.{ListingReplayed};
 
 use replay_io::stopped::Stopped;
 use replay_io::turns::{State, finish, turn};
-use srt_group::{Group, NewGroup};
+use srt_group::Group;
 use srt_group_replay::telling::STORE;
 use std::env::{Env, FillError};
 use std::io::{ErrorKind, Read, Write};
@@ -91,7 +91,7 @@ fn main(rt: HostRuntime) -> ExitCode {
         return ExitCode::SUCCESS;
     }
     // A record to begin with. No group stands before verb 1 makes one.
-    let NewGroup::Made(group) = Group::new(1073741824, 0, STORE) else {
+    let Ok(group) = Group::new(1073741824, 0, STORE) else {
         return ExitCode::FAILURE;
     };
     let mut members = [0u64; 12096];

@@ -1,7 +1,6 @@
 -- The lines of a listing over the group, one after the other: what each line of the model's listing leaves and prints, and what the code promises of
 -- a row of eight numbers and of all rows.
-use Rattle.std.specs.Prelude.{◌≡◌, List, [], ◌∷◌, ◌++◌, ℕ, ◌+◌, ◌*◌, length, take, drop}
-use Rattle.std.proofs.Math.Option.{Option}
+use Rattle.std.specs.Prelude.{◌≡◌, List, [], ◌∷◌, ◌++◌, ℕ, ◌+◌, ◌*◌, length, take, drop, Option}
 use Rattle.listing.specs.Line.{cut}
 use Rattle.listing_lines.specs.Answers.{state_after, answers_from}
 use Rattle.srt_group_model.specs.State.{State}

@@ -28,12 +28,14 @@ fn put_line(row: &mut [u64], line: Printed)
     requires { length row.old ≡ 6 }
     ensures { row.new ≡ numbers_of line }
 {
-    row[0] = line.verb;
-    row[1] = line.code;
-    row[2] = line.leg;
-    row[3] = line.sequence;
-    row[4] = line.count;
-    row[5] = line.skipped;
+    row.copy_from_slice(&[
+        line.verb,
+        line.code,
+        line.leg,
+        line.sequence,
+        line.count,
+        line.skipped,
+    ]);
 }
 
 // The line in a row is told, and its answer put into the same row of the answers.
@@ -115,15 +117,13 @@ pub fn tell_lines(
         (room store.new output.new list.new) used.new
         (cut count 6 answers.new) }
 {
-    let mut index: usize = 0;
-    while index < count {
+    for index in 0..count {
         let told = tell_row(
             made, group, members, pending, waiting, history, sources, store, output, list, used,
             rows, index, answers,
         );
         made = told.made;
         group = told.group;
-        index += 1;
     }
     GroupAfter { made, group }
 }

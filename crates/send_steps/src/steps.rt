@@ -5,31 +5,22 @@ ghost use Rattle.srt_group_model.specs.Sending.{list_size};
 ghost use Rattle.srt_group_shown.specs.Tables.{parts, tables};
 ghost use Rattle.srt_group_shown.specs.Ready.{Ready};
 
+use bench_steps::steps::{Called, LEG};
 use srt_group::Group;
 use srt_group_model::{Core, Identity, Sending};
 use srt_group_queueing::calls as queueing_calls;
 use srt_group_queueing::readings::read_leg;
 use srt_group_send::sending;
 use srt_group_send_calls::calls;
-use srt_group_send_calls::calls::SendAnswer;
 use srt_group_tables::history::HistoryRing;
+use srt_protocol::error::{Error, outcome_number};
 use srt_protocol::time::Timestamp;
 
 // The answer that is no count of legs: a send that was refused.
 const NOT_SENT: u64 = 4294967295;
 
-// The leg of a step, and its sequence.
-const LEG: u64 = 4294967296;
-
 // The field of a leg that says up to where it is acknowledged.
 const ACKNOWLEDGED: u64 = 5;
-
-// The group after a step, and the step's answer.
-#[derive(Clone, Copy)]
-pub struct Called {
-    pub group: Group,
-    pub answer: u64,
-}
 
 // What a send moves of the record.
 #[derive(Clone, Copy)]
@@ -46,19 +37,12 @@ pub struct Stepped {
     pub answer: u64,
 }
 
-fn answered(answer: SendAnswer) -> u64 {
+// On how many legs a send went.
+fn answered(answer: Result<usize, Error>) -> u64 {
     match answer {
-        SendAnswer::Sent(legs) => legs,
-        SendAnswer::Refused(_) => NOT_SENT,
+        Ok(legs) => legs as u64,
+        Err(_) => NOT_SENT,
     }
-}
-
-// On how many legs a send went that ended in this code.
-fn legs_of(code: u64, legs: usize) -> u64 {
-    if code == 0 {
-        return legs as u64;
-    }
-    NOT_SENT
 }
 
 // A step by the public calls, which test 5 and 6. An acknowledgement is answered by the code.
@@ -108,7 +92,7 @@ fn call(
     );
     Called {
         group,
-        answer: outcome.number() as u64,
+        answer: outcome_number(outcome) as u64,
     }
 }
 
@@ -125,15 +109,12 @@ pub fn call_each(
     steps: &mut [u64],
     payload: &[u8],
 ) -> Group {
-    let mut at: usize = 0;
-    while at < steps.len() {
-        let word = steps[at];
+    for word in steps.iter_mut() {
         let called = call(
-            group, members, pending, waiting, history, sources, store, list, word, payload,
+            group, members, pending, waiting, history, sources, store, list, *word, payload,
         );
         group = called.group;
-        steps[at] = called.answer;
-        at += 1;
+        *word = called.answer;
     }
     group
 }
@@ -183,13 +164,14 @@ fn step(
         let after = sent.core;
         let numbers = sent.sending;
         let left = sent.ring;
+        let answer = sent.answer;
         return Stepped {
             moved: Moved {
                 core: after,
                 sending: numbers,
                 ring: left,
             },
-            answer: legs_of(sent.code, sent.legs),
+            answer: answered(answer),
         };
     }
     let outcome = read_leg(
@@ -214,7 +196,7 @@ fn step(
             sending,
             ring,
         },
-        answer: outcome.number() as u64,
+        answer: outcome_number(outcome) as u64,
     }
 }
 
@@ -239,19 +221,16 @@ pub fn step_each(
         (tables members.old pending.now waiting.now history.old sources.old) (length store.old) used.old }
     requires list_size_in_bounds { list_size ≤ length list.old }
 {
-    let mut at: usize = 0;
-    while at < steps.len() {
-        let word = steps[at];
+    for word in steps.iter_mut() {
         let stepped = step(
             identity, core, sending, ring, members, pending, waiting, history, sources, store,
-            list, used, word, payload,
+            list, used, *word, payload,
         );
         let moved = stepped.moved;
         core = moved.core;
         sending = moved.sending;
         ring = moved.ring;
-        steps[at] = stepped.answer;
-        at += 1;
+        *word = stepped.answer;
     }
     Moved {
         core,

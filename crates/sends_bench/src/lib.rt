@@ -6,9 +6,9 @@
 use calls_bench::record::{put_group, read_group};
 use send_steps::steps::{call_each, step_each};
 use srt_group::Group;
-use srt_group_refusals::refusals::begin_stored;
+use srt_group_refusals::refusals::LentGroup;
 use srt_group_sending::list::SENT_LENGTH;
-use srt_protocol::error::{Error, Outcome};
+use srt_protocol::error::Error;
 
 // The steps of a run of sends in turn by the public calls.
 #[unsafe(no_mangle)]
@@ -47,30 +47,27 @@ pub extern "C" fn calls_sends_valid(
     payload: &[u8],
 ) -> u32 {
     if list.len() < SENT_LENGTH {
-        return Error::InsufficientBuffer.number();
+        return u32::from(Error::InsufficientBuffer);
     }
+    let group = read_group(record);
     let Group {
         identity,
         core,
         sending,
         ring,
-    } = read_group(record);
+    } = group;
     let mut used = [0u64; 32];
-    let begun = begin_stored(
-        identity,
-        core,
-        sending,
-        ring,
+    let lent = LentGroup {
+        group,
         members,
         pending,
         waiting,
         history,
         sources,
-        store.len(),
-        &mut used,
-    );
-    if let Outcome::Refused(error) = begun {
-        return error.number();
+    };
+    let begun = lent.begin_stored(store.len(), &mut used);
+    if let Err(error) = begun {
+        return u32::from(error);
     }
     let moved = step_each(
         identity, core, sending, ring, members, pending, waiting, history, sources, store, list,

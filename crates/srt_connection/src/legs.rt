@@ -3,7 +3,7 @@
 ghost use Rattle.std.specs.Prelude.{◌≡◌, ◌+◌, ◌-◌, ◌<◌};
 ghost use Rattle.srt_group_model.specs.Legs.{is_connected, is_disconnected, has_sender, remaining_window_packets, can_send, can_send_with_pacing, time_until_send, oldest_unacked_sequence, gives_up_at, peer_initial_sequence, after_send};
 ghost use Rattle.srt_group_model.specs.Legs.{send_shared_with_sequence, synchronize_send_sequence, disconnect_leg, handed, read_state, acknowledge};
-ghost use Rattle.srt_connection.specs.Answers.{deadline_of, sequence_of, result_of};
+ghost use Rattle.srt_connection.specs.Answers.{deadline_of};
 
 use srt_group_model::{Leg, Sender};
 use srt_protocol::srt_packet::{word_distance, word_further};
@@ -18,27 +18,6 @@ pub const LARGEST_SEQUENCE: u64 = 0x7fff_ffff;
 pub const LARGEST_16: u64 = 0xffff;
 
 pub const LARGEST_32: u64 = 0xffff_ffff;
-
-// When a leg gives up on a packet that is missing: a Rust `Option<Timestamp>`.
-#[derive(Clone, Copy)]
-pub enum Deadline {
-    At(Timestamp),
-    Never,
-}
-
-// A sequence number that may be missing: a Rust `Option<u32>`.
-#[derive(Clone, Copy)]
-pub enum OptionalSequence {
-    Some(u64),
-    None,
-}
-
-// The leg after a step that can fail; a failed one changes nothing: a Rust `Result<(), Error>`.
-#[derive(Clone, Copy)]
-pub enum LegResult {
-    Ok(Leg),
-    Err,
-}
 
 // ---- what it can do
 
@@ -61,13 +40,14 @@ pub fn has_sender(leg: Leg) -> bool
     leg.sender.started == 1
 }
 
-pub fn peer_initial_sequence(leg: Leg) -> OptionalSequence
-    ensures { result ≡ sequence_of (peer_initial_sequence leg) }
+#[tactic(auto, unfolding(srt_group_model::specs::Tools::flagged))]
+pub fn peer_initial_sequence(leg: Leg) -> Option<u64>
+    ensures { result ≡ peer_initial_sequence leg }
 {
     if leg.receiver.first == NO_SEQUENCE {
-        return OptionalSequence::None;
+        return None;
     }
-    OptionalSequence::Some(leg.receiver.first)
+    Some(leg.receiver.first)
 }
 
 // The window less the flight, least 0.
@@ -80,16 +60,18 @@ pub fn remaining_window_packets(leg: Leg) -> u64
     leg.sender.window - leg.sender.flight
 }
 
+#[tactic(auto, unfolding(srt_group_model::specs::Legs::can_send))]
 pub fn can_send(leg: Leg) -> bool
     ensures { result ≡ can_send leg }
 {
     leg.link.state == 1 && 0 < remaining_window_packets(leg)
 }
 
+#[tactic(auto, unfolding(srt_group_model::specs::Legs::can_send_with_pacing))]
 pub fn can_send_with_pacing(leg: Leg, time: Timestamp) -> bool
     ensures { result ≡ can_send_with_pacing time.0 leg }
 {
-    can_send(leg) && leg.sender.pace.0 <= time.0
+    can_send(leg) && leg.sender.pace <= time
 }
 
 // Microseconds until pacing lets a send go, least 0.
@@ -101,6 +83,7 @@ pub fn time_until_send(leg: Leg, time: Timestamp) -> u64
 }
 
 // The next sequence less the flight, round the sequence space.
+#[tactic(auto, unfolding(srt_group_model::specs::Legs::oldest_unacked_sequence))]
 pub fn oldest_unacked_sequence(leg: Leg) -> u64
     ensures { result ≡ oldest_unacked_sequence leg }
 {
@@ -108,13 +91,14 @@ pub fn oldest_unacked_sequence(leg: Leg) -> u64
 }
 
 // The packet's source time and the latency after it, at which a missing packet is given up; a latency of 0 means never.
-pub fn gives_up_at(leg: Leg, source: Timestamp) -> Deadline
+#[tactic(auto, unfolding(srt_group_model::specs::Legs::gives_up_at, srt_group_model::specs::Tools::flagged))]
+pub fn gives_up_at(leg: Leg, source: Timestamp) -> Option<Timestamp>
     ensures { result ≡ deadline_of (gives_up_at source.0 leg) }
 {
     if leg.receiver.latency == 0 {
-        return Deadline::Never;
+        return None;
     }
-    Deadline::At(source.add_micros(leg.receiver.latency))
+    Some(source.add_micros(leg.receiver.latency))
 }
 
 // ---- what is done to it
@@ -143,32 +127,32 @@ pub fn send_shared_with_sequence(
     time: Timestamp,
     size: u64,
     sequence: u64,
-) -> LegResult
-    ensures { result ≡ result_of (send_shared_with_sequence time.0 size sequence leg) }
+) -> Option<Leg>
+    ensures { result ≡ send_shared_with_sequence time.0 size sequence leg }
 {
     if !can_send(leg) {
-        return LegResult::Err;
+        return None;
     }
     if sequence != leg.sender.next {
-        return LegResult::Err;
+        return None;
     }
     if leg.link.limit < size {
-        return LegResult::Err;
+        return None;
     }
     let sender = after_send(leg.sender, time);
     leg.sender = sender;
-    LegResult::Ok(leg)
+    Some(leg)
 }
 
 // Fails unless the flight is empty; sets the next sequence.
-pub fn synchronize_send_sequence(mut leg: Leg, sequence: u64) -> LegResult
-    ensures { result ≡ result_of (synchronize_send_sequence sequence leg) }
+pub fn synchronize_send_sequence(mut leg: Leg, sequence: u64) -> Option<Leg>
+    ensures { result ≡ synchronize_send_sequence sequence leg }
 {
     if leg.sender.flight != 0 {
-        return LegResult::Err;
+        return None;
     }
     leg.sender.next = sequence;
-    LegResult::Ok(leg)
+    Some(leg)
 }
 
 // A sum less a count, least 0.

@@ -1,9 +1,8 @@
 -- The lent table of members: row i is the words from row-size * i on. `members_of n` is the list of the first n rows; the rows past it
 -- are free. A row that is changed is `change`, one that is appended `++`, one that is removed `without_place` of the model.
-use Rattle.std.specs.Prelude.{◌≡◌, List, [], ◌∷◌, ◌++◌, ℕ, ◌+◌, ◌-◌, ◌*◌, ◌≤◌, length}
-use Rattle.std.proofs.Math.Option.{Option, none, some}
+use Rattle.srt_protocol.specs.Errors.{Outcome}
+use Rattle.std.specs.Prelude.{◌≡◌, List, [], ◌∷◌, ◌++◌, ℕ, ◌+◌, ◌-◌, ◌*◌, ◌≤◌, length, None, Option, Some}
 use Rattle.srt_protocol.specs.Errors.{if_accepted}
-use Rattle.srt_protocol.specs.declared.error.Outcome.{Outcome}
 use Rattle.srt_group_model.specs.Tools.{change, without_place, each}
 use Rattle.srt_group_model.specs.Calls.{enqueue}
 use Rattle.srt_group_model.specs.State.{Member, with_queue}
@@ -11,8 +10,6 @@ use Rattle.srt_group_model.specs.Validity.{max_members}
 use Rattle.srt_group_model.specs.declared.Event.{Event}
 use Rattle.srt_group_model.specs.declared.Leg.{Leg}
 use Rattle.srt_group_model.specs.declared.Membership.{Membership}
-use Rattle.srt_connection_members.specs.declared.Found.{Found}
-use Rattle.srt_connection_members.specs.declared.Found.TheVariants.{At, Nothing}
 use Rattle.srt_connection_queue.specs.declared.queue.LegPoll.{LegPoll}
 use Rattle.word_rows.specs.Tab.{tab}
 use Rattle.word_rows.specs.Rows.{row_at}
@@ -39,10 +36,6 @@ HasRow i t = i * row_size + row_size ≤ length t
 -- a member as it is added: its queue is empty
 abbrev pub new_member : Membership → Leg → Member
 new_member x l = member_from x l []
-
-abbrev pub found_of : Option ℕ → Found
-found_of none = Nothing
-found_of (some i) = At i
 
 -- ---- what a call does to a table, t before and u after
 

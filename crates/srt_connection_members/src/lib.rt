@@ -7,21 +7,22 @@ ghost use Rattle.std.specs.Prelude.{◌≡◌, ◌*◌, ◌≤◌, ◌<◌, leng
 ghost use Rattle.srt_group_model.specs.State.{with_leg, on_leg, on_membership, with_account};
 ghost use Rattle.srt_group_model.specs.Tools.{at_place, is_empty};
 ghost use Rattle.srt_group_model.specs.Members.{find};
-ghost use Rattle.srt_connection_queue.specs.Rows.{row_size, Kept, with_membership};
-ghost use Rattle.srt_connection_queue.specs.Queue.{optional_event, popped, cleared};
-ghost use Rattle.srt_connection_members.specs.Members.{member_at, members_of, HasRow, new_member, found_of, Changed, PushedAt, PolledAt, Appended, Removed, ChangedAll};
+ghost use Rattle.srt_connection_queue.specs.Rows.{row_size, member_of, Kept, with_membership};
+ghost use Rattle.srt_connection_queue.specs.Queue.{popped, cleared};
+ghost use Rattle.srt_connection_members.specs.Members.{member_at, members_of, HasRow, new_member, Changed, PushedAt, PolledAt, Appended, Removed, ChangedAll};
 ghost use Rattle.srt_group_model.specs.Legs.{with_reservation, advance_receive_sequence, release_data_reservation, disconnect_leg};
 
 use srt_connection::legs::{disconnect, less};
 use srt_connection_queue::queue::{
-    LegPoll, OptionalEvent, clear, front, poll_event_for_group, pop, push, queue_is_empty,
+    LegPoll, clear, front, poll_event_for_group, pop, push, queue_is_empty,
 };
 use srt_connection_queue::rows::{
     ROW, account, admitted, advance_receive_sequence, leg, link_state, member_state, membership,
     put_account, put_leg, put_membership, put_reservation, receiver, reservation, sender,
 };
 use srt_group_model::{Account, Event, Leg, Membership, Receiver, Sender};
-use srt_protocol::error::Outcome;
+use srt_protocol::error::Error;
+use word_rows::close_gap;
 
 // The most members that a group has.
 pub const MAX_MEMBERS: usize = 64;
@@ -29,101 +30,94 @@ pub const MAX_MEMBERS: usize = 64;
 // The words of the table: a row for each of them.
 pub const MEMBERS_LENGTH: usize = MAX_MEMBERS * ROW;
 
-// The index of a member, if there is one.
-#[derive(Clone, Copy)]
-pub enum Found {
-    At(usize),
-    Nothing,
-}
-
 // ---- one row is read
+
+// The row at the index.
+#[tactic(auto, using(crate::specs::Laws::Members::lent_member, word_rows::specs::Laws::Rows::row_length))]
+fn row(members: &[u64], index: usize) -> &[u64]
+    requires { HasRow index members.now }
+    ensures long { length result.now ≡ row_size }
+    ensures shows { member_of result.now ≡ member_at members.now index }
+{
+    let start = index * ROW;
+    &members[start..start + ROW]
+}
 
 pub fn membership_at(members: &[u64], index: usize) -> Membership
     requires { HasRow index members.now }
     ensures { result ≡ (member_at members.now index).membership }
 {
-    let start = index * ROW;
-    membership(&members[start..start + ROW])
+    membership(row(members, index))
 }
 
 pub fn leg_at(members: &[u64], index: usize) -> Leg
     requires { HasRow index members.now }
     ensures { result ≡ (member_at members.now index).leg }
 {
-    let start = index * ROW;
-    leg(&members[start..start + ROW])
+    leg(row(members, index))
 }
 
 pub fn sender_at(members: &[u64], index: usize) -> Sender
     requires { HasRow index members.now }
     ensures { result ≡ (member_at members.now index).leg.sender }
 {
-    let start = index * ROW;
-    sender(&members[start..start + ROW])
+    sender(row(members, index))
 }
 
 pub fn receiver_at(members: &[u64], index: usize) -> Receiver
     requires { HasRow index members.now }
     ensures { result ≡ (member_at members.now index).leg.receiver }
 {
-    let start = index * ROW;
-    receiver(&members[start..start + ROW])
+    receiver(row(members, index))
 }
 
 pub fn member_state_at(members: &[u64], index: usize) -> u64
     requires { HasRow index members.now }
     ensures { result ≡ (member_at members.now index).membership.state }
 {
-    let start = index * ROW;
-    member_state(&members[start..start + ROW])
+    member_state(row(members, index))
 }
 
 pub fn admitted_at(members: &[u64], index: usize) -> u64
     requires { HasRow index members.now }
     ensures { result ≡ (member_at members.now index).membership.admitted }
 {
-    let start = index * ROW;
-    admitted(&members[start..start + ROW])
+    admitted(row(members, index))
 }
 
 pub fn link_state_at(members: &[u64], index: usize) -> u64
     requires { HasRow index members.now }
     ensures { result ≡ (member_at members.now index).leg.link.state }
 {
-    let start = index * ROW;
-    link_state(&members[start..start + ROW])
+    link_state(row(members, index))
 }
 
 pub fn account_at(members: &[u64], index: usize) -> Account
     requires { HasRow index members.now }
     ensures { result ≡ (member_at members.now index).membership.account }
 {
-    let start = index * ROW;
-    account(&members[start..start + ROW])
+    account(row(members, index))
 }
 
 pub fn reservation_at(members: &[u64], index: usize) -> u64
     requires { HasRow index members.now }
     ensures { result ≡ (member_at members.now index).leg.receiver.reserved }
 {
-    let start = index * ROW;
-    reservation(&members[start..start + ROW])
+    reservation(row(members, index))
 }
 
 pub fn queue_is_empty_at(members: &[u64], index: usize) -> bool
     requires { HasRow index members.now }
     ensures { result ≡ is_empty (member_at members.now index).queue }
 {
-    let start = index * ROW;
-    queue_is_empty(&members[start..start + ROW])
+    queue_is_empty(row(members, index))
 }
 
-pub fn front_at(members: &[u64], index: usize) -> OptionalEvent
+pub fn front_at(members: &[u64], index: usize) -> Option<Event>
     requires { HasRow index members.now }
-    ensures { result ≡ optional_event (at_place 0 (member_at members.now index).queue) }
+    ensures { result ≡ at_place 0 (member_at members.now index).queue }
 {
-    let start = index * ROW;
-    front(&members[start..start + ROW])
+    front(row(members, index))
 }
 
 // ---- one row is changed
@@ -176,7 +170,7 @@ pub fn clear_at(members: &mut [u64], index: usize)
     clear(&mut members[start..start + ROW]);
 }
 
-pub fn push_at(members: &mut [u64], index: usize, event: Event) -> Outcome
+pub fn push_at(members: &mut [u64], index: usize, event: Event) -> Result<(), Error>
     requires { HasRow index members.old }
     ensures { PushedAt index event members.old result members.new }
 {
@@ -220,26 +214,24 @@ pub fn disconnect_at(members: &mut [u64], index: usize)
 }
 
 // Every leg of the first `count` members is advanced.
+#[tactic(auto, using(crate::specs::Laws::Members::changing_done))]
 pub fn advance_receive_sequence_of_all(members: &mut [u64], count: usize, sequence: u64)
     requires { count * row_size ≤ length members.old }
     ensures { ChangedAll count (on_leg (advance_receive_sequence sequence)) members.old members.new }
 {
-    let mut i = 0;
-    while i < count {
+    for i in 0..count {
         advance_receive_sequence_at(members, i, sequence);
-        i += 1;
     }
 }
 
 // Every leg of the first `count` members is disconnected.
+#[tactic(auto, using(crate::specs::Laws::Members::changing_done))]
 pub fn disconnect_all(members: &mut [u64], count: usize)
     requires { count * row_size ≤ length members.old }
     ensures { ChangedAll count (on_leg disconnect_leg) members.old members.new }
 {
-    let mut i = 0;
-    while i < count {
+    for i in 0..count {
         disconnect_at(members, i);
-        i += 1;
     }
 }
 
@@ -265,29 +257,24 @@ pub fn append_member(members: &mut [u64], count: usize, membership: Membership, 
 }
 
 // Of the first `count` members the one at the index goes, with its queue; the later ones move down.
+#[tactic(auto, using(crate::specs::Laws::Members::removed))]
 pub fn remove_member(members: &mut [u64], count: usize, index: usize)
     requires { (index < count) × (count * row_size ≤ length members.old) }
     ensures { Removed index count members.old members.new }
 {
-    let end = (count - 1) * ROW;
-    let mut at = index * ROW;
-    while at < end {
-        members[at] = members[at + ROW];
-        at += 1;
-    }
+    close_gap(members, index * ROW, count * ROW, ROW);
 }
 
 // The index of the member with that id, among the first `count`.
-pub fn find(members: &[u64], count: usize, id: u64) -> Found
+#[tactic(auto, using(crate::specs::Laws::Members::found, crate::specs::Laws::Members::not_found))]
+pub fn find(members: &[u64], count: usize, id: u64) -> Option<usize>
     requires { count * row_size ≤ length members.now }
-    ensures { result ≡ found_of (find id (members_of count members.now)) }
+    ensures { result ≡ find id (members_of count members.now) }
 {
-    let mut i = 0;
-    while i < count {
+    for i in 0..count {
         if members[i * ROW] == id {
-            return Found::At(i);
+            return Some(i);
         }
-        i += 1;
     }
-    Found::Nothing
+    None
 }

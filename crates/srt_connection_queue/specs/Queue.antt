@@ -1,26 +1,18 @@
 -- A leg's queue of events, as a ring in its row, and document 01's "Polling".
-use Rattle.std.specs.Prelude.{◌≡◌, List, [], ◌∷◌, ℕ, ◌-◌, leb, eqb, length, drop}
-use Rattle.std.proofs.Math.Option.{Option, none, some}
+use Rattle.srt_protocol.specs.Errors.{Outcome}
+use Rattle.std.specs.Prelude.{◌≡◌, List, [], ◌∷◌, ℕ, ◌-◌, leb, eqb, length, drop, None, Ok, Option, Some}
 use Rattle.srt_protocol.specs.Errors.{refuse_if, if_accepted}
 use Rattle.srt_protocol.specs.declared.error.Error.TheVariants.{QueueFull}
-use Rattle.srt_protocol.specs.declared.error.Outcome.{Outcome}
-use Rattle.srt_protocol.specs.declared.error.Outcome.TheVariants.{Accepted}
 use Rattle.srt_group_model.specs.Tools.{if_true◌then◌else◌}
 use Rattle.srt_group_model.specs.Calls.{enqueue}
 use Rattle.srt_group_model.specs.State.{Member, with_queue}
 use Rattle.srt_group_model.specs.Validity.{max_queued}
 use Rattle.srt_group_model.specs.declared.Event.{Event}
-use Rattle.srt_connection_queue.specs.declared.queue.OptionalEvent.{OptionalEvent}
-use Rattle.srt_connection_queue.specs.declared.queue.OptionalEvent.TheVariants.{Some, None}
 use Rattle.srt_connection_queue.specs.declared.queue.LegPoll.{LegPoll}
 use Rattle.srt_connection_queue.specs.declared.queue.LegPoll.TheVariants.{Nothing, Continuation, Event as PolledEvent}
 use Rattle.srt_connection_queue.specs.Rows.{Kept}
 
 -- ---- definitions
-
-abbrev pub optional_event : Option Event → OptionalEvent
-optional_event none = None
-optional_event (some e) = Some e
 
 -- the front event goes
 abbrev pub popped : Member → Member
@@ -32,7 +24,7 @@ cleared m = with_queue [] m
 
 -- 31: the queue has max-queued events
 abbrev pub push_outcome : Member → Outcome
-push_outcome m = refuse_if (leb max_queued (length m.queue)) QueueFull Accepted
+push_outcome m = refuse_if (leb max_queued (length m.queue)) QueueFull (Ok tt)
 
 pub record Pushed (m : Member) (e : Event) (answer : Outcome) (row : List ℕ) : Type 0 where
   pub outcome : answer ≡ push_outcome m

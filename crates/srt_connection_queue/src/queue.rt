@@ -2,18 +2,11 @@
 ghost use Rattle.std.specs.Prelude.{◌≡◌, length, ◌<◌};
 ghost use Rattle.srt_group_model.specs.Tools.{at_place, is_empty};
 ghost use Rattle.srt_connection_queue.specs.Rows.{row_size, member_of, Kept};
-ghost use Rattle.srt_connection_queue.specs.Queue.{optional_event, Pushed, Polled, popped, cleared, budget_after};
+ghost use Rattle.srt_connection_queue.specs.Queue.{Pushed, Polled, popped, cleared, budget_after};
 
 use crate::rows::{FIRST_EVENT, MAX_QUEUED, Ring, event_part, put_event_part, put_ring, ring_of};
 use srt_group_model::Event;
-use srt_protocol::error::{Error, Outcome};
-
-// An event that may be missing: a Rust `Option<ConnectionEvent>`.
-#[derive(Clone, Copy)]
-pub enum OptionalEvent {
-    Some(Event),
-    None,
-}
+use srt_protocol::error::Error;
 
 // What polling a leg gives: nothing, nothing with the continuation asked for, or the front event and what is left of the
 // budget.
@@ -24,6 +17,7 @@ pub enum LegPoll {
     Event { event: Event, budget: u64 },
 }
 
+#[tactic(auto, using(crate::specs::Laws::Queue::length_is))]
 pub fn queue_length(row: &[u64]) -> u64
     requires { length row.now ≡ row_size }
     ensures { result ≡ length (member_of row.now).queue }
@@ -32,6 +26,7 @@ pub fn queue_length(row: &[u64]) -> u64
     ring.length
 }
 
+#[tactic(auto, using(crate::specs::Laws::Queue::empty_is))]
 pub fn queue_is_empty(row: &[u64]) -> bool
     requires { length row.now ≡ row_size }
     ensures { result ≡ is_empty (member_of row.now).queue }
@@ -40,19 +35,21 @@ pub fn queue_is_empty(row: &[u64]) -> bool
     ring.length == 0
 }
 
-pub fn front(row: &[u64]) -> OptionalEvent
+#[tactic(auto, using(crate::specs::Laws::Queue::front_none, crate::specs::Laws::Queue::front_is))]
+pub fn front(row: &[u64]) -> Option<Event>
     requires { length row.now ≡ row_size }
-    ensures { result ≡ optional_event (at_place 0 (member_of row.now).queue) }
+    ensures { result ≡ at_place 0 (member_of row.now).queue }
 {
     let ring = ring_of(row);
     if ring.length == 0 {
-        return OptionalEvent::None;
+        return None;
     }
     let slot = (FIRST_EVENT + ring.start % MAX_QUEUED) as usize;
-    OptionalEvent::Some(event_part(row, slot))
+    Some(event_part(row, slot))
 }
 
 // The front event goes; an empty queue stays.
+#[tactic(auto, using(crate::specs::Laws::Queue::popped_empty, crate::specs::Laws::Queue::popped_is))]
 pub fn pop(row: &mut [u64])
     requires { length row.old ≡ row_size }
     ensures { Kept row.new (popped (member_of row.old)) }
@@ -67,23 +64,25 @@ pub fn pop(row: &mut [u64])
 }
 
 // An event behind the others; a full queue refuses it (code 31), and stays.
-pub fn push(row: &mut [u64], event: Event) -> Outcome
+#[tactic(auto, using(crate::specs::Laws::Queue::push_accepted))]
+pub fn push(row: &mut [u64], event: Event) -> Result<(), Error>
     requires { length row.old ≡ row_size }
     ensures { Pushed (member_of row.old) event result row.new }
 {
     let ring = ring_of(row);
     if MAX_QUEUED <= ring.length {
-        return Outcome::Refused(Error::QueueFull);
+        return Err(Error::QueueFull);
     }
     let start = ring.start;
     let length = ring.length + 1;
     let slot = (FIRST_EVENT + (start % MAX_QUEUED + ring.length) % MAX_QUEUED) as usize;
     put_event_part(row, slot, event);
     put_ring(row, Ring { start, length });
-    Outcome::Accepted
+    Ok(())
 }
 
 // The queue is dropped.
+#[tactic(auto, using(crate::specs::Laws::Queue::cleared_is))]
 pub fn clear(row: &mut [u64])
     requires { length row.old ≡ row_size }
     ensures { Kept row.new (cleared (member_of row.old)) }
@@ -115,7 +114,7 @@ pub fn poll_event_for_group(row: &mut [u64], budget: u64) -> LegPoll
     ensures { Polled (member_of row.old) budget result row.new }
 {
     let first = front(row);
-    let OptionalEvent::Some(event) = first else {
+    let Some(event) = first else {
         return LegPoll::Nothing;
     };
     if budget == 0 {

@@ -76,8 +76,9 @@ pub struct Ring {
     pub length: u64,
 }
 
-// ---- nine words
+// ---- nine words: a pair of functions for each part. A trait for the pair takes as many lines, for its ghosts in each impl
 
+#[tactic(auto, unfolding(crate::specs::Rows::membership_of))]
 fn read_membership(words: &[u64]) -> Membership
     requires { length words.now ≡ part_size }
     ensures { result ≡ membership_of words.now }
@@ -95,6 +96,7 @@ fn read_membership(words: &[u64]) -> Membership
     }
 }
 
+#[tactic(auto, using(crate::specs::Laws::Rows::nine), unfolding(crate::specs::Rows::membership_words))]
 fn write_membership(words: &mut [u64], membership: Membership)
     requires { length words.old ≡ part_size }
     ensures { words.new ≡ membership_words membership }
@@ -110,6 +112,7 @@ fn write_membership(words: &mut [u64], membership: Membership)
     words[8] = 0;
 }
 
+#[tactic(auto, unfolding(crate::specs::Rows::link_part_of))]
 fn read_link_part(words: &[u64]) -> LinkPart
     requires { length words.now ≡ part_size }
     ensures { result ≡ link_part_of words.now }
@@ -128,6 +131,7 @@ fn read_link_part(words: &[u64]) -> LinkPart
     }
 }
 
+#[tactic(auto, using(crate::specs::Laws::Rows::nine), unfolding(crate::specs::Rows::link_part_words))]
 fn write_link_part(words: &mut [u64], part: LinkPart)
     requires { length words.old ≡ part_size }
     ensures { words.new ≡ link_part_words part }
@@ -143,6 +147,7 @@ fn write_link_part(words: &mut [u64], part: LinkPart)
     words[8] = 0;
 }
 
+#[tactic(auto, unfolding(crate::specs::Rows::sender_of))]
 fn read_sender(words: &[u64]) -> Sender
     requires { length words.now ≡ part_size }
     ensures { result ≡ sender_of words.now }
@@ -157,6 +162,7 @@ fn read_sender(words: &[u64]) -> Sender
     }
 }
 
+#[tactic(auto, using(crate::specs::Laws::Rows::nine), unfolding(crate::specs::Rows::sender_words))]
 fn write_sender(words: &mut [u64], sender: Sender)
     requires { length words.old ≡ part_size }
     ensures { words.new ≡ sender_words sender }
@@ -172,6 +178,7 @@ fn write_sender(words: &mut [u64], sender: Sender)
     words[8] = 0;
 }
 
+#[tactic(auto, unfolding(crate::specs::Rows::receiver_of))]
 fn read_receiver(words: &[u64]) -> Receiver
     requires { length words.now ≡ part_size }
     ensures { result ≡ receiver_of words.now }
@@ -185,6 +192,7 @@ fn read_receiver(words: &[u64]) -> Receiver
     }
 }
 
+#[tactic(auto, unfolding(crate::specs::Rows::receiver_in))]
 fn write_receiver(words: &mut [u64], receiver: Receiver)
     requires { length words.old ≡ part_size }
     ensures { words.new ≡ receiver_in receiver words.old }
@@ -196,6 +204,7 @@ fn write_receiver(words: &mut [u64], receiver: Receiver)
     words[4] = receiver.advanced;
 }
 
+#[tactic(auto, unfolding(crate::specs::Rows::ring_of))]
 fn read_ring(words: &[u64]) -> Ring
     requires { length words.now ≡ part_size }
     ensures { result ≡ ring_of words.now }
@@ -206,6 +215,7 @@ fn read_ring(words: &[u64]) -> Ring
     }
 }
 
+#[tactic(auto, unfolding(crate::specs::Rows::ring_in))]
 fn write_ring(words: &mut [u64], ring: Ring)
     requires { length words.old ≡ part_size }
     ensures { words.new ≡ ring_in ring words.old }
@@ -214,6 +224,7 @@ fn write_ring(words: &mut [u64], ring: Ring)
     words[6] = ring.length;
 }
 
+#[tactic(auto, unfolding(crate::specs::Rows::event_of))]
 fn read_event(words: &[u64]) -> Event
     requires { length words.now ≡ part_size }
     ensures { result ≡ event_of words.now }
@@ -233,6 +244,7 @@ fn read_event(words: &[u64]) -> Event
     }
 }
 
+#[tactic(auto, using(crate::specs::Laws::Rows::nine), unfolding(crate::specs::Rows::event_words))]
 fn write_event(words: &mut [u64], event: Event)
     requires { length words.old ≡ part_size }
     ensures { words.new ≡ event_words event }
@@ -264,6 +276,7 @@ pub fn ring_of(row: &[u64]) -> Ring
     read_ring(&row[RECEIVER..RECEIVER_END])
 }
 
+#[tactic(auto, unfolding(word_rows::specs::Rows::row_at))]
 pub fn put_ring(row: &mut [u64], ring: Ring)
     requires { length row.old ≡ row_size }
     ensures { row.new ≡ put_part row.old receiver_part (ring_in ring (part row.old receiver_part)) }
@@ -271,6 +284,7 @@ pub fn put_ring(row: &mut [u64], ring: Ring)
     write_ring(&mut row[RECEIVER..RECEIVER_END], ring);
 }
 
+#[tactic(auto, using(word_rows::specs::Laws::Rows::row_part))]
 pub fn event_part(row: &[u64], place: usize) -> Event
     requires { (length row.now ≡ row_size) × (place < parts) }
     ensures { result ≡ event_of (part row.now place) }
@@ -296,6 +310,7 @@ pub fn membership(row: &[u64]) -> Membership
     read_membership(&row[MEMBERSHIP..MEMBERSHIP_END])
 }
 
+#[tactic(auto, using(crate::specs::Laws::Rows::membership_put))]
 pub fn put_membership(row: &mut [u64], membership: Membership)
     requires { length row.old ≡ row_size }
     ensures { Kept row.new (with_membership membership (member_of row.old)) }
@@ -303,6 +318,7 @@ pub fn put_membership(row: &mut [u64], membership: Membership)
     write_membership(&mut row[MEMBERSHIP..MEMBERSHIP_END], membership);
 }
 
+#[tactic(auto, using(crate::specs::Laws::Rows::link_trip_put))]
 pub fn put_link_trip(row: &mut [u64], link: Link, trip: Trip)
     requires { length row.old ≡ row_size }
     ensures { Kept row.new (with_link_trip link trip (member_of row.old)) }
@@ -317,6 +333,7 @@ pub fn sender(row: &[u64]) -> Sender
     read_sender(&row[SENDER..SENDER_END])
 }
 
+#[tactic(auto, using(crate::specs::Laws::Rows::sender_put))]
 pub fn put_sender(row: &mut [u64], sender: Sender)
     requires { length row.old ≡ row_size }
     ensures { Kept row.new (with_sender sender (member_of row.old)) }
@@ -331,6 +348,7 @@ pub fn receiver(row: &[u64]) -> Receiver
     read_receiver(&row[RECEIVER..RECEIVER_END])
 }
 
+#[tactic(auto, using(crate::specs::Laws::Rows::receiver_put), unfolding(word_rows::specs::Rows::row_at))]
 pub fn put_receiver(row: &mut [u64], receiver: Receiver)
     requires { length row.old ≡ row_size }
     ensures { Kept row.new (with_receiver receiver (member_of row.old)) }
@@ -338,6 +356,7 @@ pub fn put_receiver(row: &mut [u64], receiver: Receiver)
     write_receiver(&mut row[RECEIVER..RECEIVER_END], receiver);
 }
 
+#[tactic(auto, using(crate::specs::Laws::Rows::leg_read))]
 pub fn leg(row: &[u64]) -> Leg
     requires { length row.now ≡ row_size }
     ensures { result ≡ (member_of row.now).leg }
@@ -355,6 +374,7 @@ pub fn leg(row: &[u64]) -> Leg
     }
 }
 
+#[tactic(auto, using(crate::specs::Laws::Rows::leg_put))]
 pub fn put_leg(row: &mut [u64], leg: Leg)
     requires { length row.old ≡ row_size }
     ensures { Kept row.new (with_leg leg (member_of row.old)) }
@@ -366,6 +386,7 @@ pub fn put_leg(row: &mut [u64], leg: Leg)
 
 // ---- one word of a row
 
+#[tactic(auto, using(crate::specs::Laws::Rows::state_word))]
 pub fn member_state(row: &[u64]) -> u64
     requires { length row.now ≡ row_size }
     ensures { result ≡ (member_of row.now).membership.state }
@@ -373,6 +394,7 @@ pub fn member_state(row: &[u64]) -> u64
     row[STATE]
 }
 
+#[tactic(auto, using(crate::specs::Laws::Rows::admitted_word))]
 pub fn admitted(row: &[u64]) -> u64
     requires { length row.now ≡ row_size }
     ensures { result ≡ (member_of row.now).membership.admitted }
@@ -380,6 +402,7 @@ pub fn admitted(row: &[u64]) -> u64
     row[ADMITTED]
 }
 
+#[tactic(auto, using(crate::specs::Laws::Rows::link_state_word))]
 pub fn link_state(row: &[u64]) -> u64
     requires { length row.now ≡ row_size }
     ensures { result ≡ (member_of row.now).leg.link.state }
@@ -387,6 +410,7 @@ pub fn link_state(row: &[u64]) -> u64
     row[LINK_STATE]
 }
 
+#[tactic(auto, using(crate::specs::Laws::Rows::account_word))]
 pub fn account(row: &[u64]) -> Account
     requires { length row.now ≡ row_size }
     ensures { result ≡ (member_of row.now).membership.account }
@@ -403,6 +427,7 @@ pub fn put_account(row: &mut [u64], account: Account)
     row[ACCOUNT] = account.reserved;
 }
 
+#[tactic(auto, using(crate::specs::Laws::Rows::reserved_word))]
 pub fn reservation(row: &[u64]) -> u64
     requires { length row.now ≡ row_size }
     ensures { result ≡ (member_of row.now).leg.receiver.reserved }

@@ -31,13 +31,6 @@ pub struct Group {
     pub ring: HistoryRing,
 }
 
-// What `new` answers: the Rust's `Result<Self, SrtError>`.
-#[derive(Clone, Copy)]
-pub enum NewGroup {
-    Made(Group),
-    Refused(Error),
-}
-
 // 2: an id beyond 32 bits, or a mode above 1.
 fn making_out_of_range(id: u64, mode: u64) -> bool
     ensures { result ≡ (above largest_32 id || above 1 mode) }
@@ -55,16 +48,16 @@ impl Group {
 
     // A fresh group over tables of which no row is in use. The mode is 0 for Broadcast, 1 for Backup. The length is the store's, which every
     // call that is lent one then asks for, or 0. Refused with 2 for an id or a mode out of range, with 1 for an id that is no group's.
-    pub fn new(id: u64, mode: u64, length: usize) -> NewGroup
+    pub fn new(id: u64, mode: u64, length: usize) -> Result<Group, Error>
         ensures { PromisedNew record { id = id; mode = mode; length = length } result }
     {
         if making_out_of_range(id, mode) {
-            return NewGroup::Refused(Error::OutOfRange);
+            return Err(Error::OutOfRange);
         }
         if !is_group_id(id) {
-            return NewGroup::Refused(Error::MissingGroupMask);
+            return Err(Error::MissingGroupMask);
         }
-        NewGroup::Made(Self::fresh(id, mode, length))
+        Ok(Self::fresh(id, mode, length))
     }
 
     // The record of a group that was just made.

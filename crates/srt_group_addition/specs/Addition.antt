@@ -1,7 +1,6 @@
 -- A member is added: over the record's numbers and the lent table of members, whatever is held or waits and whatever rest of the
 -- state it does not read.
-use Rattle.std.specs.Prelude.{◌≡◌, List, [], ◌∷◌, ◌++◌, ℕ, ◌+◌, length}
-use Rattle.std.proofs.Math.Option.{none}
+use Rattle.std.specs.Prelude.{◌≡◌, List, [], ◌∷◌, ◌++◌, ℕ, ◌+◌, length, None}
 use Rattle.srt_protocol.specs.Errors.{outcome_number}
 use Rattle.srt_group_model.specs.State.{Member, State, with_members, with_peer}
 use Rattle.srt_group_model.specs.Accounts.{no_packets}
@@ -36,7 +35,7 @@ membership_at_addition id weight state =
 unfoldable pub joined_by : Member → State → State
 joined_by m s =
     let peer = peer_after s.peer (m ∷ []) in
-    with_peer peer (with_members (s.members ++ (admit_peer_group peer m ∷ [])) (set_base (base_after none (m ∷ [])) (start s)).state)
+    with_peer peer (with_members (s.members ++ (admit_peer_group peer m ∷ [])) (set_base (base_after None (m ∷ [])) (start s)).state)
 
 pub record Joins (id weight : ℕ) (l : Leg) (core : Core) (ms : List ℕ) (after : Core) (ms' : List ℕ) : Type 0 where
   pub long : length ms' ≡ length ms

@@ -1,8 +1,7 @@
 -- A leg is handed to an addition in a lent row of the members' table: its first row, of which the membership part is not read.
-use Rattle.std.specs.Prelude.{Bool, not, ◌||◌, List, ℕ, leb, eqb, length}
+use Rattle.srt_protocol.specs.Errors.{Outcome}
+use Rattle.std.specs.Prelude.{Bool, not, ◌||◌, List, ℕ, leb, eqb, length, Ok}
 use Rattle.srt_protocol.specs.declared.error.Error.TheVariants.{OutOfRange, InvalidState, MemberLimit, DuplicateMember}
-use Rattle.srt_protocol.specs.declared.error.Outcome.{Outcome}
-use Rattle.srt_protocol.specs.declared.error.Outcome.TheVariants.{Accepted}
 use Rattle.srt_protocol.specs.Errors.{refuse_if, outcome_number}
 use Rattle.srt_group_model.specs.Tools.{is_empty, any}
 use Rattle.srt_group_model.specs.State.{Member}
@@ -36,7 +35,7 @@ unfit id weight l =
 abbrev pub first_refusal : (in_use unfit full duplicate : Bool) → Outcome
 first_refusal in_use unfit full duplicate =
     refuse_if in_use InvalidState
-    (refuse_if unfit OutOfRange (refuse_if full MemberLimit (refuse_if duplicate DuplicateMember Accepted)))
+    (refuse_if unfit OutOfRange (refuse_if full MemberLimit (refuse_if duplicate DuplicateMember (Ok tt))))
 
 abbrev pub addition_refused : (id weight : ℕ) → Leg → (queue : List Event) → List Member → Outcome
 addition_refused id weight l queue ms =

@@ -13,13 +13,13 @@ use srt_group_members::admission::{Admission, admit_peer_group};
 use srt_group_members::alignment::align_member_sequence;
 use srt_group_members::states::state_at_addition;
 use srt_group_model::{Collision, Core, Leg, Membership, Sending};
-use srt_protocol::error::{Error, Outcome};
+use srt_protocol::error::Error;
 
-// The group's record after an addition, and how it ended: the Rust's `Result<(), Error>`.
+// The group's record after an addition, and how it ended.
 #[derive(Clone, Copy)]
 pub struct Added {
     pub core: Core,
-    pub outcome: Outcome,
+    pub outcome: Result<(), Error>,
 }
 
 // A member for which nothing is held yet, not admitted, without collision.
@@ -54,11 +54,10 @@ fn join(core: Core, members: &mut [u64], id: u64, weight: u64, leg: Leg) -> Core
     );
     let before = Admission {
         peer: core.peer,
-        based: 0,
-        base: 0,
+        base: None,
     };
     let admission = admit_peer_group(members, count, before);
-    let mut after = set_base(core, admission.based, admission.base);
+    let mut after = set_base(core, admission.base);
     let peer = admission.peer;
     let one_more = count + 1;
     after.peer = peer;
@@ -84,19 +83,19 @@ pub fn add_member_at_end(
     if membership.admitted != 1 {
         return Added {
             core: after,
-            outcome: Outcome::Accepted,
+            outcome: Ok(()),
         };
     }
     let count = index + 1;
-    if align_member_sequence(members, count, sending.numbered, sending.next, index) {
+    if align_member_sequence(members, count, sending.next_send_sequence(), index) {
         Added {
             core: after,
-            outcome: Outcome::Accepted,
+            outcome: Ok(()),
         }
     } else {
         Added {
             core: after,
-            outcome: Outcome::Refused(Error::AlignmentFailed),
+            outcome: Err(Error::AlignmentFailed),
         }
     }
 }

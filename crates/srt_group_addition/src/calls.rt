@@ -9,14 +9,14 @@ ghost use Rattle.srt_group_addition.specs.Handed.{call_of_row};
 use crate::handed::add_leg;
 use srt_connection_queue::rows::ROW;
 use srt_group::Group;
-use srt_group_refusals::refusals::begin;
-use srt_protocol::error::{Error, Outcome};
+use srt_group_refusals::refusals::LentGroup;
+use srt_protocol::error::{Error, outcome_number};
 
 // How an addition ended, and the record after it: as it was where the call is refused with another code than 22.
 #[derive(Clone, Copy)]
 pub struct MemberAdded {
     pub group: Group,
-    pub outcome: Outcome,
+    pub outcome: Result<(), Error>,
 }
 
 // A leg is added, handed over in a row of the members' table, of which the membership part is not read. 22 leaves it added.
@@ -41,33 +41,31 @@ pub fn add_member(
     if row.len() < ROW {
         return MemberAdded {
             group,
-            outcome: Outcome::Refused(Error::InsufficientBuffer),
+            outcome: Err(Error::InsufficientBuffer),
         };
     }
-    let Group {
-        identity,
-        core,
-        sending,
-        ring,
-    } = group;
-    let begun = begin(
-        identity, core, sending, ring, members, pending, waiting, history, sources,
-    );
-    if let Outcome::Refused(error) = begun {
+    let lent = LentGroup {
+        group,
+        members,
+        pending,
+        waiting,
+        history,
+        sources,
+    };
+    let begun = lent.begin();
+    if let Err(error) = begun {
         return MemberAdded {
             group,
-            outcome: Outcome::Refused(error),
+            outcome: Err(error),
         };
     }
-    let added = add_leg(core, sending, members, row, id, weight);
+    let added = add_leg(group.core, group.sending, members, row, id, weight);
     let after = added.core;
     let outcome = added.outcome;
     MemberAdded {
         group: Group {
-            identity,
             core: after,
-            sending,
-            ring,
+            ..group
         },
         outcome,
     }

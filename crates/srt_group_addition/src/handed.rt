@@ -13,11 +13,11 @@ ghost use Rattle.srt_group_addition.specs.Handed.{in_use, unfit, addition_refuse
 
 use crate::addition::{Added, add_member_at_end};
 use srt_connection::legs::{LARGEST_16, LARGEST_32, handed_over};
-use srt_connection_members::{Found, MAX_MEMBERS, find, leg_at, queue_is_empty_at};
+use srt_connection_members::{MAX_MEMBERS, find, leg_at, queue_is_empty_at};
 use srt_group_model::{Core, Identity, Leg, Sending};
 use srt_group_rules::ranges::{leg_out_of_range, leg_sequence_too_large};
 use srt_group_tables::history::HistoryRing;
-use srt_protocol::error::{Error, Outcome};
+use srt_protocol::error::{Error, outcome_number};
 
 // 6: the leg has an event in its queue, or a reservation.
 fn leg_in_use(row: &[u64], leg: Leg) -> bool
@@ -42,32 +42,35 @@ fn has_member(members: &[u64], count: usize, id: u64) -> bool
     requires { count * row_size ≤ length members.now }
     ensures { result ≡ any (has_id id) (members_of count members.now) }
 {
-    let found = find(members, count, id);
-    match found {
-        Found::At(_) => true,
-        Found::Nothing => false,
-    }
+    find(members, count, id).is_some()
 }
 
 // What refuses an addition after 5 and 6 of the group's own state: 6 of the leg, 2, 20, 21.
-fn refusal(members: &[u64], count: usize, row: &[u64], leg: Leg, id: u64, weight: u64) -> Outcome
+fn refusal(
+    members: &[u64],
+    count: usize,
+    row: &[u64],
+    leg: Leg,
+    id: u64,
+    weight: u64,
+) -> Result<(), Error>
     requires { (members_size ≤ length members.now) × HasRow 0 row.now }
     ensures { result ≡ addition_refused id weight leg (member_at row.now 0).queue
         (members_of count members.now) }
 {
     if leg_in_use(row, leg) {
-        return Outcome::Refused(Error::InvalidState);
+        return Err(Error::InvalidState);
     }
     if leg_unfit(id, weight, leg) {
-        return Outcome::Refused(Error::OutOfRange);
+        return Err(Error::OutOfRange);
     }
     if MAX_MEMBERS <= count {
-        return Outcome::Refused(Error::MemberLimit);
+        return Err(Error::MemberLimit);
     }
     if has_member(members, count, id) {
-        return Outcome::Refused(Error::DuplicateMember);
+        return Err(Error::DuplicateMember);
     }
-    Outcome::Accepted
+    Ok(())
 }
 
 // `add_member` after 5 and 6 of the group's own state. It touches the record's core and the members only.
@@ -86,10 +89,10 @@ pub fn add_leg(
     let leg = leg_at(row, 0);
     let count = core.counts.members;
     let refused = refusal(members, count, row, leg, id, weight);
-    if let Outcome::Refused(error) = refused {
+    if let Err(error) = refused {
         return Added {
             core,
-            outcome: Outcome::Refused(error),
+            outcome: Err(error),
         };
     }
     add_member_at_end(core, sending, members, id, weight, leg)

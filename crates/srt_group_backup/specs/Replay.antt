@@ -1,6 +1,5 @@
 -- A replay of the history on a leg: one entry, and a loop over all of them.
-use Rattle.std.specs.Prelude.{◌≡◌, List, [], ◌∷◌, ℕ, ◌+◌, ◌*◌, ◌≤◌}
-use Rattle.std.proofs.Math.Option.{Option}
+use Rattle.std.specs.Prelude.{◌≡◌, List, [], ◌∷◌, ℕ, ◌+◌, ◌*◌, ◌≤◌, Option}
 use Rattle.srt_protocol.specs.Cells.{overwritten}
 use Rattle.srt_group_model.specs.Tools.{if_some◌give◌otherwise◌, bit}
 use Rattle.srt_group_model.specs.Legs.{send_shared_with_sequence}
@@ -9,8 +8,6 @@ use Rattle.srt_group_model.specs.Lent.{list_rows}
 use Rattle.srt_group_model.specs.Backup.{max_history, replay_entries}
 use Rattle.srt_group_model.specs.declared.Entry.{Entry}
 use Rattle.srt_group_model.specs.declared.Leg.{Leg}
-use Rattle.srt_connection.specs.Answers.{result_of}
-use Rattle.srt_connection.specs.declared.legs.LegResult.{LegResult}
 use Rattle.srt_group_sending.specs.SentList.{Wrote}
 use Rattle.srt_group_backup.specs.declared.replay.Replayed.{Replayed}
 
@@ -25,8 +22,8 @@ replayed_sent time id e =
 abbrev pub entry_send : ℕ → Entry → Leg → Option Leg
 entry_send time e l = send_shared_with_sequence time e.length e.sequence l
 
-pub record EntryReplayed (time id : ℕ) (e : Entry) (l : Leg) (sent : ℕ) (before : List ℕ) (answer : LegResult) (after : List ℕ) : Type 0 where
-  pub outcome : answer ≡ result_of (entry_send time e l)
+pub record EntryReplayed (time id : ℕ) (e : Entry) (l : Leg) (sent : ℕ) (before : List ℕ) (answer : Option Leg) (after : List ℕ) : Type 0 where
+  pub outcome : answer ≡ entry_send time e l
   pub list : after
       ≡ (if_some entry_send time e l
       give (λ k. overwritten (sent * sent_row_size) (list_rows (replayed_sent time id e ∷ [])) before)

@@ -1,7 +1,7 @@
 -- The take-over: the replay on a leg, the alignment of a carrier, and which of them a take-over is.
+use Rattle.srt_protocol.specs.Errors.{Outcome}
 use Rattle.std.specs.Prelude.{◌≡◌, List, [], ℕ, ◌+◌, ◌≤◌, length}
 use Rattle.srt_protocol.specs.Errors.{outcome_number}
-use Rattle.srt_protocol.specs.declared.error.Outcome.{Outcome}
 use Rattle.srt_group_model.specs.State.{Send, State, with_send, with_members}
 use Rattle.srt_group_model.specs.Sending.{Sent, Flow}
 use Rattle.srt_group_model.specs.Backup.{max_history, align_carrier}

@@ -6,7 +6,7 @@ ghost use Rattle.srt_group_model.specs.Backup.{max_history};
 ghost use Rattle.srt_group_tables.specs.Ring.{arrays, Long, entries_of};
 ghost use Rattle.srt_group_backup.specs.Replay.{EntryReplayed, EntriesReplayed};
 
-use srt_connection::legs::{LegResult, send_shared_with_sequence};
+use srt_connection::legs::send_shared_with_sequence;
 use srt_group_model::{Entry, Leg};
 use srt_group_sending::list::write_sent;
 use srt_group_tables::history::{HistoryRing, entry_at};
@@ -28,17 +28,17 @@ fn replay_entry(
     id: u64,
     list: &mut [u64],
     sent: usize,
-) -> LegResult
+) -> Option<Leg>
     requires { sent * sent_row_size + sent_row_size ≤ length list.old }
     ensures { EntryReplayed time.0 id entry leg sent list.old result list.new }
 {
     let result = send_shared_with_sequence(leg, time, entry.length, entry.sequence);
-    let LegResult::Ok(after) = result else {
-        return LegResult::Err;
+    let Some(after) = result else {
+        return None;
     };
     let source = entry.source;
     write_sent(list, sent, id, entry.sequence, entry.cell, source, time);
-    LegResult::Ok(after)
+    Some(after)
 }
 
 // All entries, oldest first, up to one that fails.
@@ -59,11 +59,10 @@ pub fn replay_entries(
         list.old result list.new }
 {
     let mut here = leg;
-    let mut index = 0;
-    while index < ring.length {
+    for index in 0..ring.length {
         let entry = entry_at(ring, history, sources, index);
         let result = replay_entry(here, entry, time, id, list, sent + index);
-        let LegResult::Ok(after) = result else {
+        let Some(after) = result else {
             return Replayed {
                 leg: here,
                 sent: sent + index,
@@ -71,11 +70,10 @@ pub fn replay_entries(
             };
         };
         here = after;
-        index += 1;
     }
     Replayed {
         leg: here,
-        sent: sent + index,
+        sent: sent + ring.length,
         whole: 1,
     }
 }

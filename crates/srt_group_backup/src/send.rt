@@ -8,7 +8,7 @@ ghost use Rattle.srt_group_sending.specs.SentList.{send_tables};
 ghost use Rattle.srt_group_backup.specs.OwnSend.{SentOn, SendRecorded};
 
 use crate::trimming::{SendHistory, trim_backup_history};
-use srt_connection::legs::{LegResult, send_shared_with_sequence};
+use srt_connection::legs::send_shared_with_sequence;
 use srt_connection_members::{leg_at, membership_at, put_leg_at};
 use srt_group_model::{Entry, Leg, Sending};
 use srt_group_sending::broadcast::with_number_after;
@@ -33,7 +33,7 @@ pub fn send_on(
         (send_tables members.new list.new) }
 {
     let result = send_shared_with_sequence(leg_at(members, index), time, size, sequence);
-    let LegResult::Ok(leg) = result else {
+    let Some(leg) = result else {
         return false;
     };
     let membership = membership_at(members, index);

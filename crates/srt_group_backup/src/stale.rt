@@ -5,12 +5,12 @@ ghost use Rattle.srt_group_model.specs.Members.{is_standby};
 ghost use Rattle.srt_group_model.specs.Backup.{stability_timeout, is_stale, demote_stale_backup_carrier};
 ghost use Rattle.srt_group_model.specs.Sound.{AllFit};
 ghost use Rattle.srt_connection_queue.specs.Rows.{row_size};
-ghost use Rattle.srt_connection_members.specs.Members.{member_at, members_of, HasRow, found_of};
+ghost use Rattle.srt_connection_members.specs.Members.{member_at, members_of, HasRow};
 ghost use Rattle.srt_group_members.specs.Scan.{Became};
 ghost use Rattle.srt_group_backup.specs.Stale.{TripFit};
 
 use srt_connection::legs::has_sender;
-use srt_connection_members::{Found, leg_at};
+use srt_connection_members::leg_at;
 use srt_group_members::states::{UNSTABLE, first_active, is_standby_at, turn_at};
 use srt_group_model::Leg;
 use srt_protocol::time::Timestamp;
@@ -51,18 +51,16 @@ pub fn is_stale(leg: Leg, time: Timestamp) -> bool
     timeout < silence
 }
 
-fn first_standby(members: &[u64], count: usize) -> Found
+fn first_standby(members: &[u64], count: usize) -> Option<usize>
     requires { count * row_size ≤ length members.now }
-    ensures { result ≡ found_of (place_of is_standby (members_of count members.now)) }
+    ensures { result ≡ place_of is_standby (members_of count members.now) }
 {
-    let mut i = 0;
-    while i < count {
+    for i in 0..count {
         if is_standby_at(members, i) {
-            return Found::At(i);
+            return Some(i);
         }
-        i += 1;
     }
-    Found::Nothing
+    None
 }
 
 // Whether a connected Standby member could take over.
@@ -70,11 +68,7 @@ pub fn has_standby(members: &[u64], count: usize) -> bool
     requires { count * row_size ≤ length members.now }
     ensures { result ≡ any is_standby (members_of count members.now) }
 {
-    let found = first_standby(members, count);
-    match found {
-        Found::At(_) => true,
-        Found::Nothing => false,
-    }
+    first_standby(members, count).is_some()
 }
 
 // Its connection stays up: it requalifies once its flight has drained.
@@ -85,7 +79,7 @@ pub fn demote_stale_backup_carrier(members: &mut [u64], count: usize, time: Time
         members.old members.new }
 {
     let found = first_active(members, count);
-    let Found::At(index) = found else {
+    let Some(index) = found else {
         return;
     };
     if !has_standby(members, count) {

@@ -13,38 +13,38 @@ ghost use Rattle.srt_group_backup.specs.TakeOver.{HistoryIs, SendIs, FlightRepla
 
 use crate::replay::replay_entries;
 use crate::trimming::trim_by_carrier;
-use srt_connection::legs::{LegResult, remaining_window_packets};
+use srt_connection::legs::remaining_window_packets;
 use srt_connection_members::{leg_at, membership_at, put_leg_at};
 use srt_group_members::alignment::{align_leg, align_member_sequence};
 use srt_group_model::{Leg, Sending};
 use srt_group_sending::readiness::takes_over;
 use srt_group_tables::history::{HistoryRing, entry_at};
-use srt_protocol::error::{Error, Outcome};
+use srt_protocol::error::{Error, outcome_number};
 use srt_protocol::time::Timestamp;
 
 // Whether the flight was replayed, and how many rows of the list are in use.
 #[derive(Clone, Copy)]
 pub struct Flight {
-    pub outcome: Outcome,
+    pub outcome: Result<(), Error>,
     pub sent: usize,
 }
 
 // Whether the member is ready to carry the next send, with the numbers of sending, the ring and the rows in use as they are then.
 #[derive(Clone, Copy)]
 pub struct TakenOver {
-    pub outcome: Outcome,
+    pub outcome: Result<(), Error>,
     pub sending: Sending,
     pub ring: HistoryRing,
     pub sent: usize,
 }
 
-fn replay_outcome(whole: u64) -> Outcome
+fn replay_outcome(whole: u64) -> Result<(), Error>
     ensures { outcome_number result ≡ (if_true is_set whole then 0 else 28) }
 {
     if whole != 0 {
-        return Outcome::Accepted;
+        return Ok(());
     }
-    Outcome::Refused(Error::ReplayRefused)
+    Err(Error::ReplayRefused)
 }
 
 // The flight on a leg that stands at its first sequence. The window must have room for one more than all: the next send.
@@ -71,7 +71,7 @@ pub fn replay_on(
     if remaining_window_packets(leg) <= entries {
         put_leg_at(members, index, leg);
         return Flight {
-            outcome: Outcome::Refused(Error::ReplayRefused),
+            outcome: Err(Error::ReplayRefused),
             sent,
         };
     }
@@ -110,15 +110,15 @@ pub fn replay_flight(
 {
     if sending.gap != 0 {
         return Flight {
-            outcome: Outcome::Refused(Error::ReplayRefused),
+            outcome: Err(Error::ReplayRefused),
             sent,
         };
     }
     let first = entry_at(ring, history, sources, 0);
     let result = align_leg(leg_at(members, index), first.sequence);
-    let LegResult::Ok(leg) = result else {
+    let Some(leg) = result else {
         return Flight {
-            outcome: Outcome::Refused(Error::ReplayRefused),
+            outcome: Err(Error::ReplayRefused),
             sent,
         };
     };
@@ -128,17 +128,22 @@ pub fn replay_flight(
 }
 
 // With nothing to replay the leg is aligned to the group's send number, once there is one.
-pub fn align_carrier(sending: Sending, members: &mut [u64], count: usize, index: usize) -> Outcome
+pub fn align_carrier(
+    sending: Sending,
+    members: &mut [u64],
+    count: usize,
+    index: usize,
+) -> Result<(), Error>
     requires { count * row_size ≤ length members.old }
     ensures { CarrierAligned index count sending members.old result members.new }
 {
     if sending.numbered == 0 {
-        return Outcome::Accepted;
+        return Ok(());
     }
-    if !align_member_sequence(members, count, sending.numbered, sending.next, index) {
-        return Outcome::Refused(Error::AlignmentFailed);
+    if !align_member_sequence(members, count, sending.next_send_sequence(), index) {
+        return Err(Error::AlignmentFailed);
     }
-    Outcome::Accepted
+    Ok(())
 }
 
 // The member at an index is made ready to carry the next send.

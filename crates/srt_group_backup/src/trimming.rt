@@ -8,7 +8,7 @@ ghost use Rattle.srt_connection_members.specs.Members.{members_of};
 ghost use Rattle.srt_group_backup.specs.Trimming.{front_after, SendTrimmed, TrimmedByCarrier};
 
 use srt_connection::legs::{has_sender, oldest_unacked_sequence};
-use srt_connection_members::{Found, find, leg_at};
+use srt_connection_members::{find, leg_at};
 use srt_group_model::{Leg, Sending};
 use srt_group_tables::history::{HistoryRing, drop_before, sequence_at};
 use srt_protocol::srt_packet::word_before;
@@ -72,7 +72,7 @@ pub fn trim_by_carrier(
         return SendHistory { sending, ring };
     }
     let found = find(members, count, sending.carrier);
-    let Found::At(index) = found else {
+    let Some(index) = found else {
         return SendHistory { sending, ring };
     };
     let leg = leg_at(members, index);

@@ -10,7 +10,7 @@ ghost use Rattle.srt_group_carrier.specs.Lendable.{backup_tables, Lendable, Send
 ghost use Rattle.srt_group_carrier.specs.Flows.{every, InMode, BackupFlows};
 ghost use Rattle.srt_group_backup_send.specs.BackupSend.{on_carrier};
 
-use srt_connection_members::{Found, sender_at};
+use srt_connection_members::sender_at;
 use srt_group_backup::send::send_on;
 use srt_group_carrier::carrier::{ready_members, take_over};
 use srt_group_carrier::promotion::send_after_promotion;
@@ -19,7 +19,7 @@ use srt_group_members::states::first_active;
 use srt_group_model::Sending;
 use srt_group_sending::broadcast::sequence_for_send;
 use srt_group_tables::history::HistoryRing;
-use srt_protocol::error::{Error, Outcome};
+use srt_protocol::error::Error;
 use srt_protocol::time::Timestamp;
 
 // The call's own payload on the member at an index, which is ready to carry it.
@@ -48,7 +48,7 @@ fn send_at_place(
     let sender = sender_at(members, index);
     if sender.next != sequence {
         return BackupSend {
-            outcome: Outcome::Refused(Error::SequenceMismatch),
+            outcome: Err(Error::SequenceMismatch),
             sending,
             ring,
             sent,
@@ -93,9 +93,9 @@ fn send_on_carrier(
     let outcome = taken.outcome;
     let numbers = taken.sending;
     let left = taken.ring;
-    if let Outcome::Refused(error) = outcome {
+    if let Err(error) = outcome {
         return BackupSend {
-            outcome: Outcome::Refused(error),
+            outcome: Err(error),
             sending: numbers,
             ring: left,
             sent: taken.sent,
@@ -131,9 +131,9 @@ pub fn send_backup(
 {
     ready_members(members, count, mode, time);
     let found = first_active(members, count);
-    let Found::At(index) = found else {
+    let Some(index) = found else {
         return BackupSend {
-            outcome: Outcome::Refused(Error::NoActiveMember),
+            outcome: Err(Error::NoActiveMember),
             sending,
             ring,
             sent: 0,

@@ -3,25 +3,26 @@ ghost use Rattle.std.specs.Prelude.{◌≡◌, ◌≤◌, length};
 ghost use Rattle.srt_protocol.specs.Cells.{overwritten};
 ghost use Rattle.srt_group_model.specs.Tools.{is_set};
 ghost use Rattle.srt_group_model.specs.Guards.{data_polled};
-ghost use Rattle.srt_group_polls.specs.DataPoll.{option_of};
 ghost use Rattle.srt_group_data_poll.specs.Polling.{answer_of};
 ghost use Rattle.srt_group_words.specs.Record.{record_size, group_of, with_core};
 ghost use Rattle.srt_group_words.specs.Words.{in_words, PutSaid};
 
-use srt_group_polls::polls::{DataPoll, OptionalPacket};
-use srt_group_words::answers::{flag_of, put_eight, put_packet};
+use srt_group_model::Packet;
+use srt_group_polls::polls::DataPoll;
+use srt_group_words::answers::{flag_of, put, put_packet};
 use srt_group_words::record::put_core;
 
 // Whether to poll again at once, and the packet: its leg, sequence, count (0: none), message number, timestamp, source time and length.
-fn put_data(answer: &mut [u64], gave: OptionalPacket, continuation: u64)
+#[tactic(auto, using(crate::specs::Laws::Answers::says_none))]
+fn put_data(answer: &mut [u64], gave: Option<Packet>, continuation: u64)
     requires { 8 ≤ length answer.old }
     ensures { answer.new
-        ≡ overwritten 0 (in_words 8 (data_polled (option_of gave) (is_set continuation)) 0) answer.old }
+        ≡ overwritten 0 (in_words 8 (data_polled gave (is_set continuation)) 0) answer.old }
 {
     let again = flag_of(continuation);
     match gave {
-        OptionalPacket::None => put_eight(answer, again, 0, 0, 0, 0, 0, 0, 0),
-        OptionalPacket::Some(packet) => put_packet(answer, again, packet),
+        None => put(answer, [again, 0, 0, 0, 0, 0, 0, 0]),
+        Some(packet) => put_packet(answer, again, packet),
     }
 }
 

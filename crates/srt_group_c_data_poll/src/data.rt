@@ -9,12 +9,13 @@ ghost use Rattle.srt_group_words.specs.Words.{in_words, words, PromisedWords, Re
 use crate::answers::put_poll;
 use srt_group_collecting::collecting::MAX_VISITS;
 use srt_group_data_poll::polls;
-use srt_group_words::answers::{POLLED, put_eight};
+use srt_group_words::answers::{POLLED, put};
 use srt_group_words::begin::begin_poll;
 use srt_group_words::record::{RECORD, read_core, read_identity, read_ring, read_sending};
 use srt_protocol::time::Timestamp;
 
 // `srt_group_raw_poll_data_bounded` for a valid state, of which `used` shows the cells in use.
+#[tactic(auto, using(srt_group_words::specs::Laws::Words::parts_ready))]
 #[unsafe(no_mangle)]
 pub extern "C" fn srt_group_valid_poll_data_bounded(
     record: &mut [u64],
@@ -62,6 +63,7 @@ pub extern "C" fn srt_group_valid_poll_data_bounded(
 
 // The next packet in order, after at most so many events, which are dropped. Its payload is written from byte 12 of the output on. The answer:
 // whether to poll again at once, and of the packet its leg, sequence, count (0: none), message number, timestamp, source time and length.
+#[tactic(auto, using(srt_group_words::specs::Laws::Words::record_refused, srt_group_words::specs::Laws::Words::answer_refused, srt_group_words::specs::Laws::Begin::poll_ready, srt_group_words::specs::Laws::Begin::poll_on))]
 #[unsafe(no_mangle)]
 pub extern "C" fn srt_group_raw_poll_data_bounded(
     record: &mut [u64],
@@ -103,7 +105,7 @@ pub extern "C" fn srt_group_raw_poll_data_bounded(
         &mut used,
     );
     if code != 0 {
-        put_eight(answer, 0, 0, 0, 0, 0, 0, 0, 0);
+        put(answer, [0; POLLED]);
         return code;
     }
     srt_group_valid_poll_data_bounded(

@@ -7,29 +7,26 @@ ghost use Rattle.srt_group_event_poll.specs.Polling.{answer_of};
 ghost use Rattle.srt_group_words.specs.Record.{record_size, group_of, with_core};
 ghost use Rattle.srt_group_words.specs.Words.{in_words, PutSaid};
 
-use srt_group_delivery::delivery::{Poll, Polled};
-use srt_group_words::answers::{put_eight, put_packet};
+use srt_group_delivery::delivery::{GroupEvent, Poll};
+use srt_group_words::answers::{POLLED, put, put_packet};
 use srt_group_words::record::put_core;
 
 // An event with its kind first, or a packet behind 0.
-fn put_polled(answer: &mut [u64], gave: Polled)
+#[tactic(auto, using(crate::specs::Laws::Answers::says_nothing))]
+fn put_polled(answer: &mut [u64], gave: Option<GroupEvent>)
     requires { 8 ≤ length answer.old }
     ensures { answer.new ≡ overwritten 0 (in_words 8 (polled (polled_of gave)) 0) answer.old }
 {
-    match gave {
-        Polled::Nothing => put_eight(answer, 0, 0, 0, 0, 0, 0, 0, 0),
-        Polled::Event(event) => put_eight(
+    let Some(given) = gave else {
+        put(answer, [0; POLLED]);
+        return;
+    };
+    match given {
+        GroupEvent::Event(event) => put(
             answer,
-            event.kind,
-            event.member,
-            event.reason,
-            0,
-            0,
-            0,
-            0,
-            0,
+            [event.kind, event.member, event.reason, 0, 0, 0, 0, 0],
         ),
-        Polled::Packet(packet) => put_packet(answer, 0, packet),
+        GroupEvent::Packet(packet) => put_packet(answer, 0, packet),
     }
 }
 

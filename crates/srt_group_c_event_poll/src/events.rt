@@ -8,7 +8,7 @@ ghost use Rattle.srt_group_words.specs.Words.{in_words, words, PromisedWords, Re
 
 use crate::answers::put_poll;
 use srt_group_event_poll::polls;
-use srt_group_words::answers::{POLLED, put_eight};
+use srt_group_words::answers::{POLLED, put};
 use srt_group_words::begin::begin_poll;
 use srt_group_words::record::{RECORD, read_core, read_identity, read_ring, read_sending};
 use srt_protocol::time::Timestamp;
@@ -16,6 +16,7 @@ use srt_protocol::time::Timestamp;
 // The next event, or the next packet in order, its payload written from byte 12 of the output on. The answer's words: of an event its
 // kind (1 connected, 2 error, 3 disconnected), its leg, its reason, and zeros; of a packet 0, its leg, sequence, count, message number, timestamp,
 // source time and length; of neither zeros. A packet's count is never 0. For a valid state, of which `used` shows the cells in use.
+#[tactic(auto, using(srt_group_words::specs::Laws::Words::parts_ready))]
 #[unsafe(no_mangle)]
 pub extern "C" fn srt_group_valid_poll_event(
     record: &mut [u64],
@@ -62,6 +63,7 @@ pub extern "C" fn srt_group_valid_poll_event(
 // The next event, or the next packet in order, with 5 and 6 tested. The answer's words: of an event its kind (1 connected, 2 error,
 // 3 disconnected), its leg, its reason, and zeros; of a packet 0, its leg, sequence, count, message number, timestamp, source time and length;
 // of neither zeros. A packet's count is never 0.
+#[tactic(auto, using(srt_group_words::specs::Laws::Words::record_refused, srt_group_words::specs::Laws::Words::answer_refused, srt_group_words::specs::Laws::Begin::poll_ready, srt_group_words::specs::Laws::Begin::poll_on))]
 #[unsafe(no_mangle)]
 pub extern "C" fn srt_group_raw_poll_event(
     record: &mut [u64],
@@ -102,7 +104,7 @@ pub extern "C" fn srt_group_raw_poll_event(
         &mut used,
     );
     if code != 0 {
-        put_eight(answer, 0, 0, 0, 0, 0, 0, 0, 0);
+        put(answer, [0; POLLED]);
         return code;
     }
     srt_group_valid_poll_event(

@@ -8,6 +8,7 @@ ghost use Rattle.srt_group_words.specs.Words.{in_words, words, PromisedWords};
 
 use crate::answers::{SHOWN, put_number, put_optional, put_truth};
 use srt_group_looks::looks;
+use srt_group_refusals::refusals::LentGroup;
 use srt_group_words::record::{RECORD, read_group};
 use srt_protocol::time::Timestamp;
 
@@ -35,14 +36,15 @@ pub fn srt_group_raw_group_id(
     if answer.len() < SHOWN {
         return 5;
     }
-    let given = looks::group_id(
-        read_group(record),
+    let lent = LentGroup {
+        group: read_group(record),
         members,
         pending,
         waiting,
         history,
         sources,
-    );
+    };
+    let given = looks::group_id(&lent);
     put_number(answer, given)
 }
 
@@ -70,14 +72,15 @@ pub fn srt_group_raw_mode(
     if answer.len() < SHOWN {
         return 5;
     }
-    let given = looks::mode(
-        read_group(record),
+    let lent = LentGroup {
+        group: read_group(record),
         members,
         pending,
         waiting,
         history,
         sources,
-    );
+    };
+    let given = looks::mode(&lent);
     put_number(answer, given)
 }
 
@@ -105,14 +108,15 @@ pub fn srt_group_raw_peer_group_id(
     if answer.len() < SHOWN {
         return 5;
     }
-    let given = looks::peer_group_id(
-        read_group(record),
+    let lent = LentGroup {
+        group: read_group(record),
         members,
         pending,
         waiting,
         history,
         sources,
-    );
+    };
+    let given = looks::peer_group_id(&lent);
     put_optional(answer, given)
 }
 
@@ -140,14 +144,15 @@ pub fn srt_group_raw_skipped_receive_packets(
     if answer.len() < SHOWN {
         return 5;
     }
-    let given = looks::skipped_receive_packets(
-        read_group(record),
+    let lent = LentGroup {
+        group: read_group(record),
         members,
         pending,
         waiting,
         history,
         sources,
-    );
+    };
+    let given = looks::skipped_receive_packets(&lent);
     put_number(answer, given)
 }
 
@@ -175,14 +180,15 @@ pub fn srt_group_raw_has_pending_data(
     if answer.len() < SHOWN {
         return 5;
     }
-    let given = looks::has_pending_data(
-        read_group(record),
+    let lent = LentGroup {
+        group: read_group(record),
         members,
         pending,
         waiting,
         history,
         sources,
-    );
+    };
+    let given = looks::has_pending_data(&lent);
     put_truth(answer, given)
 }
 
@@ -210,14 +216,15 @@ pub fn srt_group_raw_has_receive_continuation(
     if answer.len() < SHOWN {
         return 5;
     }
-    let given = looks::has_receive_continuation(
-        read_group(record),
+    let lent = LentGroup {
+        group: read_group(record),
         members,
         pending,
         waiting,
         history,
         sources,
-    );
+    };
+    let given = looks::has_receive_continuation(&lent);
     put_truth(answer, given)
 }
 
@@ -246,14 +253,14 @@ pub fn srt_group_raw_time_until_send(
     if answer.len() < SHOWN {
         return 5;
     }
-    let given = looks::time_until_send(
-        read_group(record),
+    let lent = LentGroup {
+        group: read_group(record),
         members,
         pending,
         waiting,
         history,
         sources,
-        Timestamp(time),
-    );
+    };
+    let given = looks::time_until_send(&lent, Timestamp(time));
     put_number(answer, given)
 }

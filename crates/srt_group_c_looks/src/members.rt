@@ -8,6 +8,7 @@ ghost use Rattle.srt_group_c_looks.specs.Listed.{ListsWords};
 
 use crate::answers::{MEMBER, SHOWN, put_listed, put_member, put_optional};
 use srt_group_looks::{member, members};
+use srt_group_refusals::refusals::LentGroup;
 use srt_group_words::record::{RECORD, read_group};
 
 // A member: its id, weight, label, its leg's state, whether it was admitted, its reserved sum, and its collision's expected and actual peer group.
@@ -35,15 +36,15 @@ pub fn srt_group_raw_member(
     if answer.len() < MEMBER {
         return 5;
     }
-    let given = member::member(
-        read_group(record),
+    let lent = LentGroup {
+        group: read_group(record),
         members,
         pending,
         waiting,
         history,
         sources,
-        id,
-    );
+    };
+    let given = member::member(&lent, id);
     put_member(answer, given)
 }
 
@@ -72,15 +73,15 @@ pub fn srt_group_raw_backup_stability_timeout_micros(
     if answer.len() < SHOWN {
         return 5;
     }
-    let given = member::backup_stability_timeout_micros(
-        read_group(record),
+    let lent = LentGroup {
+        group: read_group(record),
         members,
         pending,
         waiting,
         history,
         sources,
-        id,
-    );
+    };
+    let given = member::backup_stability_timeout_micros(&lent, id);
     put_optional(answer, given)
 }
 
@@ -108,14 +109,14 @@ pub fn srt_group_raw_members(
     if answer.len() < SHOWN {
         return 5;
     }
-    let given = members::members(
-        read_group(record),
+    let lent = LentGroup {
+        group: read_group(record),
         members,
         pending,
         waiting,
         history,
         sources,
-        list,
-    );
+    };
+    let given = members::members(&lent, list);
     put_listed(answer, given)
 }

@@ -1,4 +1,4 @@
-// The looks at the group.
+// The looks at the group. Each is a function of its own, since C calls it by its name.
 ghost use Rattle.std.specs.Prelude.{false};
 ghost use Rattle.srt_group_model.specs.Lent.{call_look, look_group_id, look_mode, look_peer_group_id, look_skipped_receive_packets};
 ghost use Rattle.srt_group_model.specs.Lent.{look_has_pending_data, look_has_receive_continuation, look_time_until_send};

@@ -1,4 +1,4 @@
-// The looks at members.
+// The looks at members. Each is a function of its own, since C calls it by its name.
 ghost use Rattle.std.specs.Prelude.{false};
 ghost use Rattle.srt_group_model.specs.Lent.{call_look, look_member, look_backup_stability_timeout_micros};
 ghost use Rattle.srt_group_shown.specs.Tables.{tables};

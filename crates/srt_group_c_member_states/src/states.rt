@@ -1,42 +1,20 @@
 // `mark_member_broken`, `refresh_member_states` and `disconnect`.
-ghost use Rattle.std.specs.Prelude.{false, [], ◌≤◌, length};
-ghost use Rattle.srt_protocol.specs.Errors.{outcome_number};
+ghost use Rattle.std.specs.Prelude.{false, [], length};
 ghost use Rattle.srt_group_model.specs.Lent.{call_mark_member_broken, call_refresh_member_states, call_disconnect};
 ghost use Rattle.srt_group_shown.specs.Tables.{tables};
 ghost use Rattle.srt_group_shown.specs.Ready.{storing};
 ghost use Rattle.srt_group_refusals.specs.Promised.{nothing_lent};
-ghost use Rattle.srt_group_words.specs.Record.{record_size, group_of, with_core};
-ghost use Rattle.srt_group_words.specs.Words.{silent, words, PromisedWords, PutBack, ReadyWords, PerformsWords};
+ghost use Rattle.srt_group_words.specs.Words.{silent, words, PromisedWords, ReadyWords, PerformsWords};
 
-use srt_group_member_states::calls::Refreshed;
 use srt_group_member_states::{broken, calls, forms};
-use srt_group_model::Core;
 use srt_group_words::record::{
-    RECORD, put_core, put_group, read_core, read_group, read_identity, read_ring, read_sending,
+    RECORD, put_back, put_back_core, read_core, read_group, read_identity, read_ring, read_sending,
 };
+use srt_protocol::error::outcome_number;
 use srt_protocol::time::Timestamp;
 
-// The record that a refresh leaves. It answers the code.
-fn put_refreshed(record: &mut [u64], x: Refreshed) -> u32
-    requires { record_size ≤ length «record».old }
-    ensures { PutBack x.group (outcome_number x.outcome) «record».old result «record».new }
-{
-    let after = x.group;
-    let outcome = x.outcome;
-    put_group(record, after);
-    outcome.number()
-}
-
-// The core that a refresh of a valid state leaves. It is not refused.
-fn put_refreshed_core(record: &mut [u64], core: Core) -> u32
-    requires { record_size ≤ length «record».old }
-    ensures { PutBack (with_core core (group_of «record».old)) 0 «record».old result «record».new }
-{
-    put_core(record, core);
-    0
-}
-
 // A member turns Broken.
+#[tactic(auto, using(srt_group_words::specs::Laws::Words::record_refused))]
 #[unsafe(no_mangle)]
 pub extern "C" fn srt_group_raw_mark_member_broken(
     record: &[u64],
@@ -67,10 +45,11 @@ pub extern "C" fn srt_group_raw_mark_member_broken(
         sources,
         id,
     );
-    done.number()
+    outcome_number(done)
 }
 
 // The same for a valid state, of which `used` shows the cells in use. The store is lent for its length.
+#[tactic(auto, using(srt_group_words::specs::Laws::Words::parts_ready))]
 #[unsafe(no_mangle)]
 pub extern "C" fn srt_group_valid_mark_member_broken(
     record: &[u64],
@@ -107,10 +86,11 @@ pub extern "C" fn srt_group_valid_mark_member_broken(
         used,
         id,
     );
-    done.number()
+    outcome_number(done)
 }
 
 // The members' states follow their legs; a member that arrives may set the base and bind the group.
+#[tactic(auto, using(srt_group_words::specs::Laws::Words::record_refused))]
 #[unsafe(no_mangle)]
 pub extern "C" fn srt_group_raw_refresh_member_states(
     record: &mut [u64],
@@ -131,18 +111,15 @@ pub extern "C" fn srt_group_raw_refresh_member_states(
     if record.len() < RECORD {
         return 5;
     }
+    let group = read_group(record);
     let refreshed = calls::refresh_member_states(
-        read_group(record),
-        members,
-        pending,
-        waiting,
-        history,
-        sources,
+        group, members, pending, waiting, history, sources,
     );
-    put_refreshed(record, refreshed)
+    put_back(record, refreshed.group, refreshed.outcome)
 }
 
 // The same for a valid state, of which `used` shows the cells in use. The store is lent for its length.
+#[tactic(auto, using(srt_group_words::specs::Laws::Words::parts_ready))]
 #[unsafe(no_mangle)]
 pub extern "C" fn srt_group_valid_refresh_member_states(
     record: &mut [u64],
@@ -177,10 +154,11 @@ pub extern "C" fn srt_group_valid_refresh_member_states(
         store,
         used,
     );
-    put_refreshed_core(record, core)
+    put_back_core(record, core, Ok(()))
 }
 
 // Every leg is disconnected; nothing is queued. The stand-in's legs need no time.
+#[tactic(auto, using(srt_group_words::specs::Laws::Words::record_refused))]
 #[unsafe(no_mangle)]
 pub extern "C" fn srt_group_raw_disconnect(
     record: &[u64],
@@ -211,10 +189,11 @@ pub extern "C" fn srt_group_raw_disconnect(
         sources,
         Timestamp(time),
     );
-    done.number()
+    outcome_number(done)
 }
 
 // The same for a valid state, of which `used` shows the cells in use. The store is lent for its length.
+#[tactic(auto, using(srt_group_words::specs::Laws::Words::parts_ready))]
 #[unsafe(no_mangle)]
 pub extern "C" fn srt_group_valid_disconnect(
     record: &[u64],

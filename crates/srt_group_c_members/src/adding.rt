@@ -7,13 +7,13 @@ ghost use Rattle.srt_group_refusals.specs.Promised.{nothing_lent, row_short};
 ghost use Rattle.srt_group_addition.specs.Handed.{call_of_row};
 ghost use Rattle.srt_group_words.specs.Words.{silent, words, PromisedWords, ReadyWords, PerformsWords};
 
-use crate::left::{put_added, put_added_core};
 use srt_group_addition::{calls, handed};
 use srt_group_words::record::{
-    RECORD, read_core, read_group, read_identity, read_ring, read_sending,
+    RECORD, put_back, put_back_core, read_core, read_group, read_identity, read_ring, read_sending,
 };
 
 // A leg is added, handed over in a row of the members' table, of which the membership part is not read. 22 leaves it added.
+#[tactic(auto, using(srt_group_words::specs::Laws::Words::record_refused))]
 #[unsafe(no_mangle)]
 pub extern "C" fn srt_group_raw_add_member(
     record: &mut [u64],
@@ -48,10 +48,11 @@ pub extern "C" fn srt_group_raw_add_member(
         id,
         weight,
     );
-    put_added(record, added)
+    put_back(record, added.group, added.outcome)
 }
 
 // The same for a valid state, of which `used` shows the cells in use. The store is lent for its length.
+#[tactic(auto, using(srt_group_words::specs::Laws::Words::parts_ready))]
 #[unsafe(no_mangle)]
 pub extern "C" fn srt_group_valid_add_member(
     record: &mut [u64],
@@ -93,5 +94,5 @@ pub extern "C" fn srt_group_valid_add_member(
         id,
         weight,
     );
-    put_added_core(record, added)
+    put_back_core(record, added.core, added.outcome)
 }

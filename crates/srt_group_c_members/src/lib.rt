@@ -3,6 +3,5 @@
 #![tactic(auto)]
 
 pub mod start; // start.rt: `new`, and how a host that is the only writer begins
-pub mod left; // left.rt: the record that an addition or a removal leaves
 pub mod adding; // adding.rt: `add_member`
 pub mod removing; // removing.rt: `remove_member`, `remove_member_connection`

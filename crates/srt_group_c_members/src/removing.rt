@@ -8,13 +8,13 @@ ghost use Rattle.srt_group_refusals.specs.Promised.{nothing_lent};
 ghost use Rattle.srt_group_words.specs.Words.{silent, words, PromisedWords, ReadyWords, PerformsWords};
 ghost use Rattle.srt_group_c_members.specs.LegBack.{PromisedLegBack, PerformsLegBack};
 
-use crate::left::{put_removed, put_removed_core};
 use srt_group_removal::{calls, connection};
 use srt_group_words::record::{
-    RECORD, read_core, read_group, read_identity, read_ring, read_sending,
+    RECORD, put_back, put_back_core, read_core, read_group, read_identity, read_ring, read_sending,
 };
 
 // A member is removed, and its leg dropped.
+#[tactic(auto, using(srt_group_words::specs::Laws::Words::record_refused))]
 #[unsafe(no_mangle)]
 pub extern "C" fn srt_group_raw_remove_member(
     record: &mut [u64],
@@ -45,10 +45,11 @@ pub extern "C" fn srt_group_raw_remove_member(
         sources,
         id,
     );
-    put_removed(record, removed)
+    put_back(record, removed.group, removed.outcome)
 }
 
 // The same for a valid state, of which `used` shows the cells in use. The store is lent for its length.
+#[tactic(auto, using(srt_group_words::specs::Laws::Words::parts_ready))]
 #[unsafe(no_mangle)]
 pub extern "C" fn srt_group_valid_remove_member(
     record: &mut [u64],
@@ -85,10 +86,11 @@ pub extern "C" fn srt_group_valid_remove_member(
         used,
         id,
     );
-    put_removed_core(record, removed)
+    put_back_core(record, removed.core, removed.outcome)
 }
 
 // A member is removed, and its leg given back in a row of the members' table.
+#[tactic(auto, using(crate::specs::Laws::LegBack::leg_refused))]
 #[unsafe(no_mangle)]
 pub extern "C" fn srt_group_raw_remove_member_connection(
     record: &mut [u64],
@@ -120,10 +122,11 @@ pub extern "C" fn srt_group_raw_remove_member_connection(
         row,
         id,
     );
-    put_removed(record, removed)
+    put_back(record, removed.group, removed.outcome)
 }
 
 // The same for a valid state, of which `used` shows the cells in use. The store is lent for its length.
+#[tactic(auto, using(srt_group_words::specs::Laws::Words::parts_ready))]
 #[unsafe(no_mangle)]
 pub extern "C" fn srt_group_valid_remove_member_connection(
     record: &mut [u64],
@@ -162,5 +165,5 @@ pub extern "C" fn srt_group_valid_remove_member_connection(
         used,
         id,
     );
-    put_removed_core(record, removed)
+    put_back_core(record, removed.core, removed.outcome)
 }

@@ -3,12 +3,13 @@ ghost use Rattle.srt_group_shown.specs.Tables.{tables};
 ghost use Rattle.srt_group_words.specs.Words.{PromisedNewWords, BeginsValid};
 
 use cell_set::WORDS;
-use srt_group::{Group, NewGroup};
+use srt_group::Group;
 use srt_group_words::begin::begin_stored;
 use srt_group_words::record::{RECORD, put_group};
 
 // A fresh group over tables of which no row is in use: its id, its mode (0 Broadcast, 1 Backup), and the length of the store that every call
 // is then to be lent, or 0.
+#[tactic(auto, using(srt_group_words::specs::Laws::New::new_few, srt_group_words::specs::Laws::New::new_in_words, srt_group_words::specs::Laws::New::new_refused))]
 #[unsafe(no_mangle)]
 pub extern "C" fn srt_group_raw_new(record: &mut [u64], id: u64, mode: u64, length: usize) -> u32
     ensures { PromisedNewWords record { id = id; mode = mode; length = length }
@@ -19,11 +20,11 @@ pub extern "C" fn srt_group_raw_new(record: &mut [u64], id: u64, mode: u64, leng
     }
     let made = Group::new(id, mode, length);
     match made {
-        NewGroup::Made(group) => {
+        Ok(group) => {
             put_group(record, group);
             0
         }
-        NewGroup::Refused(error) => error.number(),
+        Err(error) => u32::from(error),
     }
 }
 

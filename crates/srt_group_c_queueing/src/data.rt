@@ -10,9 +10,11 @@ use srt_group_model::Data;
 use srt_group_queueing::queueing;
 use srt_group_words::begin::begin_stored;
 use srt_group_words::record::{RECORD, read_core, read_identity, read_ring, read_sending};
+use srt_protocol::error::outcome_number;
 use srt_protocol::time::Timestamp;
 
 // `srt_group_raw_queue_data` for a valid state, of which `used` shows the cells in use.
+#[tactic(auto, using(srt_group_words::specs::Laws::Words::parts_ready))]
 #[unsafe(no_mangle)]
 pub extern "C" fn srt_group_valid_queue_data(
     record: &[u64],
@@ -65,10 +67,11 @@ pub extern "C" fn srt_group_valid_queue_data(
         },
         payload,
     );
-    queued.number()
+    outcome_number(queued)
 }
 
 // A packet at the end of a leg's queue, its payload in the lowest free cell of the store.
+#[tactic(auto, using(srt_group_words::specs::Laws::Words::record_refused, srt_group_words::specs::Laws::Begin::stored_ready))]
 #[unsafe(no_mangle)]
 pub extern "C" fn srt_group_raw_queue_data(
     record: &[u64],

@@ -10,8 +10,10 @@ use srt_group_queueing::{calls, events, readings};
 use srt_group_words::record::{
     RECORD, read_core, read_group, read_identity, read_ring, read_sending,
 };
+use srt_protocol::error::outcome_number;
 
 // A lifecycle event at the end of a leg's queue.
+#[tactic(auto, using(srt_group_words::specs::Laws::Words::record_refused))]
 #[unsafe(no_mangle)]
 pub extern "C" fn srt_group_raw_queue_event(
     record: &[u64],
@@ -46,10 +48,11 @@ pub extern "C" fn srt_group_raw_queue_event(
         kind,
         reason,
     );
-    done.number()
+    outcome_number(done)
 }
 
 // The same for a valid state, of which `used` shows the cells in use. The store is lent for its length.
+#[tactic(auto, using(srt_group_words::specs::Laws::Words::parts_ready))]
 #[unsafe(no_mangle)]
 pub extern "C" fn srt_group_valid_queue_event(
     record: &[u64],
@@ -90,10 +93,11 @@ pub extern "C" fn srt_group_valid_queue_event(
         kind,
         reason,
     );
-    done.number()
+    outcome_number(done)
 }
 
 // A number into a field of a leg.
+#[tactic(auto, using(srt_group_words::specs::Laws::Words::record_refused))]
 #[unsafe(no_mangle)]
 pub extern "C" fn srt_group_raw_read_leg(
     record: &[u64],
@@ -128,10 +132,11 @@ pub extern "C" fn srt_group_raw_read_leg(
         field,
         number,
     );
-    done.number()
+    outcome_number(done)
 }
 
 // The same for a valid state, of which `used` shows the cells in use. The store is lent for its length.
+#[tactic(auto, using(srt_group_words::specs::Laws::Words::parts_ready))]
 #[unsafe(no_mangle)]
 pub extern "C" fn srt_group_valid_read_leg(
     record: &[u64],
@@ -172,5 +177,5 @@ pub extern "C" fn srt_group_valid_read_leg(
         field,
         number,
     );
-    done.number()
+    outcome_number(done)
 }

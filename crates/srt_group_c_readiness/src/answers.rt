@@ -9,7 +9,7 @@ use srt_group_c_looks::answers::put_truth;
 use srt_group_collecting::collecting::flag;
 use srt_group_send::readiness::Readiness;
 use srt_group_send_calls::calls::GroupReady;
-use srt_group_words::answers::put_one;
+use srt_group_words::answers::put;
 use srt_group_words::record::{put_group, put_sent};
 
 // The record that a readiness test leaves, and its answer.
@@ -35,6 +35,6 @@ pub fn put_readiness(record: &mut [u64], answer: &mut [u64], tested: Readiness) 
     let numbers = tested.sending;
     let left = tested.ring;
     put_sent(record, after, numbers, left);
-    put_one(answer, flag(tested.ready));
+    put(answer, [flag(tested.ready)]);
     0
 }

@@ -16,6 +16,7 @@ use srt_group_words::record::{
 use srt_protocol::time::Timestamp;
 
 // Whether the group could send now. The test refreshes and trims.
+#[tactic(auto, using(srt_group_words::specs::Laws::Words::record_refused, srt_group_words::specs::Laws::Words::answer_refused))]
 #[unsafe(no_mangle)]
 pub extern "C" fn srt_group_raw_can_send(
     record: &mut [u64],
@@ -52,6 +53,7 @@ pub extern "C" fn srt_group_raw_can_send(
 }
 
 // The same for a valid state, of which `used` shows the cells in use. The store is lent for its length.
+#[tactic(auto, using(srt_group_words::specs::Laws::Words::parts_ready))]
 #[unsafe(no_mangle)]
 pub extern "C" fn srt_group_valid_can_send(
     record: &mut [u64],
@@ -92,6 +94,7 @@ pub extern "C" fn srt_group_valid_can_send(
 }
 
 // The same, where a leg counts that may send by its pace at this time.
+#[tactic(auto, using(srt_group_words::specs::Laws::Words::record_refused, srt_group_words::specs::Laws::Words::answer_refused))]
 #[unsafe(no_mangle)]
 pub extern "C" fn srt_group_raw_can_send_with_pacing(
     record: &mut [u64],
@@ -130,6 +133,7 @@ pub extern "C" fn srt_group_raw_can_send_with_pacing(
 }
 
 // The same for a valid state, of which `used` shows the cells in use. The store is lent for its length.
+#[tactic(auto, using(srt_group_words::specs::Laws::Words::parts_ready))]
 #[unsafe(no_mangle)]
 pub extern "C" fn srt_group_valid_can_send_with_pacing(
     record: &mut [u64],

@@ -9,7 +9,7 @@ ghost use Rattle.srt_group_words.specs.Words.{sent_words, words, PromisedWords, 
 use crate::answers::{SENT, put_send};
 use srt_group_send::sending;
 use srt_group_sending::list::SENT_LENGTH;
-use srt_group_words::answers::put_two;
+use srt_group_words::answers::put;
 use srt_group_words::begin::begin_stored;
 use srt_group_words::record::{RECORD, read_core, read_identity, read_ring, read_sending};
 use srt_protocol::time::Timestamp;
@@ -91,7 +91,7 @@ pub extern "C" fn srt_group_raw_send(
         return 5;
     }
     if list.len() < SENT_LENGTH {
-        put_two(answer, 0, 0);
+        put(answer, [0, 0]);
         return 5;
     }
     let mut used = [0u64; 32];
@@ -106,7 +106,7 @@ pub extern "C" fn srt_group_raw_send(
         &mut used,
     );
     if code != 0 {
-        put_two(answer, 0, 0);
+        put(answer, [0, 0]);
         return code;
     }
     srt_group_valid_send(

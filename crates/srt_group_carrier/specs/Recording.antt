@@ -1,6 +1,5 @@
 -- What is kept of a payload that was sent.
-use Rattle.std.specs.Prelude.{◌≡◌, List, ℕ, ◌+◌}
-use Rattle.srt_protocol.specs.declared.error.Outcome.TheVariants.{Accepted}
+use Rattle.std.specs.Prelude.{◌≡◌, List, ℕ, ◌+◌, Ok}
 use Rattle.srt_group_model.specs.State.{Member, entry_of}
 use Rattle.srt_group_model.specs.Members.{id_of}
 use Rattle.srt_group_model.specs.declared.Sending.{Sending}
@@ -12,7 +11,7 @@ use Rattle.srt_group_carrier.specs.Freeing.{SendFollows}
 
 -- the payload that member m has sent is in the history, under the cell
 pub record Kept (time size cell sequence : ℕ) (m : Member) (x : Sending) (r : HistoryRing) (sent : ℕ) (a : Arrays) (used : List ℕ) (answer : BackupSend) (b : Arrays) (used' : List ℕ) : Type 0 where
-  pub outcome : answer.outcome ≡ Accepted
+  pub outcome : answer.outcome ≡ Ok tt
   pub rows : answer.sent ≡ sent + 1
   pub recorded : SendRecorded m.leg (id_of m) (entry_of sequence cell size time) x r a
       record { sending = answer.sending; ring = answer.ring } b

@@ -23,10 +23,8 @@ pub fn free_dropped(ring: HistoryRing, left: usize, history: &[u64], used: &mut 
     requires history_len { (length history.now ≡ max_history) × (length used.old ≡ set_size) }
     ensures { FrontFreed ring left history.now used.old used.new }
 {
-    let mut index = 0;
-    while index + left < ring.length {
+    for index in 0..ring.length.saturating_sub(left) {
         let cell = cell_at(ring, history, index);
         free(used, cell);
-        index += 1;
     }
 }

@@ -9,12 +9,11 @@ ghost use Rattle.srt_group_carrier.specs.Flows.{on_promoted, every, BackupFlows}
 
 use crate::carrier::{promote_after_failure, take_over};
 use crate::recording::{BackupSend, keep_sent};
-use srt_connection_members::Found;
 use srt_group_backup::send::send_on;
 use srt_group_members::states::first_active;
 use srt_group_model::Sending;
 use srt_group_tables::history::HistoryRing;
-use srt_protocol::error::{Error, Outcome};
+use srt_protocol::error::Error;
 use srt_protocol::time::Timestamp;
 
 // A promoted member takes over, and is tried with the sequence of the send that failed.
@@ -46,9 +45,9 @@ fn send_on_promoted(
     let outcome = taken.outcome;
     let numbers = taken.sending;
     let left = taken.ring;
-    if let Outcome::Refused(error) = outcome {
+    if let Err(error) = outcome {
         return BackupSend {
-            outcome: Outcome::Refused(error),
+            outcome: Err(error),
             sending: numbers,
             ring: left,
             sent: taken.sent,
@@ -56,7 +55,7 @@ fn send_on_promoted(
     }
     if !send_on(members, index, time, size, sequence, list, taken.sent) {
         return BackupSend {
-            outcome: Outcome::Refused(Error::PromotionSendFailed),
+            outcome: Err(Error::PromotionSendFailed),
             sending: numbers,
             ring: left,
             sent: taken.sent,
@@ -94,9 +93,9 @@ pub fn send_after_promotion(
 {
     promote_after_failure(members, count, index);
     let found = first_active(members, count);
-    let Found::At(promoted) = found else {
+    let Some(promoted) = found else {
         return BackupSend {
-            outcome: Outcome::Refused(Error::AllBackupFailed),
+            outcome: Err(Error::AllBackupFailed),
             sending,
             ring,
             sent,

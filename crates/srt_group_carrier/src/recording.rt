@@ -16,13 +16,13 @@ use srt_group_backup::send::record_backup_send;
 use srt_group_backup::trimming::SendHistory;
 use srt_group_model::{Entry, Leg, Sending};
 use srt_group_tables::history::{HistoryRing, MAX_HISTORY, push_back};
-use srt_protocol::error::Outcome;
+use srt_protocol::error::Error;
 use srt_protocol::time::Timestamp;
 
 // What a send answers: the numbers of sending and the ring after it, and how many rows of the list are in use.
 #[derive(Clone, Copy)]
 pub struct BackupSend {
-    pub outcome: Outcome,
+    pub outcome: Result<(), Error>,
     pub sending: Sending,
     pub ring: HistoryRing,
     pub sent: usize,
@@ -103,7 +103,7 @@ pub fn keep_sent(
     let numbers = kept.sending;
     let left = kept.ring;
     BackupSend {
-        outcome: Outcome::Accepted,
+        outcome: Ok(()),
         sending: numbers,
         ring: left,
         sent: sent + 1,

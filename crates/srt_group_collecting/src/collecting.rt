@@ -26,8 +26,7 @@ ghost use Rattle.srt_group_collecting.specs.Visit.{freed_by_event, Collectable, 
 
 use cell_set::free;
 use srt_connection_members::{
-    Found as FoundMember, account_at, membership_at, poll_event_for_group_at, put_account_at,
-    release_data_reservation_at,
+    account_at, membership_at, poll_event_for_group_at, put_account_at, release_data_reservation_at,
 };
 use srt_connection_queue::queue::LegPoll;
 use srt_group_members::accounts;
@@ -35,7 +34,6 @@ use srt_group_members::collecting::in_turn;
 use srt_group_members::promotion::promote_backup_member;
 use srt_group_members::states::{BROKEN, is_backup, turn_at};
 use srt_group_model::{Core, Event, Packet, Receiving, Waiting};
-use srt_group_tables::pending::Found;
 use srt_group_tables::{pending, waiting};
 use srt_protocol::srt_packet::word_before;
 
@@ -113,11 +111,7 @@ pub fn is_held(pending: &[u64], held: usize, sequence: u64) -> bool
     requires pending_value { ascends (packets held pending.now) ≡ true }
     ensures { result ≡ is_held sequence (packets held pending.now) }
 {
-    let found = pending::find(pending, held, sequence);
-    match found {
-        Found::At(_) => true,
-        Found::Nothing => false,
-    }
+    pending::find(pending, held, sequence).is_some()
 }
 
 // A packet is discarded if it is late or its sequence is held.
@@ -336,7 +330,7 @@ pub fn collect_one_event(
         result.core members.new pending.new used.new }
 {
     let found = in_turn(members, core.counts.members, core.visit.round);
-    let FoundMember::At(index) = found else {
+    let Some(index) = found else {
         return Visited {
             took: 0,
             core,
@@ -446,10 +440,8 @@ pub fn collect_until_held(
         core,
         budget,
     };
-    let mut left: usize = MAX_VISITS;
-    while 0 < left {
-        let visits = left - 1;
-        visited = visit_until_held(visited, members, pending, waiting, used, visits);
+    for left in (0..MAX_VISITS).rev() {
+        visited = visit_until_held(visited, members, pending, waiting, used, left);
         if visited.more == 0 {
             let after = visited.core;
             return Gathered {
@@ -457,7 +449,6 @@ pub fn collect_until_held(
                 budget: visited.budget,
             };
         }
-        left = visits;
     }
     let after = visited.core;
     Gathered {
@@ -506,8 +497,7 @@ pub fn collect_until_empty(
         core,
         budget,
     };
-    let mut left: usize = MAX_VISITS;
-    while 0 < left {
+    for _visit in 0..MAX_VISITS {
         let here = visited.core;
         if is_settled(here, pending, sequence) {
             return Emptied {
@@ -526,7 +516,6 @@ pub fn collect_until_empty(
                 budget: visited.budget,
             };
         }
-        left -= 1;
     }
     let here = visited.core;
     let held = is_held(pending, here.counts.pending, sequence);

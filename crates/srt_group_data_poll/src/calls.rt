@@ -9,30 +9,23 @@ ghost use Rattle.srt_group_data_poll.specs.Answers.{data_number, data_answer};
 use crate::polls;
 use srt_group::Group;
 use srt_group_collecting::collecting::MAX_VISITS;
-use srt_group_polls::polls::OptionalPacket;
-use srt_group_refusals::refusals::begin_poll;
-use srt_protocol::error::{Error, Outcome};
+use srt_group_model::Packet;
+use srt_group_refusals::refusals::LentGroup;
+use srt_protocol::error::Error;
 use srt_protocol::time::Timestamp;
 
 // A packet or none, and whether the poll should be called again at once.
 #[derive(Clone, Copy)]
 pub struct GroupDataPoll {
-    pub packet: OptionalPacket,
+    pub packet: Option<Packet>,
     pub continuation: u64,
-}
-
-// What a data poll answers.
-#[derive(Clone, Copy)]
-pub enum DataAnswer {
-    Refused(Error),
-    Polled(GroupDataPoll),
 }
 
 // The answer, and the record after the call: as it was where the call is refused.
 #[derive(Clone, Copy)]
 pub struct DataPolled {
     pub group: Group,
-    pub answer: DataAnswer,
+    pub answer: Result<GroupDataPoll, Error>,
 }
 
 // The next packet in order, after at most so many events, which are dropped. Its payload is written from byte 12 of the output on.
@@ -62,24 +55,19 @@ pub fn poll_data_bounded(
         ring,
     } = group;
     let mut used = [0u64; 32];
-    let begun = begin_poll(
-        identity,
-        core,
-        sending,
-        ring,
+    let lent = LentGroup {
+        group,
         members,
         pending,
         waiting,
         history,
         sources,
-        store.len(),
-        output.len(),
-        &mut used,
-    );
-    if let Outcome::Refused(error) = begun {
+    };
+    let begun = lent.begin_poll(store.len(), output.len(), &mut used);
+    if let Err(error) = begun {
         return DataPolled {
             group,
-            answer: DataAnswer::Refused(error),
+            answer: Err(error),
         };
     }
     let poll = polls::poll_data_bounded(
@@ -95,7 +83,7 @@ pub fn poll_data_bounded(
             sending,
             ring,
         },
-        answer: DataAnswer::Polled(GroupDataPoll {
+        answer: Ok(GroupDataPoll {
             packet,
             continuation: poll.continuation,
         }),

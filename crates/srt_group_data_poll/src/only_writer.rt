@@ -37,7 +37,7 @@ pub fn queue_and_poll(
         (tables members.new pending.new waiting.new history.now sources.now)
         (length store.new) used.new }
 {
-    queue_data(
+    let _ = queue_data(
         identity, core, sending, ring, members, pending, waiting, history, sources, store, used,
         id, content, payload,
     );

@@ -4,26 +4,25 @@ ghost use Rattle.srt_group_model.specs.Lent.{call_poll_data_bounded, written_out
 ghost use Rattle.srt_protocol.specs.Cells.{output_size};
 ghost use Rattle.srt_group_shown.specs.Tables.{parts, tables};
 ghost use Rattle.srt_group_shown.specs.Ready.{Ready, lending, Performs};
-ghost use Rattle.srt_group_polls.specs.DataPoll.{option_of};
 ghost use Rattle.srt_group_data_poll.specs.Polling.{Writable, answer_of};
 
-use srt_group_model::{Core, Identity, Sending};
+use srt_group_model::{Core, Identity, Packet, Sending};
 use srt_group_polls::polls;
-use srt_group_polls::polls::{DataPoll, OptionalPacket};
+use srt_group_polls::polls::DataPoll;
 use srt_group_tables::history::HistoryRing;
 use srt_protocol::received_payload::copy_payload;
 use srt_protocol::time::Timestamp;
 
 // The payload of a packet that is given, from byte 12 of the output on.
-pub fn write_payload(store: &[u8], output: &mut [u8], gave: OptionalPacket)
+pub fn write_payload(store: &[u8], output: &mut [u8], gave: Option<Packet>)
     requires { Writable gave (length store.now) (length output.old) }
-    ensures { output.new ≡ written_out (option_of gave) store.now output.old }
+    ensures { output.new ≡ written_out gave store.now output.old }
 {
-    if let OptionalPacket::Some(packet) = gave {
+    if let Some(packet) = gave {
         let content = packet.content;
         let cell = content.cell as usize;
         let size = content.length as usize;
-        copy_payload(store, cell, size, output);
+        let _ = copy_payload(store, cell, size, output);
     }
 }
 

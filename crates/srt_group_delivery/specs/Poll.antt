@@ -1,7 +1,8 @@
 -- What a poll gives, as the code's answer, and the small steps of the skip and the polls: a packet or a waiting event is given, the
 -- base is skipped ahead or first set. Over every rest of the state, log and budget.
-use Rattle.std.specs.Prelude.{◌≡◌, List, ℕ, ◌≤◌, length}
-use Rattle.std.proofs.Math.Option.{Option}
+use Rattle.srt_group_delivery.specs.declared.delivery.GroupEvent.TheVariants.{Event as AnEvent, Packet as APacket}
+use Rattle.srt_group_delivery.specs.declared.delivery.GroupEvent.{GroupEvent}
+use Rattle.std.specs.Prelude.{◌≡◌, List, ℕ, ◌≤◌, length, None, Option, Some}
 use Rattle.srt_group_model.specs.declared.Core.{Core}
 use Rattle.srt_group_model.specs.State.{with_receive}
 use Rattle.srt_group_model.specs.Run.{Mark, Run, set_base}
@@ -10,17 +11,15 @@ use Rattle.srt_group_model.specs.Delivery as model
 use Rattle.srt_group_shown.specs.Shown.{Rest}
 use Rattle.srt_group_shown.specs.Tables.{ReceiveTables}
 use Rattle.srt_group_delivery.specs.declared.delivery.Poll.{Poll}
-use Rattle.srt_group_delivery.specs.declared.delivery.Polled.{Polled as Answer}
-use Rattle.srt_group_delivery.specs.declared.delivery.Polled.TheVariants.{Nothing, Event as AnEvent, Packet as APacket}
 use Rattle.srt_group_collecting.specs.Leaves.{Leaves, under_way, At}
 
 -- ---- what a poll gives
 
 -- the code's answer, as the definition's
-abbrev pub polled_of : Answer → Polled
-polled_of Nothing = nothing
-polled_of (AnEvent w) = event w
-polled_of (APacket p) = packet p
+abbrev pub polled_of : Option GroupEvent → Polled
+polled_of None = nothing
+polled_of (Some (AnEvent w)) = event w
+polled_of (Some (APacket p)) = packet p
 
 -- a poll of the definition gave this answer, and stands at this record and these tables
 pub record Gives (p : model.Poll) (answer : Poll) (others : Rest) (t : ReceiveTables) (left : ℕ) : Type 0 where

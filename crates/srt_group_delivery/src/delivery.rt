@@ -22,7 +22,6 @@ ghost use Rattle.srt_group_delivery.specs.Poll.{Polls, Skips, Bases};
 
 use cell_set::free;
 use srt_connection::legs;
-use srt_connection::legs::Deadline;
 use srt_group_members::accounts;
 use srt_group_members::states::all_disconnected;
 use srt_group_model::{Core, Leg, Packet, Waiting};
@@ -31,10 +30,9 @@ use srt_group_tables::{pending, waiting};
 use srt_protocol::srt_packet::{word_distance, word_further};
 use srt_protocol::time::Timestamp;
 
-// What an event poll gives: a Rust `Option<GroupEvent>`, in which data stands beside the other events.
+// What an event poll gives, if it gives anything. As in the Rust's `GroupEvent`, data stands beside the other events.
 #[derive(Clone, Copy)]
-pub enum Polled {
-    Nothing,
+pub enum GroupEvent {
     Event(Waiting),
     Packet(Packet),
 }
@@ -42,7 +40,7 @@ pub enum Polled {
 // What is given, and the group's record after it.
 #[derive(Clone, Copy)]
 pub struct Poll {
-    pub gave: Polled,
+    pub gave: Option<GroupEvent>,
     pub core: Core,
 }
 
@@ -54,8 +52,8 @@ fn leg_given_up(leg: Leg, source: Timestamp, time: Timestamp) -> bool
 {
     let deadline = legs::gives_up_at(leg, source);
     match deadline {
-        Deadline::At(moment) => moment.0 <= time.0,
-        Deadline::Never => false,
+        Some(moment) => moment.0 <= time.0,
+        None => false,
     }
 }
 
@@ -66,7 +64,7 @@ fn leg_gives_up(members: &[u64], count: usize, packet: Packet, time: Timestamp) 
 {
     let source = packet.content.source;
     let found = srt_connection_members::find(members, count, packet.member);
-    if let srt_connection_members::Found::At(index) = found {
+    if let Some(index) = found {
         return leg_given_up(srt_connection_members::leg_at(members, index), source, time);
     }
     if count == 0 {
@@ -83,7 +81,7 @@ pub fn gap_given_up(core: Core, members: &[u64], pending: &[u64], time: Timestam
 {
     let held = core.counts.pending;
     let nearest = pending::nearest(pending, held);
-    let pending::Found::At(at) = nearest else {
+    let Some(at) = nearest else {
         return false;
     };
     let count = core.counts.members;
@@ -122,7 +120,7 @@ fn release_pending_reservation(mut core: Core, members: &mut [u64], packet: Pack
     }
     let count = core.counts.members;
     let found = srt_connection_members::find(members, count, packet.member);
-    let srt_connection_members::Found::At(index) = found else {
+    let Some(index) = found else {
         return core;
     };
     release_at(members, index, run);
@@ -164,10 +162,8 @@ fn release_range(
     ensures released { Released (packets_between from end pending.now) core members.old result members.new }
     ensures freed { Freed (pending_cells (packets_between from end pending.now)) used.old used.new }
 {
-    let mut at = from;
-    while at < end {
+    for at in from..end {
         core = release_held(core, members, pending, used, at);
-        at += 1;
     }
     core
 }
@@ -246,16 +242,13 @@ pub fn deliver(
 {
     let held = core.counts.pending;
     let found = pending::find(pending, held, base);
-    let pending::Found::At(at) = found else {
-        return Poll {
-            gave: Polled::Nothing,
-            core,
-        };
+    let Some(at) = found else {
+        return Poll { gave: None, core };
     };
     let packet = pending::packet(pending, at);
     let after = deliver_packet(core, members, pending, used, base, at, packet);
     Poll {
-        gave: Polled::Packet(packet),
+        gave: Some(GroupEvent::Packet(packet)),
         core: after,
     }
 }
@@ -271,17 +264,14 @@ pub fn give_waiting(mut core: Core, waiting: &mut [u64]) -> Poll
 {
     let waits = core.counts.waiting;
     if waits == 0 {
-        return Poll {
-            gave: Polled::Nothing,
-            core,
-        };
+        return Poll { gave: None, core };
     }
     let event = waiting::waiting_event(waiting, 0);
     waiting::pop_front(waiting, waits);
     let left = waits - 1;
     core.counts.waiting = left;
     Poll {
-        gave: Polled::Event(event),
+        gave: Some(GroupEvent::Event(event)),
         core,
     }
 }
@@ -315,15 +305,15 @@ pub fn skip_to(mut core: Core, base: u64, next: u64) -> Core
 }
 
 // The base is set, if one is given and none was set.
-pub fn set_base(mut core: Core, based: u64, base: u64) -> Core
-    ensures { Bases (flagged (is_set based) base) core result }
+pub fn set_base(mut core: Core, base: Option<u64>) -> Core
+    ensures { Bases base core result }
 {
     if core.receiving.based != 0 {
         return core;
     }
-    if based == 0 {
+    let Some(base) = base else {
         return core;
-    }
+    };
     core.receiving.based = 1;
     core.receiving.base = base;
     core

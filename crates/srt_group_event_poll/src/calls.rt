@@ -8,23 +8,16 @@ ghost use Rattle.srt_group_event_poll.specs.Answers.{event_number, event_answer}
 
 use crate::polls;
 use srt_group::Group;
-use srt_group_delivery::delivery::Polled;
-use srt_group_refusals::refusals::begin_poll;
-use srt_protocol::error::{Error, Outcome};
+use srt_group_delivery::delivery::GroupEvent;
+use srt_group_refusals::refusals::LentGroup;
+use srt_protocol::error::Error;
 use srt_protocol::time::Timestamp;
-
-// What an event poll answers: nothing, an event or a packet.
-#[derive(Clone, Copy)]
-pub enum EventAnswer {
-    Refused(Error),
-    Polled(Polled),
-}
 
 // The answer, and the record after the call: as it was where the call is refused.
 #[derive(Clone, Copy)]
 pub struct EventPolled {
     pub group: Group,
-    pub answer: EventAnswer,
+    pub answer: Result<Option<GroupEvent>, Error>,
 }
 
 // The next event, or the next packet in order, its payload written from byte 12 of the output on.
@@ -53,24 +46,19 @@ pub fn poll_event(
         ring,
     } = group;
     let mut used = [0u64; 32];
-    let begun = begin_poll(
-        identity,
-        core,
-        sending,
-        ring,
+    let lent = LentGroup {
+        group,
         members,
         pending,
         waiting,
         history,
         sources,
-        store.len(),
-        output.len(),
-        &mut used,
-    );
-    if let Outcome::Refused(error) = begun {
+    };
+    let begun = lent.begin_poll(store.len(), output.len(), &mut used);
+    if let Err(error) = begun {
         return EventPolled {
             group,
-            answer: EventAnswer::Refused(error),
+            answer: Err(error),
         };
     }
     let poll = polls::poll_event(
@@ -86,6 +74,6 @@ pub fn poll_event(
             sending,
             ring,
         },
-        answer: EventAnswer::Polled(gave),
+        answer: Ok(gave),
     }
 }

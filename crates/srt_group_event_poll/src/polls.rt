@@ -4,25 +4,25 @@ ghost use Rattle.srt_group_model.specs.Lent.{call_poll_event};
 ghost use Rattle.srt_protocol.specs.Cells.{output_size};
 ghost use Rattle.srt_group_shown.specs.Tables.{parts, tables};
 ghost use Rattle.srt_group_shown.specs.Ready.{Ready, lending, Performs};
-ghost use Rattle.srt_group_polls.specs.DataPoll.{option_of};
 ghost use Rattle.srt_group_event_poll.specs.Polling.{packet_in, answer_of};
 
 use srt_group_data_poll::polls::write_payload;
-use srt_group_delivery::delivery::{Poll, Polled};
-use srt_group_model::{Core, Identity, Sending};
+use srt_group_delivery::delivery::{GroupEvent, Poll};
+use srt_group_model::{Core, Identity, Packet, Sending};
 use srt_group_polls::polls;
-use srt_group_polls::polls::OptionalPacket;
 use srt_group_tables::history::HistoryRing;
 use srt_protocol::time::Timestamp;
 
 // The packet, if that is what an event poll gives.
-fn packet_in(gave: Polled) -> OptionalPacket
-    ensures { option_of result ≡ packet_in gave }
+fn packet_in(gave: Option<GroupEvent>) -> Option<Packet>
+    ensures { result ≡ packet_in gave }
 {
-    match gave {
-        Polled::Nothing => OptionalPacket::None,
-        Polled::Event(_) => OptionalPacket::None,
-        Polled::Packet(packet) => OptionalPacket::Some(packet),
+    let Some(given) = gave else {
+        return None;
+    };
+    match given {
+        GroupEvent::Event(_) => None,
+        GroupEvent::Packet(packet) => Some(packet),
     }
 }
 

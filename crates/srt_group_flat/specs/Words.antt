@@ -1,15 +1,14 @@
 -- What the words of a flat answer say, as document 01 has it.
-use Rattle.std.specs.Prelude.{◌≡◌, true, false, ℕ, ◌≤◌}
-use Rattle.std.proofs.Math.Option.{none, some}
+use Rattle.srt_protocol.specs.declared.error.Error.{Error}
+use Rattle.srt_group_data_poll.specs.declared.calls.GroupDataPoll.{GroupDataPoll}
+use Rattle.std.specs.Prelude.{◌≡◌, true, false, ℕ, ◌≤◌, None, Result, Some}
 use Rattle.srt_group_model.specs.Tools.{if_true◌then◌else◌, is_set}
 use Rattle.srt_group_model.specs.Guards.{Answer, no_answer, shown, number, data_polled}
 use Rattle.srt_group_model.specs.Calls.{no_data}
 use Rattle.srt_group_model.specs.declared.Packet.{Packet}
 use Rattle.srt_group_refusals.specs.Promised.{Answers}
 use Rattle.srt_group_data_poll.specs.Answers.{data_number, data_answer}
-use Rattle.srt_group_data_poll.specs.declared.calls.DataAnswer.{DataAnswer}
-use Rattle.srt_group_send_calls.specs.Answers.{send_number, send_answer}
-use Rattle.srt_group_send_calls.specs.declared.calls.SendAnswer.{SendAnswer}
+use Rattle.srt_group_send.specs.Answers.{send_number, send_answer}
 use Rattle.srt_group_flat.specs.declared.words.DataWords.{DataWords}
 use Rattle.srt_group_flat.specs.declared.words.SendWords.{SendWords}
 
@@ -17,7 +16,7 @@ use Rattle.srt_group_flat.specs.declared.words.SendWords.{SendWords}
 unfoldable pub words_answer : DataWords → Answer
 words_answer w =
     if_true is_set w.code then no_answer
-    else data_polled (if_true is_set w.given then some w.packet else none) (is_set w.continuation)
+    else data_polled (if_true is_set w.given then Some w.packet else None) (is_set w.continuation)
 
 -- the words of no packet
 abbrev pub no_packet : Packet
@@ -31,7 +30,7 @@ pub record Cleared (w : DataWords) : Type 0 where
   pub continuation : is_set w.code ≡ true → w.continuation ≡ 0
 
 -- the words say what the answer says
-pub record Says (answer : DataAnswer) (w : DataWords) : Type 0 where
+pub record Says (answer : Result GroupDataPoll Error) (w : DataWords) : Type 0 where
   pub answers : Answers (data_number answer) (data_answer answer) w.code (words_answer w)
   pub cleared : Cleared w
 
@@ -46,7 +45,7 @@ pub record ClearedSent (w : SendWords) : Type 0 where
   pub legs : is_set w.code ≡ true → w.legs ≡ 0
 
 -- the words say what the answer says, and how many rows are filled
-pub record SaysSent (answer : SendAnswer) (rows : ℕ) (w : SendWords) : Type 0 where
+pub record SaysSent (answer : Result ℕ Error) (rows : ℕ) (w : SendWords) : Type 0 where
   pub answers : Answers (send_number answer) (send_answer answer) w.code (send_words_answer w)
   pub cleared : ClearedSent w
   pub filled : w.rows ≡ rows

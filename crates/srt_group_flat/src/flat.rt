@@ -13,6 +13,7 @@ use srt_group::Group;
 use srt_group_addition::calls as addition;
 use srt_group_data_poll::calls as polls;
 use srt_group_send_calls::calls as sends;
+use srt_protocol::error::outcome_number;
 use srt_protocol::time::Timestamp;
 
 // The words of a data poll's answer, and the record after it.
@@ -92,7 +93,7 @@ pub fn add_member(
     );
     let after = added.group;
     let outcome = added.outcome;
-    let code = outcome.number() as u64;
+    let code = outcome_number(outcome) as u64;
     MemberAddedWords { group: after, code }
 }
 

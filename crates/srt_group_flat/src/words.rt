@@ -1,12 +1,11 @@
 // The answers of a data poll and of a send in words. An answer that holds an enum cannot be handed on from a call that is lent its
 // record by reference, so each case is told by a word. The words are laid out as C has them: those calls are exported.
-ghost use Rattle.srt_group_data_poll.specs.declared.calls.DataAnswer.TheVariants.{Polled};
+ghost use Rattle.std.specs.Prelude.{Ok};
 ghost use Rattle.srt_group_flat.specs.Words.{Says, SaysSent};
 
-use srt_group_data_poll::calls::{DataAnswer, GroupDataPoll};
+use srt_group_data_poll::calls::GroupDataPoll;
 use srt_group_model::{Data, Packet};
-use srt_group_polls::polls::OptionalPacket;
-use srt_group_send_calls::calls::SendAnswer;
+use srt_protocol::error::Error;
 use srt_protocol::time::Timestamp;
 
 // code is 0 if the poll was accepted; given is 1 if there is a packet; continuation is not 0 if the poll should be called again at
@@ -37,18 +36,18 @@ pub const NO_PACKET: Packet = Packet {
 
 // The words of a poll that was accepted.
 fn words_of_poll(poll: GroupDataPoll) -> DataWords
-    ensures { Says (Polled poll) result }
+    ensures { Says (Ok poll) result }
 {
     let packet = poll.packet;
     let continuation = poll.continuation;
     match packet {
-        OptionalPacket::None => DataWords {
+        None => DataWords {
             code: 0,
             given: 0,
             packet: NO_PACKET,
             continuation,
         },
-        OptionalPacket::Some(given) => DataWords {
+        Some(given) => DataWords {
             code: 0,
             given: 1,
             packet: given,
@@ -58,12 +57,12 @@ fn words_of_poll(poll: GroupDataPoll) -> DataWords
 }
 
 // The words of an answer, a refused poll's too.
-pub fn words_of(answer: DataAnswer) -> DataWords
+pub fn words_of(answer: Result<GroupDataPoll, Error>) -> DataWords
     ensures { Says answer result }
 {
     match answer {
-        DataAnswer::Refused(error) => {
-            let code = error.number() as u64;
+        Err(error) => {
+            let code = u32::from(error) as u64;
             DataWords {
                 code,
                 given: 0,
@@ -71,7 +70,7 @@ pub fn words_of(answer: DataAnswer) -> DataWords
                 continuation: 0,
             }
         }
-        DataAnswer::Polled(poll) => words_of_poll(poll),
+        Ok(poll) => words_of_poll(poll),
     }
 }
 
@@ -88,17 +87,17 @@ pub struct SendWords {
 }
 
 // The words of a send's answer, and of the rows that it filled.
-pub fn words_of_send(answer: SendAnswer, rows: usize) -> SendWords
+pub fn words_of_send(answer: Result<usize, Error>, rows: usize) -> SendWords
     ensures { SaysSent answer rows result }
 {
     match answer {
-        SendAnswer::Sent(legs) => SendWords {
+        Ok(legs) => SendWords {
             code: 0,
-            legs,
+            legs: legs as u64,
             rows,
         },
-        SendAnswer::Refused(error) => {
-            let number = error.number() as u64;
+        Err(error) => {
+            let number = u32::from(error) as u64;
             SendWords {
                 code: number,
                 legs: 0,

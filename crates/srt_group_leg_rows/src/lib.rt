@@ -2,8 +2,7 @@
 
 #![tactic(auto)]
 
-ghost use Rattle.std.specs.Prelude.{◌≡◌, eqb};
-ghost use Rattle.srt_group_model.specs.Tools.{if_true◌then◌else◌};
+ghost use Rattle.std.specs.Prelude.{◌≡◌};
 ghost use Rattle.srt_group_leg_rows.specs.Legs.{state_among};
 
 // A row of the list, word for word.
@@ -26,26 +25,14 @@ pub struct LegRow {
 // The answer for an id that no row has. It is document 01's code for an unknown leg, and no state of a leg.
 pub const UNKNOWN_LEG: u64 = 3;
 
-// The state, once a row is read before the rows that gave `later`.
-fn state_from(row: LegRow, id: u64, later: u64) -> u64
-    ensures { result ≡ (if_true eqb row.id id then row.state else later) }
-{
-    if row.id == id {
-        return row.state;
-    }
-    later
-}
-
-// The state in the first row that has the id. The rows are read from the last to the first, so that the first has the last word.
+// The state in the first row that has the id.
 pub fn state_of(legs: &[LegRow], id: u64) -> u64
     ensures { result ≡ state_among id legs.now }
 {
-    let mut state = UNKNOWN_LEG;
-    let mut i = legs.len();
-    while 0 < i {
-        i -= 1;
-        let row = legs[i];
-        state = state_from(row, id, state);
+    for row in legs {
+        if row.id == id {
+            return row.state;
+        }
     }
-    state
+    UNKNOWN_LEG
 }

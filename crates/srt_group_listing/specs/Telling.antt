@@ -1,7 +1,8 @@
 -- What the code of a verb promises: the group after it and the numbers that it prints are those of the model's listing (srt_group_model,
 -- Listing), for the call that its line asks (srt_group_traces, VerbCalls).
-use Rattle.std.specs.Prelude.{◌≡◌, List, [], ◌∷◌, ℕ, eqb, length}
-use Rattle.std.proofs.Math.Option.{Option, none, some}
+use Rattle.std.specs.Prelude.{◌≡◌, List, [], ◌∷◌, ℕ, eqb, length, Err, None, Ok, Option, Result, Some}
+use Rattle.srt_protocol.specs.declared.error.Error.{Error}
+use Rattle.srt_protocol.specs.Errors.{error_number}
 use Rattle.srt_protocol.specs.Cells.{output_size}
 use Rattle.srt_group_model.specs.Tools.{if_true◌then◌else◌}
 use Rattle.srt_group_model.specs.State.{State}
@@ -35,12 +36,13 @@ prints verb code given s = if_true eqb code 0 then verb ∷ 0 ∷ columns given 
 
 -- a poll's: the packet that it gave, if any, and the skipped total
 abbrev pub packet_line : Option Packet → (skipped : ℕ) → List ℕ
-packet_line none skipped = 5 ∷ 0 ∷ 0 ∷ 0 ∷ 0 ∷ skipped ∷ []
-packet_line (some p) skipped = 5 ∷ 0 ∷ p.member ∷ p.content.sequence ∷ p.content.count ∷ skipped ∷ []
+packet_line None skipped = 5 ∷ 0 ∷ 0 ∷ 0 ∷ 0 ∷ skipped ∷ []
+packet_line (Some p) skipped = 5 ∷ 0 ∷ p.member ∷ p.content.sequence ∷ p.content.count ∷ skipped ∷ []
 
 -- a send's: the legs that it went out on, where it was accepted
-abbrev pub sent_line : (code legs : ℕ) → List ℕ
-sent_line code legs = if_true eqb code 0 then 6 ∷ 0 ∷ legs ∷ 0 ∷ 0 ∷ 0 ∷ [] else refused_line 6 code
+abbrev pub sent_line : Result ℕ Error → List ℕ
+sent_line (Ok legs) = 6 ∷ 0 ∷ legs ∷ 0 ∷ 0 ∷ 0 ∷ []
+sent_line (Err e) = refused_line 6 (error_number e)
 
 -- ---- what the code of a verb promises
 

@@ -1,6 +1,5 @@
 -- A verb of a replay listing over a group that was made: what the code relies on, and that it tells what the model's listing tells.
-use Rattle.std.specs.Prelude.{◌≡◌, List, ℕ, ◌≤◌}
-use Rattle.std.proofs.Math.Option.{some}
+use Rattle.std.specs.Prelude.{◌≡◌, List, ℕ, ◌≤◌, Some}
 use Rattle.srt_group_model.specs.Listing.{Line, column, store_length, tell}
 use Rattle.srt_group_shown.specs.Tables.{Tables, state_of}
 use Rattle.srt_group_shown.specs.Ready.{Ready}
@@ -19,6 +18,6 @@ pub record Asks (first last : ℕ) (line : Line) (store : ℕ) : Type 0 where
 -- a verb over a group that was made: the group after it and what it prints are the model's
 pub record TellsVerb (line : Line) (g : Group) (t : Tables) (r : Told) (t' : Tables) (used' : List ℕ) : Type 0 where
   pub told :
-      tell (column 0 line) line (some (state_of (parts_of g) t))
-      ≡ record { group = some (state_of (parts_of r.group) t'); line = numbers_of r.line }
+      tell (column 0 line) line (Some (state_of (parts_of g) t))
+      ≡ record { group = Some (state_of (parts_of r.group) t'); line = numbers_of r.line }
   pub ready : Ready (parts_of r.group) t' store_length used'

@@ -17,7 +17,7 @@ use srt_group_model::{Leg, Link, Receiver, Sender, Trip};
 use srt_group_queueing::events::queue_event;
 use srt_group_queueing::readings::read_leg;
 use srt_group_removal::connection::remove_member;
-use srt_protocol::error::Outcome;
+use srt_protocol::error::{Error, outcome_number};
 use srt_protocol::time::Timestamp;
 
 // The line of a verb that is refused, or accepted without columns of its own (0).
@@ -35,12 +35,12 @@ pub fn code_line(verb: u64, code: u64) -> Printed
 }
 
 // The line of a verb that answers its outcome alone.
-pub fn outcome_line(verb: u64, outcome: Outcome) -> Printed
+pub fn outcome_line(verb: u64, outcome: Result<(), Error>) -> Printed
     ensures { numbers_of result ≡ refused_line verb (outcome_number outcome) }
 {
     Printed {
         verb,
-        code: outcome.number() as u64,
+        code: outcome_number(outcome) as u64,
         leg: 0,
         sequence: 0,
         count: 0,

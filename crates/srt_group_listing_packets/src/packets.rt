@@ -5,7 +5,6 @@ ghost use Rattle.srt_group_model.specs.Sending.{list_size};
 ghost use Rattle.srt_group_model.specs.Listing.{column};
 ghost use Rattle.srt_group_shown.specs.Tables.{tables};
 ghost use Rattle.srt_group_shown.specs.Ready.{Ready};
-ghost use Rattle.srt_group_polls.specs.DataPoll.{option_of};
 ghost use Rattle.srt_group.specs.Made.{parts_of};
 ghost use Rattle.srt_group_traces.specs.VerbCalls.{data_of_line, queueing, polling, sending};
 ghost use Rattle.srt_group_listing.specs.Telling.{Eight, numbers_of, packet_line, sent_line, Tells};
@@ -15,10 +14,10 @@ use srt_group_collecting::collecting::MAX_VISITS;
 use srt_group_data_poll::polls::poll_data_bounded;
 use srt_group_listing::members::outcome_line;
 use srt_group_listing::{Printed, Told};
-use srt_group_model::Data;
-use srt_group_polls::polls::OptionalPacket;
+use srt_group_model::{Data, Packet};
 use srt_group_queueing::queueing::queue_data;
 use srt_group_send::sending;
+use srt_protocol::error::Error;
 use srt_protocol::time::Timestamp;
 
 // The packet of verb 4.
@@ -88,11 +87,11 @@ pub fn queue(
 }
 
 // The line of a poll: the packet that it gave, if any, and the skipped total.
-fn packet_line(gave: OptionalPacket, skipped: u64) -> Printed
-    ensures { numbers_of result ≡ packet_line (option_of gave) skipped }
+fn packet_line(gave: Option<Packet>, skipped: u64) -> Printed
+    ensures { numbers_of result ≡ packet_line gave skipped }
 {
     match gave {
-        OptionalPacket::None => Printed {
+        None => Printed {
             verb: 5,
             code: 0,
             leg: 0,
@@ -100,7 +99,7 @@ fn packet_line(gave: OptionalPacket, skipped: u64) -> Printed
             count: 0,
             skipped,
         },
-        OptionalPacket::Some(packet) => Printed {
+        Some(packet) => Printed {
             verb: 5,
             code: 0,
             leg: packet.member,
@@ -170,26 +169,26 @@ pub fn poll(
 }
 
 // The line of a send: the legs that it went out on.
-fn sent_line(code: u64, legs: u64) -> Printed
-    ensures { numbers_of result ≡ sent_line code legs }
+fn sent_line(answer: Result<usize, Error>) -> Printed
+    ensures { numbers_of result ≡ sent_line answer }
 {
-    if code == 0 {
-        return Printed {
+    match answer {
+        Ok(legs) => Printed {
             verb: 6,
             code: 0,
-            leg: legs,
+            leg: legs as u64,
             sequence: 0,
             count: 0,
             skipped: 0,
-        };
-    }
-    Printed {
-        verb: 6,
-        code,
-        leg: 0,
-        sequence: 0,
-        count: 0,
-        skipped: 0,
+        },
+        Err(error) => Printed {
+            verb: 6,
+            code: u32::from(error) as u64,
+            leg: 0,
+            sequence: 0,
+            count: 0,
+            skipped: 0,
+        },
     }
 }
 
@@ -242,6 +241,7 @@ pub fn send(
     let after = sent.core;
     let numbers = sent.sending;
     let left = sent.ring;
+    let answer = sent.answer;
     Told {
         group: Group {
             identity,
@@ -249,6 +249,6 @@ pub fn send(
             sending: numbers,
             ring: left,
         },
-        line: sent_line(sent.code, sent.legs as u64),
+        line: sent_line(answer),
     }
 }

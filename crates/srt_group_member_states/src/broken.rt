@@ -9,26 +9,26 @@ ghost use Rattle.srt_group_shown.specs.Ready.{Ready, storing, Performs};
 ghost use Rattle.srt_group_shown.specs.Steps.{StepsOver};
 
 use srt_connection::legs::LARGEST_32;
-use srt_connection_members::{Found, find};
+use srt_connection_members::find;
 use srt_group_members::states::{BROKEN, turn_at};
 use srt_group_model::{Core, Identity, Sending};
 use srt_group_tables::history::HistoryRing;
-use srt_protocol::error::{Error, Outcome};
+use srt_protocol::error::{Error, outcome_number};
 
 // `mark_member_broken` after 5 and 6: 2 or 3, or the member turns Broken. It touches the members only.
-pub fn turn_broken(core: Core, members: &mut [u64], id: u64) -> Outcome
+pub fn turn_broken(core: Core, members: &mut [u64], id: u64) -> Result<(), Error>
     requires { core.counts.members * row_size ≤ length members.old }
     ensures { StepsOver (call_mark_member_broken id) core members.old (outcome_number result) members.new }
 {
     if LARGEST_32 < id {
-        return Outcome::Refused(Error::OutOfRange);
+        return Err(Error::OutOfRange);
     }
     let found = find(members, core.counts.members, id);
-    let Found::At(index) = found else {
-        return Outcome::Refused(Error::UnknownMember);
+    let Some(index) = found else {
+        return Err(Error::UnknownMember);
     };
     turn_at(members, index, BROKEN);
-    Outcome::Accepted
+    Ok(())
 }
 
 // `mark_member_broken` for a valid state. The cells in use stay the same; the store is lent for its length, over which the state is valid.
@@ -45,7 +45,7 @@ pub fn mark_member_broken(
     store: &[u8],
     used: &[u64],
     id: u64,
-) -> Outcome
+) -> Result<(), Error>
     requires { Ready (parts identity core sending ring)
         (tables members.old pending.now waiting.now history.now sources.now) (length store.now) used.now }
     ensures { Performs (call_mark_member_broken id) (parts identity core sending ring)

@@ -10,15 +10,15 @@ use crate::broken::turn_broken;
 use srt_connection_members::disconnect_all;
 use srt_group::Group;
 use srt_group_polls::refresh::refresh_states;
-use srt_group_refusals::refusals::begin;
-use srt_protocol::error::Outcome;
+use srt_group_refusals::refusals::LentGroup;
+use srt_protocol::error::{Error, outcome_number};
 use srt_protocol::time::Timestamp;
 
 // The record after a refresh of the states: as it was where the call is refused; and how it ended.
 #[derive(Clone, Copy)]
 pub struct Refreshed {
     pub group: Group,
-    pub outcome: Outcome,
+    pub outcome: Result<(), Error>,
 }
 
 // A member turns Broken. The record stays as it was.
@@ -30,7 +30,7 @@ pub fn mark_member_broken(
     history: &[u64],
     sources: &[u64],
     id: u64,
-) -> Outcome
+) -> Result<(), Error>
     ensures { Promised (call_mark_member_broken id) (parts_of group)
         (tables members.old pending.now waiting.now history.now sources.now)
         nothing_lent
@@ -38,19 +38,16 @@ pub fn mark_member_broken(
         (tables members.new pending.now waiting.now history.now sources.now)
         nothing_lent (outcome_number result) no_answer 0) }
 {
-    let Group {
-        identity,
-        core,
-        sending,
-        ring,
-    } = group;
-    let begun = begin(
-        identity, core, sending, ring, members, pending, waiting, history, sources,
-    );
-    if let Outcome::Refused(error) = begun {
-        return Outcome::Refused(error);
-    }
-    turn_broken(core, members, id)
+    let lent = LentGroup {
+        group,
+        members,
+        pending,
+        waiting,
+        history,
+        sources,
+    };
+    lent.begin()?;
+    turn_broken(group.core, members, id)
 }
 
 // The members' states follow their legs; a member that arrives may set the base and bind the group.
@@ -69,30 +66,28 @@ pub fn refresh_member_states(
         (tables members.new pending.now waiting.now history.now sources.now)
         nothing_lent (outcome_number result.outcome) no_answer 0) }
 {
-    let Group {
-        identity,
-        core,
-        sending,
-        ring,
-    } = group;
-    let begun = begin(
-        identity, core, sending, ring, members, pending, waiting, history, sources,
-    );
-    if let Outcome::Refused(error) = begun {
+    let lent = LentGroup {
+        group,
+        members,
+        pending,
+        waiting,
+        history,
+        sources,
+    };
+    let begun = lent.begin();
+    if let Err(error) = begun {
         return Refreshed {
             group,
-            outcome: Outcome::Refused(error),
+            outcome: Err(error),
         };
     }
-    let after = refresh_states(core, sending, members);
+    let after = refresh_states(group.core, group.sending, members);
     Refreshed {
         group: Group {
-            identity,
             core: after,
-            sending,
-            ring,
+            ..group
         },
-        outcome: Outcome::Accepted,
+        outcome: Ok(()),
     }
 }
 
@@ -105,7 +100,7 @@ pub fn disconnect(
     history: &[u64],
     sources: &[u64],
     time: Timestamp,
-) -> Outcome
+) -> Result<(), Error>
     ensures { Promised (call_disconnect time.0) (parts_of group)
         (tables members.old pending.now waiting.now history.now sources.now)
         nothing_lent
@@ -113,18 +108,15 @@ pub fn disconnect(
         (tables members.new pending.now waiting.now history.now sources.now)
         nothing_lent (outcome_number result) no_answer 0) }
 {
-    let Group {
-        identity,
-        core,
-        sending,
-        ring,
-    } = group;
-    let begun = begin(
-        identity, core, sending, ring, members, pending, waiting, history, sources,
-    );
-    if let Outcome::Refused(error) = begun {
-        return Outcome::Refused(error);
-    }
-    disconnect_all(members, core.counts.members);
-    Outcome::Accepted
+    let lent = LentGroup {
+        group,
+        members,
+        pending,
+        waiting,
+        history,
+        sources,
+    };
+    lent.begin()?;
+    disconnect_all(members, group.core.counts.members);
+    Ok(())
 }

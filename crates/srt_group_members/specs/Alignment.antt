@@ -1,11 +1,10 @@
 -- Alignment of a member's send sequence with the group's.
-use Rattle.std.specs.Prelude.{◌≡◌, Bool, not, ◌&&◌, List, ℕ}
+use Rattle.std.specs.Prelude.{◌≡◌, Bool, not, ◌&&◌, List, ℕ, is_some}
 use Rattle.srt_group_model.specs.Tools.{if_some◌give◌otherwise◌}
 use Rattle.srt_group_model.specs.State.{Member, with_leg}
 use Rattle.srt_group_model.specs.Legs.{is_connected, has_sender}
 use Rattle.srt_group_model.specs.Members.{has_id, align_leg}
 use Rattle.srt_connection_members.specs.Members.{member_at, Changed}
-use Rattle.srt_group_members.specs.Scan.{is_some}
 
 -- ---- definitions
 

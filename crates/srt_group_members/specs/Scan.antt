@@ -1,17 +1,12 @@
 -- Loops over the rows of the lent table: what is left of the members from a place on, the first that passes a test, and what a
 -- call makes of the members.
-use Rattle.std.specs.Prelude.{◌≡◌, Bool, true, false, List, ℕ, length}
-use Rattle.std.proofs.Math.Option.{Option, none, some}
+use Rattle.std.specs.Prelude.{◌≡◌, Bool, true, false, List, ℕ, length, None, Option, Some, is_some}
 use Rattle.srt_group_model.specs.Tools.{if_some◌give◌otherwise◌}
 use Rattle.srt_group_model.specs.State.{Member}
 use Rattle.srt_group_model.specs.Legs.{is_disconnected}
 use Rattle.srt_connection_members.specs.Members.{members_of}
 
 -- ---- definitions
-
-unfoldable pub is_some : {A : Type 0} → Option A → Bool
-is_some none = false
-is_some (some a) = true
 
 abbrev pub leg_disconnected : Member → Bool
 leg_disconnected m = is_disconnected m.leg

@@ -1,6 +1,5 @@
 -- The first member from a place on that has an event, and the largest window of those from a place on.
-use Rattle.std.specs.Prelude.{Bool, not, ℕ, ◌+◌}
-use Rattle.std.proofs.Math.Option.{Option, none, some}
+use Rattle.std.specs.Prelude.{Bool, not, ℕ, ◌+◌, None, Option, Some}
 use Rattle.srt_group_model.specs.Tools.{if_some◌give◌otherwise◌, is_empty}
 use Rattle.srt_group_model.specs.State.{Member}
 
@@ -11,4 +10,4 @@ has_event m = not (is_empty m.queue)
 
 -- a place that was counted from `start` on
 unfoldable pub place_from : ℕ → Option ℕ → Option ℕ
-place_from start found = if_some found give (λ i. some (start + i)) otherwise none
+place_from start found = if_some found give (λ i. Some (start + i)) otherwise None

@@ -8,7 +8,7 @@ ghost use Rattle.srt_connection_members.specs.Members.{member_at, HasRow};
 ghost use Rattle.srt_group_members.specs.Admission.{membership_after, Answered, AdmittedAt, Admitted};
 
 use crate::states::{BROKEN, is_connected_at};
-use srt_connection::legs::{OptionalSequence, peer_initial_sequence};
+use srt_connection::legs::peer_initial_sequence;
 use srt_connection_members::{leg_at, membership_at, put_membership_at};
 use srt_group_model::{Collision, Leg, Membership};
 
@@ -16,8 +16,7 @@ use srt_group_model::{Collision, Leg, Membership};
 #[derive(Clone, Copy)]
 pub struct Admission {
     pub peer: u64,
-    pub based: u64,
-    pub base: u64,
+    pub base: Option<u64>,
 }
 
 // Not admitted yet, not Broken, and connected.
@@ -48,26 +47,9 @@ fn bound_peer(peer: u64, actual: u64) -> u64
 fn answered(before: Admission, leg: Leg) -> Admission
     ensures { Answered before leg result }
 {
-    let peer = bound_peer(before.peer, leg.link.peer);
-    if before.based != 0 {
-        return Admission {
-            peer,
-            based: 1,
-            base: before.base,
-        };
-    }
-    let first = peer_initial_sequence(leg);
-    match first {
-        OptionalSequence::Some(base) => Admission {
-            peer,
-            based: 1,
-            base,
-        },
-        OptionalSequence::None => Admission {
-            peer,
-            based: 0,
-            base: 0,
-        },
+    Admission {
+        peer: bound_peer(before.peer, leg.link.peer),
+        base: before.base.or(peer_initial_sequence(leg)),
     }
 }
 
@@ -113,15 +95,9 @@ pub fn admit_connected_peer_groups(members: &mut [u64], count: usize, peer: u64)
     requires { count * row_size ≤ length members.old }
     ensures { Admitted count peer members.old result members.new }
 {
-    let mut admission = Admission {
-        peer,
-        based: 0,
-        base: 0,
-    };
-    let mut i = 0;
-    while i < count {
+    let mut admission = Admission { peer, base: None };
+    for i in 0..count {
         admission = admit_peer_group(members, i, admission);
-        i += 1;
     }
     admission
 }

@@ -3,15 +3,14 @@ ghost use Rattle.std.specs.Prelude.{◌≡◌, ◌&&◌, ◌*◌, ◌≤◌, len
 ghost use Rattle.srt_group_model.specs.Tools.{is_set, flagged, place_of};
 ghost use Rattle.srt_group_model.specs.Legs.{has_sender};
 ghost use Rattle.srt_group_model.specs.Members.{alignment_source, align_leg, align_member_sequence};
-ghost use Rattle.srt_connection.specs.Answers.{sequence_of, result_of};
 ghost use Rattle.srt_connection_queue.specs.Rows.{row_size};
-ghost use Rattle.srt_connection_members.specs.Members.{member_at, members_of, HasRow, found_of};
+ghost use Rattle.srt_connection_members.specs.Members.{member_at, members_of, HasRow};
 ghost use Rattle.srt_group_members.specs.Scan.{Tried};
 ghost use Rattle.srt_group_members.specs.Alignment.{is_other_sender, AlignedAt};
 
 use crate::states::is_connected_at;
-use srt_connection::legs::{LegResult, OptionalSequence, synchronize_send_sequence};
-use srt_connection_members::{Found, leg_at, membership_at, put_leg_at, sender_at};
+use srt_connection::legs::synchronize_send_sequence;
+use srt_connection_members::{leg_at, membership_at, put_leg_at, sender_at};
 use srt_group_model::Leg;
 
 // Another member than the one with the id, connected and with a sender.
@@ -30,41 +29,29 @@ fn is_other_sender_at(members: &[u64], index: usize, id: u64) -> bool
     sender.started == 1
 }
 
-fn first_other_sender(members: &[u64], count: usize, id: u64) -> Found
+fn first_other_sender(members: &[u64], count: usize, id: u64) -> Option<usize>
     requires { count * row_size ≤ length members.now }
-    ensures { result ≡ found_of (place_of (is_other_sender id) (members_of count members.now)) }
+    ensures { result ≡ place_of (is_other_sender id) (members_of count members.now) }
 {
-    let mut i = 0;
-    while i < count {
+    for i in 0..count {
         if is_other_sender_at(members, i, id) {
-            return Found::At(i);
+            return Some(i);
         }
-        i += 1;
     }
-    Found::Nothing
+    None
 }
 
 // The group's send number, else the next number of the first other connected leg, in order of addition.
-pub fn alignment_source(
-    members: &[u64],
-    count: usize,
-    numbered: u64,
-    number: u64,
-    id: u64,
-) -> OptionalSequence
+pub fn alignment_source(members: &[u64], count: usize, number: Option<u64>, id: u64) -> Option<u64>
     requires { count * row_size ≤ length members.now }
-    ensures { result ≡ sequence_of
-        (alignment_source (flagged (is_set numbered) number) id (members_of count members.now)) }
+    ensures { result ≡ alignment_source number id (members_of count members.now) }
 {
-    if numbered != 0 {
-        return OptionalSequence::Some(number);
+    if number.is_some() {
+        return number;
     }
-    let found = first_other_sender(members, count, id);
-    let Found::At(index) = found else {
-        return OptionalSequence::None;
-    };
+    let index = first_other_sender(members, count, id)?;
     let sender = sender_at(members, index);
-    OptionalSequence::Some(sender.next)
+    Some(sender.next)
 }
 
 // Whether the leg's next number is the sequence.
@@ -74,11 +61,11 @@ fn sends_next(leg: Leg, sequence: u64) -> bool
     leg.sender.started == 1 && leg.sender.next == sequence
 }
 
-pub fn align_leg(leg: Leg, sequence: u64) -> LegResult
-    ensures { result ≡ result_of (align_leg sequence leg) }
+pub fn align_leg(leg: Leg, sequence: u64) -> Option<Leg>
+    ensures { result ≡ align_leg sequence leg }
 {
     if sends_next(leg, sequence) {
-        return LegResult::Ok(leg);
+        return Some(leg);
     }
     synchronize_send_sequence(leg, sequence)
 }
@@ -88,7 +75,7 @@ fn align_leg_at(members: &mut [u64], index: usize, sequence: u64) -> bool
     ensures { AlignedAt index sequence members.old result members.new }
 {
     let result = align_leg(leg_at(members, index), sequence);
-    let LegResult::Ok(leg) = result else {
+    let Some(leg) = result else {
         return false;
     };
     put_leg_at(members, index, leg);
@@ -99,21 +86,20 @@ fn align_leg_at(members: &mut [u64], index: usize, sequence: u64) -> bool
 pub fn align_member_sequence(
     members: &mut [u64],
     count: usize,
-    numbered: u64,
-    number: u64,
+    number: Option<u64>,
     index: usize,
 ) -> bool
     requires { count * row_size ≤ length members.old }
     ensures { Tried count
-        (align_member_sequence (flagged (is_set numbered) number) index (members_of count members.old))
+        (align_member_sequence number index (members_of count members.old))
         members.old result members.new }
 {
     if count <= index {
         return false;
     }
     let membership = membership_at(members, index);
-    let source = alignment_source(members, count, numbered, number, membership.id);
-    let OptionalSequence::Some(sequence) = source else {
+    let source = alignment_source(members, count, number, membership.id);
+    let Some(sequence) = source else {
         return true;
     };
     align_leg_at(members, index, sequence)

@@ -1,13 +1,13 @@
 // Promotion in Backup: of the connected Standby members the one with the highest weight, then with the lowest id.
 ghost use Rattle.std.specs.Prelude.{◌≡◌, ◌*◌, ◌≤◌, length};
 ghost use Rattle.srt_connection_queue.specs.Rows.{row_size};
-ghost use Rattle.srt_connection_members.specs.Members.{member_at, members_of, HasRow, found_of};
+ghost use Rattle.srt_connection_members.specs.Members.{member_at, members_of, HasRow};
 ghost use Rattle.srt_group_model.specs.Members.{outranks, promotion, promote_backup_member, promote_if_none};
 ghost use Rattle.srt_group_members.specs.Scan.{Became};
 ghost use Rattle.srt_group_members.specs.Rank.{RowFound, first_with};
 
 use crate::states::{ACTIVE, has_active_member, is_backup, is_standby_at, turn_at};
-use srt_connection_members::{Found, membership_at};
+use srt_connection_members::membership_at;
 
 fn outranks_at(members: &[u64], a: usize, b: usize) -> bool
     requires has_row { HasRow a members.now }
@@ -26,7 +26,7 @@ fn outranks_at(members: &[u64], a: usize, b: usize) -> bool
 }
 
 // The first in rank of the member at the index and of the first among those behind it.
-fn first_in_rank_with(members: &[u64], index: usize, best: Found) -> Found
+fn first_in_rank_with(members: &[u64], index: usize, best: Option<usize>) -> Option<usize>
     requires has_row { HasRow index members.now }
     requires row_found { RowFound best members.now }
     ensures { result ≡ first_with members.now index best }
@@ -34,26 +34,23 @@ fn first_in_rank_with(members: &[u64], index: usize, best: Found) -> Found
     if !is_standby_at(members, index) {
         return best;
     }
-    let Found::At(first) = best else {
-        return Found::At(index);
+    let Some(first) = best else {
+        return Some(index);
     };
     if outranks_at(members, first, index) {
         return best;
     }
-    Found::At(index)
+    Some(index)
 }
 
 // The index of the member that is promoted.
-pub fn promotion(members: &[u64], count: usize) -> Found
+pub fn promotion(members: &[u64], count: usize) -> Option<usize>
     requires { count * row_size ≤ length members.now }
-    ensures { result ≡ found_of (promotion (members_of count members.now)) }
+    ensures { result ≡ promotion (members_of count members.now) }
 {
-    let mut best = Found::Nothing;
-    let mut left = count;
-    while 0 < left {
-        let index = left - 1;
+    let mut best = None;
+    for index in (0..count).rev() {
         best = first_in_rank_with(members, index, best);
-        left = index;
     }
     best
 }
@@ -64,7 +61,7 @@ pub fn promote_backup_member(members: &mut [u64], count: usize)
         members.old members.new }
 {
     let found = promotion(members, count);
-    let Found::At(index) = found else {
+    let Some(index) = found else {
         return;
     };
     turn_at(members, index, ACTIVE);

@@ -32,12 +32,10 @@ fn all_steady(members: &[u64], count: usize) -> bool
     requires { count * row_size ≤ length members.now }
     ensures { result ≡ all is_steady (members_of count members.now) }
 {
-    let mut i = 0;
-    while i < count {
+    for i in 0..count {
         if !is_steady_at(members, i) {
             return false;
         }
-        i += 1;
     }
     true
 }

@@ -36,43 +36,41 @@ fn settled_state(mode: u64) -> u64
 }
 
 // A Pending member that has connected turns Active, in Backup Standby, if it can be aligned.
-fn settle_at(members: &mut [u64], count: usize, mode: u64, numbered: u64, number: u64, index: usize)
+fn settle_at(members: &mut [u64], count: usize, mode: u64, number: Option<u64>, index: usize)
     requires row_size_in_bounds { count * row_size ≤ length members.old }
     requires index_lt_count { index < count }
     ensures { Became count
-        (settle mode (flagged (is_set numbered) number) index (members_of count members.old))
+        (settle mode number index (members_of count members.old))
         members.old members.new }
 {
     if !settles_at(members, index) {
         return;
     }
-    if !align_member_sequence(members, count, numbered, number, index) {
+    if !align_member_sequence(members, count, number, index) {
         return;
     }
     turn_at(members, index, settled_state(mode));
 }
 
-fn settle_pending_members(members: &mut [u64], count: usize, mode: u64, numbered: u64, number: u64)
+fn settle_pending_members(members: &mut [u64], count: usize, mode: u64, number: Option<u64>)
     requires { count * row_size ≤ length members.old }
     ensures { Became count
-        (at_each_place (settle mode (flagged (is_set numbered) number)) (members_of count members.old))
+        (at_each_place (settle mode number) (members_of count members.old))
         members.old members.new }
 {
-    let mut i = 0;
-    while i < count {
-        settle_at(members, count, mode, numbered, number, i);
-        i += 1;
+    for i in 0..count {
+        settle_at(members, count, mode, number, i);
     }
 }
 
 // What is left of `refresh_pending_states` after admission.
-pub fn settle_members(members: &mut [u64], count: usize, mode: u64, numbered: u64, number: u64)
+pub fn settle_members(members: &mut [u64], count: usize, mode: u64, number: Option<u64>)
     requires { count * row_size ≤ length members.old }
     ensures { Became count
-        (settle_members mode (flagged (is_set numbered) number) (members_of count members.old))
+        (settle_members mode number (members_of count members.old))
         members.old members.new }
 {
-    settle_pending_members(members, count, mode, numbered, number);
+    settle_pending_members(members, count, mode, number);
     promote_if_none(members, count, mode);
 }
 
@@ -103,46 +101,31 @@ fn requalified_state(members: &[u64], count: usize, mode: u64) -> u64
 }
 
 // An Unstable member that can send again requalifies, if it can be aligned.
-fn requalify_at(
-    members: &mut [u64],
-    count: usize,
-    mode: u64,
-    numbered: u64,
-    number: u64,
-    index: usize,
-)
+fn requalify_at(members: &mut [u64], count: usize, mode: u64, number: Option<u64>, index: usize)
     requires row_size_in_bounds { count * row_size ≤ length members.old }
     requires index_lt_count { index < count }
     ensures { Became count
-        (requalify mode (flagged (is_set numbered) number) index (members_of count members.old))
+        (requalify mode number index (members_of count members.old))
         members.old members.new }
 {
     if !requalifies_at(members, index) {
         return;
     }
-    if !align_member_sequence(members, count, numbered, number, index) {
+    if !align_member_sequence(members, count, number, index) {
         return;
     }
     let state = requalified_state(members, count, mode);
     turn_at(members, index, state);
 }
 
-fn requalify_unstable_members(
-    members: &mut [u64],
-    count: usize,
-    mode: u64,
-    numbered: u64,
-    number: u64,
-)
+fn requalify_unstable_members(members: &mut [u64], count: usize, mode: u64, number: Option<u64>)
     requires { count * row_size ≤ length members.old }
     ensures { Became count
-        (at_each_place (requalify mode (flagged (is_set numbered) number)) (members_of count members.old))
+        (at_each_place (requalify mode number) (members_of count members.old))
         members.old members.new }
 {
-    let mut i = 0;
-    while i < count {
-        requalify_at(members, count, mode, numbered, number, i);
-        i += 1;
+    for i in 0..count {
+        requalify_at(members, count, mode, number, i);
     }
 }
 
@@ -169,21 +152,19 @@ pub fn break_disconnected(members: &mut [u64], count: usize)
         (each break_disconnected (members_of count members.old))
         members.old members.new }
 {
-    let mut i = 0;
-    while i < count {
+    for i in 0..count {
         break_disconnected_at(members, i);
-        i += 1;
     }
 }
 
 // What is left of `refresh_states` after `refresh_pending_states`.
-pub fn requalify_members(members: &mut [u64], count: usize, mode: u64, numbered: u64, number: u64)
+pub fn requalify_members(members: &mut [u64], count: usize, mode: u64, number: Option<u64>)
     requires { count * row_size ≤ length members.old }
     ensures { Became count
-        (requalify_members mode (flagged (is_set numbered) number) (members_of count members.old))
+        (requalify_members mode number (members_of count members.old))
         members.old members.new }
 {
     break_disconnected(members, count);
-    requalify_unstable_members(members, count, mode, numbered, number);
+    requalify_unstable_members(members, count, mode, number);
     promote_if_none(members, count, mode);
 }

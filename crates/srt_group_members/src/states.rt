@@ -1,7 +1,7 @@
 // What state a member is in. A test reads the few words of a row that it needs.
 ghost use Rattle.std.specs.Prelude.{◌≡◌, ◌&&◌, ◌*◌, ◌≤◌, length};
 ghost use Rattle.srt_connection_queue.specs.Rows.{row_size};
-ghost use Rattle.srt_connection_members.specs.Members.{member_at, members_of, HasRow, found_of, Changed};
+ghost use Rattle.srt_connection_members.specs.Members.{member_at, members_of, HasRow, Changed};
 ghost use Rattle.srt_group_model.specs.State.{is_backup, turned};
 ghost use Rattle.srt_group_model.specs.Legs.{is_connected, is_disconnected};
 ghost use Rattle.srt_group_model.specs.Tools.{all};
@@ -10,7 +10,7 @@ ghost use Rattle.srt_group_model.specs.Calls.{state_at_addition};
 ghost use Rattle.srt_group_members.specs.Scan.{leg_disconnected};
 
 use srt_connection::legs::{is_connected, is_disconnected};
-use srt_connection_members::{Found, leg_at, membership_at, put_membership_at};
+use srt_connection_members::{leg_at, membership_at, put_membership_at};
 use srt_group_model::Leg;
 
 // `GroupMemberState` as the numbers that a row holds.
@@ -83,29 +83,23 @@ pub fn turn_at(members: &mut [u64], index: usize, state: u64)
 // ---- the first `count` rows
 
 // The index of the first member that is active.
-pub fn first_active(members: &[u64], count: usize) -> Found
+pub fn first_active(members: &[u64], count: usize) -> Option<usize>
     requires { count * row_size ≤ length members.now }
-    ensures { result ≡ found_of (first_active (members_of count members.now)) }
+    ensures { result ≡ first_active (members_of count members.now) }
 {
-    let mut i = 0;
-    while i < count {
+    for i in 0..count {
         if is_active_at(members, i) {
-            return Found::At(i);
+            return Some(i);
         }
-        i += 1;
     }
-    Found::Nothing
+    None
 }
 
 pub fn has_active_member(members: &[u64], count: usize) -> bool
     requires { count * row_size ≤ length members.now }
     ensures { result ≡ has_active_member (members_of count members.now) }
 {
-    let found = first_active(members, count);
-    match found {
-        Found::At(_) => true,
-        Found::Nothing => false,
-    }
+    first_active(members, count).is_some()
 }
 
 // Whether every leg is disconnected; true with no members.
@@ -113,12 +107,10 @@ pub fn all_disconnected(members: &[u64], count: usize) -> bool
     requires { count * row_size ≤ length members.now }
     ensures { result ≡ all (λ m. is_disconnected m.leg) (members_of count members.now) }
 {
-    let mut i = 0;
-    while i < count {
+    for i in 0..count {
         if !is_disconnected_at(members, i) {
             return false;
         }
-        i += 1;
     }
     true
 }

@@ -1,7 +1,6 @@
 -- Document 01's numbers for what a call answers: a refusal's number is its code, with no values; the values of an accepted call are
 -- those of its answer's case. The promises of the public calls use them.
-use Rattle.std.specs.Prelude.{◌≡◌, Bool, List, [], ◌∷◌, ◌++◌, ℕ}
-use Rattle.std.proofs.Math.Option.{Option, none, some}
+use Rattle.std.specs.Prelude.{◌≡◌, Bool, List, [], ◌∷◌, ◌++◌, ℕ, None, Option, Some}
 use Rattle.srt_group_model.specs.Tools.{bit}
 use Rattle.srt_group_model.specs.State.{State}
 use Rattle.srt_group_model.specs.Delivery.{Polled, nothing, event, packet}
@@ -13,8 +12,8 @@ use Rattle.srt_group_model.specs.declared.MemberShown.{MemberShown}
 
 -- leg, sequence, count (0: no packet), message number, timestamp, source time, length of the payload, which is in the output
 abbrev pub packet_values : Option Packet → List ℕ
-packet_values none = 0 ∷ 0 ∷ 0 ∷ 0 ∷ 0 ∷ 0 ∷ 0 ∷ []
-packet_values (some p) =
+packet_values None = 0 ∷ 0 ∷ 0 ∷ 0 ∷ 0 ∷ 0 ∷ 0 ∷ []
+packet_values (Some p) =
     p.member ∷ p.content.sequence ∷ p.content.count ∷ p.content.message ∷ p.content.timestamp ∷ p.content.source.0
     ∷ p.content.length
     ∷ []
@@ -45,10 +44,10 @@ all_values (m ∷ ms) = member_values m ++ all_values ms
 unfoldable pub shown_values : Shown → List ℕ
 shown_values (truth b) = bit b ∷ []
 shown_values (number n) = n ∷ []
-shown_values (optional none) = []
-shown_values (optional (some n)) = n ∷ []
-shown_values (one_member none) = []
-shown_values (one_member (some m)) = member_values m
+shown_values (optional None) = []
+shown_values (optional (Some n)) = n ∷ []
+shown_values (one_member None) = []
+shown_values (one_member (Some m)) = member_values m
 shown_values (all_members ms) = all_values ms
 
 -- The values of each case: of an event poll the event (1 connected, 2 error, 3 disconnected), its leg and reason, or 0 and the packet;
@@ -56,9 +55,9 @@ shown_values (all_members ms) = all_values ms
 unfoldable pub values_of : Answer → List ℕ
 values_of no_answer = []
 values_of (shown x) = shown_values x
-values_of (polled nothing) = 0 ∷ packet_values none
+values_of (polled nothing) = 0 ∷ packet_values None
 values_of (polled (event w)) = w.kind ∷ w.member ∷ w.reason ∷ 0 ∷ 0 ∷ 0 ∷ 0 ∷ 0 ∷ []
-values_of (polled (packet p)) = 0 ∷ packet_values (some p)
+values_of (polled (packet p)) = 0 ∷ packet_values (Some p)
 values_of (data_polled gave more) = bit more ∷ packet_values gave
 values_of (leg_back l) = leg_values l
 

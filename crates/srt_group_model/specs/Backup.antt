@@ -1,8 +1,7 @@
 -- Backup: the carrier that fell silent, the take-over with its replay, the history, one send, and the readiness tests. From
 -- send.rs: `demote_stale_backup_carrier`, `take_over_backup_flight`, `record_backup_send`, `trim_backup_history`,
 -- `send_backup`, `backup_send_ready`; document 01, "Stability timeout", codes 22 and 24 to 29, P8 and P9.
-use Rattle.std.specs.Prelude.{Bool, true, false, not, ◌&&◌, ◌||◌, List, [], ◌∷◌, ◌++◌, ℕ, ◌+◌, ◌*◌, max, min, leb, ltb, eqb, length, drop}
-use Rattle.std.proofs.Math.Option.{Option, none, some}
+use Rattle.std.specs.Prelude.{Bool, true, false, not, ◌&&◌, ◌||◌, List, [], ◌∷◌, ◌++◌, ℕ, ◌+◌, ◌*◌, max, min, leb, ltb, eqb, length, drop, None, Option, Some}
 use Rattle.srt_protocol.specs.Time.{elapsed}
 use Rattle.srt_protocol.specs.Sequence.{sequence_before, sequence_further}
 use Rattle.srt_group_model.specs.Tools.{if_true◌then◌else◌, if_some◌give◌otherwise◌, bit, is_set, or_else, any, at_place, change}
@@ -210,8 +209,8 @@ send_backup time size cell s =
 
 -- with a time, pacing counts as well
 abbrev pub ready_to_send : Option ℕ → Leg → Bool
-ready_to_send none l = can_send l
-ready_to_send (some time) l = can_send_with_pacing time l
+ready_to_send None l = can_send l
+ready_to_send (Some time) l = can_send_with_pacing time l
 
 -- `backup_member_ready`: the leg could carry the next send after the take-over that it would make
 unfoldable pub backup_member_ready : Option ℕ → Send → Member → Bool
@@ -219,7 +218,7 @@ backup_member_ready time x m =
     let takes = takes_over (id_of m) x in
     let replay = if_true takes then length x.history else 0 in
     let sequence =
-    or_else (if_true takes then (if_some at_place 0 x.history give (λ e. some e.sequence) otherwise none) else none)
+    or_else (if_true takes then (if_some at_place 0 x.history give (λ e. Some e.sequence) otherwise None) else None)
     (next_send_sequence x)
     in
     ready_to_send time m.leg
@@ -244,13 +243,13 @@ backup_send_ready time s =
 
 -- the least time until a send of the Active and Standby members, 100,000 if there is none
 unfoldable pub least_time : ℕ → List Member → Option ℕ
-least_time time [] = none
+least_time time [] = None
 least_time time (m ∷ ms) =
     if_true in_state active_state m || in_state standby_state m
     then
     (if_some least_time time ms
-    give (λ n. some (min (time_until_send time m.leg) n))
-    otherwise some (time_until_send time m.leg))
+    give (λ n. Some (min (time_until_send time m.leg) n))
+    otherwise Some (time_until_send time m.leg))
     else least_time time ms
 
 unfoldable pub group_time_until_send : ℕ → List Member → ℕ

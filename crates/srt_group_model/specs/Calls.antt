@@ -1,7 +1,6 @@
 -- Every public call of `SrtGroup` and of the stand-in leg: its codes in document 01's order, as a list of guards, and what it
 -- does when none refuses. A refused call changes nothing; 22 to 29 come from a body, which leaves what it has done by then.
-use Rattle.std.specs.Prelude.{Bool, true, false, not, ◌&&◌, ◌||◌, List, [], ◌∷◌, ◌++◌, ℕ, leb, ltb, eqb, length}
-use Rattle.std.proofs.Math.Option.{none, some}
+use Rattle.std.specs.Prelude.{Bool, true, false, not, ◌&&◌, ◌||◌, List, [], ◌∷◌, ◌++◌, ℕ, leb, ltb, eqb, length, None, Some}
 use Rattle.srt_protocol.specs.Handshake.{has_group_mask}
 use Rattle.srt_protocol.specs.Cells.{cell_size, cells_of, max_cells, output_size}
 use Rattle.srt_group_model.specs.Tools.{if_true◌then◌else◌, if_some◌give◌otherwise◌, is_set, is_empty, any, first_such, change, each}
@@ -105,12 +104,12 @@ new_member id weight l s =
 unfoldable pub add_body : (id weight : ℕ) → Leg → State → Step
 add_body id weight l s =
     let m = new_member id weight (handed l) s in
-    let r = set_base (base_after none (m ∷ [])) (start s) in
+    let r = set_base (base_after None (m ∷ [])) (start s) in
     let peer = peer_after s.peer (m ∷ []) in
     let joined = admit_peer_group peer m in
     let added = with_peer peer (with_members (s.members ++ (joined ∷ [])) r.state) in
     let left : State → ℕ → Step =
-    λ t code. record { state = t; code = code; answer = no_answer; put = none; sends = []; log = r.log }
+    λ t code. record { state = t; code = code; answer = no_answer; put = None; sends = []; log = r.log }
     in
     if_true eqb joined.membership.admitted 1
     then
@@ -153,12 +152,12 @@ member id =
     record {
       about = about_member id;
       shows =
-          λ s. one_member (if_some first_such (has_id id) s.members give (λ m. some (member_shown m)) otherwise none);
+          λ s. one_member (if_some first_such (has_id id) s.members give (λ m. Some (member_shown m)) otherwise None);
     }
 
 -- accepted, with the log of a call under way
 abbrev pub left_by : Run → Answer → Step
-left_by r answer = record { state = r.state; code = 0; answer = answer; put = none; sends = []; log = r.log }
+left_by r answer = record { state = r.state; code = 0; answer = answer; put = None; sends = []; log = r.log }
 
 unfoldable pub refresh_member_states : State → Step
 refresh_member_states s = guard ((6 when breaks_rule s) ∷ []) s (left_by (refresh_states (start s)) no_answer)
@@ -205,12 +204,12 @@ left_by_send cell payload r flow =
       state = flow.state;
       code = 0;
       answer = shown (number (if_true backup then 1 else length flow.sends));
-      put = if_true backup then some record { cell = cell; payload = payload } else none;
+      put = if_true backup then Some record { cell = cell; payload = payload } else None;
       sends = flow.sends;
       log = if_true backup then put cell payload ∷ r.log else r.log;
     }
     else
-    record { state = flow.state; code = flow.code; answer = no_answer; put = none; sends = flow.sends; log = r.log }
+    record { state = flow.state; code = flow.code; answer = no_answer; put = None; sends = flow.sends; log = r.log }
 
 -- 23 is tested after the refresh
 unfoldable pub send_flow : (cell time : ℕ) → List ℕ → State → Run → Flow
@@ -248,7 +247,7 @@ can_send_body s =
     if_true is_backup s.making.mode
     then
     (let t = trim_by_carrier r.state in
-    record { state = t; code = 0; answer = shown (truth (backup_send_ready none t)); put = none; sends = []; log = r.log })
+    record { state = t; code = 0; answer = shown (truth (backup_send_ready None t)); put = None; sends = []; log = r.log })
     else left_by r (shown (truth (any (λ m. is_active m && can_send m.leg) r.state.members)))
 
 unfoldable pub can_send_call : State → Step
@@ -266,8 +265,8 @@ can_send_with_pacing_body time s =
     record {
       state = t;
       code = 0;
-      answer = shown (truth (backup_send_ready (some time) t));
-      put = none;
+      answer = shown (truth (backup_send_ready (Some time) t));
+      put = None;
       sends = [];
       log = r.log;
     })
@@ -290,8 +289,8 @@ backup_stability_timeout_micros id =
           λ s.
           optional
           (if_some first_such (has_id id) s.members
-          give (λ m. if_true has_sender m.leg then some (stability_timeout m.leg) else none)
-          otherwise none);
+          give (λ m. if_true has_sender m.leg then Some (stability_timeout m.leg) else None)
+          otherwise None);
     }
 
 -- ---- looking
@@ -316,7 +315,7 @@ mode = record { about = about_group; shows = λ s. number s.making.mode }
 
 unfoldable pub peer_group_id : Looking
 peer_group_id =
-    record { about = about_group; shows = λ s. optional (if_true eqb s.peer 0 then none else some s.peer) }
+    record { about = about_group; shows = λ s. optional (if_true eqb s.peer 0 then None else Some s.peer) }
 
 unfoldable pub skipped_receive_packets : Looking
 skipped_receive_packets = record { about = about_group; shows = λ s. number s.receive.numbers.skipped }
@@ -376,7 +375,7 @@ queue_data_body id cell d payload s =
           change_member id (λ m. on_leg (add_reservation d.count) (enqueue (data_event cell (length payload) d) m)) s;
       code = 0;
       answer = no_answer;
-      put = some record { cell = cell; payload = payload };
+      put = Some record { cell = cell; payload = payload };
       sends = [];
       log = put cell payload ∷ [];
     }

@@ -1,7 +1,6 @@
 -- Which cells of the store are in use, and the free cell that a call takes. Document 01, "Receiving": a cell is free as soon
 -- as no queued, held or history payload uses it, and the lowest free number is taken.
-use Rattle.std.specs.Prelude.{Bool, List, [], ◌∷◌, ◌++◌, ℕ, zero, suc, eqb}
-use Rattle.std.proofs.Math.Option.{Option, none, some}
+use Rattle.std.specs.Prelude.{Bool, List, [], ◌∷◌, ◌++◌, ℕ, zero, suc, eqb, None, Option, Some}
 use Rattle.srt_group_model.specs.Tools.{if_true◌then◌else◌, any, such_that, each}
 use Rattle.srt_group_model.specs.State.{Member, State}
 use Rattle.srt_group_model.specs.declared.Event.{Event}
@@ -27,9 +26,9 @@ is_among n = any (λ m. eqb m n)
 
 -- the lowest number from `first` on, of so many, that is not among these
 unfoldable pub lowest_free : (left first : ℕ) → List ℕ → Option ℕ
-lowest_free zero first used = none
+lowest_free zero first used = None
 lowest_free (suc left) first used =
-    let later = lowest_free left (suc first) used in if_true is_among first used then later else some first
+    let later = lowest_free left (suc first) used in if_true is_among first used then later else Some first
 
 -- the free cell of a store of so many cells
 unfoldable pub free_cell : ℕ → State → Option ℕ

@@ -1,7 +1,6 @@
 -- Collecting from the legs, in turn: `collect_one_event`, `collect_member_event`, `retain_group_packet`, and the two loops of
 -- visits. Document 01, "Polling" and "A collected packet is discarded".
-use Rattle.std.specs.Prelude.{Bool, true, false, not, ◌&&◌, ◌||◌, List, [], ◌∷◌, ◌++◌, ℕ, zero, suc, ◌+◌, ◌-◌, ◌%◌, leb, eqb, length, drop}
-use Rattle.std.proofs.Math.Option.{Option, some}
+use Rattle.std.specs.Prelude.{Bool, true, false, not, ◌&&◌, ◌||◌, List, [], ◌∷◌, ◌++◌, ℕ, zero, suc, ◌+◌, ◌-◌, ◌%◌, leb, eqb, length, drop, Option, Some}
 use Rattle.srt_protocol.specs.Sequence.{sequence_before}
 use Rattle.srt_group_model.specs.Tools.{if_true◌then◌else◌, if_some◌give◌otherwise◌, is_set, is_empty, place_of, at_place, change}
 use Rattle.srt_group_model.specs.State.{Member, Receive, State, is_backup, next_receive_sequence, with_receive, with_members, with_waiting, with_pending, with_continuation, with_round, on_leg, with_queue, turned, broken_state, on_account}
@@ -68,7 +67,7 @@ collect_member_event i id e r =
 unfoldable pub in_turn : ℕ → List Member → Option ℕ
 in_turn round ms =
     if_some place_of (λ m. not (is_empty m.queue)) (drop round ms)
-    give (λ i. some (round + i))
+    give (λ i. Some (round + i))
     otherwise place_of (λ m. not (is_empty m.queue)) ms
 
 abbrev pub front : List Event → Option Event

@@ -1,14 +1,13 @@
 -- What is known of the packet that a data poll gives: its cell lies in the store, and its payload in the cell.
-use Rattle.std.proofs.Math.Option.{Option, none, some}
-use Rattle.std.specs.Prelude.{ℕ, ◌≤◌, ◌<◌}
+use Rattle.std.specs.Prelude.{ℕ, ◌≤◌, ◌<◌, None, Option, Some}
 use Rattle.srt_protocol.specs.Cells.{cell_size}
 use Rattle.srt_group_model.specs.declared.Packet.{Packet}
 
 -- ---- the walk
 
 abbrev pub GaveData : (Packet → Type 0) → Option Packet → Type 0
-GaveData Q none = Unit {0}
-GaveData Q (some p) = Q p
+GaveData Q None = Unit {0}
+GaveData Q (Some p) = Q p
 
 -- ---- a held packet's cell and payload
 

@@ -1,7 +1,6 @@
 -- What a call leaves, and how its codes come: the first test that is true refuses the call, in the order of the list, and
 -- nothing changes. Document 01, "Codes from the input".
-use Rattle.std.specs.Prelude.{Bool, List, [], ◌∷◌, ℕ}
-use Rattle.std.proofs.Math.Option.{Option, none}
+use Rattle.std.specs.Prelude.{Bool, List, [], ◌∷◌, ℕ, None, Option}
 use Rattle.srt_group_model.specs.Tools.{if_true◌then◌else◌}
 use Rattle.srt_group_model.specs.State.{State}
 use Rattle.srt_group_model.specs.Run.{Mark}
@@ -50,11 +49,11 @@ pub record Step : Type 0 where
   pub log : List Mark
 
 abbrev pub refuse : ℕ → State → Step
-refuse code s = record { state = s; code = code; answer = no_answer; put = none; sends = []; log = [] }
+refuse code s = record { state = s; code = code; answer = no_answer; put = None; sends = []; log = [] }
 
 -- accepted: the state and the answer
 abbrev pub accept : State → Answer → Step
-accept s answer = record { state = s; code = 0; answer = answer; put = none; sends = []; log = [] }
+accept s answer = record { state = s; code = 0; answer = answer; put = None; sends = []; log = [] }
 
 pub record Check : Type 0 where
   pub code : ℕ

@@ -1,6 +1,5 @@
 -- A leg: document 01, "The stand-in leg". What it can do, what a send, a synchronising and a reading do to it.
-use Rattle.std.specs.Prelude.{Bool, not, ◌&&◌, ◌||◌, List, [], ◌∷◌, ℕ, ◌+◌, ◌-◌, ◌^◌, leb, ltb, eqb}
-use Rattle.std.proofs.Math.Option.{Option, none, some}
+use Rattle.std.specs.Prelude.{Bool, not, ◌&&◌, ◌||◌, List, [], ◌∷◌, ℕ, ◌+◌, ◌-◌, ◌^◌, leb, ltb, eqb, None, Option, Some}
 use Rattle.srt_protocol.specs.Time.{later, elapsed}
 use Rattle.srt_protocol.specs.Sequence.{sequence_distance, sequence_further}
 use Rattle.srt_protocol.specs.declared.time.Timestamp.{Timestamp}
@@ -165,12 +164,12 @@ after_send time x =
 unfoldable pub send_shared_with_sequence : (time size sequence : ℕ) → Leg → Option Leg
 send_shared_with_sequence time size sequence l =
     if_true can_send l && (eqb sequence l.sender.next && leb size l.link.limit)
-    then some (on_sender (after_send time) l)
-    else none
+    then Some (on_sender (after_send time) l)
+    else None
 
 -- refused unless the flight is empty; it sets next
 unfoldable pub synchronize_send_sequence : ℕ → Leg → Option Leg
-synchronize_send_sequence sequence l = if_true eqb l.sender.flight 0 then some (on_sender (with_next sequence) l) else none
+synchronize_send_sequence sequence l = if_true eqb l.sender.flight 0 then Some (on_sender (with_next sequence) l) else None
 
 abbrev pub release_data_reservation : ℕ → Leg → Leg
 release_data_reservation count l = with_reservation (l.receiver.reserved - count) l

@@ -1,8 +1,7 @@
 -- The calls with what they are lent: the store, the output and the list of sends. Document 01, "Receiving" and "The stand-in
 -- leg": a payload is put into its cell and its other bytes stay; a delivered payload is written from byte 12 of the output,
 -- the rest stays; the sends fill the list's first rows, the others stay.
-use Rattle.std.specs.Prelude.{Bool, true, false, List, [], ◌∷◌, ℕ, ◌*◌, length}
-use Rattle.std.proofs.Math.Option.{Option, none, some}
+use Rattle.std.specs.Prelude.{Bool, true, false, List, [], ◌∷◌, ℕ, ◌*◌, length, None, Option, Some}
 use Rattle.srt_protocol.specs.Cells.{cell_size, head_size, overwritten, cell_bytes}
 use Rattle.srt_group_model.specs.State.{State}
 use Rattle.srt_group_model.specs.Run.{Mark}
@@ -23,18 +22,18 @@ pub record Lent : Type 0 where
 
 -- the payload goes into its cell
 unfoldable pub stored : Option Put → List ℕ → List ℕ
-stored none store = store
-stored (some p) store = overwritten (p.cell * cell_size) p.payload store
+stored None store = store
+stored (Some p) store = overwritten (p.cell * cell_size) p.payload store
 
 -- the packet that an answer delivers
 unfoldable pub delivered_by : Answer → Option Packet
-delivered_by no_answer = none
-delivered_by (shown x) = none
-delivered_by (polled nothing) = none
-delivered_by (polled (event w)) = none
-delivered_by (polled (packet p)) = some p
+delivered_by no_answer = None
+delivered_by (shown x) = None
+delivered_by (polled nothing) = None
+delivered_by (polled (event w)) = None
+delivered_by (polled (packet p)) = Some p
 delivered_by (data_polled o more) = o
-delivered_by (leg_back l) = none
+delivered_by (leg_back l) = None
 
 -- the bytes of a packet's payload
 abbrev pub payload_of : Packet → List ℕ → List ℕ
@@ -42,8 +41,8 @@ payload_of p = cell_bytes p.content.cell p.content.length
 
 -- the output, with a delivered payload written over it from byte 12 on
 unfoldable pub written_out : Option Packet → (store output : List ℕ) → List ℕ
-written_out none store output = output
-written_out (some p) store output = overwritten head_size (payload_of p store) output
+written_out None store output = output
+written_out (Some p) store output = overwritten head_size (payload_of p store) output
 
 unfoldable pub list_rows : List Sent → List ℕ
 list_rows [] = []

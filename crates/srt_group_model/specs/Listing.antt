@@ -1,7 +1,6 @@
 -- The replay listing over the definitions: document 01, "The replay listing". A line is its eight numbers; what it prints is
 -- six. The lent store has 40 cells; its bytes are not needed, since no column shows a payload.
-use Rattle.std.specs.Prelude.{List, [], ◌∷◌, ℕ, zero, suc, ◌*◌, eqb, get_or}
-use Rattle.std.proofs.Math.Option.{Option, none, some}
+use Rattle.std.specs.Prelude.{List, [], ◌∷◌, ℕ, zero, suc, ◌*◌, eqb, get_or, None, Option, Some}
 use Rattle.srt_protocol.specs.Cells.{cell_size, output_size}
 use Rattle.srt_group_model.specs.Tools.{if_true◌then◌else◌, if_some◌give◌otherwise◌, at_place}
 use Rattle.srt_group_model.specs.State.{State, Making}
@@ -81,8 +80,8 @@ columns (shown (truth b)) s = 0 ∷ 0 ∷ 0 ∷ 0 ∷ []
 columns (shown (number n)) s = n ∷ 0 ∷ 0 ∷ 0 ∷ []
 columns (shown (optional o)) s = 0 ∷ 0 ∷ 0 ∷ 0 ∷ []
 columns (polled p) s = 0 ∷ 0 ∷ 0 ∷ 0 ∷ []
-columns (data_polled none more) s = 0 ∷ 0 ∷ 0 ∷ s.receive.numbers.skipped ∷ []
-columns (data_polled (some p) more) s =
+columns (data_polled None more) s = 0 ∷ 0 ∷ 0 ∷ s.receive.numbers.skipped ∷ []
+columns (data_polled (Some p) more) s =
     p.member ∷ p.content.sequence ∷ p.content.count ∷ s.receive.numbers.skipped ∷ []
 columns (leg_back l) s = 0 ∷ 0 ∷ 0 ∷ 0 ∷ []
 columns (shown (one_member m)) s = 0 ∷ 0 ∷ 0 ∷ 0 ∷ []
@@ -107,13 +106,13 @@ tell_new line old =
     let code = new_code making in
     if_true eqb code 0
     then
-    record { group = some (new making); line = 1 ∷ 0 ∷ 0 ∷ 0 ∷ 0 ∷ 0 ∷ [] }
+    record { group = Some (new making); line = 1 ∷ 0 ∷ 0 ∷ 0 ∷ 0 ∷ 0 ∷ [] }
     else record { group = old; line = refused_line 1 code }
 
 unfoldable pub tell_verb : (Line → State → Step) → Line → Option State → Told
-tell_verb verb line none = record { group = none; line = refused_line (column 0 line) 6 }
-tell_verb verb line (some s) =
-    let step = verb line s in record { group = some step.state; line = printed (column 0 line) step }
+tell_verb verb line None = record { group = None; line = refused_line (column 0 line) 6 }
+tell_verb verb line (Some s) =
+    let step = verb line s in record { group = Some step.state; line = printed (column 0 line) step }
 
 -- an unknown verb prints verb 0, code 2
 unfoldable pub tell : ℕ → Line → Option State → Told
@@ -128,4 +127,4 @@ replay_from s (line ∷ lines) = let told = tell (column 0 line) line s in told.
 
 -- what a listing prints
 unfoldable pub replay : List Line → List (List ℕ)
-replay lines = replay_from none lines
+replay lines = replay_from None lines

@@ -1,8 +1,7 @@
 -- The members of a group: which are active, who is promoted, admission to the peer group, alignment of send sequences, and
 -- the refresh of the members' states. From `promote_backup_member`, `admit_peer_group`, `align_member_sequence`,
 -- `requalify_unstable_members`, `refresh_pending_states`, `refresh_states`; document 01, "Members and sending".
-use Rattle.std.specs.Prelude.{Bool, not, ◌&&◌, ◌||◌, List, [], ◌∷◌, ℕ, zero, suc, ltb, eqb, length}
-use Rattle.std.proofs.Math.Option.{Option, none, some}
+use Rattle.std.specs.Prelude.{Bool, not, ◌&&◌, ◌||◌, List, [], ◌∷◌, ℕ, zero, suc, ltb, eqb, length, None, Option, Some}
 use Rattle.srt_group_model.specs.Tools.{if_true◌then◌else◌, if_some◌give◌otherwise◌, or_else, any, first_such, place_of, at_place, change, each, flagged, first_given}
 use Rattle.srt_group_model.specs.State.{Member, is_backup, with_leg, on_membership, with_admitted, with_collision, turned, pending_state, active_state, standby_state, unstable_state, broken_state}
 use Rattle.srt_group_model.specs.Legs.{is_connected, is_disconnected, can_send, has_sender, next_sequence_number, peer_initial_sequence, synchronize_send_sequence}
@@ -43,11 +42,11 @@ pub record Placed : Type 0 where
 
 -- the first that passes the test
 unfoldable pub found : (Member → Bool) → List Member → Option Placed
-found test [] = none
+found test [] = None
 found test (m ∷ ms) =
     if_true test m
-    then some record { place = 0; member = m }
-    else (if_some found test ms give (λ f. some record { place = suc f.place; member = f.member }) otherwise none)
+    then Some record { place = 0; member = m }
+    else (if_some found test ms give (λ f. Some record { place = suc f.place; member = f.member }) otherwise None)
 
 -- ---- promotion: the highest weight, then the lowest id, among connected Standby legs
 
@@ -58,18 +57,18 @@ outranks a b =
 
 -- the first of all in rank, of the candidates
 unfoldable pub first_in_rank : (Member → Bool) → List Member → Option Placed
-first_in_rank candidate [] = none
+first_in_rank candidate [] = None
 first_in_rank candidate (m ∷ ms) =
     if_some first_in_rank candidate ms
     give
     (λ r.
-    some
+    Some
     (if_true candidate m && not (outranks r.member m)
     then record { place = 0; member = m } else record { place = suc r.place; member = r.member }))
-    otherwise (if_true candidate m then some record { place = 0; member = m } else none)
+    otherwise (if_true candidate m then Some record { place = 0; member = m } else None)
 
 unfoldable pub promotion : List Member → Option ℕ
-promotion ms = if_some first_in_rank is_standby ms give (λ r. some r.place) otherwise none
+promotion ms = if_some first_in_rank is_standby ms give (λ r. Some r.place) otherwise None
 
 unfoldable pub promote_backup_member : List Member → List Member
 promote_backup_member ms = if_some promotion ms give (λ i. change i (turned active_state) ms) otherwise ms
@@ -86,7 +85,7 @@ arrives m =
 
 -- what a member that arrives brings: the peer's first sequence, and the peer group that it answers from, 0 being none
 unfoldable pub sequence_brought : Member → Option ℕ
-sequence_brought m = if_true arrives m then peer_initial_sequence m.leg else none
+sequence_brought m = if_true arrives m then peer_initial_sequence m.leg else None
 
 unfoldable pub group_brought : Member → Option ℕ
 group_brought m = flagged (arrives m && not (eqb m.leg.link.peer 0)) m.leg.link.peer
@@ -118,11 +117,11 @@ unfoldable pub alignment_source : Option ℕ → ℕ → List Member → Option 
 alignment_source number id ms =
     or_else number
     (if_some first_such (λ m. not (has_id id m) && (is_connected m.leg && has_sender m.leg)) ms
-    give (λ m. next_sequence_number m.leg) otherwise none)
+    give (λ m. next_sequence_number m.leg) otherwise None)
 
 unfoldable pub align_leg : ℕ → Leg → Option Leg
 align_leg sequence l =
-    if_true has_sender l && eqb l.sender.next sequence then some l else synchronize_send_sequence sequence l
+    if_true has_sender l && eqb l.sender.next sequence then Some l else synchronize_send_sequence sequence l
 
 -- none: alignment failed, and nothing was changed
 unfoldable pub align_member_sequence : Option ℕ → ℕ → List Member → Option (List Member)
@@ -132,9 +131,9 @@ align_member_sequence number i ms =
     (λ m.
     if_some alignment_source number (id_of m) ms
     give
-    (λ sequence. if_some align_leg sequence m.leg give (λ l. some (change i (with_leg l) ms)) otherwise none)
-    otherwise some ms)
-    otherwise none
+    (λ sequence. if_some align_leg sequence m.leg give (λ l. Some (change i (with_leg l) ms)) otherwise None)
+    otherwise Some ms)
+    otherwise None
 
 -- ---- the refresh
 

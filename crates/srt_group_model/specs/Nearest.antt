@@ -1,7 +1,6 @@
 -- The pending packets and their circular order: which is held, which is nearest, what a run covers, which is farthest.
 -- Document 01, "Nearest held packet", "Receiving" and "Removal".
-use Rattle.std.specs.Prelude.{Bool, not, List, [], ◌∷◌, ℕ, ◌+◌, leb, ltb, eqb}
-use Rattle.std.proofs.Math.Option.{Option, none, some}
+use Rattle.std.specs.Prelude.{Bool, not, List, [], ◌∷◌, ℕ, ◌+◌, leb, ltb, eqb, None, Option, Some}
 use Rattle.srt_protocol.specs.Sequence.{half, sequence_distance}
 use Rattle.srt_group_model.specs.Tools.{if_true◌then◌else◌, if_some◌give◌otherwise◌, or_else, any, first_such, such_that}
 use Rattle.srt_group_model.specs.declared.Packet.{Packet}
@@ -26,17 +25,17 @@ insert p (q ∷ qs) = if_true ltb (sequence_of p) (sequence_of q) then p ∷ q �
 
 -- the packet with the lowest sequence
 unfoldable pub lowest : List Packet → Option Packet
-lowest [] = none
+lowest [] = None
 lowest (p ∷ ps) =
-    if_some lowest ps give (λ q. some (if_true leb (sequence_of p) (sequence_of q) then p else q)) otherwise some p
+    if_some lowest ps give (λ q. Some (if_true leb (sequence_of p) (sequence_of q) then p else q)) otherwise Some p
 
 -- `oldest_pending`. Document 01's nearest held packet: the lowest held sequence that is at least half the space above the
 -- lowest of all; if there is none, the lowest of all.
 unfoldable pub nearest : List Packet → Option Packet
 nearest held =
     if_some lowest held
-    give (λ low. or_else (lowest (such_that (λ p. leb (sequence_of low + half) (sequence_of p)) held)) (some low))
-    otherwise none
+    give (λ low. or_else (lowest (such_that (λ p. leb (sequence_of low + half) (sequence_of p)) held)) (Some low))
+    otherwise None
 
 -- the packet starts inside a run of `count` sequences from `first` on
 abbrev pub is_covered : (first count : ℕ) → Packet → Bool
@@ -54,5 +53,5 @@ farther base p q =
     if_true ltb (sequence_distance base (sequence_of q)) (sequence_distance base (sequence_of p)) then p else q
 
 unfoldable pub farthest : ℕ → List Packet → Option Packet
-farthest base [] = none
-farthest base (p ∷ ps) = if_some farthest base ps give (λ q. some (farther base p q)) otherwise some p
+farthest base [] = None
+farthest base (p ∷ ps) = if_some farthest base ps give (λ q. Some (farther base p q)) otherwise Some p

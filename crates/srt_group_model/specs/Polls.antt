@@ -1,6 +1,5 @@
 -- The polls: `poll_event`, `poll_data_bounded`.
-use Rattle.std.specs.Prelude.{Bool, true, false, not, ℕ, zero, suc, min, eqb}
-use Rattle.std.proofs.Math.Option.{Option, none, some}
+use Rattle.std.specs.Prelude.{Bool, true, false, not, ℕ, zero, suc, min, eqb, None, Option, Some}
 use Rattle.srt_group_model.specs.Tools.{if_true◌then◌else◌, if_some◌give◌otherwise◌, is_set, is_empty}
 use Rattle.srt_group_model.specs.State.{next_receive_sequence, with_continuation}
 use Rattle.srt_group_model.specs.Nearest.{sequence_of, nearest}
@@ -19,7 +18,7 @@ delivery_budget = 32
 abbrev pub deliver_nearest : Run → Poll
 deliver_nearest r =
     if_some nearest r.state.receive.pending
-    give (λ p. deliver (sequence_of p) (set_base (some (sequence_of p)) r))
+    give (λ p. deliver (sequence_of p) (set_base (Some (sequence_of p)) r))
     otherwise record { gave = nothing; run = r }
 
 -- the packet at the base; while none is set, the nearest
@@ -43,13 +42,13 @@ pub record DataPoll : Type 0 where
 
 -- an event that waited is passed over
 unfoldable pub pass_events : Polled → Run → DataPoll → DataPoll
-pass_events nothing r later = record { gave = none; continuation = is_set r.state.visit.continuation; run = r }
+pass_events nothing r later = record { gave = None; continuation = is_set r.state.visit.continuation; run = r }
 pass_events (event w) r later = later
-pass_events (packet p) r later = record { gave = some p; continuation = false; run = r }
+pass_events (packet p) r later = record { gave = Some p; continuation = false; run = r }
 
 -- event polls until one gives no event, at most so many; with those spent the continuation is asked for
 unfoldable pub poll_until_data : ℕ → ℕ → Run → DataPoll
-poll_until_data time zero r = record { gave = none; continuation = true; run = r }
+poll_until_data time zero r = record { gave = None; continuation = true; run = r }
 poll_until_data time (suc visits) r =
     let p = poll_event time r in
     let later = poll_until_data time visits p.run in
@@ -59,5 +58,5 @@ poll_until_data time (suc visits) r =
 unfoldable pub poll_data_bounded : ℕ → ℕ → Run → DataPoll
 poll_data_bounded time max_events r =
     if_true eqb max_events 0
-    then record { gave = none; continuation = has_pending_data r.state; run = r }
+    then record { gave = None; continuation = has_pending_data r.state; run = r }
     else poll_until_data time (min max_events max_visits) r

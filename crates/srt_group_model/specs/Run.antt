@@ -1,7 +1,6 @@
 -- A call under way: its state, its log and its budget; and the refresh of the members' states, which may set the base. From
 -- `admit_connected_peer_groups`, `refresh_pending_states`, `refresh_states`.
-use Rattle.std.specs.Prelude.{List, [], ◌∷◌, ℕ}
-use Rattle.std.proofs.Math.Option.{Option, none}
+use Rattle.std.specs.Prelude.{List, [], ◌∷◌, ℕ, None, Option}
 use Rattle.srt_group_model.specs.Tools.{if_some◌give◌otherwise◌, each}
 use Rattle.srt_group_model.specs.State.{Member, State, next_receive_sequence, next_send_sequence, with_receive, with_members, with_peer, with_base}
 use Rattle.srt_group_model.specs.Members.{base_after, peer_after, admit_peer_group, settle_members, requalify_members}
@@ -49,7 +48,7 @@ admit_connected_peer_groups r =
     let ms = r.state.members in
     let peer = peer_after r.state.peer ms in
     on_state (λ s. with_peer peer (with_members (each (admit_peer_group peer) ms) s))
-    (set_base (base_after none ms) r)
+    (set_base (base_after None ms) r)
 
 abbrev pub on_members : (State → List Member → List Member) → Run → Run
 on_members f = on_state (λ s. with_members (f s s.members) s)

@@ -1,7 +1,6 @@
 -- The state of a group, as lists and small records of the types in src/lib.rt, and the functions that change one part of
 -- it. Document 01's lent state: the group record, the members with their legs, the held packets, the waiting events.
-use Rattle.std.specs.Prelude.{Bool, List, ℕ}
-use Rattle.std.proofs.Math.Option.{Option}
+use Rattle.std.specs.Prelude.{Bool, List, ℕ, Option}
 use Rattle.srt_group_model.specs.Tools.{is_set, bit, flagged}
 use Rattle.srt_group_model.specs.declared.Event.{Event}
 use Rattle.srt_group_model.specs.declared.Packet.{Packet}

@@ -1,6 +1,5 @@
 -- A choice by a test, a flag of the record, a case on an option, and searches in a list.
-use Rattle.std.specs.Prelude.{Bool, true, false, ◌&&◌, ◌||◌, List, [], ◌∷◌, ℕ, zero, suc, ◌+◌}
-use Rattle.std.proofs.Math.Option.{Option, none, some}
+use Rattle.std.specs.Prelude.{Bool, true, false, ◌&&◌, ◌||◌, List, [], ◌∷◌, ℕ, zero, suc, ◌+◌, None, Option, Some}
 
 -- ---- a choice
 
@@ -23,18 +22,18 @@ bit true = 1
 -- ---- an option
 
 unfoldable pub if_some◌give◌otherwise◌ {ℓ} : {A : Type 0} {B : Type ℓ} → Option A → (A → B) → B → B
-if_some◌give◌otherwise◌ none f b = b
-if_some◌give◌otherwise◌ (some a) f b = f a
+if_some◌give◌otherwise◌ None f b = b
+if_some◌give◌otherwise◌ (Some a) f b = f a
 
 -- the first option if it holds something, else the second
 unfoldable pub or_else : {A : Type 0} → Option A → Option A → Option A
-or_else none b = b
-or_else (some a) b = some a
+or_else None b = b
+or_else (Some a) b = Some a
 
 -- a number, if it is there
 unfoldable pub flagged : Bool → ℕ → Option ℕ
-flagged false n = none
-flagged true n = some n
+flagged false n = None
+flagged true n = Some n
 
 -- ---- lists
 
@@ -58,21 +57,21 @@ module _ {A : Type 0} where
 
   -- the first that passes the test, and its place
   unfoldable pub first_such : (A → Bool) → List A → Option A
-  first_such test [] = none
-  first_such test (x ∷ xs) = if_true test x then some x else first_such test xs
+  first_such test [] = None
+  first_such test (x ∷ xs) = if_true test x then Some x else first_such test xs
 
   -- the first answer that there is
   unfoldable pub first_given : {B : Type 0} → (A → Option B) → List A → Option B
-  first_given f [] = none
+  first_given f [] = None
   first_given f (x ∷ xs) = or_else (f x) (first_given f xs)
 
   unfoldable pub place_of : (A → Bool) → List A → Option ℕ
-  place_of test [] = none
-  place_of test (x ∷ xs) = if_true test x then some 0 else (if_some place_of test xs give (λ i. some (suc i)) otherwise none)
+  place_of test [] = None
+  place_of test (x ∷ xs) = if_true test x then Some 0 else (if_some place_of test xs give (λ i. Some (suc i)) otherwise None)
 
   unfoldable pub at_place : ℕ → List A → Option A
-  at_place i [] = none
-  at_place zero (x ∷ xs) = some x
+  at_place i [] = None
+  at_place zero (x ∷ xs) = Some x
   at_place (suc i) (x ∷ xs) = at_place i xs
 
   -- the element at a place is changed; past the end nothing is

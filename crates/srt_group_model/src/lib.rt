@@ -1,10 +1,13 @@
 // The types that the code and its definitions share: a bonding group, its members, the legs that carry them, and the
-// packets. A field's comment names the Rust's field. No function stands here.
+// packets. A field's comment names the Rust's field. The only functions here show two words of a record as the Rust's one field.
 //
 // What is read from a row of a lent table has 64-bit words, as the row has. Their ranges are rules of validity (code 6),
 // so a row that breaks one can be shown and refused.
 
 #![tactic(auto)]
+
+ghost use Rattle.std.specs.Prelude.{◌≡◌};
+ghost use Rattle.srt_group_model.specs.Tools.{is_set, flagged};
 
 use srt_protocol::time::Timestamp;
 
@@ -180,6 +183,18 @@ pub struct Sending {
     pub carrier: u64,
     // backup_history_gap
     pub gap: u64,
+}
+
+impl Sending {
+    // next_send_sequence
+    pub fn next_send_sequence(self) -> Option<u64>
+        ensures { result ≡ flagged (is_set self.numbered) self.next }
+    {
+        if self.numbered == 0 {
+            return None;
+        }
+        Some(self.next)
+    }
 }
 
 #[repr(C)]

@@ -1,7 +1,6 @@
 -- A data poll makes event polls until one gives no event. The loop's invariant says that what is left of the definition, from here,
 -- gives what the whole gives from the start. Over every log and budget, and every rest of the state that the event polls are promised over.
-use Rattle.std.specs.Prelude.{◌≡◌, true, false, List, ℕ, length}
-use Rattle.std.proofs.Math.Option.{Option, none, some}
+use Rattle.std.specs.Prelude.{◌≡◌, true, false, List, ℕ, length, None, Option, Some}
 use Rattle.srt_group_model.specs.declared.Core.{Core}
 use Rattle.srt_group_model.specs.declared.Packet.{Packet}
 use Rattle.srt_group_model.specs.Tools.{is_set}
@@ -11,8 +10,6 @@ use Rattle.srt_group_model.specs.Polls as model_polls
 use Rattle.srt_group_shown.specs.Shown.{Rest, shown}
 use Rattle.srt_group_shown.specs.Tables.{ReceiveTables}
 use Rattle.srt_group_delivery.specs.declared.delivery.Poll.{Poll}
-use Rattle.srt_group_polls.specs.declared.polls.OptionalPacket.{OptionalPacket}
-use Rattle.srt_group_polls.specs.declared.polls.OptionalPacket.TheVariants.{Some, None}
 use Rattle.srt_group_polls.specs.declared.polls.DataPoll.{DataPoll}
 use Rattle.srt_group_polls.specs.declared.polls.Passed.{Passed}
 use Rattle.srt_group_collecting.specs.Leaves.{Usable, under_way}
@@ -20,13 +17,9 @@ use Rattle.srt_group_delivery.specs.Poll.{polled_of}
 
 -- ---- what a data poll gives
 
-abbrev pub option_of : OptionalPacket → Option Packet
-option_of None = none
-option_of (Some p) = some p
-
 -- a data poll of the definition gave this answer, and stands at this record and these tables
 pub record GivesData (p : model_polls.DataPoll) (answer : DataPoll) (others : Rest) (t : ReceiveTables) : Type 0 where
-  pub gave : p.gave ≡ option_of answer.gave
+  pub gave : p.gave ≡ answer.gave
   pub continuation : p.continuation ≡ is_set answer.continuation
   pub state : p.run.state ≡ shown answer.core others t.members t.pending t.waiting
 
@@ -52,4 +45,4 @@ pub record Passes (poll : Poll) (r : Passed) : Type 0 where
   pub later : is_set r.event ≡ true → (run : Run) (rest : model_polls.DataPoll) → pass_events (polled_of poll.gave) run rest ≡ rest
   pub ended : is_set r.event ≡ false → (run : Run) (rest : model_polls.DataPoll)
       → run.state.visit.continuation ≡ poll.core.visit.continuation
-      → pass_events (polled_of poll.gave) run rest ≡ record { gave = option_of r.answer.gave; continuation = is_set r.answer.continuation; run = run }
+      → pass_events (polled_of poll.gave) run rest ≡ record { gave = r.answer.gave; continuation = is_set r.answer.continuation; run = run }

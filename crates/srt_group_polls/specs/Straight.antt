@@ -1,7 +1,7 @@
 -- A packet that is given straight: it is next in turn, at the base and alone in its run, its sequence is not held, no event waits, and a refresh would change
 -- nothing. To hold it and to deliver it at once would leave the same, so it is not held.
-use Rattle.std.specs.Prelude.{◌≡◌, true, false, List, ℕ, suc, ◌%◌, ◌<◌, length, drop}
-use Rattle.std.proofs.Math.Option.{some}
+use Rattle.srt_group_delivery.specs.declared.delivery.GroupEvent.TheVariants.{Packet as APacket}
+use Rattle.std.specs.Prelude.{◌≡◌, true, false, List, ℕ, suc, ◌%◌, ◌<◌, length, drop, Option, None, Some}
 use Rattle.srt_protocol.specs.Sequence.{sequence_further}
 use Rattle.srt_group_model.specs.declared.Core.{Core}
 use Rattle.srt_group_model.specs.declared.Event.{Event}
@@ -16,9 +16,7 @@ use Rattle.srt_group_model.specs.Delivery.{advance_legs}
 use Rattle.srt_group_members.specs.Quiet.{is_quiet}
 use Rattle.srt_group_shown.specs.Shown.{Rest, shown}
 use Rattle.srt_group_delivery.specs.declared.delivery.Poll.{Poll}
-use Rattle.srt_group_delivery.specs.declared.delivery.Polled.TheVariants.{Packet as APacket}
 use Rattle.srt_group_polls.specs.declared.straight.Straight.{Straight as Answer}
-use Rattle.srt_group_polls.specs.declared.straight.Straight.TheVariants.{At, Nothing}
 
 -- ---- definitions
 
@@ -41,12 +39,12 @@ given_straight i p s =
 pub record Straight (i : ℕ) (p : Packet) (s : State) : Type 0 where
   pub quiet : is_quiet s.making.mode s.members ≡ true
   pub none_waits : is_empty s.waiting ≡ true
-  pub based : next_receive_sequence s.receive ≡ some (sequence_of p)
-  pub turn : in_turn s.visit.round s.members ≡ some i
+  pub based : next_receive_sequence s.receive ≡ Some (sequence_of p)
+  pub turn : in_turn s.visit.round s.members ≡ Some i
   pub member : Member
-  pub there : at_place i s.members ≡ some member
+  pub there : at_place i s.members ≡ Some member
   pub event : Event
-  pub first : front member.queue ≡ some event
+  pub first : front member.queue ≡ Some event
   pub is_data : event.kind ≡ 0
   pub packet : p ≡ packet_from (id_of member) event
   pub alone : p.content.count ≡ 1
@@ -58,15 +56,15 @@ pub record Goes (i : ℕ) (p : Packet) (core : Core) (ms ps : List ℕ) : Type 0
   pub straight : (others : Rest) (ws : List ℕ) → Straight i p (shown core others ms ps ws)
 
 -- what the search for it says
-abbrev pub goes : Answer → Core → (members pending : List ℕ) → Type 0
-goes Nothing core ms ps = Unit {0}
-goes (At i p) core ms ps = Goes i p core ms ps
+abbrev pub goes : Option Answer → Core → (members pending : List ℕ) → Type 0
+goes None core ms ps = Unit {0}
+goes (Some a) core ms ps = Goes a.index a.packet core ms ps
 
 -- ---- what it leaves
 
 -- over any held packets and waiting events, which stay
 pub record Given (i : ℕ) (p : Packet) (core : Core) (ms : List ℕ) (r : Poll) (ms' : List ℕ) : Type 0 where
-  pub gave : r.gave ≡ APacket p
+  pub gave : r.gave ≡ Some (APacket p)
   pub counts_same : r.core.counts ≡ core.counts
   pub members_long : length ms' ≡ length ms
   pub state : (others : Rest) (ps ws : List ℕ) → given_straight i p (shown core others ms ps ws) ≡ shown r.core others ms' ps ws

@@ -17,24 +17,17 @@ use crate::straight::{Straight, give_straight, next_straight};
 use srt_group_collecting::collecting::{
     Gathered, MAX_VISITS, collect_until_held, flag, has_pending_data,
 };
-use srt_group_delivery::delivery::{Poll, Polled, give_waiting};
+use srt_group_delivery::delivery::{GroupEvent, Poll, give_waiting};
 use srt_group_members::quiet::is_quiet;
 use srt_group_model::{Core, Packet, Sending};
 use srt_group_skip::skip::deliver_next;
 use srt_group_tables::pending;
 use srt_protocol::time::Timestamp;
 
-// A packet or none.
-#[derive(Clone, Copy)]
-pub enum OptionalPacket {
-    Some(Packet),
-    None,
-}
-
 // What a data poll gives: a packet or none, whether it should be called again at once, and the group's record after it.
 #[derive(Clone, Copy)]
 pub struct DataPoll {
-    pub gave: OptionalPacket,
+    pub gave: Option<Packet>,
     pub continuation: u64,
     pub core: Core,
 }
@@ -145,7 +138,7 @@ pub fn poll_event(
 {
     let quiet = is_quiet(members, core.counts.members, core.mode);
     let next = next_straight(core, members, pending, quiet);
-    if let Straight::At { index, packet } = next {
+    if let Some(Straight { index, packet }) = next {
         return give_straight(core, members, used, index, packet);
     }
     poll_collecting(core, sending, members, pending, waiting, used, time, quiet)
@@ -159,27 +152,29 @@ fn pass_event(poll: Poll) -> Passed
 {
     let core = poll.core;
     let gave = poll.gave;
-    match gave {
-        Polled::Nothing => Passed {
+    let Some(given) = gave else {
+        return Passed {
             event: 0,
             answer: DataPoll {
-                gave: OptionalPacket::None,
+                gave: None,
                 continuation: core.visit.continuation,
                 core,
             },
-        },
-        Polled::Event(_) => Passed {
+        };
+    };
+    match given {
+        GroupEvent::Event(_) => Passed {
             event: 1,
             answer: DataPoll {
-                gave: OptionalPacket::None,
+                gave: None,
                 continuation: 1,
                 core,
             },
         },
-        Polled::Packet(packet) => Passed {
+        GroupEvent::Packet(packet) => Passed {
             event: 0,
             answer: DataPoll {
-                gave: OptionalPacket::Some(packet),
+                gave: Some(packet),
                 continuation: 0,
                 core,
             },
@@ -208,12 +203,11 @@ fn poll_until_data(
         result.core members.new pending.new used.new }
 {
     let mut answer = DataPoll {
-        gave: OptionalPacket::None,
+        gave: None,
         continuation: 1,
         core,
     };
-    let mut left = visits;
-    while 0 < left {
+    for _visit in 0..visits {
         let here = answer.core;
         let poll = poll_event(here, sending, members, pending, waiting, used, time);
         let passed = pass_event(poll);
@@ -221,7 +215,6 @@ fn poll_until_data(
         if passed.event == 0 {
             return answer;
         }
-        left -= 1;
     }
     answer
 }
@@ -259,7 +252,7 @@ pub fn poll_data_bounded(
     if max_events == 0 {
         let continuation = flag(has_pending_data(core));
         return DataPoll {
-            gave: OptionalPacket::None,
+            gave: None,
             continuation,
             core,
         };

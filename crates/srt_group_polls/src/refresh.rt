@@ -19,7 +19,7 @@ fn admit_connected_peer_groups(core: Core, members: &mut [u64]) -> Core
 {
     let count = core.counts.members;
     let admission = admission::admit_connected_peer_groups(members, count, core.peer);
-    let mut after = set_base(core, admission.based, admission.base);
+    let mut after = set_base(core, admission.base);
     after.peer = admission.peer;
     after
 }
@@ -32,7 +32,7 @@ pub fn refresh_pending_states(core: Core, sending: Sending, members: &mut [u64])
 {
     let after = admit_connected_peer_groups(core, members);
     let count = after.counts.members;
-    refresh::settle_members(members, count, after.mode, sending.numbered, sending.next);
+    refresh::settle_members(members, count, after.mode, sending.next_send_sequence());
     after
 }
 
@@ -44,7 +44,7 @@ pub fn refresh_all_states(core: Core, sending: Sending, members: &mut [u64]) -> 
 {
     let after = refresh_pending_states(core, sending, members);
     let count = after.counts.members;
-    refresh::requalify_members(members, count, after.mode, sending.numbered, sending.next);
+    refresh::requalify_members(members, count, after.mode, sending.next_send_sequence());
     after
 }
 

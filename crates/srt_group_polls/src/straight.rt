@@ -12,21 +12,19 @@ ghost use Rattle.srt_group_polls.specs.Straight.{goes, Given};
 
 use cell_set::free;
 use srt_connection_members::{
-    Found, advance_receive_sequence_of_all, front_at, membership_at, pop_at,
-    release_data_reservation_at,
+    advance_receive_sequence_of_all, front_at, membership_at, pop_at, release_data_reservation_at,
 };
-use srt_connection_queue::queue::OptionalEvent;
 use srt_group_collecting::collecting::is_held;
-use srt_group_delivery::delivery::{Poll, Polled};
+use srt_group_delivery::delivery::{GroupEvent, Poll};
 use srt_group_members::collecting::in_turn;
 use srt_group_model::{Core, Event, Packet};
 use srt_protocol::srt_packet::word_further;
 
-// A packet that can be given straight, with the index of its member, or none.
+// A packet that can be given straight, with the index of its member.
 #[derive(Clone, Copy)]
-pub enum Straight {
-    At { index: usize, packet: Packet },
-    Nothing,
+pub struct Straight {
+    pub index: usize,
+    pub packet: Packet,
 }
 
 // Data of this sequence, alone in its run.
@@ -38,44 +36,38 @@ fn is_alone_at(event: Event, sequence: u64) -> bool
 }
 
 // The packet at the base, if it is next in turn, alone in its run and not held, no event waits, and `quiet` says that a refresh would change nothing.
-pub fn next_straight(core: Core, members: &[u64], pending: &[u64], quiet: bool) -> Straight
+pub fn next_straight(core: Core, members: &[u64], pending: &[u64], quiet: bool) -> Option<Straight>
     requires deliverable { Deliverable core members.now pending.now }
     requires known { Known quiet core members.now }
     ensures { goes result core members.now pending.now }
 {
     if !quiet {
-        return Straight::Nothing;
+        return None;
     }
     if 0 < core.counts.waiting {
-        return Straight::Nothing;
+        return None;
     }
     if core.receiving.based == 0 {
-        return Straight::Nothing;
+        return None;
     }
-    let found = in_turn(members, core.counts.members, core.visit.round);
-    let Found::At(index) = found else {
-        return Straight::Nothing;
-    };
-    let first = front_at(members, index);
-    let OptionalEvent::Some(event) = first else {
-        return Straight::Nothing;
-    };
+    let index = in_turn(members, core.counts.members, core.visit.round)?;
+    let event = front_at(members, index)?;
     if !is_alone_at(event, core.receiving.base) {
-        return Straight::Nothing;
+        return None;
     }
     if is_held(pending, core.counts.pending, core.receiving.base) {
-        return Straight::Nothing;
+        return None;
     }
     let membership = membership_at(members, index);
     let content = event.content;
-    Straight::At {
+    Some(Straight {
         index,
         packet: Packet {
             member: membership.id,
             owned: 0,
             content,
         },
-    }
+    })
 }
 
 // The packet goes off its queue and its leg's reservation, its cell is free, and the base passes its run.
@@ -105,7 +97,7 @@ pub fn give_straight(
     core.receiving.based = 1;
     core.receiving.base = next;
     Poll {
-        gave: Polled::Packet(packet),
+        gave: Some(GroupEvent::Packet(packet)),
         core,
     }
 }

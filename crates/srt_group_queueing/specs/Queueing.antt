@@ -1,8 +1,7 @@
 -- What queueing data does to the tables, and that it is document 01's.
-use Rattle.std.specs.Prelude.{◌≡◌, List, ℕ, ◌+◌, ◌*◌, ◌^◌, ◌≤◌, ◌<◌, length}
+use Rattle.srt_protocol.specs.Errors.{Outcome}
+use Rattle.std.specs.Prelude.{◌≡◌, List, ℕ, ◌+◌, ◌*◌, ◌^◌, ◌≤◌, ◌<◌, length, Err, Ok}
 use Rattle.srt_protocol.specs.declared.error.Error.{Error}
-use Rattle.srt_protocol.specs.declared.error.Outcome.{Outcome}
-use Rattle.srt_protocol.specs.declared.error.Outcome.TheVariants.{Accepted, Refused}
 use Rattle.srt_protocol.specs.Errors.{if_accepted}
 use Rattle.srt_protocol.specs.Cells.{cell_size, cells_of, overwritten}
 use Rattle.srt_group_model.specs.State.{Member, on_leg}
@@ -32,5 +31,5 @@ pub record Enqueues (index cell : ℕ) (d : Data) (payload members store used : 
   pub outcome : r ≡ push_outcome (member_at members index)
   pub queued : Changed index (λ m. if_accepted r (with_data cell (length payload) d m) m) members members'
   pub stored_there : store' ≡ if_accepted r (overwritten (cell * cell_size) payload store) store
-  pub taken : r ≡ Accepted → Taken cell used used'
-  pub kept : (e : Error) → r ≡ Refused e → used' ≡ used
+  pub taken : r ≡ Ok tt → Taken cell used used'
+  pub kept : (e : Error) → r ≡ Err e → used' ≡ used

@@ -12,8 +12,8 @@ use crate::queueing;
 use crate::readings::put_reading;
 use srt_group::Group;
 use srt_group_model::Data;
-use srt_group_refusals::refusals::{begin, begin_stored};
-use srt_protocol::error::Outcome;
+use srt_group_refusals::refusals::LentGroup;
+use srt_protocol::error::{Error, outcome_number};
 
 // A packet at the end of a leg's queue, its payload in the lowest free cell of the store. The record stays as it was.
 pub fn queue_data(
@@ -27,7 +27,7 @@ pub fn queue_data(
     id: u64,
     content: Data,
     payload: &[u8],
-) -> Outcome
+) -> Result<(), Error>
     ensures { Promised (call_queue_data id content payload.now) (parts_of group)
         (tables members.old pending.now waiting.now history.now sources.now)
         (storing store.old)
@@ -42,22 +42,15 @@ pub fn queue_data(
         ring,
     } = group;
     let mut used = [0u64; 32];
-    let begun = begin_stored(
-        identity,
-        core,
-        sending,
-        ring,
+    let lent = LentGroup {
+        group,
         members,
         pending,
         waiting,
         history,
         sources,
-        store.len(),
-        &mut used,
-    );
-    if let Outcome::Refused(error) = begun {
-        return Outcome::Refused(error);
-    }
+    };
+    lent.begin_stored(store.len(), &mut used)?;
     queueing::queue_data(
         identity, core, sending, ring, members, pending, waiting, history, sources, store,
         &mut used, id, content, payload,
@@ -75,7 +68,7 @@ pub fn queue_event(
     id: u64,
     kind: u64,
     reason: u64,
-) -> Outcome
+) -> Result<(), Error>
     ensures { Promised (call_queue_event id kind reason) (parts_of group)
         (tables members.old pending.now waiting.now history.now sources.now)
         nothing_lent
@@ -83,19 +76,16 @@ pub fn queue_event(
         (tables members.new pending.now waiting.now history.now sources.now)
         nothing_lent (outcome_number result) no_answer 0) }
 {
-    let Group {
-        identity,
-        core,
-        sending,
-        ring,
-    } = group;
-    let begun = begin(
-        identity, core, sending, ring, members, pending, waiting, history, sources,
-    );
-    if let Outcome::Refused(error) = begun {
-        return Outcome::Refused(error);
-    }
-    push_event(core, members, id, kind, reason)
+    let lent = LentGroup {
+        group,
+        members,
+        pending,
+        waiting,
+        history,
+        sources,
+    };
+    lent.begin()?;
+    push_event(group.core, members, id, kind, reason)
 }
 
 // A number into a field of a leg. The record stays as it was.
@@ -109,7 +99,7 @@ pub fn read_leg(
     id: u64,
     field: u64,
     number: u64,
-) -> Outcome
+) -> Result<(), Error>
     ensures { Promised (call_read_leg id field number) (parts_of group)
         (tables members.old pending.now waiting.now history.now sources.now)
         nothing_lent
@@ -117,17 +107,14 @@ pub fn read_leg(
         (tables members.new pending.now waiting.now history.now sources.now)
         nothing_lent (outcome_number result) no_answer 0) }
 {
-    let Group {
-        identity,
-        core,
-        sending,
-        ring,
-    } = group;
-    let begun = begin(
-        identity, core, sending, ring, members, pending, waiting, history, sources,
-    );
-    if let Outcome::Refused(error) = begun {
-        return Outcome::Refused(error);
-    }
-    put_reading(core, members, id, field, number)
+    let lent = LentGroup {
+        group,
+        members,
+        pending,
+        waiting,
+        history,
+        sources,
+    };
+    lent.begin()?;
+    put_reading(group.core, members, id, field, number)
 }

@@ -12,10 +12,10 @@ ghost use Rattle.srt_group_shown.specs.Ready.{Ready, storing, Performs};
 ghost use Rattle.srt_group_shown.specs.Steps.{StepsOver};
 
 use srt_connection::legs::LARGEST_32;
-use srt_connection_members::{Found, find, push_at};
+use srt_connection_members::{find, push_at};
 use srt_group_model::{Core, Data, Event, Identity, Sending};
 use srt_group_tables::history::HistoryRing;
-use srt_protocol::error::{Error, Outcome};
+use srt_protocol::error::{Error, outcome_number};
 use srt_protocol::time::Timestamp;
 
 // 2: an id, a kind (0 is data, which is queued with its payload) or a reason out of range.
@@ -45,16 +45,22 @@ fn lifecycle_event(kind: u64, reason: u64) -> Event
 }
 
 // `queue_event` after 5 and 6: 2, 3 or 31, or the event at the end of the leg's queue. It touches the members only.
-pub fn push_event(core: Core, members: &mut [u64], id: u64, kind: u64, reason: u64) -> Outcome
+pub fn push_event(
+    core: Core,
+    members: &mut [u64],
+    id: u64,
+    kind: u64,
+    reason: u64,
+) -> Result<(), Error>
     requires { core.counts.members * row_size ≤ length members.old }
     ensures { StepsOver (call_queue_event id kind reason) core members.old (outcome_number result) members.new }
 {
     if event_unfit(id, kind, reason) {
-        return Outcome::Refused(Error::OutOfRange);
+        return Err(Error::OutOfRange);
     }
     let found = find(members, core.counts.members, id);
-    let Found::At(index) = found else {
-        return Outcome::Refused(Error::UnknownMember);
+    let Some(index) = found else {
+        return Err(Error::UnknownMember);
     };
     push_at(members, index, lifecycle_event(kind, reason))
 }
@@ -75,7 +81,7 @@ pub fn queue_event(
     id: u64,
     kind: u64,
     reason: u64,
-) -> Outcome
+) -> Result<(), Error>
     requires { Ready (parts identity core sending ring)
         (tables members.old pending.now waiting.now history.now sources.now) (length store.now) used.now }
     ensures { Performs (call_queue_event id kind reason) (parts identity core sending ring)

@@ -11,12 +11,12 @@ ghost use Rattle.srt_group_shown.specs.Tables.{parts, tables};
 ghost use Rattle.srt_group_shown.specs.Ready.{Ready, storing, Performs};
 ghost use Rattle.srt_group_queueing.specs.Queueing.{Enqueueable, Enqueues};
 
-use cell_set::{FreeCell, lowest_free, take};
+use cell_set::{lowest_free, take};
 use srt_connection::legs::{LARGEST_16, LARGEST_32, LARGEST_SEQUENCE};
-use srt_connection_members::{Found, find, push_at, put_reservation_at, reservation_at};
+use srt_connection_members::{find, push_at, put_reservation_at, reservation_at};
 use srt_group_model::{Core, Data, Event, Identity, Sending};
 use srt_group_tables::history::HistoryRing;
-use srt_protocol::error::{Error, Outcome};
+use srt_protocol::error::{Error, outcome_number};
 use srt_protocol::received_payload::{CELL, cells_of, put_payload};
 
 // 2: an id or a field of the packet out of range.
@@ -70,21 +70,18 @@ fn enqueue(
     cell: usize,
     content: Data,
     payload: &[u8],
-) -> Outcome
+) -> Result<(), Error>
     requires { Enqueueable index cell content (length payload.now) members.old (length store.old) (length used.old) }
     ensures { Enqueues index cell content payload.now
         members.old store.old used.old result
         members.new store.new used.new }
 {
     let event = data_event(content, cell, payload.len());
-    let pushed = push_at(members, index, event);
-    if let Outcome::Refused(error) = pushed {
-        return Outcome::Refused(error);
-    }
+    push_at(members, index, event)?;
     reserve_leg_at(members, index, content.count);
-    put_payload(store, cell, payload);
+    let _ = put_payload(store, cell, payload);
     take(used, cell);
-    Outcome::Accepted
+    Ok(())
 }
 
 // `queue_data` for a valid state, of which `used` shows the cells in use.
@@ -103,7 +100,7 @@ pub fn queue_data(
     id: u64,
     content: Data,
     payload: &[u8],
-) -> Outcome
+) -> Result<(), Error>
     requires { Ready (parts identity core sending ring)
         (tables members.old pending.now waiting.now history.now sources.now) (length store.old) used.old }
     ensures { Performs (call_queue_data id content payload.now) (parts identity core sending ring)
@@ -113,18 +110,18 @@ pub fn queue_data(
         (storing store.new) used.new }
 {
     if data_unfit(id, content) {
-        return Outcome::Refused(Error::OutOfRange);
+        return Err(Error::OutOfRange);
     }
     let found = find(members, core.counts.members, id);
-    let Found::At(index) = found else {
-        return Outcome::Refused(Error::UnknownMember);
+    let Some(index) = found else {
+        return Err(Error::UnknownMember);
     };
     if CELL < payload.len() {
-        return Outcome::Refused(Error::PayloadTooLong);
+        return Err(Error::PayloadTooLong);
     }
     let lowest = lowest_free(used, cells_of(store.len()));
-    let FreeCell::Cell(cell) = lowest else {
-        return Outcome::Refused(Error::NoFreeCell);
+    let Some(cell) = lowest else {
+        return Err(Error::NoFreeCell);
     };
     enqueue(members, store, used, index, cell, content, payload)
 }

@@ -13,10 +13,10 @@ ghost use Rattle.srt_group_shown.specs.Steps.{StepsOver};
 
 use srt_connection::legs::LARGEST_32;
 use srt_connection::readings::{goes_back, read_field, reading_out_of_range};
-use srt_connection_members::{Found, find, leg_at, put_leg_at};
+use srt_connection_members::{find, leg_at, put_leg_at};
 use srt_group_model::{Core, Identity, Sending};
 use srt_group_tables::history::HistoryRing;
-use srt_protocol::error::{Error, Outcome};
+use srt_protocol::error::{Error, outcome_number};
 
 // 2: an id, a field or a number out of range.
 fn reading_unfit(id: u64, field: u64, number: u64) -> bool
@@ -26,23 +26,29 @@ fn reading_unfit(id: u64, field: u64, number: u64) -> bool
 }
 
 // `read_leg` after 5 and 6: 2, 3 or 32, or the number in the leg's field. It touches the members only.
-pub fn put_reading(core: Core, members: &mut [u64], id: u64, field: u64, number: u64) -> Outcome
+pub fn put_reading(
+    core: Core,
+    members: &mut [u64],
+    id: u64,
+    field: u64,
+    number: u64,
+) -> Result<(), Error>
     requires { core.counts.members * row_size ≤ length members.old }
     ensures { StepsOver (call_read_leg id field number) core members.old (outcome_number result) members.new }
 {
     if reading_unfit(id, field, number) {
-        return Outcome::Refused(Error::OutOfRange);
+        return Err(Error::OutOfRange);
     }
     let found = find(members, core.counts.members, id);
-    let Found::At(index) = found else {
-        return Outcome::Refused(Error::UnknownMember);
+    let Some(index) = found else {
+        return Err(Error::UnknownMember);
     };
     let leg = leg_at(members, index);
     if goes_back(leg, field, number) {
-        return Outcome::Refused(Error::OutOfTurn);
+        return Err(Error::OutOfTurn);
     }
     put_leg_at(members, index, read_field(leg, field, number));
-    Outcome::Accepted
+    Ok(())
 }
 
 // `read_leg` for a valid state. The cells in use stay the same; the store is lent for its length, over which the state is valid.
@@ -61,7 +67,7 @@ pub fn read_leg(
     id: u64,
     field: u64,
     number: u64,
-) -> Outcome
+) -> Result<(), Error>
     requires { Ready (parts identity core sending ring)
         (tables members.old pending.now waiting.now history.now sources.now) (length store.now) used.now }
     ensures { Performs (call_read_leg id field number) (parts identity core sending ring)

@@ -1,3 +1,4 @@
+pub mod LentGroup
 pub mod Begins
 pub mod Promised
 pub mod Past

@@ -1,7 +1,6 @@
 -- THE PROMISE of a public call (srt_group_traces, `Promise`), over the record and the lent tables before and after it.
-use Rattle.std.specs.Prelude.{◌≡◌, Bool, ◌||◌, List, [], ℕ, ltb, length}
-use Rattle.srt_protocol.specs.declared.error.Outcome.{Outcome}
-use Rattle.srt_protocol.specs.declared.error.Outcome.TheVariants.{Accepted, Refused}
+use Rattle.srt_protocol.specs.Errors.{Outcome}
+use Rattle.std.specs.Prelude.{◌≡◌, Bool, ◌||◌, List, [], ℕ, ltb, length, Err, Ok}
 use Rattle.srt_group_model.specs.Guards.{Answer, no_answer}
 use Rattle.srt_group_model.specs.Lent.{Lent, Call}
 use Rattle.srt_connection_queue.specs.Rows.{row_size}
@@ -17,8 +16,8 @@ nothing_lent = storing []
 
 -- the answer of a call: none where it is refused
 abbrev pub answered : Outcome → Answer → Answer
-answered Accepted given = given
-answered (Refused e) given = no_answer
+answered (Ok tt) given = given
+answered (Err e) given = no_answer
 
 -- an answer of one form says what another does: the same code, and the same is given
 pub record Answers (code : ℕ) (given : Answer) (number : ℕ) (answer : Answer) : Type 0 where

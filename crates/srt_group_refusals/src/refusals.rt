@@ -4,35 +4,20 @@ ghost use Rattle.std.specs.Prelude.{◌≡◌, not, ◌&&◌, ◌||◌, ◌≤�
 ghost use Rattle.srt_protocol.specs.Cells.{cell_size, max_cells, cells_of};
 ghost use Rattle.srt_group_model.specs.Tools.{if_true◌then◌else◌};
 ghost use Rattle.cell_set.specs.Bits.{set_size};
-ghost use Rattle.srt_group_shown.specs.Tables.{parts, tables};
+ghost use Rattle.srt_group_shown.specs.Tables.{state_of, Long};
+ghost use Rattle.srt_group_state.specs.Tested.{Tested};
+ghost use Rattle.srt_group.specs.Made.{parts_of};
+ghost use Rattle.srt_group_refusals.specs.LentGroup.{tables_of};
 ghost use Rattle.srt_group_refusals.specs.Begins.{are_short, begun, BeginsStored, BeginsPoll};
 
 use srt_connection_members::MEMBERS_LENGTH;
-use srt_group_model::{Core, Identity, Sending};
+use srt_group::Group;
 use srt_group_state::validity::is_invalid;
-use srt_group_tables::history::{HistoryRing, MAX_HISTORY};
+use srt_group_tables::history::MAX_HISTORY;
 use srt_group_tables::pending::PENDING_LENGTH;
 use srt_group_tables::waiting::WAITING_LENGTH;
-use srt_protocol::error::{Error, Outcome};
+use srt_protocol::error::Error;
 use srt_protocol::received_payload::{CELL, MAX_CELLS, OUTPUT, cells_of};
-
-// 5: a table has fewer words than its rows take, or one of the history's two is not 512 long.
-fn are_short(
-    members: &[u64],
-    pending: &[u64],
-    waiting: &[u64],
-    history: &[u64],
-    sources: &[u64],
-) -> bool
-    ensures { result ≡ are_short
-        (tables members.now pending.now waiting.now history.now sources.now) }
-{
-    (members.len() < MEMBERS_LENGTH)
-        | (pending.len() < PENDING_LENGTH)
-        | (waiting.len() < WAITING_LENGTH)
-        | (history.len() != MAX_HISTORY)
-        | (sources.len() != MAX_HISTORY)
-}
 
 // 5: the store's length differs from the one given at the start, if any was, or is below one cell.
 fn store_unfit(store: usize, given: usize) -> bool
@@ -42,6 +27,7 @@ fn store_unfit(store: usize, given: usize) -> bool
 }
 
 // The cells of a call that is lent no store: those of the length given at the start, else the most that there can be.
+#[tactic(auto, using(crate::specs::Laws::Begins::none_given, crate::specs::Laws::Begins::some_given))]
 fn cells_given(given: usize) -> usize
     ensures { (result ≡ (if_true eqb given 0 then max_cells else cells_of given)) × (result ≤ max_cells) }
 {
@@ -51,95 +37,100 @@ fn cells_given(given: usize) -> usize
     cells_of(given)
 }
 
-// 5 or 6 of a call that is lent no store; or it goes on.
-pub fn begin(
-    identity: Identity,
-    core: Core,
-    sending: Sending,
-    ring: HistoryRing,
-    members: &[u64],
-    pending: &[u64],
-    waiting: &[u64],
-    history: &[u64],
-    sources: &[u64],
-) -> Outcome
-    ensures { result ≡ begun (parts identity core sending ring)
-        (tables members.now pending.now waiting.now history.now sources.now) }
-{
-    if are_short(members, pending, waiting, history, sources) {
-        return Outcome::Refused(Error::InsufficientBuffer);
-    }
-    let cells = cells_given(identity.length);
-    let mut used = [0u64; 32];
-    let broken = is_invalid(
-        identity, core, sending, ring, members, pending, waiting, history, sources, cells,
-        &mut used,
-    );
-    if broken {
-        Outcome::Refused(Error::InvalidState)
-    } else {
-        Outcome::Accepted
-    }
+// A group's record with its tables, lent to look at.
+#[derive(Clone, Copy)]
+pub struct LentGroup<'a> {
+    pub group: Group,
+    pub members: &'a [u64],
+    pub pending: &'a [u64],
+    pub waiting: &'a [u64],
+    pub history: &'a [u64],
+    pub sources: &'a [u64],
 }
 
-// 5 or 6 of a call that is lent a store of so many bytes; or it goes on, and the set shows which cells are in use, whatever it held.
-pub fn begin_stored(
-    identity: Identity,
-    core: Core,
-    sending: Sending,
-    ring: HistoryRing,
-    members: &[u64],
-    pending: &[u64],
-    waiting: &[u64],
-    history: &[u64],
-    sources: &[u64],
-    store: usize,
-    used: &mut [u64],
-) -> Outcome
-    requires { length used.old ≡ set_size }
-    ensures { BeginsStored (parts identity core sending ring)
-        (tables members.now pending.now waiting.now history.now sources.now)
-        store result used.new }
-{
-    if are_short(members, pending, waiting, history, sources) {
-        return Outcome::Refused(Error::InsufficientBuffer);
+impl LentGroup<'_> {
+    // 5: a table has fewer words than its rows take, or one of the history's two is not 512 long.
+    fn is_short(&self) -> bool
+        ensures { result ≡ are_short (tables_of self.now) }
+    {
+        (self.members.len() < MEMBERS_LENGTH)
+            | (self.pending.len() < PENDING_LENGTH)
+            | (self.waiting.len() < WAITING_LENGTH)
+            | (self.history.len() != MAX_HISTORY)
+            | (self.sources.len() != MAX_HISTORY)
     }
-    if store_unfit(store, identity.length) {
-        return Outcome::Refused(Error::InsufficientBuffer);
-    }
-    let cells = cells_of(store);
-    if is_invalid(
-        identity, core, sending, ring, members, pending, waiting, history, sources, cells, used,
-    ) {
-        return Outcome::Refused(Error::InvalidState);
-    }
-    Outcome::Accepted
-}
 
-// The same of a poll, which is lent an output of so many bytes too: 5 first if it has no room for a head and a payload.
-pub fn begin_poll(
-    identity: Identity,
-    core: Core,
-    sending: Sending,
-    ring: HistoryRing,
-    members: &[u64],
-    pending: &[u64],
-    waiting: &[u64],
-    history: &[u64],
-    sources: &[u64],
-    store: usize,
-    output: usize,
-    used: &mut [u64],
-) -> Outcome
-    requires { length used.old ≡ set_size }
-    ensures { BeginsPoll (parts identity core sending ring)
-        (tables members.now pending.now waiting.now history.now sources.now)
-        store output result used.new }
-{
-    if output < OUTPUT {
-        return Outcome::Refused(Error::InsufficientBuffer);
+    // 6: the state breaks a rule over so many cells. Where it breaks none, the set shows which are in use, whatever it held.
+    fn is_broken(&self, cells: usize, used: &mut [u64]) -> bool
+        requires long { Long (tables_of self.now) }
+        requires cells { cells ≤ max_cells }
+        requires used { length used.old ≡ set_size }
+        ensures { Tested cells (state_of (parts_of self.now.group) (tables_of self.now)) result used.new }
+    {
+        let Group {
+            identity,
+            core,
+            sending,
+            ring,
+        } = self.group;
+        is_invalid(
+            identity,
+            core,
+            sending,
+            ring,
+            self.members,
+            self.pending,
+            self.waiting,
+            self.history,
+            self.sources,
+            cells,
+            used,
+        )
     }
-    begin_stored(
-        identity, core, sending, ring, members, pending, waiting, history, sources, store, used,
-    )
+
+    // 5 or 6 of a call that is lent no store; or it goes on.
+    pub fn begin(&self) -> Result<(), Error>
+        ensures { result ≡ begun (parts_of self.now.group) (tables_of self.now) }
+    {
+        if self.is_short() {
+            return Err(Error::InsufficientBuffer);
+        }
+        let cells = cells_given(self.group.identity.length);
+        let mut used = [0u64; 32];
+        let broken = self.is_broken(cells, &mut used);
+        if broken {
+            Err(Error::InvalidState)
+        } else {
+            Ok(())
+        }
+    }
+
+    // 5 or 6 of a call that is lent a store of so many bytes; or it goes on, and the set shows which cells are in use, whatever it held.
+    pub fn begin_stored(&self, store: usize, used: &mut [u64]) -> Result<(), Error>
+        requires { length used.old ≡ set_size }
+        ensures { BeginsStored (parts_of self.now.group) (tables_of self.now) store result used.new }
+    {
+        if self.is_short() {
+            return Err(Error::InsufficientBuffer);
+        }
+        if store_unfit(store, self.group.identity.length) {
+            return Err(Error::InsufficientBuffer);
+        }
+        let cells = cells_of(store);
+        if self.is_broken(cells, used) {
+            return Err(Error::InvalidState);
+        }
+        Ok(())
+    }
+
+    // The same of a poll, which is lent an output of so many bytes too: 5 first if it has no room for a head and a payload.
+    pub fn begin_poll(&self, store: usize, output: usize, used: &mut [u64]) -> Result<(), Error>
+        requires { length used.old ≡ set_size }
+        ensures { BeginsPoll (parts_of self.now.group) (tables_of self.now) store output result used.new }
+    {
+        if output < OUTPUT {
+            return Err(Error::InsufficientBuffer);
+        }
+        self.begin_stored(store, used)
+    }
 }

@@ -1,8 +1,7 @@
 -- `remove_member_connection` after 5 and 6: what it rests on, what it promises over whatever it does not touch, and what the lent row
 -- shows afterwards.
-use Rattle.std.specs.Prelude.{◌≡◌, List, [], ℕ, ◌*◌, ◌≤◌, ◌<◌, length}
-use Rattle.srt_protocol.specs.declared.error.Outcome.{Outcome}
-use Rattle.srt_protocol.specs.declared.error.Outcome.TheVariants.{Accepted, Refused}
+use Rattle.srt_protocol.specs.Errors.{Outcome}
+use Rattle.std.specs.Prelude.{◌≡◌, List, [], ℕ, ◌*◌, ◌≤◌, ◌<◌, length, Err, Ok}
 use Rattle.srt_protocol.specs.Errors.{outcome_number}
 use Rattle.srt_group_model.specs.declared.Core.{Core}
 use Rattle.srt_group_model.specs.declared.Identity.{Identity}
@@ -40,8 +39,8 @@ pub record GivesBack (leg : Leg) (row row' : List ℕ) : Type 0 where
 
 -- accepted: a leg is given back in it; refused: it is as it was
 abbrev pub RowAfter : Outcome → (row row' : List ℕ) → Type 0
-RowAfter Accepted row row' = GivesBack (leg_in row') row row'
-RowAfter (Refused e) row row' = row' ≡ row
+RowAfter (Ok tt) row row' = GivesBack (leg_in row') row row'
+RowAfter (Err e) row row' = row' ≡ row
 
 -- the answer of the call: accepted, the leg in the row
 abbrev pub given_back : Outcome → (row : List ℕ) → Answer

@@ -10,14 +10,14 @@ ghost use Rattle.srt_group_removal.specs.Connection.{RowAfter, given_back, Promi
 use crate::connection::remove_named;
 use srt_connection_queue::rows::ROW;
 use srt_group::Group;
-use srt_group_refusals::refusals::begin;
-use srt_protocol::error::{Error, Outcome};
+use srt_group_refusals::refusals::LentGroup;
+use srt_protocol::error::{Error, outcome_number};
 
 // How a removal ended, and the record after it: as it was where the call is refused.
 #[derive(Clone, Copy)]
 pub struct MemberRemoved {
     pub group: Group,
-    pub outcome: Outcome,
+    pub outcome: Result<(), Error>,
 }
 
 // A member is removed, and its leg given back in the lent row: 5 too where that is shorter than a row of the members' table.
@@ -42,34 +42,32 @@ pub fn remove_member_connection(
     if row.len() < ROW {
         return MemberRemoved {
             group,
-            outcome: Outcome::Refused(Error::InsufficientBuffer),
+            outcome: Err(Error::InsufficientBuffer),
         };
     }
-    let Group {
-        identity,
-        core,
-        sending,
-        ring,
-    } = group;
-    let begun = begin(
-        identity, core, sending, ring, members, pending, waiting, history, sources,
-    );
-    if let Outcome::Refused(error) = begun {
+    let lent = LentGroup {
+        group,
+        members,
+        pending,
+        waiting,
+        history,
+        sources,
+    };
+    let begun = lent.begin();
+    if let Err(error) = begun {
         return MemberRemoved {
             group,
-            outcome: Outcome::Refused(error),
+            outcome: Err(error),
         };
     }
     let mut used = [0u64; 32];
-    let removed = remove_named(core, members, pending, row, &mut used, id);
+    let removed = remove_named(group.core, members, pending, row, &mut used, id);
     let after = removed.core;
     let outcome = removed.outcome;
     MemberRemoved {
         group: Group {
-            identity,
             core: after,
-            sending,
-            ring,
+            ..group
         },
         outcome,
     }

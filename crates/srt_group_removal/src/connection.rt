@@ -12,16 +12,16 @@ ghost use Rattle.srt_group_removal.specs.Connection.{AnyRemovable, GivesBack, Ro
 
 use crate::removal::remove_member_at;
 use srt_connection::legs::LARGEST_32;
-use srt_connection_members::{Found, clear_at, find, put_leg_at};
+use srt_connection_members::{clear_at, find, put_leg_at};
 use srt_group_model::{Core, Identity, Leg, Sending};
 use srt_group_tables::history::HistoryRing;
-use srt_protocol::error::{Error, Outcome};
+use srt_protocol::error::{Error, outcome_number};
 
 // What is left by a removal, refused or not.
 #[derive(Clone, Copy)]
 pub struct Removal {
     pub core: Core,
-    pub outcome: Outcome,
+    pub outcome: Result<(), Error>,
 }
 
 // A leg into the first of the lent rows, with an empty queue. The row's membership stays: it is not the leg's.
@@ -54,14 +54,14 @@ pub fn remove_named(
     if LARGEST_32 < id {
         return Removal {
             core,
-            outcome: Outcome::Refused(Error::OutOfRange),
+            outcome: Err(Error::OutOfRange),
         };
     }
     let found = find(members, core.counts.members, id);
-    let Found::At(index) = found else {
+    let Some(index) = found else {
         return Removal {
             core,
-            outcome: Outcome::Refused(Error::UnknownMember),
+            outcome: Err(Error::UnknownMember),
         };
     };
     let removed = remove_member_at(core, members, pending, used, index);
@@ -70,7 +70,7 @@ pub fn remove_named(
     let after = removed.core;
     Removal {
         core: after,
-        outcome: Outcome::Accepted,
+        outcome: Ok(()),
     }
 }
 

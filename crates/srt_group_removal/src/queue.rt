@@ -31,11 +31,9 @@ fn free_queue(row: &[u64], used: &mut [u64])
     ensures { Freed (queue_cells (member_of row.now)) used.old used.new }
 {
     let count = queue_length(row);
-    let mut index: u64 = 0;
-    while index < count {
+    for index in 0..count {
         let event = queued_event(row, index);
         free_event(used, event);
-        index += 1;
     }
 }
 

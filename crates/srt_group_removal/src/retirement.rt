@@ -58,18 +58,13 @@ fn retire_downward(
     ensures follows_held { FollowsHeld core pending.old used.old
         result pending.new used.new }
 {
-    let mut left = core.counts.pending;
-    while 0 < left {
+    for at in (0..core.counts.pending).rev() {
         if core.own.reserved <= limit {
             return core;
         }
-        let at = left - 1;
         let packet = pending::packet(pending, at);
         if is_reached(packet, base, all) {
             core = retire_at(core, pending, used, at);
-            left = at;
-        } else {
-            left = at;
         }
     }
     core
@@ -108,7 +103,7 @@ pub fn retirement_base(core: Core, pending: &[u64]) -> u64
     }
     let held = core.counts.pending;
     let nearest = pending::nearest(pending, held);
-    let pending::Found::At(at) = nearest else {
+    let Some(at) = nearest else {
         return 0;
     };
     pending::sequence_at(pending, at)

@@ -1,7 +1,6 @@
 -- A line of a replay listing over the group that stands, if one was made: what the code relies on from line to line, and that it tells what the
 -- model's listing tells.
-use Rattle.std.specs.Prelude.{◌≡◌, List, ℕ, eqb, length}
-use Rattle.std.proofs.Math.Option.{Option, none, some}
+use Rattle.std.specs.Prelude.{◌≡◌, List, ℕ, eqb, length, None, Option, Some}
 use Rattle.srt_protocol.specs.Cells.{output_size}
 use Rattle.srt_group_model.specs.Tools.{if_true◌then◌else◌}
 use Rattle.srt_group_model.specs.State.{State}
@@ -24,7 +23,7 @@ room store output list = record { store = store; output = output; list = list }
 
 -- the group, none before one was made
 abbrev pub standing : (made : ℕ) → Group → Tables → Option State
-standing made g t = if_true eqb made 0 then none else some (state_of (parts_of g) t)
+standing made g t = if_true eqb made 0 then None else Some (state_of (parts_of g) t)
 
 pub record Standing (made : ℕ) (g : Group) (t : Tables) (lent : Lent) (used : List ℕ) : Type 0 where
   pub long : Long t

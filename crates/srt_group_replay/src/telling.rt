@@ -12,7 +12,7 @@ ghost use Rattle.srt_group_replay.specs.Lines.{room, Standing, TellsNew, TellsLi
 
 use crate::Replayed;
 use cell_set::clear;
-use srt_group::{Group, NewGroup};
+use srt_group::Group;
 use srt_group_listing::Told;
 use srt_group_listing::members::code_line;
 use srt_group_listing::telling::{tell_legs, tell_members};
@@ -28,7 +28,7 @@ fn tell_new(made: u64, group: Group, used: &mut [u64], line: &[u64]) -> Replayed
 {
     let new = Group::new(line[1], line[2], STORE);
     match new {
-        NewGroup::Made(fresh) => {
+        Ok(fresh) => {
             clear(used);
             Replayed {
                 made: 1,
@@ -36,10 +36,10 @@ fn tell_new(made: u64, group: Group, used: &mut [u64], line: &[u64]) -> Replayed
                 line: code_line(1, 0),
             }
         }
-        NewGroup::Refused(error) => Replayed {
+        Err(error) => Replayed {
             made,
             group,
-            line: code_line(1, error.number() as u64),
+            line: code_line(1, u32::from(error) as u64),
         },
     }
 }

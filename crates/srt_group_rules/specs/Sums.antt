@@ -1,6 +1,6 @@
 -- The rule "a reserved sum unequal to its packets' counts", as one walk over the packets finds it: each packet is added to the account
 -- of its place, that of its member or the group's own.
-use Rattle.std.specs.Prelude.{◌≡◌, Bool, false, not, ◌||◌, List, ℕ, ◌+◌, ◌<◌, eqb, length, get_or}
+use Rattle.std.specs.Prelude.{◌≡◌, Bool, false, not, ◌||◌, List, ℕ, ◌+◌, ◌<◌, eqb, length, get_or, Option, Some}
 use Rattle.srt_group_model.specs.Tools.{if_true◌then◌else◌, any, counted, total}
 use Rattle.srt_group_model.specs.State.{Member}
 use Rattle.srt_group_model.specs.Accounts.{no_packets, account_of, unlike}
@@ -10,9 +10,7 @@ use Rattle.srt_group_model.specs.Validity.{max_members, is_held_for, queued_coun
 use Rattle.srt_group_model.specs.declared.Account.{Account}
 use Rattle.srt_group_model.specs.declared.Event.{Event}
 use Rattle.srt_group_model.specs.declared.Packet.{Packet}
-use Rattle.srt_connection_members.specs.declared.Found.{Found}
-use Rattle.srt_connection_members.specs.declared.Found.TheVariants.{At}
-use Rattle.srt_connection_members.specs.Members.{member_at, members_of, found_of}
+use Rattle.srt_connection_members.specs.Members.{member_at, members_of}
 use Rattle.srt_group_tables.specs.Packets.{packet_at, packets}
 use Rattle.word_rows.specs.Tab.{tab}
 use Rattle.srt_group_rules.specs.Ids.{id_at}
@@ -31,8 +29,8 @@ abbrev pub own_place : ℕ
 own_place = max_members
 
 -- the place of the account that a packet is added to
-unfoldable pub account_place : List Member → Packet → Found
-account_place ms p = if_true is_owned p then At own_place else found_of (find p.member ms)
+unfoldable pub account_place : List Member → Packet → Option ℕ
+account_place ms p = if_true is_owned p then Some own_place else (find p.member ms)
 
 -- a member whose held packets have this account: it keeps another, or its leg reserves another number
 unfoldable pub differs : Account → Member → Bool

@@ -6,10 +6,10 @@ ghost use Rattle.srt_group_model.specs.Tools.{any, each};
 ghost use Rattle.srt_group_model.specs.Members.{id_of, has_id, find};
 ghost use Rattle.srt_group_model.specs.Validity.{max_members, one_twice};
 ghost use Rattle.srt_connection_queue.specs.Rows.{row_size};
-ghost use Rattle.srt_connection_members.specs.Members.{member_at, members_of, HasRow, found_of};
+ghost use Rattle.srt_connection_members.specs.Members.{member_at, members_of, HasRow};
 ghost use Rattle.srt_group_rules.specs.Ids.{places, nobody, TakenBefore};
 
-use srt_connection_members::{Found, find};
+use srt_connection_members::find;
 use srt_connection_queue::rows::ROW;
 
 // The places of a table of ids.
@@ -19,18 +19,16 @@ pub const PLACES: usize = 64;
 pub const NOBODY: u8 = 64;
 
 // Whether a member before this one has its id.
+#[tactic(auto, using(crate::specs::Laws::Ids::before_there, crate::specs::Laws::Ids::later_none))]
 fn id_is_before(members: &[u64], index: usize) -> bool
     requires { HasRow index members.now }
     ensures { result ≡ any (has_id (id_of (member_at members.now index))) (members_of index members.now) }
 {
     let id = members[index * ROW];
-    let mut left = index;
-    while 0 < left {
-        let at = left - 1;
+    for at in (0..index).rev() {
         if members[at * ROW] == id {
             return true;
         }
-        left = at;
     }
     false
 }
@@ -42,6 +40,7 @@ fn place_of(id: u64) -> usize
 }
 
 // The same, but the members before are asked only where one of them has the id's place.
+#[tactic(auto, using(crate::specs::Laws::Ids::free_place))]
 fn is_repeated(members: &[u64], index: usize, table: &[u8; 64]) -> bool
     requires has_row { HasRow index members.now }
     requires taken_before { TakenBefore members.now index table.now }
@@ -61,14 +60,12 @@ pub fn id_twice(members: &[u64], count: usize, table: &mut [u8; 64]) -> bool
     requires table_value { table.old ≡ replicate places nobody }
     ensures { result ≡ one_twice (each id_of (members_of count members.now)) }
 {
-    let mut index: usize = 0;
-    while index < count {
+    for index in 0..count {
         if is_repeated(members, index, table) {
             return true;
         }
         let at = place_of(members[index * ROW]);
         table[at] = index as u8;
-        index += 1;
     }
     false
 }
@@ -80,16 +77,17 @@ fn wide(index: u8) -> usize
 }
 
 // The index of the member with an id, of which there is at most one: the one that the table says, if it has the id.
-pub fn find_by_place(members: &[u64], count: usize, table: &[u8; 64], id: u64) -> Found
+#[tactic(auto, using(crate::specs::Laws::Ids::found_there))]
+pub fn find_by_place(members: &[u64], count: usize, table: &[u8; 64], id: u64) -> Option<usize>
     requires row_size_in_bounds { count * row_size ≤ length members.now }
     requires members_value { one_twice (each id_of (members_of count members.now)) ≡ false }
-    ensures { result ≡ found_of (find id (members_of count members.now)) }
+    ensures { result ≡ find id (members_of count members.now) }
 {
     let at = place_of(id);
     let index = wide(table[at]);
     if index < count {
         if members[index * ROW] == id {
-            return Found::At(index);
+            return Some(index);
         }
     }
     find(members, count, id)

@@ -19,6 +19,7 @@ use srt_group_tables::waiting::waiting_event;
 // ---- a queued event
 
 // Only data has a sequence and a content.
+#[tactic(auto, using(crate::specs::Laws::Rules::event_no_data, crate::specs::Laws::Rules::event_data))]
 pub fn event_breaks_rule(event: Event) -> bool
     ensures { result ≡ event_breaks_rule event }
 {
@@ -41,6 +42,7 @@ pub fn queue_event(row: &[u64], ring: Ring, at: u64) -> Event
 
 // ---- a leg
 
+#[tactic(auto, unfolding(crate::specs::Rules::leg_breaks_rule))]
 pub fn leg_breaks_rule(leg: Leg) -> bool
     ensures { result ≡ leg_breaks_rule leg }
 {
@@ -49,6 +51,7 @@ pub fn leg_breaks_rule(leg: Leg) -> bool
 
 // ---- a held packet
 
+#[tactic(auto, unfolding(crate::specs::Rules::packet_breaks_rule))]
 pub fn packet_breaks_rule(packet: Packet) -> bool
     ensures { result ≡ packet_breaks_rule packet }
 {
@@ -61,18 +64,17 @@ pub fn waiting_breaks_rule(waiting: &[u64], count: usize) -> bool
     requires { (waiting_size ≤ length waiting.now) × (count ≤ max_waiting) }
     ensures { result ≡ any waiting_out_of_range (waitings count waiting.now) }
 {
-    let mut at: usize = 0;
-    while at < count {
+    for at in 0..count {
         if waiting_out_of_range(waiting_event(waiting, at)) {
             return true;
         }
-        at += 1;
     }
     false
 }
 
 // ---- an entry of the history
 
+#[tactic(auto, unfolding(crate::specs::Rules::entry_breaks_rule))]
 pub fn entry_breaks_rule(entry: Entry) -> bool
     ensures { result ≡ entry_breaks_rule entry }
 {

@@ -10,7 +10,7 @@ ghost use Rattle.srt_connection_members.specs.Members.{members_of};
 ghost use Rattle.srt_group_rules.specs.Sums.{event_count, account_place};
 
 use crate::ids::find_by_place;
-use srt_connection_members::{Found, MAX_MEMBERS};
+use srt_connection_members::MAX_MEMBERS;
 use srt_group_model::{Event, Packet};
 
 // The place of the group's own account, behind those of the members.
@@ -26,13 +26,18 @@ pub fn data_count(event: Event) -> u64
 }
 
 // The place of the account that a packet is added to.
-pub fn account_place(members: &[u64], count: usize, table: &[u8; 64], packet: Packet) -> Found
+pub fn account_place(
+    members: &[u64],
+    count: usize,
+    table: &[u8; 64],
+    packet: Packet,
+) -> Option<usize>
     requires row_size_in_bounds { count * row_size ≤ length members.now }
     requires members_value { one_twice (each id_of (members_of count members.now)) ≡ false }
     ensures { result ≡ account_place (members_of count members.now) packet }
 {
     if packet.owned == 1 {
-        return Found::At(OWN_PLACE);
+        return Some(OWN_PLACE);
     }
     find_by_place(members, count, table, packet.member)
 }

@@ -1,3 +1,4 @@
+pub mod Answers
 pub mod Sends
 pub mod Readiness
 -- What is proved.

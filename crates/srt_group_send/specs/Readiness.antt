@@ -1,6 +1,5 @@
 -- The readiness tests over the lent tables: what they may rely on, and what they leave.
-use Rattle.std.specs.Prelude.{◌≡◌, Bool, List, ℕ, ◌*◌, ◌≤◌, length}
-use Rattle.std.proofs.Math.Option.{Option}
+use Rattle.std.specs.Prelude.{◌≡◌, List, ℕ, ◌*◌, ◌≤◌, length, Option}
 use Rattle.srt_group_model.specs.State.{State, with_send}
 use Rattle.srt_group_model.specs.Guards.{shown, truth}
 use Rattle.srt_group_model.specs.Backup.{max_history, trim_by_carrier, backup_send_ready}
@@ -12,7 +11,7 @@ use Rattle.srt_group_model.specs.declared.Sending.{Sending}
 use Rattle.srt_connection_queue.specs.Rows.{row_size}
 use Rattle.srt_connection_members.specs.Members.{members_of}
 use Rattle.srt_group_tables.specs.declared.history.HistoryRing.{HistoryRing}
-use Rattle.srt_group_tables.specs.Ring.{Arrays, arrays, entries_of, send_of}
+use Rattle.srt_group_tables.specs.Ring.{Arrays, entries_of, send_of}
 use Rattle.srt_group_carrier.specs.Freeing.{TrimFollows}
 use Rattle.cell_set.specs.Bits.{set_size}
 use Rattle.cell_set.specs.Shows.{Shows}

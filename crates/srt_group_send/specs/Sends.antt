@@ -1,12 +1,11 @@
 -- A send in either mode, over the lent tables: what its parts may rely on, and what they leave.
-use Rattle.std.specs.Prelude.{◌≡◌, List, ℕ, ◌≤◌, ◌<◌, eqb, length}
+use Rattle.std.specs.Prelude.{◌≡◌, List, ℕ, ◌≤◌, ◌<◌, length, IfOk}
 use Rattle.srt_protocol.specs.Cells.{cell_size, cells_of}
 use Rattle.srt_group_model.specs.Tools.{if_true◌then◌else◌}
 use Rattle.srt_group_model.specs.State.{State, is_backup}
 use Rattle.srt_group_model.specs.Run.{start, refresh_states}
 use Rattle.srt_group_model.specs.Sending.{max_sent, Sent, Flow, send_broadcast}
 use Rattle.srt_group_model.specs.Backup.{send_backup}
-use Rattle.srt_group_model.specs.Guards.{Answer, no_answer, shown, number}
 use Rattle.srt_group_model.specs.Calls.{send_flow}
 use Rattle.srt_group_model.specs.Sound.{Fit}
 use Rattle.srt_group_model.specs.declared.Core.{Core}
@@ -20,6 +19,7 @@ use Rattle.srt_group_carrier.specs.Lendable.{BackupTables, arrays_in}
 use Rattle.srt_group_model.specs.Lent.{Lent, call_send, perform}
 use Rattle.srt_group_shown.specs.Tables.{Parts, parts, Tables, tables, state_of}
 use Rattle.srt_group_shown.specs.Ready.{Performs}
+use Rattle.srt_group_send.specs.Answers.{send_number, send_answer}
 use Rattle.srt_group_send.specs.declared.sending.GroupSend.{GroupSend}
 
 -- the send of the mode
@@ -38,10 +38,6 @@ pub record FitShown (core : Core) (x : Sending) (r : HistoryRing) (t : BackupTab
   pub waiting : List ℕ
   pub fit : Fit (sending_state core x r t identity pending waiting)
 
--- what a send answers: on how many legs, if it succeeded
-abbrev pub sent_answer : GroupSend → Answer
-sent_answer r = if_true eqb r.code 0 then shown (number r.legs) else no_answer
-
 -- The model's flow was made, from the refresh on, whatever no send moves; the rows written are its sends, and the set of used cells follows it.
 pub record FlowMade (cell time size : ℕ) (core : Core) (x : Sending) (r : HistoryRing) (before : BackupTables) (answer : GroupSend) (after : BackupTables) : Type 0 where
   pub members_long : length after.members ≡ length before.members
@@ -49,7 +45,7 @@ pub record FlowMade (cell time size : ℕ) (core : Core) (x : Sending) (r : Hist
   pub few : answer.rows ≤ max_sent
   pub sends : List Sent
   pub written : Wrote 0 sends before.list answer.rows after.list
-  pub legs : answer.legs ≡ (if_true eqb answer.code 0 then (if_true is_backup core.mode then 1 else length sends) else 0)
+  pub legs : IfOk answer.answer (λ n. n ≡ (if_true is_backup core.mode then 1 else length sends))
   pub follows : SendFollows cell (entries_of r (arrays_in before)) before.used (entries_of answer.ring (arrays_in after)) after.used
   pub flow : (identity : Identity) (pending waiting payload : List ℕ) → length payload ≡ size
       → send_flow cell time payload (sending_state core x r before identity pending waiting)
@@ -57,7 +53,7 @@ pub record FlowMade (cell time size : ℕ) (core : Core) (x : Sending) (r : Hist
       ≡ record {
         state = sending_state answer.core answer.sending answer.ring after identity pending waiting;
         sends = sends;
-        code = answer.code;
+        code = send_number answer.answer;
       }
 
 -- ---- the call
@@ -70,5 +66,5 @@ pub record Storable (cell size store : ℕ) : Type 0 where
 
 -- the call is its definition, and so is the count of the rows that it fills
 pub record Sends (time : ℕ) (payload : List ℕ) (p : Parts) (t : Tables) (bytes : Lent) (r : GroupSend) (t' : Tables) (bytes' : Lent) (used' : List ℕ) : Type 0 where
-  pub performs : Performs (call_send time payload) p t bytes r.code (sent_answer r) (parts p.identity r.core r.sending r.ring) t' bytes' used'
+  pub performs : Performs (call_send time payload) p t bytes (send_number r.answer) (send_answer r.answer) (parts p.identity r.core r.sending r.ring) t' bytes' used'
   pub rows : r.rows ≡ (perform (call_send time payload) bytes (state_of p t)).rows

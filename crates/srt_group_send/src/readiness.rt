@@ -14,7 +14,7 @@ use srt_group_carrier::freeing::free_dropped;
 use srt_group_members::states::is_backup;
 use srt_group_model::{Core, Sending};
 use srt_group_polls::refresh::refresh_states;
-use srt_group_sending::readiness::{Pacing, backup_send_ready, broadcast_send_ready};
+use srt_group_sending::readiness::{backup_send_ready, broadcast_send_ready};
 use srt_group_tables::history::HistoryRing;
 use srt_protocol::time::Timestamp;
 
@@ -35,7 +35,7 @@ fn trim_and_test(
     members: &[u64],
     history: &[u64],
     used: &mut [u64],
-    pacing: Pacing,
+    pacing: Option<Timestamp>,
 ) -> Readiness
     requires length_le_max_history { (ring.length ≤ max_history) × (length history.now ≡ max_history) }
     requires row_size_in_bounds { (core.counts.members * row_size ≤ length members.now) × (length used.old ≡ set_size) }
@@ -71,17 +71,9 @@ pub fn can_send(
 {
     let after = refresh_states(core, sending, members);
     if is_backup(core.mode) {
-        return trim_and_test(
-            after,
-            sending,
-            ring,
-            members,
-            history,
-            used,
-            Pacing::Ignored,
-        );
+        return trim_and_test(after, sending, ring, members, history, used, None);
     }
-    let ready = broadcast_send_ready(members, after.counts.members, Pacing::Ignored);
+    let ready = broadcast_send_ready(members, after.counts.members, None);
     Readiness {
         ready,
         core: after,
@@ -105,7 +97,7 @@ pub fn can_send_with_pacing(
         used.old result members.new used.new }
 {
     let after = refresh_states(core, sending, members);
-    let pacing = Pacing::At(time);
+    let pacing = Some(time);
     let mode = core.mode;
     if is_backup(mode) {
         ready_members(members, after.counts.members, mode, time);

@@ -1,6 +1,7 @@
 // `send` for a valid state. The members' states are refreshed first; then the payload's size is tested once, against the first active
 // leg, since a payload that is too large for every leg says nothing of a leg's health; then the send is the mode's.
-ghost use Rattle.std.specs.Prelude.{◌≡◌, true, ◌*◌, ◌≤◌, ◌<◌, eqb, length};
+ghost use Rattle.std.specs.Prelude.{◌≡◌, true, ◌*◌, ◌≤◌, ◌<◌, length, is_ok, Ok};
+ghost use Rattle.std.specs.Result.{result_and};
 ghost use Rattle.srt_protocol.specs.Cells.{cell_size, cells_of, overwritten};
 ghost use Rattle.srt_group_model.specs.Tools.{if_true◌then◌else◌};
 ghost use Rattle.srt_group_model.specs.State.{is_backup};
@@ -15,7 +16,7 @@ ghost use Rattle.srt_group_shown.specs.Tables.{parts, tables};
 ghost use Rattle.srt_group_shown.specs.Ready.{Ready, sending_into};
 ghost use Rattle.srt_group_send.specs.Sends.{by_mode, FitShown, FlowMade, Storable, Sends};
 
-use cell_set::{FreeCell, lowest_free};
+use cell_set::lowest_free;
 use srt_group_backup_send::sends::send_backup;
 use srt_group_carrier::recording::BackupSend;
 use srt_group_members::states::is_backup;
@@ -23,15 +24,15 @@ use srt_group_model::{Core, Identity, Sending};
 use srt_group_polls::refresh::refresh_states;
 use srt_group_sending::broadcast::{above_limit, send_broadcast};
 use srt_group_tables::history::HistoryRing;
+use srt_protocol::error::Error;
 use srt_protocol::received_payload::{CELL, MAX_CELLS, cells_of, put_payload};
 use srt_protocol::time::Timestamp;
 
-// What a send leaves of the record; its code, 0 if the payload was sent; on how many legs it was; and how many rows of the list are filled.
-#[repr(C)]
+// On how many legs the payload was sent, or why not; how many rows of the list are filled, by a refused send too; and what a send leaves of
+// the record.
 #[derive(Clone, Copy)]
 pub struct GroupSend {
-    pub code: u64,
-    pub legs: usize,
+    pub answer: Result<usize, Error>,
     pub rows: usize,
     pub core: Core,
     pub sending: Sending,
@@ -39,16 +40,14 @@ pub struct GroupSend {
 }
 
 // On how many legs a payload was sent that has filled so many rows: in Backup on one, behind the flight that was replayed.
-fn legs_sent(code: u64, mode: u64, rows: usize) -> usize
-    ensures { result ≡ (if_true eqb code 0 then (if_true is_backup mode then 1 else rows) else 0) }
+fn legs_sent(outcome: Result<(), Error>, mode: u64, rows: usize) -> Result<usize, Error>
+    ensures { result ≡ result_and outcome (Ok (if_true is_backup mode then 1 else rows)) }
 {
-    if code != 0 {
-        return 0;
-    }
+    outcome?;
     if is_backup(mode) {
-        return 1;
+        return Ok(1);
     }
-    rows
+    Ok(rows)
 }
 
 // The send of the mode: on every active leg, or on the carrier.
@@ -114,8 +113,7 @@ fn refresh_and_send(
     let count = after.counts.members;
     if above_limit(members, count, size) {
         return GroupSend {
-            code: 23,
-            legs: 0,
+            answer: Err(Error::PayloadAboveLimit),
             rows: 0,
             core: after,
             sending,
@@ -127,13 +125,11 @@ fn refresh_and_send(
         mode, sending, ring, history, sources, members, count, list, used, time, size, cell,
     );
     let outcome = sent.outcome;
-    let code = outcome.number() as u64;
     let rows = sent.sent;
     let numbers = sent.sending;
     let left = sent.ring;
     GroupSend {
-        code,
-        legs: legs_sent(code, mode, rows),
+        answer: legs_sent(outcome, mode, rows),
         rows,
         core: after,
         sending: numbers,
@@ -142,13 +138,13 @@ fn refresh_and_send(
 }
 
 // The payload of a send that succeeded goes into its cell.
-fn store_sent(store: &mut [u8], cell: usize, payload: &[u8], code: u64)
+fn store_sent(store: &mut [u8], cell: usize, payload: &[u8], answer: Result<usize, Error>)
     requires { Storable cell (length payload.now) (length store.old) }
     ensures { store.new
-        ≡ (if_true eqb code 0 then overwritten (cell * cell_size) payload.now store.old else store.old) }
+        ≡ (if_true is_ok answer then overwritten (cell * cell_size) payload.now store.old else store.old) }
 {
-    if code == 0 {
-        put_payload(store, cell, payload);
+    if answer.is_ok() {
+        let _ = put_payload(store, cell, payload);
     }
 }
 
@@ -180,8 +176,7 @@ pub fn send(
 {
     if CELL < payload.len() {
         return GroupSend {
-            code: 4,
-            legs: 0,
+            answer: Err(Error::PayloadTooLong),
             rows: 0,
             core,
             sending,
@@ -196,10 +191,9 @@ pub fn send(
         );
     }
     let lowest = lowest_free(used, cells_of(store.len()));
-    let FreeCell::Cell(cell) = lowest else {
+    let Some(cell) = lowest else {
         return GroupSend {
-            code: 30,
-            legs: 0,
+            answer: Err(Error::NoFreeCell),
             rows: 0,
             core,
             sending,
@@ -219,6 +213,7 @@ pub fn send(
         size,
         cell as u64,
     );
-    store_sent(store, cell, payload, sent.code);
+    let answer = sent.answer;
+    store_sent(store, cell, payload, answer);
     sent
 }

@@ -1,3 +1,2 @@
-pub mod Answers
 -- What is proved.
 pub mod Laws

@@ -1,77 +1,25 @@
 // `send` and the readiness tests with their refusals, over the record and the lent tables: 5 and 6, and then what follows them.
-ghost use Rattle.std.specs.Prelude.{◌≡◌, ◌<◌, eqb};
-ghost use Rattle.srt_protocol.specs.Errors.{error_number};
-ghost use Rattle.srt_group_model.specs.Tools.{if_true◌then◌else◌};
-ghost use Rattle.srt_group_model.specs.Guards.{no_answer, shown, number};
 ghost use Rattle.srt_group_model.specs.Lent.{call_send, call_can_send, call_can_send_with_pacing};
 ghost use Rattle.srt_group_looks.specs.Looks.{truth_code, truth_answer};
 ghost use Rattle.srt_group_shown.specs.Tables.{tables};
 ghost use Rattle.srt_group_shown.specs.Ready.{sending_into};
 ghost use Rattle.srt_group.specs.Made.{parts_of};
-ghost use Rattle.srt_group_refusals.specs.Promised.{nothing_lent, showing, Answers, Promised};
-ghost use Rattle.srt_group_send_calls.specs.Answers.{OutcomeCode, send_number, send_answer};
+ghost use Rattle.srt_group_refusals.specs.Promised.{nothing_lent, showing, Promised};
+ghost use Rattle.srt_group_send.specs.Answers.{send_number, send_answer};
 
 use srt_group::Group;
-use srt_group_looks::looks::TruthLook;
-use srt_group_refusals::refusals::{begin, begin_stored};
+use srt_group_refusals::refusals::LentGroup;
 use srt_group_send::{readiness, sending};
 use srt_group_sending::list::SENT_LENGTH;
-use srt_protocol::error::{Error, Outcome};
+use srt_protocol::error::Error;
 use srt_protocol::time::Timestamp;
-
-// What a send answers: on how many legs the payload went, or why it was not sent.
-#[derive(Clone, Copy)]
-pub enum SendAnswer {
-    Sent(u64),
-    Refused(Error),
-}
 
 // The answer, the record after the call, and how many rows of the list it has filled: a refused send may have filled some.
 #[derive(Clone, Copy)]
 pub struct GroupSent {
     pub group: Group,
-    pub answer: SendAnswer,
+    pub answer: Result<usize, Error>,
     pub rows: usize,
-}
-
-// The refusal that has this number.
-fn error_of(code: u64) -> Error
-    requires outcome_code { OutcomeCode code }
-    requires code_nonzero { 0 < code }
-    ensures { code ≡ error_number result }
-{
-    match code {
-        1 => Error::MissingGroupMask,
-        2 => Error::OutOfRange,
-        3 => Error::UnknownMember,
-        4 => Error::PayloadTooLong,
-        5 => Error::InsufficientBuffer,
-        6 => Error::InvalidState,
-        20 => Error::MemberLimit,
-        21 => Error::DuplicateMember,
-        22 => Error::AlignmentFailed,
-        23 => Error::PayloadAboveLimit,
-        24 => Error::NoActiveMember,
-        25 => Error::SequenceMismatch,
-        26 => Error::AllBroadcastFailed,
-        27 => Error::AllBackupFailed,
-        28 => Error::ReplayRefused,
-        29 => Error::PromotionSendFailed,
-        30 => Error::NoFreeCell,
-        31 => Error::QueueFull,
-        _ => Error::OutOfTurn,
-    }
-}
-
-// The answer of a send that ended in this code, on so many legs.
-fn answer_of(code: u64, legs: u64) -> SendAnswer
-    requires { OutcomeCode code }
-    ensures { Answers code (if_true eqb code 0 then shown (number legs) else no_answer) (send_number result) (send_answer result) }
-{
-    if code == 0 {
-        return SendAnswer::Sent(legs);
-    }
-    SendAnswer::Refused(error_of(code))
 }
 
 // One payload through the group, on every active leg or on the carrier; each send that a leg takes fills a row of the list.
@@ -103,28 +51,24 @@ pub fn send(
     if list.len() < SENT_LENGTH {
         return GroupSent {
             group,
-            answer: SendAnswer::Refused(Error::InsufficientBuffer),
+            answer: Err(Error::InsufficientBuffer),
             rows: 0,
         };
     }
     let mut used = [0u64; 32];
-    let begun = begin_stored(
-        identity,
-        core,
-        sending,
-        ring,
+    let lent = LentGroup {
+        group,
         members,
         pending,
         waiting,
         history,
         sources,
-        store.len(),
-        &mut used,
-    );
-    if let Outcome::Refused(error) = begun {
+    };
+    let begun = lent.begin_stored(store.len(), &mut used);
+    if let Err(refusal) = begun {
         return GroupSent {
             group,
-            answer: SendAnswer::Refused(error),
+            answer: Err(refusal),
             rows: 0,
         };
     }
@@ -135,6 +79,7 @@ pub fn send(
     let after = sent.core;
     let numbers = sent.sending;
     let left = sent.ring;
+    let answer = sent.answer;
     GroupSent {
         group: Group {
             identity,
@@ -142,7 +87,7 @@ pub fn send(
             sending: numbers,
             ring: left,
         },
-        answer: answer_of(sent.code, sent.legs as u64),
+        answer,
         rows: sent.rows,
     }
 }
@@ -178,7 +123,7 @@ pub fn send_shared(
 #[derive(Clone, Copy)]
 pub struct GroupReady {
     pub group: Group,
-    pub answer: TruthLook,
+    pub answer: Result<bool, Error>,
 }
 
 // Whether the group could send now.
@@ -203,13 +148,19 @@ pub fn can_send(
         sending,
         ring,
     } = group;
-    let begun = begin(
-        identity, core, sending, ring, members, pending, waiting, history, sources,
-    );
-    if let Outcome::Refused(error) = begun {
+    let lent = LentGroup {
+        group,
+        members,
+        pending,
+        waiting,
+        history,
+        sources,
+    };
+    let begun = lent.begin();
+    if let Err(error) = begun {
         return GroupReady {
             group,
-            answer: TruthLook::Refused(error),
+            answer: Err(error),
         };
     }
     let mut used = [0u64; 32];
@@ -224,7 +175,7 @@ pub fn can_send(
             sending: numbers,
             ring: left,
         },
-        answer: TruthLook::Truth(tested.ready),
+        answer: Ok(tested.ready),
     }
 }
 
@@ -251,13 +202,19 @@ pub fn can_send_with_pacing(
         sending,
         ring,
     } = group;
-    let begun = begin(
-        identity, core, sending, ring, members, pending, waiting, history, sources,
-    );
-    if let Outcome::Refused(error) = begun {
+    let lent = LentGroup {
+        group,
+        members,
+        pending,
+        waiting,
+        history,
+        sources,
+    };
+    let begun = lent.begin();
+    if let Err(error) = begun {
         return GroupReady {
             group,
-            answer: TruthLook::Refused(error),
+            answer: Err(error),
         };
     }
     let mut used = [0u64; 32];
@@ -274,6 +231,6 @@ pub fn can_send_with_pacing(
             sending: numbers,
             ring: left,
         },
-        answer: TruthLook::Truth(told.ready),
+        answer: Ok(told.ready),
     }
 }

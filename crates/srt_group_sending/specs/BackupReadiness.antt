@@ -1,6 +1,5 @@
 -- Readiness in Backup: of the history only its length and the sequence of its oldest entry are read.
-use Rattle.std.specs.Prelude.{◌≡◌, Bool, true, false, not, ◌&&◌, ◌||◌, List, ℕ, ◌+◌, ◌%◌, eqb, ltb, get_or}
-use Rattle.std.proofs.Math.Option.{Option, none, some}
+use Rattle.std.specs.Prelude.{◌≡◌, Bool, true, false, not, ◌&&◌, ◌||◌, List, ℕ, ◌+◌, ◌%◌, eqb, ltb, get_or, None, Option, Some}
 use Rattle.srt_group_model.specs.Tools.{if_true◌then◌else◌, if_some◌give◌otherwise◌, or_else, is_set, flagged}
 use Rattle.srt_group_model.specs.State.{Member, State}
 use Rattle.srt_group_model.specs.Legs.{remaining_window_packets}
@@ -8,8 +7,6 @@ use Rattle.srt_group_model.specs.Backup.{max_history, backup_member_ready, backu
 use Rattle.srt_group_model.specs.declared.Leg.{Leg}
 use Rattle.srt_group_model.specs.declared.Sending.{Sending}
 use Rattle.srt_connection_members.specs.Members.{members_of}
-use Rattle.srt_connection.specs.declared.legs.OptionalSequence.{OptionalSequence}
-use Rattle.srt_connection.specs.declared.legs.OptionalSequence.TheVariants.{Some, None}
 use Rattle.srt_group_tables.specs.Ring.{Arrays, word_sequence, send_of}
 use Rattle.srt_group_tables.specs.declared.history.HistoryRing.{HistoryRing}
 
@@ -25,20 +22,16 @@ send_number x = flagged (is_set x.numbered) x.next
 -- the sequence of the history's oldest entry
 unfoldable pub front_sequence : HistoryRing → List ℕ → Option ℕ
 front_sequence r history =
-    if_true eqb r.length 0 then none else some (word_sequence (get_or history ((r.start + 0) % max_history) 0))
+    if_true eqb r.length 0 then None else Some (word_sequence (get_or history ((r.start + 0) % max_history) 0))
 
 unfoldable pub replay_length : Bool → HistoryRing → ℕ
 replay_length takes r = if_true takes then r.length else 0
 
 unfoldable pub replay_sequence : Bool → Sending → HistoryRing → List ℕ → Option ℕ
-replay_sequence takes x r history = or_else (if_true takes then front_sequence r history else none) (send_number x)
+replay_sequence takes x r history = or_else (if_true takes then front_sequence r history else None) (send_number x)
 
 unfoldable pub gap_allows : (takes : Bool) (replay gap : ℕ) → Bool
 gap_allows takes replay gap = not takes || (eqb replay 0 || not (is_set gap))
-
-abbrev pub sequence_in : OptionalSequence → Option ℕ
-sequence_in None = none
-sequence_in (Some n) = some n
 
 unfoldable pub stands_at : Option ℕ → Leg → Bool
 stands_at sequence l = if_some sequence give (λ n. eqb l.sender.next n || eqb l.sender.flight 0) otherwise true

@@ -1,33 +1,21 @@
 -- Readiness to send, over the lent table of members.
-use Rattle.std.specs.Prelude.{Bool, ◌&&◌, ◌||◌, ℕ, min, eqb}
-use Rattle.std.proofs.Math.Option.{Option, none, some}
+use Rattle.srt_protocol.specs.declared.time.Timestamp.{Timestamp}
+use Rattle.std.specs.Prelude.{Bool, ◌&&◌, ◌||◌, ℕ, min, eqb, None, Option, Some}
 use Rattle.srt_group_model.specs.Tools.{if_true◌then◌else◌, if_some◌give◌otherwise◌}
 use Rattle.srt_group_model.specs.State.{Member, active_state, standby_state}
 use Rattle.srt_group_model.specs.Legs.{time_until_send}
 use Rattle.srt_group_model.specs.Members.{in_state, is_active}
 use Rattle.srt_group_model.specs.Backup.{ready_to_send}
-use Rattle.srt_group_sending.specs.declared.readiness.Pacing.{Pacing}
-use Rattle.srt_group_sending.specs.declared.readiness.Pacing.TheVariants.{At, Ignored}
-use Rattle.srt_group_sending.specs.declared.readiness.OptionalWait.{OptionalWait}
-use Rattle.srt_group_sending.specs.declared.readiness.OptionalWait.TheVariants.{Some, None}
 
 -- ---- definitions
 
-abbrev pub pacing_in : Pacing → Option ℕ
-pacing_in Ignored = none
-pacing_in (At time) = some time.0
+abbrev pub pacing_in : Option Timestamp → Option ℕ
+pacing_in None = None
+pacing_in (Some time) = Some time.0
 
 -- active, with room in its window and, with a time, not held back by pacing
 abbrev pub sends_now : Option ℕ → Member → Bool
 sends_now time m = is_active m && ready_to_send time m.leg
-
-abbrev pub wait_of : Option ℕ → OptionalWait
-wait_of none = None
-wait_of (some n) = Some n
-
-abbrev pub wait_in : OptionalWait → Option ℕ
-wait_in None = none
-wait_in (Some n) = some n
 
 -- Active or Standby
 unfoldable pub may_carry : ℕ → Bool
@@ -39,6 +27,6 @@ least_with time m least =
     if_true in_state active_state m || in_state standby_state m
     then
     (if_some least
-    give (λ n. some (min (time_until_send time m.leg) n))
-    otherwise some (time_until_send time m.leg))
+    give (λ n. Some (min (time_until_send time m.leg) n))
+    otherwise Some (time_until_send time m.leg))
     else least

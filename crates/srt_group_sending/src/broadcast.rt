@@ -14,18 +14,18 @@ ghost use Rattle.srt_group_sending.specs.Broadcast.{number_for_send, is_mismatch
 ghost use Rattle.srt_group_model.specs.State.{with_number};
 
 use crate::list::{OWN_PAYLOAD, write_sent};
-use srt_connection::legs::{LegResult, can_send, is_connected, send_shared_with_sequence};
-use srt_connection_members::{Found, leg_at, membership_at, put_leg_at, sender_at};
+use srt_connection::legs::{can_send, is_connected, send_shared_with_sequence};
+use srt_connection_members::{leg_at, membership_at, put_leg_at, sender_at};
 use srt_group_members::states::{BROKEN, UNSTABLE, first_active, is_active_at, turn_at};
 use srt_group_model::{Leg, Sending};
-use srt_protocol::error::{Error, Outcome};
+use srt_protocol::error::Error;
 use srt_protocol::srt_packet::word_further;
 use srt_protocol::time::Timestamp;
 
 // What a send answers: the group's numbers after it, and how many rows of the list it has written.
 #[derive(Clone, Copy)]
 pub struct BroadcastSend {
-    pub outcome: Outcome,
+    pub outcome: Result<(), Error>,
     pub sending: Sending,
     pub sent: usize,
 }
@@ -59,7 +59,7 @@ pub fn above_limit(members: &[u64], count: usize, size: u64) -> bool
     ensures { result ≡ above_limit size (members_of count members.now) }
 {
     let first = first_active(members, count);
-    let Found::At(index) = first else {
+    let Some(index) = first else {
         return false;
     };
     let leg = leg_at(members, index);
@@ -95,12 +95,10 @@ pub fn sequence_mismatch(members: &[u64], count: usize, sequence: u64) -> bool
     requires { count * row_size ≤ length members.now }
     ensures { result ≡ sequence_mismatch sequence (such_that is_active (members_of count members.now)) }
 {
-    let mut i = 0;
-    while i < count {
+    for i in 0..count {
         if is_mismatched_at(members, i, sequence) {
             return true;
         }
-        i += 1;
     }
     false
 }
@@ -128,7 +126,7 @@ fn attempt_send_at(
         return sent;
     }
     let result = send_shared_with_sequence(leg_at(members, index), time, size, sequence);
-    let LegResult::Ok(leg) = result else {
+    let Some(leg) = result else {
         mark_send_failure_at(members, index);
         return sent;
     };
@@ -154,10 +152,8 @@ fn attempt_sends(
         (send_tables members.new list.new) }
 {
     let mut sent = 0;
-    let mut i = 0;
-    while i < count {
+    for i in 0..count {
         sent = attempt_send_at(members, i, list, sent, time, size, sequence);
-        i += 1;
     }
     sent
 }
@@ -187,9 +183,9 @@ pub fn send_broadcast(
         (send_tables members.new list.new) }
 {
     let found = first_active(members, count);
-    let Found::At(first) = found else {
+    let Some(first) = found else {
         return BroadcastSend {
-            outcome: Outcome::Refused(Error::NoActiveMember),
+            outcome: Err(Error::NoActiveMember),
             sending,
             sent: 0,
         };
@@ -197,7 +193,7 @@ pub fn send_broadcast(
     let sequence = sequence_for_send(members, sending, first);
     if sequence_mismatch(members, count, sequence) {
         return BroadcastSend {
-            outcome: Outcome::Refused(Error::SequenceMismatch),
+            outcome: Err(Error::SequenceMismatch),
             sending,
             sent: 0,
         };
@@ -205,14 +201,14 @@ pub fn send_broadcast(
     let sent = attempt_sends(members, count, list, time, size, sequence);
     if sent == 0 {
         return BroadcastSend {
-            outcome: Outcome::Refused(Error::AllBroadcastFailed),
+            outcome: Err(Error::AllBroadcastFailed),
             sending,
             sent,
         };
     }
     let numbered = with_number_after(sending, sequence);
     BroadcastSend {
-        outcome: Outcome::Accepted,
+        outcome: Ok(()),
         sending: numbered,
         sent,
     }

@@ -4,15 +4,14 @@ ghost use Rattle.srt_group_model.specs.Tools.{any};
 ghost use Rattle.srt_group_model.specs.Backup.{max_history, ready_to_send, group_time_until_send};
 ghost use Rattle.srt_connection_queue.specs.Rows.{row_size};
 ghost use Rattle.srt_connection_members.specs.Members.{member_at, members_of, HasRow};
-ghost use Rattle.srt_connection.specs.Answers.{sequence_of};
-ghost use Rattle.srt_group_sending.specs.Readiness.{pacing_in, sends_now, wait_of, wait_in, may_carry, least_with};
+ghost use Rattle.srt_group_sending.specs.Readiness.{pacing_in, sends_now, may_carry, least_with};
 ghost use Rattle.srt_group_sending.specs.BackupReadiness.{is_other_carrier, send_number, front_sequence, replay_length, replay_sequence, gap_allows};
-ghost use Rattle.srt_group_sending.specs.BackupReadiness.{sequence_in, stands_at, could_take_over, MemberReady, BackupReady};
+ghost use Rattle.srt_group_sending.specs.BackupReadiness.{stands_at, could_take_over, MemberReady, BackupReady};
 
 use srt_connection::legs::{
-    OptionalSequence, can_send, can_send_with_pacing, remaining_window_packets, time_until_send,
+    can_send, can_send_with_pacing, remaining_window_packets, time_until_send,
 };
-use srt_connection_members::{Found, leg_at, membership_at};
+use srt_connection_members::{leg_at, membership_at};
 use srt_group_members::promotion::promotion;
 use srt_group_members::states::{ACTIVE, STANDBY, first_active, is_active_at};
 use srt_group_model::{Leg, Sending};
@@ -22,48 +21,32 @@ use srt_protocol::time::Timestamp;
 // The wait of a group with no member that could send, in microseconds.
 const NO_MEMBER_WAIT: u64 = 100000;
 
-// A wait in microseconds that may be missing: a Rust `Option<u64>`.
-#[derive(Clone, Copy)]
-pub enum OptionalWait {
-    Some(u64),
-    None,
-}
-
-// Whether pacing counts, and when: a Rust `Option<Timestamp>`.
-#[derive(Clone, Copy)]
-pub enum Pacing {
-    At(Timestamp),
-    Ignored,
-}
-
 // ---- Broadcast: whether an active leg can send
 
-fn ready_to_send(leg: Leg, pacing: Pacing) -> bool
+fn ready_to_send(leg: Leg, pacing: Option<Timestamp>) -> bool
     ensures { result ≡ ready_to_send (pacing_in pacing) leg }
 {
     match pacing {
-        Pacing::At(time) => can_send_with_pacing(leg, time),
-        Pacing::Ignored => can_send(leg),
+        Some(time) => can_send_with_pacing(leg, time),
+        None => can_send(leg),
     }
 }
 
-fn sends_now_at(members: &[u64], index: usize, pacing: Pacing) -> bool
+fn sends_now_at(members: &[u64], index: usize, pacing: Option<Timestamp>) -> bool
     requires { HasRow index members.now }
     ensures { result ≡ sends_now (pacing_in pacing) (member_at members.now index) }
 {
     is_active_at(members, index) && ready_to_send(leg_at(members, index), pacing)
 }
 
-pub fn broadcast_send_ready(members: &[u64], count: usize, pacing: Pacing) -> bool
+pub fn broadcast_send_ready(members: &[u64], count: usize, pacing: Option<Timestamp>) -> bool
     requires { count * row_size ≤ length members.now }
     ensures { result ≡ any (sends_now (pacing_in pacing)) (members_of count members.now) }
 {
-    let mut i = 0;
-    while i < count {
+    for i in 0..count {
         if sends_now_at(members, i, pacing) {
             return true;
         }
-        i += 1;
     }
     false
 }
@@ -85,23 +68,23 @@ fn least_wait_with(
     members: &[u64],
     index: usize,
     time: Timestamp,
-    least: OptionalWait,
-) -> OptionalWait
+    least: Option<u64>,
+) -> Option<u64>
     requires { HasRow index members.now }
-    ensures { result ≡ wait_of (least_with time.0 (member_at members.now index) (wait_in least)) }
+    ensures { result ≡ least_with time.0 (member_at members.now index) (least) }
 {
     let membership = membership_at(members, index);
     if !may_carry(membership.state) {
         return least;
     }
     let wait = time_until_send(leg_at(members, index), time);
-    let OptionalWait::Some(other) = least else {
-        return OptionalWait::Some(wait);
+    let Some(other) = least else {
+        return Some(wait);
     };
     if wait < other {
-        return OptionalWait::Some(wait);
+        return Some(wait);
     }
-    OptionalWait::Some(other)
+    Some(other)
 }
 
 // The least time until a send of the Active and Standby members.
@@ -109,14 +92,11 @@ pub fn group_time_until_send(members: &[u64], count: usize, time: Timestamp) -> 
     requires { count * row_size ≤ length members.now }
     ensures { result ≡ group_time_until_send time.0 (members_of count members.now) }
 {
-    let mut least = OptionalWait::None;
-    let mut left = count;
-    while 0 < left {
-        let index = left - 1;
+    let mut least = None;
+    for index in (0..count).rev() {
         least = least_wait_with(members, index, time, least);
-        left = index;
     }
-    let OptionalWait::Some(wait) = least else {
+    let Some(wait) = least else {
         return NO_MEMBER_WAIT;
     };
     wait
@@ -134,44 +114,30 @@ pub fn takes_over(sending: Sending, id: u64) -> bool
     sending.carrier != id
 }
 
-fn send_number(sending: Sending) -> OptionalSequence
-    ensures { result ≡ sequence_of (send_number sending) }
-{
-    if sending.numbered != 0 {
-        return OptionalSequence::Some(sending.next);
-    }
-    OptionalSequence::None
-}
-
 // The sequence of the oldest entry of the history.
-fn front_sequence(ring: HistoryRing, history: &[u64]) -> OptionalSequence
+fn front_sequence(ring: HistoryRing, history: &[u64]) -> Option<u64>
     requires { length history.now ≡ max_history }
-    ensures { result ≡ sequence_of (front_sequence ring history.now) }
+    ensures { result ≡ front_sequence ring history.now }
 {
     if ring.length == 0 {
-        return OptionalSequence::None;
+        return None;
     }
-    OptionalSequence::Some(sequence_at(ring, history, 0))
+    Some(sequence_at(ring, history, 0))
 }
 
 // The sequence at which a leg has to stand: that of the first entry that it would replay, else the group's send number.
-fn replay_sequence(
-    takes: bool,
-    sending: Sending,
-    ring: HistoryRing,
-    history: &[u64],
-) -> OptionalSequence
+fn replay_sequence(takes: bool, sending: Sending, ring: HistoryRing, history: &[u64]) -> Option<u64>
     requires { length history.now ≡ max_history }
-    ensures { result ≡ sequence_of (replay_sequence takes sending ring history.now) }
+    ensures { result ≡ replay_sequence takes sending ring history.now }
 {
     if !takes {
-        return send_number(sending);
+        return sending.next_send_sequence();
     }
     let front = front_sequence(ring, history);
-    let OptionalSequence::Some(sequence) = front else {
-        return send_number(sending);
+    let Some(sequence) = front else {
+        return sending.next_send_sequence();
     };
-    OptionalSequence::Some(sequence)
+    Some(sequence)
 }
 
 // A history that lost entries cannot be replayed.
@@ -188,10 +154,10 @@ fn gap_allows(takes: bool, replay: usize, gap: u64) -> bool
 }
 
 // Whether the leg stands at the sequence, or can be brought there because nothing of it is in flight.
-fn stands_at(leg: Leg, sequence: OptionalSequence) -> bool
-    ensures { result ≡ stands_at (sequence_in sequence) leg }
+fn stands_at(leg: Leg, sequence: Option<u64>) -> bool
+    ensures { result ≡ stands_at sequence leg }
 {
-    let OptionalSequence::Some(number) = sequence else {
+    let Some(number) = sequence else {
         return true;
     };
     if leg.sender.next == number {
@@ -234,7 +200,7 @@ pub fn backup_member_ready(
     sending: Sending,
     ring: HistoryRing,
     history: &[u64],
-    pacing: Pacing,
+    pacing: Option<Timestamp>,
 ) -> bool
     requires has_row { HasRow index members.now }
     requires history_len { length history.now ≡ max_history }
@@ -259,21 +225,21 @@ pub fn backup_send_ready(
     sending: Sending,
     ring: HistoryRing,
     history: &[u64],
-    pacing: Pacing,
+    pacing: Option<Timestamp>,
 ) -> bool
     requires row_size_in_bounds { count * row_size ≤ length members.now }
     requires history_len { length history.now ≡ max_history }
     ensures { BackupReady count (pacing_in pacing) sending ring history.now members.now result }
 {
     let found = first_active(members, count);
-    let Found::At(index) = found else {
+    let Some(index) = found else {
         return false;
     };
     if can_send(leg_at(members, index)) {
         return backup_member_ready(members, index, sending, ring, history, pacing);
     }
     let standby = promotion(members, count);
-    let Found::At(promoted) = standby else {
+    let Some(promoted) = standby else {
         return false;
     };
     backup_member_ready(members, promoted, sending, ring, history, pacing)

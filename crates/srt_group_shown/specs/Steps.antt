@@ -1,6 +1,5 @@
 -- A call that is lent no store, after 5 and 6: what it rests on, and what it promises.
-use Rattle.std.specs.Prelude.{◌≡◌, false, List, [], ℕ}
-use Rattle.std.proofs.Math.Option.{none}
+use Rattle.std.specs.Prelude.{◌≡◌, false, List, [], ℕ, None}
 use Rattle.srt_group_model.specs.declared.Core.{Core}
 use Rattle.srt_group_model.specs.declared.Identity.{Identity}
 use Rattle.srt_group_model.specs.declared.Sending.{Sending}
@@ -22,7 +21,7 @@ pub record Left (x : Step) (number : ℕ) (given : Answer) (s : State) : Type 0 
   pub code : x.code ≡ number
   pub answer : x.answer ≡ given
   pub state : x.state ≡ s
-  pub put : x.put ≡ none
+  pub put : x.put ≡ None
   pub sends : x.sends ≡ []
 
 -- the call is its definition, whatever is lent beside the tables

@@ -14,9 +14,7 @@ ghost use Rattle.srt_group_delivery.specs.Poll.{Polls};
 ghost use Rattle.srt_group_skip.specs.Skip.{PollsFrom};
 
 use srt_group_collecting::collecting::{Emptied, collect_until_empty, is_held};
-use srt_group_delivery::delivery::{
-    Poll, Polled, deliver, gap_given_up, give_waiting, set_base, skip_to,
-};
+use srt_group_delivery::delivery::{Poll, deliver, gap_given_up, give_waiting, set_base, skip_to};
 use srt_group_model::Core;
 use srt_group_tables::pending;
 use srt_protocol::time::Timestamp;
@@ -41,11 +39,8 @@ fn skip_to_nearest(
 {
     let held = core.counts.pending;
     let nearest = pending::nearest(pending, held);
-    let pending::Found::At(at) = nearest else {
-        return Poll {
-            gave: Polled::Nothing,
-            core,
-        };
+    let Some(at) = nearest else {
+        return Poll { gave: None, core };
     };
     let packet = pending::packet(pending, at);
     let next = packet.content.sequence;
@@ -137,15 +132,12 @@ fn deliver_nearest(core: Core, members: &mut [u64], pending: &mut [u64], used: &
 {
     let held = core.counts.pending;
     let nearest = pending::nearest(pending, held);
-    let pending::Found::At(at) = nearest else {
-        return Poll {
-            gave: Polled::Nothing,
-            core,
-        };
+    let Some(at) = nearest else {
+        return Poll { gave: None, core };
     };
     let packet = pending::packet(pending, at);
     let first = packet.content.sequence;
-    let based = set_base(core, 1, first);
+    let based = set_base(core, Some(first));
     deliver(based, members, pending, used, first)
 }
 

@@ -1,6 +1,6 @@
 -- What one pass over a table promises: it finds no rule broken exactly if the rows are good and the cells that they name lie in the store and
 -- were not named before; and then each of those cells has its bit.
-use Rattle.std.specs.Prelude.{◌≡◌, Bool, true, false, List, [], ◌∷◌, ℕ, ◌+◌, ◌≤◌}
+use Rattle.std.specs.Prelude.{◌≡◌, Bool, true, false, List, [], ◌∷◌, ℕ, ◌+◌, ◌≤◌, None, Option, Some}
 use Rattle.srt_group_model.specs.Tools.{any, each}
 use Rattle.srt_group_model.specs.State.{Member}
 use Rattle.srt_group_model.specs.Members.{id_of}
@@ -11,8 +11,6 @@ use Rattle.srt_group_model.specs.declared.Event.{Event}
 use Rattle.srt_group_model.specs.declared.Packet.{Packet}
 use Rattle.cell_set.specs.Bits.{bit_at}
 use Rattle.cell_set.specs.Marks.{Marks}
-use Rattle.srt_connection_members.specs.declared.Found.{Found}
-use Rattle.srt_connection_members.specs.declared.Found.TheVariants.{At, Nothing}
 use Rattle.srt_group_rules.specs.Rules.{queue_breaks_rule, member_breaks_rule, packet_breaks_rule}
 use Rattle.srt_group_rules.specs.Sums.{account_place, differs, accounts_wrong}
 
@@ -52,10 +50,10 @@ pub record TablesGood (ms : List Member) (ps : List Packet) (own : Account) : Ty
 
 -- ---- a packet's step, which answers with the place of its account
 
-abbrev pub is_nothing : Found → Bool
-is_nothing Nothing = true
-is_nothing (At i) = false
+abbrev pub is_nothing : Option ℕ → Bool
+is_nothing None = true
+is_nothing (Some i) = false
 
-pub record PlacesPacket (cells : ℕ) (ms : List Member) (lowest : ℕ) (p : Packet) (before : List ℕ) (r : Found) (after : List ℕ) : Type 0 where
+pub record PlacesPacket (cells : ℕ) (ms : List Member) (lowest : ℕ) (p : Packet) (before : List ℕ) (r : Option ℕ) (after : List ℕ) : Type 0 where
   pub passes : Passes cells (PacketGood ms lowest p) (p.content.cell ∷ []) before (is_nothing r) after
   pub place : is_nothing r ≡ false → r ≡ account_place ms p

@@ -17,7 +17,6 @@ ghost use Rattle.srt_group_state.specs.Passes.{Passes, PlacesPacket, QueueGood, 
 
 use crate::cells::mark_event;
 use cell_set::mark;
-use srt_connection_members::Found;
 use srt_connection_queue::rows::{MAX_QUEUED, ROW, leg, membership, ring_of};
 use srt_group_members::accounts::{NO_PACKETS, is_unlike, reserve_packet};
 use srt_group_model::{Account, Counts, Packet};
@@ -46,8 +45,7 @@ fn queue_breaks_rule(row: &[u64], reserved: u64, cells: usize, used: &mut [u64])
         return true;
     }
     let mut sum: u64 = 0;
-    let mut at: u64 = 0;
-    while at < count {
+    for at in 0..count {
         let event = queue_event(row, ring, at);
         if event_breaks_rule(event) {
             return true;
@@ -56,7 +54,6 @@ fn queue_breaks_rule(row: &[u64], reserved: u64, cells: usize, used: &mut [u64])
             return true;
         }
         sum += data_count(event);
-        at += 1;
     }
     sum != reserved
 }
@@ -92,17 +89,17 @@ fn place_packet(
     lowest: u64,
     cells: usize,
     used: &mut [u64],
-) -> Found
+) -> Option<usize>
     requires row_size_in_bounds { (count * row_size ≤ length members.now) × (count ≤ max_members) }
     requires members_value { one_twice (each id_of (members_of count members.now)) ≡ false }
     requires marking { Marking cells used.old }
     ensures { PlacesPacket cells (members_of count members.now) lowest packet used.old result used.new }
 {
     if packet_breaks_rule(packet) | (packet.content.sequence < lowest) {
-        return Found::Nothing;
+        return None;
     }
     if !mark(used, cells, packet.content.cell) {
-        return Found::Nothing;
+        return None;
     }
     account_place(members, count, table, packet)
 }
@@ -128,30 +125,25 @@ fn rows_break_rule(
     let none = NO_PACKETS;
     let mut accounts = [none; 65];
     let mut lowest: u64 = 0;
-    let mut at: usize = 0;
-    while at < held {
+    for at in 0..held {
         let next = packet(pending, at);
         let found = place_packet(members, count, table, next, lowest, cells, used);
-        let Found::At(place) = found else {
+        let Some(place) = found else {
             return true; // no account takes it
         };
-        let before = accounts[place];
-        let after = reserve_packet(before, next.content.count);
-        accounts[place] = after;
+        let account = &mut accounts[place];
+        *account = reserve_packet(*account, next.content.count);
         lowest = next.content.sequence + 1;
-        at += 1;
     }
     if is_unlike(own, accounts[OWN_PLACE]) {
         return true;
     }
-    let mut index: usize = 0;
-    while index < count {
+    for index in 0..count {
         let start = index * ROW;
         let account = accounts[index];
         if member_breaks_rule(&members[start..start + ROW], account, cells, used) {
             return true;
         }
-        index += 1;
     }
     false
 }
@@ -208,8 +200,7 @@ pub fn history_breaks_rule(
     if MAX_HISTORY < ring.length {
         return true;
     }
-    let mut index: usize = 0;
-    while index < ring.length {
+    for index in 0..ring.length {
         let entry = entry_at(ring, history, sources, index);
         if entry_breaks_rule(entry) {
             return true;
@@ -217,7 +208,6 @@ pub fn history_breaks_rule(
         if !mark(used, cells, entry.cell) {
             return true;
         }
-        index += 1;
     }
     false
 }

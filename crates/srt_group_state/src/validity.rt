@@ -57,6 +57,7 @@ fn words_out_of_range(identity: Identity, core: Core, sending: Sending) -> bool
         | (1 < core.visit.continuation)
 }
 
+#[tactic(auto, using(crate::specs::Laws::Outside::numbers_tested))]
 fn numbers_break_rule(identity: Identity, core: Core, sending: Sending) -> bool
     ensures { result ≡ numbers_break_rule identity core sending }
 {

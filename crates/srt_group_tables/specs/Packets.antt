@@ -1,7 +1,6 @@
 -- The pending packets as an index of one word each, with a row of eight words for each cell, and what a search for a sequence
 -- finds. The index is a ring. The list of what its first `count` words show, from its start on, is the model's list of pending packets.
-use Rattle.std.specs.Prelude.{◌≡◌, List, [], ◌∷◌, ℕ, ◌+◌, ◌-◌, ◌*◌, ◌/◌, ◌%◌, ◌≤◌, ◌<◌, length, get_or}
-use Rattle.std.proofs.Math.Option.{Option, none, some}
+use Rattle.std.specs.Prelude.{◌≡◌, List, [], ◌∷◌, ℕ, ◌+◌, ◌-◌, ◌*◌, ◌/◌, ◌%◌, ◌≤◌, ◌<◌, length, get_or, None, Option, Some}
 use Rattle.word_rows.specs.Tab.{tab}
 use Rattle.word_rows.specs.Rows.{row_at}
 use Rattle.srt_group_model.specs.declared.Packet.{Packet}
@@ -9,8 +8,6 @@ use Rattle.srt_group_model.specs.Tools.{place_of}
 use Rattle.srt_group_model.specs.Nearest.{sequence_of, has_sequence}
 use Rattle.srt_group_model.specs.Validity.{max_pending}
 use Rattle.srt_protocol.specs.Cells.{max_cells}
-use Rattle.srt_group_tables.specs.declared.pending.Found.{Found}
-use Rattle.srt_group_tables.specs.declared.pending.Found.TheVariants.{At, Nothing}
 
 -- ---- sizes
 
@@ -125,24 +122,20 @@ pub record Without (words : List ℕ) (count from end : ℕ) (after : List ℕ) 
   pub high : (k : ℕ) → from ≤ k → k + (end - from) < count → packet_at after k ≡ packet_at words (k + (end - from))
 
 -- the place of the packet with a sequence
-abbrev pub found : Option ℕ → Found
-found none = Nothing
-found (some i) = At i
-
-abbrev pub place_found : ℕ → List Packet → Found
-place_found sequence ps = found (place_of (has_sequence sequence) ps)
+abbrev pub place_found : ℕ → List Packet → Option ℕ
+place_found sequence ps = place_of (has_sequence sequence) ps
 
 -- the packet at the place that was found
-abbrev pub packet_found : List ℕ → Found → Option Packet
-packet_found words Nothing = none
-packet_found words (At i) = some (packet_at words i)
+abbrev pub packet_found : List ℕ → Option ℕ → Option Packet
+packet_found words None = None
+packet_found words (Some i) = Some (packet_at words i)
 
 -- a place that was found is that of an index word in use
-abbrev pub in_use : ℕ → Found → Type 0
-in_use count Nothing = Unit {0}
-in_use count (At i) = i < count
+abbrev pub in_use : ℕ → Option ℕ → Type 0
+in_use count None = Unit {0}
+in_use count (Some i) = i < count
 
 -- a search that gives a packet, by its place
-pub record FoundPacket (words : List ℕ) (count : ℕ) (r : Found) (p : Option Packet) : Type 0 where
+pub record FoundPacket (words : List ℕ) (count : ℕ) (r : Option ℕ) (p : Option Packet) : Type 0 where
   pub within : in_use count r
   pub is : packet_found words r ≡ p

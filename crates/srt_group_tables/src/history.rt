@@ -102,6 +102,7 @@ pub fn store(ring: HistoryRing, history: &mut [u64], sources: &mut [u64], entry:
 }
 
 // The ring once an entry was stored behind the newest. A full one loses its oldest.
+#[tactic(auto, using(crate::specs::Laws::Ring::push_with_room, crate::specs::Laws::Ring::push_of_full))]
 pub fn push_back(ring: HistoryRing) -> HistoryRing
     ensures { result ≡ after_push ring }
 {
@@ -118,19 +119,21 @@ pub fn push_back(ring: HistoryRing) -> HistoryRing
 }
 
 // The ring without the entries at the front that are before `oldest`.
+#[tactic(auto, using(crate::specs::Laws::Ring::trimmed_one, crate::specs::Laws::Ring::trimmed_there, crate::specs::Laws::Ring::trimmed_all))]
 pub fn drop_before(ring: HistoryRing, history: &[u64], oldest: u64) -> HistoryRing
     requires { (ring.length ≤ max_history) × (length history.now ≡ max_history) }
     ensures { Trimmed oldest history.now ring result }
 {
     let mut start = ring.start;
-    let mut length = ring.length;
-    while 0 < length {
+    for dropped in 0..ring.length {
         let at = start % MAX_HISTORY;
         if !word_before(sequence_of(history[at]), oldest) {
-            return HistoryRing { start, length };
+            return HistoryRing {
+                start,
+                length: ring.length - dropped,
+            };
         }
         start = (at + 1) % MAX_HISTORY;
-        length -= 1;
     }
-    HistoryRing { start, length }
+    HistoryRing { start, length: 0 }
 }

@@ -19,7 +19,7 @@ ghost use Rattle.srt_group_tables.specs.Covered.{Small, CoveredUntil, Covers, Wi
 
 use srt_group_model::{Data, Packet};
 use srt_protocol::received_payload::MAX_CELLS;
-use srt_protocol::srt_packet::word_distance;
+use srt_protocol::srt_packet::{SEQUENCE_HALF_SPACE, word_distance};
 use srt_protocol::time::Timestamp;
 
 // The most packets that are held: as many as a store has cells.
@@ -49,16 +49,6 @@ const OWNED: usize = 6;
 // The most cells that a store has: an index word is a sequence times this, plus a cell.
 pub const CELLS: u64 = MAX_CELLS as u64;
 
-// Half of the sequence space.
-const HALF_SPACE: u64 = 0x4000_0000;
-
-// The place of a packet, or that there is none.
-#[derive(Clone, Copy)]
-pub enum Found {
-    At(usize),
-    Nothing,
-}
-
 // Where the packets stand that a run covers: the first `low`, which lie beyond the wrap, and those from `from` up to `end`.
 #[derive(Clone, Copy)]
 pub struct Covered {
@@ -76,6 +66,7 @@ fn row_start(cell: usize) -> usize
 }
 
 // The packet of an index word and the row of its cell.
+#[tactic(auto, unfolding(crate::specs::Packets::packet_of))]
 fn read_packet(word: u64, row: &[u64]) -> Packet
     requires { length row.now ≡ packet_row_size }
     ensures { result ≡ packet_of word row.now }
@@ -110,6 +101,7 @@ fn write_row(row: &mut [u64], packet: Packet)
 }
 
 // The index word at which the ring starts.
+#[tactic(auto, unfolding(crate::specs::Packets::start_of))]
 fn ring_start(pending: &[u64]) -> usize
     requires { pending_size ≤ length pending.now }
     ensures { (result ≡ start_of pending.now) × (result < index_size) }
@@ -126,6 +118,7 @@ fn slot(pending: &[u64], at: usize) -> usize
 }
 
 // The sequence of the packet at a place.
+#[tactic(auto, using(crate::specs::Laws::PacketIndex::index_sequence))]
 pub fn sequence_at(pending: &[u64], at: usize) -> u64
     requires { (pending_size ≤ length pending.now) × (at < max_pending) }
     ensures { result ≡ sequence_of (packet_at pending.now at) }
@@ -135,6 +128,7 @@ pub fn sequence_at(pending: &[u64], at: usize) -> u64
 }
 
 // The cell of the packet at a place.
+#[tactic(auto, using(crate::specs::Laws::PacketIndex::index_cell))]
 pub fn cell_at(pending: &[u64], at: usize) -> usize
     requires { (pending_size ≤ length pending.now) × (at < max_pending) }
     ensures { (result ≡ (packet_at pending.now at).content.cell) × (result < max_cells) }
@@ -144,6 +138,7 @@ pub fn cell_at(pending: &[u64], at: usize) -> usize
 }
 
 // The packet at a place.
+#[tactic(auto, using(crate::specs::Laws::PacketIndex::packet_part))]
 pub fn packet(pending: &[u64], at: usize) -> Packet
     requires { (pending_size ≤ length pending.now) × (at < max_pending) }
     ensures { result ≡ packet_at pending.now at }
@@ -155,6 +150,7 @@ pub fn packet(pending: &[u64], at: usize) -> Packet
 }
 
 // A packet's row is written at its cell.
+#[tactic(auto, using(crate::specs::Laws::PacketIndex::row_written, crate::specs::Laws::PacketIndex::seven_words))]
 fn put_row(pending: &mut [u64], packet: Packet)
     requires { (pending_size ≤ length pending.old) × (packet.content.cell < max_cells) }
     ensures { pending.new ≡ overwritten
@@ -180,6 +176,7 @@ fn place(pending: &[u64], count: usize, sequence: u64) -> usize
     if sequence <= sequence_at(pending, 0) {
         return 0;
     }
+    // Over a ring, whose words are not one slice in order: so no `partition_point`.
     let mut low: usize = 0;
     let mut high: usize = last;
     while low < high {
@@ -194,7 +191,8 @@ fn place(pending: &[u64], count: usize, sequence: u64) -> usize
 }
 
 // The place of the packet with a sequence.
-pub fn find(pending: &[u64], count: usize, sequence: u64) -> Found
+#[tactic(auto, using(crate::specs::Laws::PacketLaws::find_there, crate::specs::Laws::PacketLaws::find_other, crate::specs::Laws::PacketLaws::find_past))]
+pub fn find(pending: &[u64], count: usize, sequence: u64) -> Option<usize>
     requires pending_size_in_bounds { (pending_size ≤ length pending.now) × (count ≤ max_pending) }
     requires pending_value { ascends (packets count pending.now) ≡ true }
     ensures { result ≡ place_found sequence (packets count pending.now) }
@@ -202,36 +200,34 @@ pub fn find(pending: &[u64], count: usize, sequence: u64) -> Found
     let at = place(pending, count, sequence);
     if at < count {
         if sequence_at(pending, at) == sequence {
-            return Found::At(at);
+            return Some(at);
         }
     }
-    Found::Nothing
+    None
 }
 
 // The index words of the places from `from` up to `end` move up by `width` places, round the ring.
+#[tactic(auto, using(crate::specs::Laws::PacketLaws::up_start, crate::specs::Laws::PacketLaws::up_turn, crate::specs::Laws::PacketLaws::up_done))]
 fn move_up(index: &mut [u64], start: usize, from: usize, end: usize, width: usize)
     requires index_len { (length index.old ≡ index_size) × (start < index_size) }
     requires from_le_end { (from ≤ end) × (end + width ≤ index_size) }
     ensures { MovedUp width start index.old from end index.new }
 {
-    let mut at = end;
-    while from < at {
-        let lower = at - 1;
-        index[(start + (lower + width)) % INDEX_WORDS] = index[(start + lower) % INDEX_WORDS];
-        at = lower;
+    for moved in 0..end - from {
+        let at = end - moved - 1;
+        index[(start + (at + width)) % INDEX_WORDS] = index[(start + at) % INDEX_WORDS];
     }
 }
 
 // The index words of the places from `from + width` up to `end` move down by `width` places, round the ring.
+#[tactic(auto, using(crate::specs::Laws::PacketLaws::down_start, crate::specs::Laws::PacketLaws::down_turn, crate::specs::Laws::PacketLaws::down_done))]
 fn move_down(index: &mut [u64], start: usize, from: usize, end: usize, width: usize)
     requires index_len { (length index.old ≡ index_size) × (start < index_size) }
     requires width_bound { (from + width ≤ end) × (end ≤ index_size) }
     ensures { MovedDown width start index.old from end index.new }
 {
-    let mut at = from;
-    while at + width < end {
+    for at in from..end - width {
         index[(start + at) % INDEX_WORDS] = index[(start + (at + width)) % INDEX_WORDS];
-        at += 1;
     }
 }
 
@@ -251,6 +247,7 @@ fn open_place(pending: &mut [u64], count: usize, at: usize)
 }
 
 // A packet into its place in ascending order. No held packet has its cell, so no row in use is written over.
+#[tactic(auto, using(crate::specs::Laws::PacketLaws::room_enough))]
 pub fn insert(pending: &mut [u64], count: usize, packet: Packet)
     requires pending_size_in_bounds { (pending_size ≤ length pending.old) × (count < max_pending) }
     requires pending_value { ascends (packets count pending.old) ≡ true }
@@ -284,6 +281,7 @@ fn remove_range(pending: &mut [u64], count: usize, from: usize, end: usize)
 }
 
 // The packet at a place is taken out.
+#[tactic(auto, using(crate::specs::Laws::PacketLaws::packet_removed))]
 pub fn remove(pending: &mut [u64], count: usize, at: usize)
     requires { (pending_size ≤ length pending.old) × (at < count) × (count ≤ max_pending) }
     ensures { Holds (length pending.old) pending.new (count - 1) (removed at (packets count pending.old)) }
@@ -294,20 +292,21 @@ pub fn remove(pending: &mut [u64], count: usize, at: usize)
 // The nearest packet in wrapping order. Either none lies half a space above the lowest, and that one is nearest, or the first of
 // those above is. It is the least far ahead of the base where all are less than half a space ahead: so by the schedule's premise
 // (demand 3), not in every state.
-pub fn nearest(pending: &[u64], count: usize) -> Found
+#[tactic(auto, using(crate::specs::Laws::PacketLaws::nearest_wraps, crate::specs::Laws::PacketLaws::nearest_lowest, crate::specs::Laws::PacketLaws::nearest_none, crate::specs::Laws::PacketIndex::sequence_small), unfolding(srt_protocol::specs::Sequence::half))]
+pub fn nearest(pending: &[u64], count: usize) -> Option<usize>
     requires pending_size_in_bounds { (pending_size ≤ length pending.now) × (count ≤ max_pending) }
     requires pending_value { ascends (packets count pending.now) ≡ true }
     ensures { FoundPacket pending.now count result (nearest (packets count pending.now)) }
 {
     if count == 0 {
-        return Found::Nothing;
+        return None;
     }
     let lowest = sequence_at(pending, 0);
-    let wrapped = place(pending, count, lowest + HALF_SPACE);
+    let wrapped = place(pending, count, lowest + SEQUENCE_HALF_SPACE as u64);
     if wrapped < count {
-        return Found::At(wrapped);
+        return Some(wrapped);
     }
-    Found::At(0)
+    Some(0)
 }
 
 // Whether a sequence starts inside a run of so many sequences from `first` on.
@@ -318,18 +317,17 @@ fn is_covered(first: u64, run: u64, sequence: u64) -> bool
 }
 
 // The first place from `from` on whose packet starts outside a run, or `end`.
+#[tactic(auto, using(crate::specs::Laws::Covered::covering_start, crate::specs::Laws::Covered::covering_one, crate::specs::Laws::Covered::covering_ends, crate::specs::Laws::Covered::covering_all))]
 fn covered_until(pending: &[u64], from: usize, end: usize, first: u64, run: u64) -> usize
     requires { (pending_size ≤ length pending.now) × (from ≤ end) × (end ≤ max_pending) }
     ensures { CoveredUntil first run pending.now from end result }
 {
-    let mut at = from;
-    while at < end {
+    for at in from..end {
         if !is_covered(first, run, sequence_at(pending, at)) {
             return at;
         }
-        at += 1;
     }
-    at
+    end
 }
 
 // Where the packets stand that start inside a run, by the place of the run's first sequence. Only these and the two that end the search are read.
@@ -346,6 +344,7 @@ pub fn covered_places(pending: &[u64], count: usize, at: usize, first: u64, run:
 }
 
 // The packets at these places are taken out. Answers how many are left.
+#[tactic(auto, using(crate::specs::Laws::Covered::covered_removed))]
 pub fn remove_covered(pending: &mut [u64], count: usize, covered: Covered) -> usize
     requires pending_size_in_bounds { (pending_size ≤ length pending.old) × (count ≤ max_pending) }
     requires within { Within count covered }
@@ -361,19 +360,16 @@ pub fn remove_covered(pending: &mut [u64], count: usize, covered: Covered) -> us
 }
 
 // The packets of a member become the group's own.
+#[tactic(auto, using(crate::specs::Laws::PacketLaws::owning_start, crate::specs::Laws::PacketLaws::owned_one, crate::specs::Laws::PacketLaws::owned_not, crate::specs::Laws::PacketLaws::owned_all))]
 pub fn own_packets(pending: &mut [u64], count: usize, member: u64)
     requires { (pending_size ≤ length pending.old) × (count ≤ max_pending) }
     ensures { Holds (length pending.old) pending.new count
         (each (own_packet member) (packets count pending.old)) }
 {
-    let mut at: usize = 0;
-    while at < count {
+    for at in 0..count {
         let start = row_start(cell_at(pending, at));
         if pending[start + MEMBER] == member {
             pending[start + OWNED] = 1;
-            at += 1;
-        } else {
-            at += 1;
         }
     }
 }

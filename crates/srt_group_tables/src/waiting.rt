@@ -15,6 +15,7 @@ pub const MAX_WAITING: usize = 64;
 // The words of the table: a row for each of them.
 pub const WAITING_LENGTH: usize = MAX_WAITING * WAITING_WORDS;
 
+#[tactic(auto, unfolding(crate::specs::Waitings::waiting_of))]
 fn read_waiting(row: &[u64]) -> Waiting
     requires { length row.now ≡ waiting_row_size }
     ensures { result ≡ waiting_of row.now }
@@ -26,6 +27,7 @@ fn read_waiting(row: &[u64]) -> Waiting
     }
 }
 
+#[tactic(auto, using(crate::specs::Laws::PacketIndex::all_stored), unfolding(crate::specs::Waitings::waiting_words))]
 fn write_waiting(row: &mut [u64], event: Waiting)
     requires { length row.old ≡ waiting_row_size }
     ensures { row.new ≡ waiting_words event }
@@ -36,6 +38,7 @@ fn write_waiting(row: &mut [u64], event: Waiting)
 }
 
 // The event of a row: the first is the front.
+#[tactic(auto, using(word_rows::specs::Laws::Rows::row_part), unfolding(crate::specs::Waitings::waiting_at))]
 pub fn waiting_event(waiting: &[u64], at: usize) -> Waiting
     requires { (waiting_size ≤ length waiting.now) × (at < max_waiting) }
     ensures { result ≡ waiting_at waiting.now at }
@@ -45,6 +48,7 @@ pub fn waiting_event(waiting: &[u64], at: usize) -> Waiting
 }
 
 // An event behind the last.
+#[tactic(auto, using(crate::specs::Laws::Waitings::waiting_pushed, word_rows::specs::Laws::Rows::row_back, crate::specs::Laws::Waitings::three_words))]
 pub fn push_back(waiting: &mut [u64], count: usize, event: Waiting)
     requires { (waiting_size ≤ length waiting.old) × (count < max_waiting) }
     ensures { HoldsWaiting (length waiting.old) waiting.new (count + 1)

@@ -2,8 +2,7 @@
 -- printed lines alone, and the packets that they print are those that he gives. The premises are asked of the lines that follow an
 -- accepted verb 1, which starts a new list of calls: once as demand 3 asks them of calls, and once, where the schedule has less than
 -- 2^30 packets in all, of the listing's columns alone. The proof is `listing_theorem` in laws.
-use Rattle.std.specs.Prelude.{◌≡◌, ◌⊎◌, Bool, true, false, not, ◌&&◌, List, [], ◌∷◌, ◌++◌, ℕ, zero, suc, ◌+◌, ◌<◌, eqb, length, replicate}
-use Rattle.std.proofs.Math.Option.{Option, none, some}
+use Rattle.std.specs.Prelude.{◌≡◌, ◌⊎◌, Bool, true, false, not, ◌&&◌, List, [], ◌∷◌, ◌++◌, ℕ, zero, suc, ◌+◌, ◌<◌, eqb, length, replicate, None, Option, Some}
 use Rattle.srt_protocol.specs.Cells.{output_size}
 use Rattle.srt_protocol.specs.Sequence.{half}
 use Rattle.srt_group_model.specs.Tools.{if_true◌then◌else◌, if_some◌give◌otherwise◌, at_place, each, total, All}
@@ -86,9 +85,9 @@ heading x = record { sequence = x.sequence; count = x.count }
 -- The clerk who is told the printed lines has an answer; the packets printed are those that he gives; and he stands at the base's place.
 pub record ReadByClerk (schedule : List Delivery) (rows : List Row) : Type 0 where
   pub went : Went
-  pub answers : clerk schedule 0 (told_of rows) ≡ some went
+  pub answers : clerk schedule 0 (told_of rows) ≡ Some went
   pub packets : packets_of rows ≡ each heading went.gave
-  pub stands : pass_to schedule (place_of rows) ≡ some went.left
+  pub stands : pass_to schedule (place_of rows) ≡ Some went.left
 
 -- ---- premises on the columns, for a short schedule
 
@@ -124,26 +123,26 @@ pub record FairRows (schedule : List Delivery) (first : ℕ) (rows : List Row) :
 
 -- a payload byte above 255 makes no call
 abbrev pub with_byte : ℕ → Call → Option Call
-with_byte byte call = if_true above 255 byte then none else some call
+with_byte byte call = if_true above 255 byte then None else Some call
 
 -- verbs 2 to 9, in order
 unfoldable pub verb_calls : List (Line → Option Call)
 verb_calls =
-    (λ line. some (addition line))
-    ∷ (λ line. some (reading line))
+    (λ line. Some (addition line))
+    ∷ (λ line. Some (reading line))
     ∷ (λ line. with_byte (column 5 line) (queueing line))
-    ∷ (λ line. some (polling line))
+    ∷ (λ line. Some (polling line))
     ∷ (λ line. with_byte (column 1 line) (sending line))
-    ∷ (λ line. some (removing line))
-    ∷ (λ line. some (breaking line))
-    ∷ (λ line. some (event line))
+    ∷ (λ line. Some (removing line))
+    ∷ (λ line. Some (breaking line))
+    ∷ (λ line. Some (event line))
     ∷ []
 
 -- verb 1 and an unknown verb are no call of a group
 unfoldable pub call_of_verb : ℕ → Line → Option Call
-call_of_verb zero line = none
-call_of_verb (suc zero) line = none
-call_of_verb (suc (suc verb)) line = if_some at_place verb verb_calls give (λ f. f line) otherwise none
+call_of_verb zero line = None
+call_of_verb (suc zero) line = None
+call_of_verb (suc (suc verb)) line = if_some at_place verb verb_calls give (λ f. f line) otherwise None
 
 abbrev pub call_of : Line → Option Call
 call_of line = call_of_verb (column 0 line) line
@@ -202,15 +201,15 @@ pub record ListingTheorem : Type 0 where
   pub covers : (listing : List Line) (x y : List Row) → rows_of listing ≡ x ++ y
       → All (λ (row : Row). is_accepted 1 row ≡ false) x ⊎ ((part : Part listing) × (front : List Row) × (x ≡ front ++ part.rows))
   -- A line that is a call prints what the call gives and leaves the state that it leaves, whatever bytes stand in the store.
-  pub line_is_call : (line : Line) (call : Call) (store : List ℕ) (s : State) → length store ≡ store_length → call_of line ≡ some call
-      → tell (column 0 line) line (some s)
+  pub line_is_call : (line : Line) (call : Call) (store : List ℕ) (s : State) → length store ≡ store_length → call_of line ≡ Some call
+      → tell (column 0 line) line (Some s)
       ≡ record {
-        group = some (do_call (asking store call) s).state;
+        group = Some (do_call (asking store call) s).state;
         line = printed_by (column 0 line) (do_call (asking store call) s);
       }
   -- A group's rows leave the state that their calls leave.
   pub rows_are_calls : (listing : List Line) (part : Part listing)
-      → group_after (some (new (making_of part))) (each (λ (row : Row). row.input) part.rows) ≡ some (reached (making_of part) (calls_of part))
+      → group_after (Some (new (making_of part))) (each (λ (row : Row). row.input) part.rows) ≡ Some (reached (making_of part) (calls_of part))
   -- Demand 3 on a listing: under its premises on the calls of a group's rows, the packets that they print are the clerk's.
   pub clerk : (schedule : List Delivery) (first : ℕ) → Consecutive first schedule → (listing : List Line) (part : Part listing)
       → FairPart schedule first part → ReadByClerk schedule part.rows

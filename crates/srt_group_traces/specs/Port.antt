@@ -4,8 +4,7 @@
 -- shown: the base and its first value, the clerk's list, the skips, two ports. The list that the theorem is applied to is that
 -- of the calls without those refusals. So once the code is proved equal to the model, call by call, the claims are about the
 -- code.
-use Rattle.std.specs.Prelude.{◌≡◌, Bool, true, false, List, [], ◌∷◌, ◌++◌, ℕ, ◌+◌, eqb}
-use Rattle.std.proofs.Math.Option.{Option, none, some}
+use Rattle.std.specs.Prelude.{◌≡◌, Bool, true, false, List, [], ◌∷◌, ◌++◌, ℕ, ◌+◌, eqb, None, Option, Some}
 use Rattle.srt_protocol.specs.Sequence.{sequence_distance}
 use Rattle.srt_group_model.specs.Tools.{if_true◌then◌else◌, if_some◌give◌otherwise◌}
 use Rattle.srt_group_model.specs.State.{State, next_receive_sequence, Making}
@@ -131,10 +130,10 @@ less_moved x base = sequence_distance (counts_of (shown_delivery x) + skipped_in
 -- The first value of the base, by what is shown: of the first step that shows a base. Before the base is set nothing is delivered
 -- and nothing skipped, so what that step shows is all that the base has moved.
 unfoldable pub first_shown : List Shown → Option ℕ
-first_shown [] = none
+first_shown [] = None
 first_shown (x ∷ xs) =
     if_some next_receive_sequence x.state.receive
-    give (λ base. some (less_moved x base))
+    give (λ base. Some (less_moved x base))
     otherwise first_shown xs
 
 -- ---- skips

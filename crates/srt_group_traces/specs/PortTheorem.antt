@@ -2,8 +2,7 @@
 -- shows what the model's call gives, or one refused for a short table (Port); the promise of each public call makes one. The
 -- only words that are not about what is shown are the premises: which packets are collected and which store is lent (`Fair`),
 -- of the calls without those refusals. For a short schedule they too follow from the calls (ShortSchedule).
-use Rattle.std.specs.Prelude.{◌≡◌, ◌⊎◌, Bool, List, [], ◌∷◌, ◌++◌, ℕ, ◌+◌, ◌-◌, ◌%◌, ◌<◌}
-use Rattle.std.proofs.Math.Option.{none, some}
+use Rattle.std.specs.Prelude.{◌≡◌, ◌⊎◌, Bool, List, [], ◌∷◌, ◌++◌, ℕ, ◌+◌, ◌-◌, ◌%◌, ◌<◌, None, Some}
 use Rattle.srt_protocol.specs.Sequence.{half, sequence_distance, sequence_further}
 use Rattle.srt_group_model.specs.Legs.{largest_64}
 use Rattle.srt_group_model.specs.State.{next_receive_sequence, State, Making}
@@ -26,24 +25,24 @@ pub record PortTheorem : Type 0 where
   -- count, modulo 2^31
   pub base : (g : Making) (steps : List Taken) → Performed (new g) steps
       → skipped_in (last_shown (new g) (all_shown steps)) < largest_64
-      → (base : ℕ) → next_receive_sequence (last_shown (new g) (all_shown steps)).receive ≡ some base
+      → (base : ℕ) → next_receive_sequence (last_shown (new g) (all_shown steps)).receive ≡ Some base
       → (first : ℕ)
-      × (first_shown (all_shown steps) ≡ some first)
+      × (first_shown (all_shown steps) ≡ Some first)
       × (sequence_distance first base ≡ place_shown g steps % (half + half))
   -- "Once set, the base moves only by delivery and skip": a step moves it as far as it shows as delivered and as the count rises;
   -- while none is shown, nothing was delivered and nothing skipped
   pub moves : (g : Making) (steps : List Taken) (t : Taken) → Performed (new g) (steps ++ (t ∷ [])) → (base : ℕ)
-      → next_receive_sequence (last_shown (new g) (all_shown steps)).receive ≡ some base
+      → next_receive_sequence (last_shown (new g) (all_shown steps)).receive ≡ Some base
       → skipped_in (shown_of t).state < largest_64
       → next_receive_sequence (shown_of t).state.receive
-      ≡ some (sequence_further base (counts_of (shown_delivery (shown_of t)) + (skipped_in (shown_of t).state - skipped_in (last_shown (new g) (all_shown steps)))))
+      ≡ Some (sequence_further base (counts_of (shown_delivery (shown_of t)) + (skipped_in (shown_of t).state - skipped_in (last_shown (new g) (all_shown steps)))))
   pub unset : (g : Making) (steps : List Taken) → Performed (new g) steps
-      → next_receive_sequence (last_shown (new g) (all_shown steps)).receive ≡ none → place_shown g steps ≡ 0
+      → next_receive_sequence (last_shown (new g) (all_shown steps)).receive ≡ None → place_shown g steps ≡ 0
   -- the delivered list is the clerk's, byte for byte, and the base's place is his
   pub schedule : (schedule : List Delivery) (first : ℕ) → Consecutive first schedule → (g : Making) (steps : List Taken)
       → Performed (new g) steps → Fair schedule first g (calls_of steps)
-      → (left : List Delivery) × (pass_to schedule (place_shown g steps) ≡ some left)
-      × (clerk schedule 0 (shown_told (all_shown steps)) ≡ some record { gave = shown_deliveries (all_shown steps); left = left })
+      → (left : List Delivery) × (pass_to schedule (place_shown g steps) ≡ Some left)
+      × (clerk schedule 0 (shown_told (all_shown steps)) ≡ Some record { gave = shown_deliveries (all_shown steps); left = left })
   -- every step that raises the skipped count made a right skip, and leaves every leg's queue empty
   pub skips : (g : Making) (steps : List Taken) → Performed (new g) steps → SkipsShown (new g) steps
   -- two ports at one place deliver the same packets, one list a prefix of the other, each up to its next skip

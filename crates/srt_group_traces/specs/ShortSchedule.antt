@@ -1,7 +1,6 @@
 -- Premises on the calls alone. Where a schedule has less than 2^30 packets in all, `short_schedule_is_fair` in laws derives those of
 -- the second claim (`Fair` of Statement) from what is queued, which a host knows, instead of what is collected.
-use Rattle.std.specs.Prelude.{◌≡◌, List, [], ◌∷◌, ◌++◌, ℕ, ◌<◌}
-use Rattle.std.proofs.Math.Option.{some}
+use Rattle.std.specs.Prelude.{◌≡◌, List, [], ◌∷◌, ◌++◌, ℕ, ◌<◌, Some}
 use Rattle.srt_protocol.specs.Sequence.{half}
 use Rattle.srt_group_model.specs.Tools.{All}
 use Rattle.srt_group_model.specs.State.{State, next_receive_sequence, Making}
@@ -16,7 +15,7 @@ QueuesNone asked = (id : ℕ) (d : Data) (payload : List ℕ) → asked.call ≡
 
 -- a packet of the schedule
 abbrev pub Scheduled : List Delivery → Delivery → Type 0
-Scheduled schedule x = (place : ℕ) × (rest : List Delivery) × (pass_to schedule place ≡ some (x ∷ rest))
+Scheduled schedule x = (place : ℕ) × (rest : List Delivery) × (pass_to schedule place ≡ Some (x ∷ rest))
 
 -- an accepted call that queues data is given a packet of the schedule
 abbrev pub QueuesScheduled : List Delivery → Asked → State → Type 0
@@ -34,7 +33,7 @@ AllScheduled schedule (call ∷ more) s = QueuesScheduled schedule call s × All
 pub record FairCalls (schedule : List Delivery) (first : ℕ) (g : Making) (before after : List Asked) : Type 0 where
   pub short : counts_of schedule < half
   pub none_queued : All QueuesNone before
-  pub set : next_receive_sequence (state_after before (new g)).receive ≡ some first
+  pub set : next_receive_sequence (state_after before (new g)).receive ≡ Some first
   pub scheduled : AllScheduled schedule (before ++ after) (new g)
   pub store : List ℕ
   pub one_store : OneStore store (before ++ after) (new g)

@@ -1,8 +1,7 @@
 -- Demand 3 in one file, for a planner: calls and what they deliver, the marks that they leave, the schedule, the clerk, the premises,
 -- a right skip, two gateways; and, at the end, the record of claims, each under the customer's or document 01's sentence. All
 -- of it is definitions; the proof of the record is `history_theorem` in laws.
-use Rattle.std.specs.Prelude.{◌≡◌, Bool, true, false, ◌&&◌, List, [], ◌∷◌, ◌++◌, ℕ, zero, suc, ◌+◌, ◌-◌, ◌%◌, ◌≤◌, ◌<◌, min, leb, eqb, ◌⊎◌, length, take, drop}
-use Rattle.std.proofs.Math.Option.{Option, none, some}
+use Rattle.std.specs.Prelude.{◌≡◌, Bool, true, false, ◌&&◌, List, [], ◌∷◌, ◌++◌, ℕ, zero, suc, ◌+◌, ◌-◌, ◌%◌, ◌≤◌, ◌<◌, min, leb, eqb, ◌⊎◌, length, take, drop, None, Option, Some}
 use Rattle.srt_protocol.specs.Sequence.{half, sequence_distance, sequence_further}
 use Rattle.srt_group_model.specs.Tools.{if_true◌then◌else◌, if_some◌give◌otherwise◌, is_set, or_else, All}
 use Rattle.srt_group_model.specs.State.{Member, State, next_receive_sequence, with_continuation, Making}
@@ -112,7 +111,7 @@ last_put log cell =
 
 -- the first value of the base, if it was set: the one at the moment of setting
 unfoldable pub first_base : List Mark → Option ℕ
-first_base = fold_marks none (λ cell payload x. x) (λ base first. or_else first (some base)) (λ x. x) (λ distance x. x) (λ count x. x)
+first_base = fold_marks None (λ cell payload x. x) (λ base first. or_else first (Some base)) (λ x. x) (λ distance x. x) (λ count x. x)
 
 -- how many packets were collected; the distances of the skips; the counts of the packets delivered
 unfoldable pub packets_collected : List Mark → ℕ
@@ -147,10 +146,10 @@ Consecutive first schedule = RunsFrom first 0 schedule
 
 -- The packets from the place n on: past those whose counts add up to n, if there are such.
 unfoldable pub pass_to : List Delivery → ℕ → Option (List Delivery)
-pass_to [] n = if_true eqb n 0 then some [] else none
+pass_to [] n = if_true eqb n 0 then Some [] else None
 pass_to (x ∷ xs) n =
     let later = pass_to xs (n - x.count) in
-    if_true eqb n 0 then some (x ∷ xs) else (if_true leb x.count n then later else none)
+    if_true eqb n 0 then Some (x ∷ xs) else (if_true leb x.count n then later else None)
 
 -- ---- the clerk
 
@@ -177,15 +176,15 @@ pub record Went : Type 0 where
 
 -- He gives the next packet and goes past it. With none before him, or no packets whose counts add up to the rise, he has no answer.
 unfoldable pub give_next : Option (List Delivery) → (List Delivery → Option Went) → Option Went
-give_next none go_on = none
-give_next (some []) go_on = none
-give_next (some (x ∷ xs)) go_on =
-    if_some go_on xs give (λ (w : Went). some record { gave = x ∷ w.gave; left = w.left }) otherwise none
+give_next None go_on = None
+give_next (Some []) go_on = None
+give_next (Some (x ∷ xs)) go_on =
+    if_some go_on xs give (λ (w : Went). Some record { gave = x ∷ w.gave; left = w.left }) otherwise None
 
 -- The packets before him, the skipped count that he knows, and what he is told, in order. At a delivery he passes the packets
 -- whose counts add up to the count's rise, gives the next and goes past it. Other calls leave him there.
 unfoldable pub clerk : List Delivery → ℕ → List Told → Option Went
-clerk ahead known [] = some record { gave = []; left = ahead }
+clerk ahead known [] = Some record { gave = []; left = ahead }
 clerk ahead known (told ∷ more) =
     if_true told.delivered
     then give_next (pass_to ahead (told.skipped - known)) (λ xs. clerk xs told.skipped more)
@@ -197,13 +196,13 @@ clerk ahead known (told ∷ more) =
 pub record Near (schedule : List Delivery) (base : ℕ) (x : Delivery) : Type 0 where
   pub place : ℕ
   pub rest : List Delivery
-  pub here : pass_to schedule place ≡ some (x ∷ rest)
+  pub here : pass_to schedule place ≡ Some (x ∷ rest)
   pub not_far_ahead : place < base + half
   pub not_far_behind : base < place + half
 
 -- THE PREMISE on the base: before a packet was collected the base was set, to `first`.
 abbrev pub SetBefore : ℕ → List Mark → Type 0
-SetBefore first log = (p : Packet) (older : List Mark) → Marked log (collected p) older → first_base older ≡ some first
+SetBefore first log = (p : Packet) (older : List Mark) → Marked log (collected p) older → first_base older ≡ Some first
 
 -- THE PREMISE on the packets: each was near when it was collected, taken as it was queued.
 abbrev pub AllNear : List Delivery → List Mark → Type 0
@@ -270,16 +269,16 @@ pub record RightSkip (when : When) (gave : Option Packet) (s : State) (tested : 
   pub gathered : State
   pub base : ℕ
   pub at_test : AtTest when base tested gathered
-  pub based : next_receive_sequence tested.receive ≡ some base
+  pub based : next_receive_sequence tested.receive ≡ Some base
   pub missing : is_held base tested.receive.pending ≡ false
   pub complete : is_set tested.visit.continuation ≡ false
   pub given_up : gap_given_up time tested ≡ true
   pub still_missing : is_held base gathered.receive.pending ≡ false
   pub given : Packet
-  pub nearest_now : nearest gathered.receive.pending ≡ some given
+  pub nearest_now : nearest gathered.receive.pending ≡ Some given
   pub far : distance ≡ sequence_distance base (sequence_of given)
-  pub gives : gave ≡ some given
-  pub past : next_receive_sequence s.receive ≡ some (sequence_further (sequence_of given) given.content.count)
+  pub gives : gave ≡ Some given
+  pub past : next_receive_sequence s.receive ≡ Some (sequence_further (sequence_of given) given.content.count)
   pub empty : All (λ (m : Member). m.queue ≡ []) s.members
   pub none_waiting : s.waiting ≡ []
 
@@ -342,12 +341,12 @@ pub record HistoryTheorem : Type 0 where
   -- "After it, modulo 2^31, the receive base less its first value equals the delivered packet counts plus the skipped count, if
   -- ... that count is below its ceiling." The first value is the one at the moment of setting; a base that is set has one. That
   -- it was set before a packet was collected is not needed here.
-  pub base : (g : Making) (calls : List Asked) (base : ℕ) → next_receive_sequence (reached g calls).receive ≡ some base
-      → (first : ℕ) × (first_base (marks g calls) ≡ some first)
+  pub base : (g : Making) (calls : List Asked) (base : ℕ) → next_receive_sequence (reached g calls).receive ≡ Some base
+      → (first : ℕ) × (first_base (marks g calls) ≡ Some first)
       × (skipped_in (reached g calls) < largest_64 → sequence_distance first base ≡ place_of_base g calls % (half + half))
   -- While none is set, there is no first value, and nothing was delivered or skipped.
-  pub unset : (g : Making) (calls : List Asked) → next_receive_sequence (reached g calls).receive ≡ none
-      → (first_base (marks g calls) ≡ none) × (place_of_base g calls ≡ 0)
+  pub unset : (g : Making) (calls : List Asked) → next_receive_sequence (reached g calls).receive ≡ None
+      → (first_base (marks g calls) ≡ None) × (place_of_base g calls ≡ 0)
   -- "If also the packets collected come from one schedule of consecutive runs starting there, each, counted along it, less than
   -- 2^30 from the base on either side when collected, and each accepted call that is lent a store is lent the same one, which
   -- nobody else writes, the delivered list equals that of 01's clerk, byte for byte." The clerk is fed with the calls alone. He
@@ -355,8 +354,8 @@ pub record HistoryTheorem : Type 0 where
   -- "The base's place is his": what is left before him is the schedule from there on.
   pub schedule : (schedule : List Delivery) (first : ℕ) → Consecutive first schedule → (g : Making) (calls : List Asked)
       → Fair schedule first g calls
-      → (left : List Delivery) × (pass_to schedule (place_of_base g calls) ≡ some left)
-      × (clerk schedule 0 (told_by calls (new g)) ≡ some record { gave = delivered_list g calls; left = left })
+      → (left : List Delivery) × (pass_to schedule (place_of_base g calls) ≡ Some left)
+      × (clerk schedule 0 (told_by calls (new g)) ≡ Some record { gave = delivered_list g calls; left = left })
   -- "Every skip passes 01's give-up test and ends with empty leg queues." By what a host sees: a call that raises the skipped
   -- count was a poll. The test was made at the poll's time, of the state that the poll then had: its base was set and not
   -- held, it asked for no continuation, and the test was true for the packet nearest in it. After collecting the base was

@@ -1,7 +1,7 @@
 -- THE PROMISE of a public call that is lent its record as a row of words and puts its answer into another, and that of its form for a
 -- valid state. The words of an answer are document 01's values (srt_group_model Answers, `values_of`).
+use Rattle.srt_protocol.specs.Errors.{Outcome}
 use Rattle.std.specs.Prelude.{◌≡◌, Bool, true, false, not, ◌||◌, List, [], ◌∷◌, ◌++◌, ℕ, zero, suc, ◌-◌, ◌≤◌, eqb, ltb, length, drop}
-use Rattle.srt_protocol.specs.declared.error.Outcome.{Outcome}
 use Rattle.srt_protocol.specs.Errors.{outcome_number}
 use Rattle.srt_protocol.specs.Cells.{overwritten}
 use Rattle.srt_group_model.specs.Tools.{if_true◌then◌else◌}

@@ -5,10 +5,12 @@ ghost use Rattle.srt_group_shown.specs.Tables.{tables};
 ghost use Rattle.srt_group_words.specs.Record.{record_size};
 ghost use Rattle.srt_group_words.specs.Words.{BegunStored, BegunPoll};
 
-use crate::record::{read_core, read_identity, read_ring, read_sending};
-use srt_group_refusals::refusals;
+use crate::record::read_group;
+use srt_group_refusals::refusals::LentGroup;
+use srt_protocol::error::outcome_number;
 
 // Of a call that is lent a store of so many bytes. Where it goes on, 0, the set shows which cells are in use.
+#[tactic(auto, using(crate::specs::Laws::Begin::begun_stored))]
 pub fn begin_stored(
     record: &[u64],
     members: &[u64],
@@ -25,23 +27,21 @@ pub fn begin_stored(
         (tables members.now pending.now waiting.now history.now sources.now)
         store result used.new }
 {
-    let begun = refusals::begin_stored(
-        read_identity(record),
-        read_core(record),
-        read_sending(record),
-        read_ring(record),
+    let group = read_group(record);
+    let lent = LentGroup {
+        group,
         members,
         pending,
         waiting,
         history,
         sources,
-        store,
-        used,
-    );
-    begun.number()
+    };
+    let begun = lent.begin_stored(store, used);
+    outcome_number(begun)
 }
 
 // Of a poll, which is lent an output of so many bytes too.
+#[tactic(auto, using(crate::specs::Laws::Begin::begun_poll))]
 pub fn begin_poll(
     record: &[u64],
     members: &[u64],
@@ -59,19 +59,15 @@ pub fn begin_poll(
         (tables members.now pending.now waiting.now history.now sources.now)
         store output result used.new }
 {
-    let begun = refusals::begin_poll(
-        read_identity(record),
-        read_core(record),
-        read_sending(record),
-        read_ring(record),
+    let group = read_group(record);
+    let lent = LentGroup {
+        group,
         members,
         pending,
         waiting,
         history,
         sources,
-        store,
-        output,
-        used,
-    );
-    begun.number()
+    };
+    let begun = lent.begin_poll(store, output, used);
+    outcome_number(begun)
 }

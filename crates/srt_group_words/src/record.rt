@@ -1,18 +1,23 @@
 // The record as a row of 20 words, in the order of docs/TABLES.md. A longer row is taken: its other words stay.
 ghost use Rattle.std.specs.Prelude.{◌≡◌, ◌≤◌, length};
 ghost use Rattle.srt_protocol.specs.Cells.{overwritten};
+ghost use Rattle.srt_protocol.specs.Errors.{outcome_number};
 ghost use Rattle.srt_group_words.specs.Record.{record_size, identity_of, core_of, sending_of, ring_of, group_of};
 ghost use Rattle.srt_group_words.specs.Record.{group_words, with_core, with_sent};
+ghost use Rattle.srt_group_words.specs.Words.{PutBack};
 
+use crate::answers::put;
 use srt_group::Group;
 use srt_group_model::{Account, Core, Counts, Identity, Receiving, Sending, Visit};
 use srt_group_tables::history::HistoryRing;
+use srt_protocol::error::{Error, outcome_number};
 
 // The words of a record.
 pub const RECORD: usize = 20;
 
 // ---- what the words show, by the record's parts
 
+#[tactic(auto, unfolding(crate::specs::Record::identity_of))]
 pub fn read_identity(words: &[u64]) -> Identity
     requires { record_size ≤ length words.now }
     ensures { result ≡ identity_of words.now }
@@ -23,6 +28,7 @@ pub fn read_identity(words: &[u64]) -> Identity
     }
 }
 
+#[tactic(auto, unfolding(crate::specs::Record::core_of))]
 pub fn read_core(words: &[u64]) -> Core
     requires { record_size ≤ length words.now }
     ensures { result ≡ core_of words.now }
@@ -50,6 +56,7 @@ pub fn read_core(words: &[u64]) -> Core
     }
 }
 
+#[tactic(auto, unfolding(crate::specs::Record::sending_of))]
 pub fn read_sending(words: &[u64]) -> Sending
     requires { record_size ≤ length words.now }
     ensures { result ≡ sending_of words.now }
@@ -63,6 +70,7 @@ pub fn read_sending(words: &[u64]) -> Sending
     }
 }
 
+#[tactic(auto, unfolding(crate::specs::Record::ring_of))]
 pub fn read_ring(words: &[u64]) -> HistoryRing
     requires { record_size ≤ length words.now }
     ensures { result ≡ ring_of words.now }
@@ -74,6 +82,7 @@ pub fn read_ring(words: &[u64]) -> HistoryRing
 }
 
 // The group that the words show.
+#[tactic(auto, using(crate::specs::Laws::Record::group_read))]
 pub fn read_group(words: &[u64]) -> Group
     requires { record_size ≤ length words.now }
     ensures { result ≡ group_of words.now }
@@ -92,30 +101,45 @@ pub fn read_group(words: &[u64]) -> Group
 
 // ---- the words of a group, over those of the row
 
+#[tactic(auto, unfolding(crate::specs::Record::group_words, crate::specs::Record::identity_words, crate::specs::Record::core_words, crate::specs::Record::sending_words, crate::specs::Record::ring_words))]
+fn row_of(group: Group) -> [u64; RECORD]
+    ensures { result ≡ group_words group }
+{
+    let Group {
+        identity,
+        core,
+        sending,
+        ring,
+    } = group;
+    [
+        identity.id,
+        identity.length as u64,
+        core.mode,
+        core.peer,
+        core.counts.members as u64,
+        core.counts.pending as u64,
+        core.counts.waiting as u64,
+        core.receiving.based,
+        core.receiving.base,
+        core.receiving.skipped,
+        core.visit.continuation,
+        core.visit.round as u64,
+        core.own.reserved,
+        sending.numbered,
+        sending.next,
+        sending.carried,
+        sending.carrier,
+        sending.gap,
+        ring.start as u64,
+        ring.length as u64,
+    ]
+}
+
 pub fn put_group(words: &mut [u64], group: Group)
     requires { record_size ≤ length words.old }
     ensures { words.new ≡ overwritten 0 (group_words group) words.old }
 {
-    words[0] = group.identity.id;
-    words[1] = group.identity.length as u64;
-    words[2] = group.core.mode;
-    words[3] = group.core.peer;
-    words[4] = group.core.counts.members as u64;
-    words[5] = group.core.counts.pending as u64;
-    words[6] = group.core.counts.waiting as u64;
-    words[7] = group.core.receiving.based;
-    words[8] = group.core.receiving.base;
-    words[9] = group.core.receiving.skipped;
-    words[10] = group.core.visit.continuation;
-    words[11] = group.core.visit.round as u64;
-    words[12] = group.core.own.reserved;
-    words[13] = group.sending.numbered;
-    words[14] = group.sending.next;
-    words[15] = group.sending.carried;
-    words[16] = group.sending.carrier;
-    words[17] = group.sending.gap;
-    words[18] = group.ring.start as u64;
-    words[19] = group.ring.length as u64;
+    put(words, row_of(group))
 }
 
 // What a poll moves of a group.
@@ -123,17 +147,8 @@ pub fn put_core(words: &mut [u64], core: Core)
     requires { record_size ≤ length words.old }
     ensures { words.new ≡ overwritten 0 (group_words (with_core core (group_of words.old))) words.old }
 {
-    words[2] = core.mode;
-    words[3] = core.peer;
-    words[4] = core.counts.members as u64;
-    words[5] = core.counts.pending as u64;
-    words[6] = core.counts.waiting as u64;
-    words[7] = core.receiving.based;
-    words[8] = core.receiving.base;
-    words[9] = core.receiving.skipped;
-    words[10] = core.visit.continuation;
-    words[11] = core.visit.round as u64;
-    words[12] = core.own.reserved;
+    let group = read_group(words);
+    put_group(words, Group { core, ..group })
 }
 
 // What a send moves of a group: all but what is fixed at creation.
@@ -142,22 +157,34 @@ pub fn put_sent(words: &mut [u64], core: Core, sending: Sending, ring: HistoryRi
     ensures { words.new
         ≡ overwritten 0 (group_words (with_sent core sending ring (group_of words.old))) words.old }
 {
-    words[2] = core.mode;
-    words[3] = core.peer;
-    words[4] = core.counts.members as u64;
-    words[5] = core.counts.pending as u64;
-    words[6] = core.counts.waiting as u64;
-    words[7] = core.receiving.based;
-    words[8] = core.receiving.base;
-    words[9] = core.receiving.skipped;
-    words[10] = core.visit.continuation;
-    words[11] = core.visit.round as u64;
-    words[12] = core.own.reserved;
-    words[13] = sending.numbered;
-    words[14] = sending.next;
-    words[15] = sending.carried;
-    words[16] = sending.carrier;
-    words[17] = sending.gap;
-    words[18] = ring.start as u64;
-    words[19] = ring.length as u64;
+    let identity = read_identity(words);
+    put_group(
+        words,
+        Group {
+            identity,
+            core,
+            sending,
+            ring,
+        },
+    )
+}
+
+// ---- what a call leaves
+
+// The group over the words of the row. It answers the outcome's code.
+pub fn put_back(words: &mut [u64], group: Group, outcome: Result<(), Error>) -> u32
+    requires { record_size ≤ length words.old }
+    ensures { PutBack group (outcome_number outcome) words.old result words.new }
+{
+    put_group(words, group);
+    outcome_number(outcome)
+}
+
+// The same of a form for a valid state, which moves the core alone.
+pub fn put_back_core(words: &mut [u64], core: Core, outcome: Result<(), Error>) -> u32
+    requires { record_size ≤ length words.old }
+    ensures { PutBack (with_core core (group_of words.old)) (outcome_number outcome) words.old result words.new }
+{
+    put_core(words, core);
+    outcome_number(outcome)
 }

@@ -1,9 +1,8 @@
 -- Payloads in the cells of a lent store (document 01, "Receiving"): a cell is 1,456 bytes, a store has length / 1,456 of
 -- them, at most 2,048. A payload is put into a cell and copied from it to byte 12 of an output; every other byte stays.
-use Rattle.std.specs.Prelude.{◌≡◌, ℕ, ◌+◌, ◌*◌, ◌/◌, min, List, ◌++◌, length, take, drop, nat_le, nat_lt}
+use Rattle.srt_protocol.specs.Errors.{Outcome}
+use Rattle.std.specs.Prelude.{◌≡◌, ℕ, ◌+◌, ◌*◌, ◌/◌, min, List, ◌++◌, length, take, drop, nat_le, nat_lt, Ok}
 use Rattle.srt_protocol.specs.declared.error.Error.TheVariants.{PayloadTooLong, InsufficientBuffer, InvalidState}
-use Rattle.srt_protocol.specs.declared.error.Outcome.{Outcome}
-use Rattle.srt_protocol.specs.declared.error.Outcome.TheVariants.{Accepted}
 use Rattle.srt_protocol.specs.Errors.{refuse_if, if_accepted}
 
 -- ---- definitions
@@ -42,7 +41,7 @@ unfoldable pub cell_outcome : ℕ → ℕ → ℕ → Outcome
 cell_outcome store_length cell size =
     refuse_if (nat_lt store_length cell_size) InsufficientBuffer
     (refuse_if (nat_le (cells_of store_length) cell) InvalidState
-    (refuse_if (nat_lt cell_size size) PayloadTooLong Accepted))
+    (refuse_if (nat_lt cell_size size) PayloadTooLong (Ok tt)))
 
 -- ---- putting a payload into a cell
 

@@ -3,7 +3,7 @@ ghost use Rattle.std.specs.Prelude.{◌≡◌};
 ghost use Rattle.srt_protocol.specs.Errors.{error_number, outcome_number};
 
 // Why a call was refused. 1 to 6 speak of the input, 20 to 29 are the group's own, 30 to 32 are added by this port.
-#[derive(Clone, Copy)]
+#[derive(Clone, Copy, PartialEq, Eq, Debug)]
 pub enum Error {
     // 1: a group id without SRTGROUP_MASK.
     MissingGroupMask,
@@ -45,12 +45,12 @@ pub enum Error {
     OutOfTurn,
 }
 
-impl Error {
-    // The number that document 01 gives this refusal.
-    pub fn number(self) -> u32
-        ensures { result ≡ error_number self }
-    {
-        match self {
+// The number that document 01 gives a refusal.
+impl From<Error> for u32 {
+    ghost from_gives = { λ error number. number ≡ error_number error };
+
+    fn from(error: Error) -> u32 {
+        match error {
             Error::MissingGroupMask => 1,
             Error::OutOfRange => 2,
             Error::UnknownMember => 3,
@@ -74,21 +74,12 @@ impl Error {
     }
 }
 
-// What a call answers that has nothing to give back.
-#[derive(Clone, Copy)]
-pub enum Outcome {
-    Accepted,
-    Refused(Error),
-}
-
-impl Outcome {
-    // 0 if accepted, else the refusal's number.
-    pub fn number(self) -> u32
-        ensures { result ≡ outcome_number self }
-    {
-        match self {
-            Outcome::Accepted => 0,
-            Outcome::Refused(error) => error.number(),
-        }
+// The number of what a call answers that has nothing to give back: 0 if it is accepted, else the refusal's.
+pub fn outcome_number(outcome: Result<(), Error>) -> u32
+    ensures { result ≡ outcome_number outcome }
+{
+    match outcome {
+        Ok(()) => 0,
+        Err(error) => u32::from(error),
     }
 }

@@ -1,8 +1,8 @@
 // Payloads in the cells of a store that the caller lends.
-ghost use Rattle.std.specs.Prelude.{◌≡◌, ◌≤◌, ◌++◌, length, drop};
+ghost use Rattle.std.specs.Prelude.{◌≡◌};
 ghost use Rattle.srt_protocol.specs.Cells.{cells_of, cell_outcome, Put, Copied};
 
-use crate::error::{Error, Outcome};
+use crate::error::Error;
 
 // The bytes of one cell: the longest payload of a DATA packet.
 pub const CELL: usize = 1456;
@@ -24,60 +24,46 @@ pub fn cells_of(length: usize) -> usize
     if cells < MAX_CELLS { cells } else { MAX_CELLS }
 }
 
-// The bytes of `from`, over the first ones of `to`.
-fn copy_bytes(to: &mut [u8], from: &[u8])
-    requires { length from.now ≤ length to.old }
-    ensures { to.new ≡ from.now ++ drop (length from.now) to.old }
-{
-    let mut i = 0;
-    while i < from.len() {
-        to[i] = from[i];
-        i += 1;
-    }
-}
-
 // Whether a store of this length has the cell, and the cell has room for a payload of this size.
-fn check_cell(length: usize, cell: usize, size: usize) -> Outcome
+#[tactic(auto, unfolding(crate::specs::Cells::cell_outcome))]
+fn check_cell(length: usize, cell: usize, size: usize) -> Result<(), Error>
     ensures { result ≡ cell_outcome length cell size }
 {
     if length < CELL {
-        return Outcome::Refused(Error::InsufficientBuffer);
+        return Err(Error::InsufficientBuffer);
     }
     if cells_of(length) <= cell {
-        return Outcome::Refused(Error::InvalidState);
+        return Err(Error::InvalidState);
     }
     if CELL < size {
-        return Outcome::Refused(Error::PayloadTooLong);
+        return Err(Error::PayloadTooLong);
     }
-    Outcome::Accepted
+    Ok(())
 }
 
 // A payload into a cell. The bytes after it and all other cells stay.
-pub fn put_payload(store: &mut [u8], cell: usize, payload: &[u8]) -> Outcome
+#[tactic(auto, using(crate::specs::Laws::CellLaws::cell_within))]
+pub fn put_payload(store: &mut [u8], cell: usize, payload: &[u8]) -> Result<(), Error>
     ensures { Put store.old cell payload.now result store.new }
 {
-    let checked = check_cell(store.len(), cell, payload.len());
-    if let Outcome::Refused(error) = checked {
-        return Outcome::Refused(error);
-    }
+    check_cell(store.len(), cell, payload.len())?;
     let start = cell * CELL;
-    copy_bytes(&mut store[start..], payload);
-    Outcome::Accepted
+    let end = start + payload.len();
+    store[start..end].copy_from_slice(payload);
+    Ok(())
 }
 
 // The first `size` bytes of a cell into the output, from byte 12. The host's RTP head and the bytes after the payload stay.
-pub fn copy_payload(store: &[u8], cell: usize, size: usize, output: &mut [u8]) -> Outcome
+#[tactic(auto, using(crate::specs::Laws::CellLaws::cell_within))]
+pub fn copy_payload(store: &[u8], cell: usize, size: usize, output: &mut [u8]) -> Result<(), Error>
     ensures { Copied store.now cell size output.old result output.new }
 {
     if output.len() < OUTPUT {
-        return Outcome::Refused(Error::InsufficientBuffer);
+        return Err(Error::InsufficientBuffer);
     }
-    let checked = check_cell(store.len(), cell, size);
-    if let Outcome::Refused(error) = checked {
-        return Outcome::Refused(error);
-    }
+    check_cell(store.len(), cell, size)?;
     let start = cell * CELL;
     let end = start + size;
-    copy_bytes(&mut output[HEAD..], &store[start..end]);
-    Outcome::Accepted
+    output[HEAD..HEAD + size].copy_from_slice(&store[start..end]);
+    Ok(())
 }

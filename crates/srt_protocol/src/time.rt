@@ -4,7 +4,7 @@ ghost use Rattle.srt_protocol.specs.Time.{later, elapsed};
 
 // A moment in microseconds.
 #[repr(C)]
-#[derive(Clone, Copy)]
+#[derive(Clone, Copy, PartialEq, Eq, PartialOrd, Ord, Debug)]
 pub struct Timestamp(pub u64);
 
 impl Timestamp {
@@ -12,7 +12,7 @@ impl Timestamp {
     pub fn saturating_sub(self, other: Timestamp) -> u64
         ensures { result ≡ elapsed other.0 self.0 }
     {
-        if other.0 <= self.0 {
+        if other <= self {
             return self.0 - other.0;
         }
         0

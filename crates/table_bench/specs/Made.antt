@@ -1,5 +1,5 @@
 -- The data that the measurement puts into the tables.
-use Rattle.std.specs.Prelude.{ℕ, ◌≤◌, length}
+use Rattle.std.specs.Prelude.{ℕ, ◌≤◌}
 use Rattle.srt_group_model.specs.Backup.{max_history}
 use Rattle.srt_group_model.specs.declared.Data.{Data}
 use Rattle.srt_group_tables.specs.Ring.{Arrays, Long}

@@ -16,7 +16,7 @@ ghost use Rattle.srt_group_tables.specs.Ring.{Long, arrays};
 ghost use Rattle.srt_group_tables.specs.Waitings.{waiting_size};
 ghost use Rattle.table_bench.specs.Made.{data_of, InArrays};
 
-use cell_set::{FreeCell, lowest_free};
+use cell_set::lowest_free;
 use srt_connection_members::{pop_at, push_at};
 use srt_group_members::accounts::NO_PACKETS;
 use srt_group_model::{
@@ -25,8 +25,7 @@ use srt_group_model::{
 use srt_group_state::validity::is_invalid;
 use srt_group_tables::history::{HistoryRing, drop_before, push_back, store};
 use srt_group_tables::pending;
-use srt_group_tables::pending::Found;
-use srt_protocol::error::Outcome;
+use srt_protocol::error::outcome_number;
 use srt_protocol::received_payload::MAX_CELLS;
 use srt_protocol::time::Timestamp;
 
@@ -52,8 +51,8 @@ pub extern "C" fn table_find(pending: &[u64], count: usize, sequence: u64) -> us
 {
     let found = pending::find(pending, count, sequence);
     match found {
-        Found::At(at) => at,
-        Found::Nothing => MAX_CELLS,
+        Some(at) => at,
+        None => MAX_CELLS,
     }
 }
 
@@ -91,7 +90,7 @@ pub extern "C" fn table_push(members: &mut [u64], index: usize, sequence: u64, c
         content: data(sequence, cell),
     };
     let pushed = push_at(members, index, event);
-    pushed.number()
+    outcome_number(pushed)
 }
 
 #[unsafe(no_mangle)]
@@ -142,10 +141,8 @@ pub extern "C" fn table_history(
         start: 0,
         length: 0,
     };
-    let mut sequence: u64 = 0;
-    while sequence < rounds {
+    for sequence in 0..rounds {
         ring = sent(ring, history, sources, sequence, kept);
-        sequence += 1;
     }
     ring.length
 }
@@ -225,7 +222,7 @@ pub extern "C" fn table_rules(
     }
     let free = lowest_free(&used, MAX_CELLS);
     match free {
-        FreeCell::Cell(cell) => cell,
-        FreeCell::Full => MAX_CELLS,
+        Some(cell) => cell,
+        None => MAX_CELLS,
     }
 }

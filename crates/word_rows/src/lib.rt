@@ -10,9 +10,5 @@ pub fn close_gap(words: &mut [u64], from: usize, end: usize, width: usize)
     requires { (from + width ≤ end) × (end ≤ length words.old) }
     ensures { Closed width words.old from end words.new }
 {
-    let mut at = from;
-    while at + width < end {
-        words[at] = words[at + width];
-        at += 1;
-    }
+    words.copy_within(from + width..end, from);
 }

@@ -1,18 +1,10 @@
 -- `lowest_free` meets its contract: the laws of the first word that is not full.
 use native.Mathlib.Omega.{arith}
-use Rattle.cell_set.specs.Laws.Sets.{none_free, ones_inside, found_in_word, beyond_store}
+use Rattle.cell_set.specs.Laws.Sets.{none_free, found_in_word, beyond_store}
 use Rattle.cell_set.proofs.lowest_free.Goals as goal
 
 pub returns-then-at-ge-WORDS : goal.returns-then-at-ge-WORDS
 returns-then-at-ge-WORDS c = none_free _ _ (λ n h. c.first_word-at.ensures.passed n (omega arith))
-
-pub overflow_cast-cell : goal.overflow_cast-cell
-overflow_cast-cell c =
-    omega (arith, ones_inside _ _ 0 c.first_word-at.ensures c.if-at-ge-WORDS.false (c.type_inv.used _).fits)
-
-pub overflow_add-cell : goal.overflow_add-cell
-overflow_add-cell c =
-    omega (arith, ones_inside _ _ 0 c.first_word-at.ensures c.if-at-ge-WORDS.false (c.type_inv.used _).fits)
 
 pub returns-then-cell-cells : goal.returns-then-cell-cells
 returns-then-cell-cells c =

@@ -1,9 +1,8 @@
 -- What is proved of the definitions in specs/Sets.antt, with what the proofs need.
-use Rattle.std.specs.Prelude.{◌≡◌, refl, true, List, [], ◌∷◌, ℕ, zero, suc, ◌+◌, ◌-◌, ◌*◌, ◌/◌, ◌%◌, ◌^◌, ◌≤◌, ◌<◌, eqb, ltb, length, get_or, set}
+use Rattle.std.specs.Prelude.{◌≡◌, refl, true, List, [], ◌∷◌, ℕ, zero, suc, ◌+◌, ◌-◌, ◌*◌, ◌/◌, ◌%◌, ◌^◌, ◌≤◌, ◌<◌, eqb, ltb, length, get_or, set, None, Some}
 use Rattle.std.proofs.Common.{sym, ◌∙◌, arith, get_or-set_same, get_or-set_other}
 use Rattle.std.proofs.Math.Path.{ap, subst}
 use Rattle.std.proofs.Math.Bool.{false}
-use Rattle.std.proofs.Math.Option.{none, some}
 use borrow.Author.Tests.{eqb-true, eqb-false, ltb-true, ltb-false}
 use Rattle.std.specs.Int.Bits.{bit_or, bit_and}
 use Rattle.std.proofs.Math.ListN.{length-set, get_or-eq_default}
@@ -15,8 +14,7 @@ use Rattle.srt_group_model.specs.Laws.CellsKept.{absent, present}
 use Rattle.srt_protocol.specs.Cells.{max_cells}
 use Rattle.cell_set.specs.Bits.{set_size, bit, bit_at}
 use Rattle.cell_set.specs.Laws.Bits.{bit_most, bit_none, set_here, set_other, unset_here, unset_other, full_bit, trailing_ones, ones_end, ones_before, zero_at}
-use Rattle.cell_set.specs.declared.FreeCell.TheVariants.{Cell, Full}
-use Rattle.cell_set.specs.Sets.{ShowsCells, Taken, Freed, free_cell_of, LowestFree, Passed, FirstWord}
+use Rattle.cell_set.specs.Sets.{ShowsCells, Taken, Freed, LowestFree, Passed, FirstWord}
 
 -- ---- one bit is written
 
@@ -89,16 +87,6 @@ nothing_freed words cell long far =
 
 -- ---- all bits are cleared
 
-pub one_cleared : (words : List ℕ) (at : ℕ) → at < set_size → length words ≡ set_size → ((k : ℕ) → k < at → get_or words k 0 ≡ 0)
-    → (length (set words at 0) ≡ set_size) × ((k : ℕ) → k < at + 1 → get_or (set words at 0) k 0 ≡ 0)
-one_cleared words at inside long sofar = (
-  simp length-set long,
-  λ k h.
-      by_test (eqb k at)
-      (λ e. ap (λ (j : ℕ). get_or (set words at 0) j 0) (eqb-true k at e) ∙ get_or-set_same words at 0 0 (omega arith))
-      (λ e. get_or-set_other words at k 0 0 (λ q. eqb-false k at e q) ∙ sofar k (omega (arith, eqb-false k at e))),
-)
-
 pub all_cleared : (words : List ℕ) → length words ≡ set_size → ((k : ℕ) → k < set_size → get_or words k 0 ≡ 0) → ShowsCells words []
 unfolding bit_at occurs
 all_cleared words long none_set =
@@ -117,12 +105,9 @@ in_word : (words : List ℕ) (at n : ℕ) → n / 64 ≡ at → bit_at words n �
 unfolding bit_at
 in_word words at n same = ap (λ (k : ℕ). bit (n % 64) (get_or words k 0)) same
 
-pub full_passed : (words : List ℕ) (at : ℕ) → Passed words at → get_or words at 0 ≡ 2 ^ 64 - 1 → Passed words (at + 1)
-full_passed words at passed full n below =
-    by_test (ltb n (at * 64)) (λ e. passed n (ltb-true n (at * 64) e))
-    (λ e.
-    let from : at * 64 ≤ n = ltb-false n (at * 64) e in
-    in_word words at n (omega arith) ∙ ap (bit (n % 64)) full ∙ full_bit (n % 64) (omega arith))
+pub words_passed : (words : List ℕ) (at : ℕ) → ((k : ℕ) → k < at → get_or words k 0 ≡ 2 ^ 64 - 1) → Passed words at
+words_passed words at full n below =
+    in_word words (n / 64) n refl ∙ ap (bit (n % 64)) (full (n / 64) (omega arith)) ∙ full_bit (n % 64) (omega arith)
 
 named_of : (n : ℕ) (named : List ℕ) → occurs n named ≡ 1 → is_among n named ≡ true
 named_of n named e = by_test (is_among n named) (λ t. t) (λ t. absurd (omega (arith, absent n named t)))
@@ -131,7 +116,7 @@ unnamed_of : (n : ℕ) (named : List ℕ) → occurs n named ≡ 0 → is_among 
 unnamed_of n named e = by_test (is_among n named) (λ t. absurd (omega (arith, present n named t))) (λ t. t)
 
 lowest_at : (left first c : ℕ) (named : List ℕ) → first ≤ c → c < first + left → is_among c named ≡ false
-    → ((k : ℕ) → first ≤ k → k < c → is_among k named ≡ true) → lowest_free left first named ≡ some c
+    → ((k : ℕ) → first ≤ k → k < c → is_among k named ≡ true) → lowest_free left first named ≡ Some c
 unfolding lowest_free if_true◌then◌else◌
 lowest_at zero first c named low high free taken = absurd (omega arith)
 lowest_at (suc left) first c named low high free taken =
@@ -141,34 +126,33 @@ lowest_at (suc left) first c named low high free taken =
     rw (taken first (omega arith) before) (lowest_at left (suc first) c named (omega arith) (omega arith) free (λ k h. taken k (omega arith))))
     (λ t.
     let same : c ≡ first = omega (arith, ltb-false first c t) in
-    rw (ap (λ (k : ℕ). is_among k named) (sym same) ∙ free) (ap some (sym same)))
+    rw (ap (λ (k : ℕ). is_among k named) (sym same) ∙ free) (ap Some (sym same)))
 
 lowest_none : (left first : ℕ) (named : List ℕ) → ((k : ℕ) → first ≤ k → k < first + left → is_among k named ≡ true)
-    → lowest_free left first named ≡ none
+    → lowest_free left first named ≡ None
 unfolding lowest_free if_true◌then◌else◌
 lowest_none zero first named taken = refl
 lowest_none (suc left) first named taken =
     rw (taken first (omega arith) (omega arith)) (lowest_none left (suc first) named (λ k low high. taken k (omega arith) (omega arith)))
 
-pub none_free : (words : List ℕ) (cells : ℕ) → ((n : ℕ) → n < cells → bit_at words n ≡ 1) → LowestFree words cells Full
+pub none_free : (words : List ℕ) (cells : ℕ) → ((n : ℕ) → n < cells → bit_at words n ≡ 1) → LowestFree words cells None
 none_free words cells passed =
     record {
       free = tt;
       is =
           λ named shows.
-          sym (ap free_cell_of (lowest_none cells 0 named (λ k low high. named_of k named (sym (shows.bits k) ∙ passed k (omega arith)))));
+          sym ((lowest_none cells 0 named (λ k low high. named_of k named (sym (shows.bits k) ∙ passed k (omega arith)))));
     }
 
 pub lowest_found : (words : List ℕ) (cells cell : ℕ) → cell < cells → bit_at words cell ≡ 0
-    → ((n : ℕ) → n < cell → bit_at words n ≡ 1) → LowestFree words cells (Cell cell)
+    → ((n : ℕ) → n < cell → bit_at words n ≡ 1) → LowestFree words cells (Some cell)
 lowest_found words cells cell inside free passed =
     record {
       free = (inside, free);
       is =
           λ named shows.
           sym
-          (ap free_cell_of
-          (lowest_at cells 0 cell named (omega arith) (omega arith) (unnamed_of cell named (sym (shows.bits cell) ∙ free))
+          ((lowest_at cells 0 cell named (omega arith) (omega arith) (unnamed_of cell named (sym (shows.bits cell) ∙ free))
           (λ k low high. named_of k named (sym (shows.bits k) ∙ passed k high))));
     }
 
@@ -194,8 +178,8 @@ module _ (words : List ℕ) (at cells : ℕ) (first : FirstWord words at) (insid
       let same : (at * 64 + ones) % 64 ≡ ones = omega arith in
       in_word words at (at * 64 + ones) (omega arith) ∙ ap (λ (k : ℕ). bit k (get_or words at 0)) same ∙ zero_at (get_or words at 0) small most
 
-  pub found_in_word : at * 64 + ones < cells → LowestFree words cells (Cell (at * 64 + ones))
+  pub found_in_word : at * 64 + ones < cells → LowestFree words cells (Some (at * 64 + ones))
   found_in_word below = lowest_found words cells (at * 64 + ones) below found_free ones_passed
 
-  pub beyond_store : cells ≤ at * 64 + ones → LowestFree words cells Full
+  pub beyond_store : cells ≤ at * 64 + ones → LowestFree words cells None
   beyond_store beyond = none_free words cells (λ n h. ones_passed n (omega arith))

@@ -1,8 +1,7 @@
 -- The words show which cells a state uses, and stay so from step to step: the model's CellsMoved says which cells a step takes
 -- and frees, the code's contract says which bits it moves, and one law puts the two together.
-use Rattle.std.specs.Prelude.{◌≡◌, refl, true, false, List, [], ◌∷◌, ◌++◌, ℕ, ◌≤◌, ◌<◌, eqb, leb, ltb, length}
+use Rattle.std.specs.Prelude.{◌≡◌, refl, true, false, List, [], ◌∷◌, ◌++◌, ℕ, ◌≤◌, ◌<◌, eqb, leb, ltb, length, None, Option, Some}
 use Rattle.std.proofs.Common.{sym, subst, ◌∙◌, arith, eqb-true, eq-eqb, ne_eqb, ltb-true, ltb-false, leb-true, leb-false}
-use Rattle.std.proofs.Math.Option.{Option, none, some}
 use Rattle.std.proofs.lemmas.Bool.{eqb-false}
 use Rattle.srt_group_model.specs.Tools.{any, each, at_place}
 use Rattle.srt_group_model.specs.Laws.Reason.{if_elim, by_test, not_both}
@@ -20,10 +19,8 @@ use Rattle.srt_group_model.specs.Laws.Steps.{popped}
 use Rattle.srt_protocol.specs.Cells.{max_cells}
 use Rattle.srt_group_model.specs.declared.Event.{Event}
 use Rattle.cell_set.specs.Bits.{set_size, bit_at}
-use Rattle.cell_set.specs.Sets.{ShowsCells, Taken, Freed, free_cell_of, LowestFree}
+use Rattle.cell_set.specs.Sets.{ShowsCells, Taken, Freed, LowestFree}
 use Rattle.cell_set.specs.Laws.Sets.{most, beyond}
-use Rattle.cell_set.specs.declared.FreeCell.{FreeCell}
-use Rattle.cell_set.specs.declared.FreeCell.TheVariants.{Cell, Full}
 use Rattle.cell_set.specs.Shows.{Shows, freed_by}
 
 -- ---- a step of the model and a step of the words
@@ -68,7 +65,7 @@ shows_freed {words} {after} {cells} {s} {t} shows freed moves =
           };
     }
 
-pub collected_frees : (s : State) (i : ℕ) (m : Member) (e : Event) → at_place i s.members ≡ some m → front m.queue ≡ some e
+pub collected_frees : (s : State) (i : ℕ) (m : Member) (e : Event) → at_place i s.members ≡ Some m → front m.queue ≡ Some e
     → eqb e.kind 0 ≡ true → Moves [] (freed_by (packet_of m e) s.receive) s (retain_group_packet i (packet_of m e) (popped i s))
 unfolding freed_by
 collected_frees s i m e at f d =
@@ -109,26 +106,26 @@ freed_then {cells} {more} {a} {b} {c} first second =
 
 -- ---- the cell that is found is document 01's
 
-lowest_is : {words : List ℕ} {cells : ℕ} {r : FreeCell} {s : State} → Shows words s → LowestFree words cells r → r ≡ free_cell_of (free_cell cells s)
+lowest_is : {words : List ℕ} {cells : ℕ} {r : Option ℕ} {s : State} → Shows words s → LowestFree words cells r → r ≡ free_cell cells s
 unfolding free_cell
 lowest_is {s = s} shows lowest = lowest.is (used_cells s) shows.cells
 
 -- a cell was found, or none
-pub lowest_found : {words : List ℕ} {cells cell : ℕ} {r : FreeCell} {s : State} → Shows words s → LowestFree words cells r → r ≡ Cell cell
-    → free_cell cells s ≡ some cell
+pub lowest_found : {words : List ℕ} {cells cell : ℕ} {r : Option ℕ} {s : State} → Shows words s → LowestFree words cells r → r ≡ Some cell
+    → free_cell cells s ≡ Some cell
 lowest_found {cells = cells} {cell} {s = s} shows lowest is = given (free_cell cells s) (sym is ∙ lowest_is shows lowest)
   where
-    given : (o : Option ℕ) → Cell cell ≡ free_cell_of o → o ≡ some cell
-    given none e = cc e
-    given (some c) e = cc e
+    given : (o : Option ℕ) → Some cell ≡ o → o ≡ Some cell
+    given None e = cc e
+    given (Some c) e = cc e
 
-pub none_found : {words : List ℕ} {cells : ℕ} {r : FreeCell} {s : State} → Shows words s → LowestFree words cells r → r ≡ Full
-    → free_cell cells s ≡ none
+pub none_found : {words : List ℕ} {cells : ℕ} {r : Option ℕ} {s : State} → Shows words s → LowestFree words cells r → r ≡ None
+    → free_cell cells s ≡ None
 none_found {cells = cells} {s = s} shows lowest is = given (free_cell cells s) (sym is ∙ lowest_is shows lowest)
   where
-    given : (o : Option ℕ) → Full ≡ free_cell_of o → o ≡ none
-    given none e = refl
-    given (some c) e = cc e
+    given : (o : Option ℕ) → None ≡ o → o ≡ None
+    given None e = refl
+    given (Some c) e = cc e
 
 -- ---- what it says, cell by cell
 

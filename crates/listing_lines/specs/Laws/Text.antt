@@ -1,12 +1,10 @@
 -- What is proved of the definitions in specs/Text.antt, with what the proofs need: the text of lines one behind the other, and that a line has
 -- room.
-use Rattle.std.specs.Prelude.{ℕ, ◌+◌, ◌-◌, ◌*◌, ◌<◌, ◌≤◌, ◌^◌, true, ◌≡◌, refl, List, [], ◌∷◌, ◌++◌, leb, length, take, drop, get_or}
+use Rattle.std.specs.Prelude.{ℕ, ◌+◌, ◌-◌, ◌*◌, ◌<◌, ◌≤◌, ◌^◌, true, ◌≡◌, refl, List, [], ◌∷◌, ◌++◌, leb, length, take, drop, get_or, Option, Some, None}
 use Rattle.std.proofs.Common.{arith, ap, sym, ◌∙◌, append_assoc, append-nil, le-leb}
 use Rattle.listing.specs.Line.{cut}
 use Rattle.listing.specs.Text.{line_text}
 use Rattle.listing.specs.Placed.{PlacedOrRefused}
-use Rattle.listing.specs.declared.Written.{Written}
-use Rattle.listing.specs.declared.Written.TheVariants.{End, NoRoom}
 use Rattle.listing.proofs.PlacedLaws.{upto_placed}
 use Rattle.listing.proofs.TextLaws.{line_text_at_most}
 use Rattle.listing_lines.specs.Text.{texts, LineWritten}
@@ -50,21 +48,20 @@ six_at_most : (row : List ℕ) → length row ≡ 6 → ((index : ℕ) → get_o
 six_at_most row six fits = rw six at (line_text_at_most 11 20 row (omega arith) (omega arith) fits)
 
 -- so it is written where 121 bytes are free
-module _ (row out : List ℕ) (at : ℕ) (after : List ℕ) (answered : Written) (six : length row ≡ 6) (fits : (index : ℕ) → get_or row index 0 < 2 ^ 64) (free : at + 121 ≤ length out) (put : PlacedOrRefused out at (line_text 11 row) after answered) where
+module _ (row out : List ℕ) (at : ℕ) (after : List ℕ) (answered : Option ℕ) (six : length row ≡ 6) (fits : (index : ℕ) → get_or row index 0 < 2 ^ 64) (free : at + 121 ≤ length out) (put : PlacedOrRefused out at (line_text 11 row) after answered) where
   room : leb (at + length (line_text 11 row)) (length out) ≡ true
   room = le-leb (at + length (line_text 11 row)) (length out) (omega (arith, six_at_most row six fits))
 
-  pub row_written : (end : ℕ) → answered ≡ End end → LineWritten row out at after end
+  pub row_written : (end : ℕ) → answered ≡ Some end → LineWritten row out at after end
   row_written end e =
-      let there : End end ≡ End (at + length (line_text 11 row)) = sym e ∙ (put.end_of ∙ rw room) in
+      let there : Some end ≡ Some (at + length (line_text 11 row)) = sym e ∙ (put.end_of ∙ rw room) in
       let here : end ≡ at + length (line_text 11 row) = cc in
       record {
         most = omega (arith, six_at_most row six fits);
         text = record { bytes = put.bytes ∙ rw room; end_of = here };
       }
 
-  pub row_not_refused : answered ≡ NoRoom → ⊥
+  pub row_not_refused : answered ≡ None → ⊥
   row_not_refused e =
-      let never : NoRoom ≡ End (at + length (line_text 11 row)) = sym e ∙ (put.end_of ∙ rw room) in
-      let z : ◌≡◌ {A = ℕ} 0 1 = cc in
-      omega arith
+      let never : None ≡ Some (at + length (line_text 11 row)) = sym e ∙ (put.end_of ∙ rw room) in
+      cc

@@ -1,7 +1,6 @@
 -- What is proved of the definitions in specs/Blocks.antt, with what the proofs need.
-use Rattle.std.specs.Prelude.{◌≡◌, List, [], map, ℕ}
+use Rattle.std.specs.Prelude.{◌≡◌, List, [], map, ℕ, None}
 use Rattle.std.proofs.Common.{ap, ◌∙◌}
-use Rattle.std.proofs.Math.Option.{none}
 use Rattle.listing.specs.Line.{cut, line_numbers}
 use Rattle.listing.specs.Stream.{lines, joined}
 use Rattle.listing_lines.specs.Text.{texts, LinesWritten}
@@ -21,11 +20,11 @@ use Rattle.replay_blocks.specs.Blocks.{replayed, RowsAnswered, BlockAnswered, La
 use Rattle.replay_rows.specs.Laws.Rows.{prints_are_replay}
 
 -- However a listing is cut into blocks: what is written block by block, the group and the open line carried on, is what the whole prints.
-pub blocks_replayed : (blocks : List (List ℕ)) → written_for_blocks after_line print_of none [] blocks ≡ replayed (joined blocks)
+pub blocks_replayed : (blocks : List (List ℕ)) → written_for_blocks after_line print_of None [] blocks ≡ replayed (joined blocks)
 unfolding replayed replay
 blocks_replayed blocks =
-    written_is_answers after_line print_of none blocks
-    ∙ ap texts (prints_are_replay none (map (line_numbers 8 11) (lines (joined blocks))))
+    written_is_answers after_line print_of None blocks
+    ∙ ap texts (prints_are_replay None (map (line_numbers 8 11) (lines (joined blocks))))
 
 -- ---- the code
 

@@ -2,7 +2,6 @@
 use Rattle.std.specs.Prelude.{◌≡◌, refl, ℕ, Option, None, Some, Result, Ok, Err, OnOk, List, [], ◌∷◌, ◌++◌, take}
 use Rattle.std.specs.Io.KnownBytes.{Consumes, Appends, IsAtEnd}
 use Rattle.std.proofs.Common.{ap, sym, ◌∙◌, append_assoc, append-nil}
-use Rattle.std.proofs.Math.Option.{none}
 use mathlib.Core.List.{map-append}
 use Rattle.listing.specs.Line.{line_numbers}
 use Rattle.listing.specs.Stream.{lines, joined, ended, open_line, last_line}
@@ -60,8 +59,8 @@ none_replayed buffer s t written =
 pub record ReplayedSoFar (s : State) (t : Tables) (buffer : List ℕ) (left₀ left written₀ written : Option (List ℕ)) : Type 0 where
   pub beginning : List ℕ
   pub read : Consumes left₀ left beginning
-  pub text : Appends written₀ written (texts (prints_from none (numbers (ended [] beginning))))
-  pub group : standing s.made s.group t ≡ group_after none (numbers (ended [] beginning))
+  pub text : Appends written₀ written (texts (prints_from None (numbers (ended [] beginning))))
+  pub group : standing s.made s.group t ≡ group_after None (numbers (ended [] beginning))
   pub held : Held (open_line [] beginning) buffer s.size
 
 pub none_so_far : (g : Group) (t : Tables) (buffer : List ℕ) (left written : Option (List ℕ))
@@ -90,15 +89,15 @@ module _ {s : State} {t : Tables} {buffer : List ℕ} {left₀ left written₀ w
       let next = numbers (ended line b) in
       let all : numbers (ended [] (a ++ b)) ≡ first ++ next =
       ap numbers (ended_append [] a b) ∙ map-append (line_numbers 8 11) (ended [] a) (ended line b) in
-      let printed : prints_from none (first ++ next) ≡ prints_from none first ++ prints_from (group_after none first) next =
-      answers_append after_line print_of none first next in
+      let printed : prints_from None (first ++ next) ≡ prints_from None first ++ prints_from (group_after None first) next =
+      answers_append after_line print_of None first next in
       record {
         beginning = a ++ b;
         read = consumes_then left₀ left left' a b so.read read.read;
-        text = rw (all, printed, texts_append (prints_from none first) (prints_from (group_after none first) next), ← so.group)
+        text = rw (all, printed, texts_append (prints_from None first) (prints_from (group_after None first) next), ← so.group)
             (appends_then written₀ written written' _ _ so.text (done.text line so.held));
         group = done.group line so.held
-            ∙ (ap (λ (g : _). group_after g next) so.group ∙ (sym (after_append after_line none first next) ∙ ap (group_after none) (sym all)));
+            ∙ (ap (λ (g : _). group_after g next) so.group ∙ (sym (after_append after_line None first next) ∙ ap (group_after None) (sym all)));
         held = rw (open_line_append [] a b) (done.held line so.held);
       }
 
@@ -115,13 +114,13 @@ module _ {s : State} {t : Tables} {buffer : List ℕ} {left₀ left written₀ w
       ap lines (sym (append-nil a)) ∙ sym (lines_of_blocks_are_lines (a ∷ [])) in
       let all : numbers (lines a) ≡ first ++ last =
       ap numbers cut ∙ map-append (line_numbers 8 11) (ended [] a) (last_line line) in
-      let printed : prints_from none (first ++ last) ≡ prints_from none first ++ prints_from (group_after none first) last =
-      answers_append after_line print_of none first last in
+      let printed : prints_from None (first ++ last) ≡ prints_from None first ++ prints_from (group_after None first) last =
+      answers_append after_line print_of None first last in
       record {
         listing = a;
         read = so.read;
         at_end = end;
-        text = rw (← prints_are_replay none (numbers (lines a)), all, printed, texts_append (prints_from none first) (prints_from (group_after none first) last), ← so.group)
+        text = rw (← prints_are_replay None (numbers (lines a)), all, printed, texts_append (prints_from None first) (prints_from (group_after None first) last), ← so.group)
             (appends_then written₀ written written' _ _ so.text (done.text line so.held));
       }
 

@@ -1,9 +1,8 @@
 -- What is proved of the definitions in specs/Rows.antt, with what the proofs need.
-use Rattle.std.specs.Prelude.{◌≡◌, refl, ℕ, ◌+◌, ◌-◌, ◌*◌, ◌≤◌, length, take, drop, set}
+use Rattle.std.specs.Prelude.{◌≡◌, refl, ℕ, ◌+◌, ◌-◌, ◌*◌, ◌≤◌, length, take, drop, Option}
 use Rattle.std.proofs.Math.Path.{ap, ap₂, sym}
 use Rattle.std.proofs.Common.{subst, ◌∙◌, arith, length-append, length-take, length-drop}
 use mathlib.Core.List.{List, [], ◌∷◌, ◌++◌}
-use Rattle.std.proofs.Math.Option.{Option}
 use Rattle.listing.specs.Line.{cut}
 use Rattle.listing_lines.specs.Taken.{part}
 use Rattle.listing_lines.specs.Answers.{state_after, answers_from}
@@ -27,17 +26,6 @@ prints_are_replay s [] = refl
 prints_are_replay s (line ∷ lines) = ap (λ (ls : List (List ℕ)). print_of s line ∷ ls) (prints_are_replay (after_line s line) lines)
 
 -- ---- a row
-
-pub six_set : (row : List ℕ) (a b c d e f : ℕ) → length row ≡ 6
-    → set (set (set (set (set (set row 0 a) 1 b) 2 c) 3 d) 4 e) 5 f ≡ a ∷ b ∷ c ∷ d ∷ e ∷ f ∷ []
-six_set [] a b c d e f six = absurd (omega arith)
-six_set (x₀ ∷ []) a b c d e f six = absurd (omega arith)
-six_set (x₀ ∷ x₁ ∷ []) a b c d e f six = absurd (omega arith)
-six_set (x₀ ∷ x₁ ∷ x₂ ∷ []) a b c d e f six = absurd (omega arith)
-six_set (x₀ ∷ x₁ ∷ x₂ ∷ x₃ ∷ []) a b c d e f six = absurd (omega arith)
-six_set (x₀ ∷ x₁ ∷ x₂ ∷ x₃ ∷ x₄ ∷ []) a b c d e f six = absurd (omega arith)
-six_set (x₀ ∷ x₁ ∷ x₂ ∷ x₃ ∷ x₄ ∷ x₅ ∷ []) a b c d e f six = refl
-six_set (x₀ ∷ x₁ ∷ x₂ ∷ x₃ ∷ x₄ ∷ x₅ ∷ x₆ ∷ row) a b c d e f six = absurd (omega arith)
 
 -- the row that is lent
 lent_row : (index : ℕ) (rows : List ℕ) → part rows (index * 8) (index * 8 + 8) ≡ row_at index rows

@@ -1,20 +1,17 @@
 -- What is proved of the definitions in specs/Answers.antt, with what the proofs need.
-use Rattle.std.specs.Prelude.{◌≡◌, refl, Bool, true, false, ◌&&◌, ℕ, ◌<◌, ltb}
-use Rattle.std.proofs.Math.Option.{Option, none, some}
+use Rattle.std.specs.Prelude.{◌≡◌, refl, Bool, true, false, ◌&&◌, ℕ, ◌<◌, ltb, None, Option, Some}
 use Rattle.std.proofs.Math.Decide.{dec_lt}
 use Rattle.std.proofs.Common.{arith, ltb-true}
 use Rattle.srt_group_model.specs.Legs.{is_connected, remaining_window_packets, can_send}
 use Rattle.srt_group_model.specs.declared.Leg.{Leg}
-use Rattle.srt_connection.specs.declared.legs.LegResult.TheVariants.{Ok, Err}
-use Rattle.srt_connection.specs.Answers.{result_of}
 
-pub result_ok : (o : Option Leg) (l : Leg) → Ok l ≡ result_of o → o ≡ some l
-result_ok none l e = cc e
-result_ok (some k) l e = cc e
+pub result_ok : (o : Option Leg) (l : Leg) → Some l ≡ o → o ≡ Some l
+result_ok None l e = cc e
+result_ok (Some k) l e = cc e
 
-pub result_err : (o : Option Leg) → Err ≡ result_of o → o ≡ none
-result_err none e = refl
-result_err (some k) e = cc e
+pub result_err : (o : Option Leg) → None ≡ o → o ≡ None
+result_err None e = refl
+result_err (Some k) e = cc e
 
 -- a leg that can send has room in its window
 pub window_left : (l : Leg) → can_send l ≡ true → l.sender.flight < l.sender.window

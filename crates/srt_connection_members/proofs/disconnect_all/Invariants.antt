@@ -1,13 +1,9 @@
 -- `disconnect_all` meets its contract. The loop's invariant: the rows passed are changed, the others not yet
--- (`Changing`). The measure is what is left of the count.
-use Prim.Native.Nat.{◌≤◌, ◌-◌}
+-- (`Changing`).
 use Rattle.srt_group_model.specs.Legs.{disconnect_leg}
 use Rattle.srt_group_model.specs.State.{on_leg}
 use Rattle.srt_connection_members.specs.Laws.Members.{Changing}
 use Rattle.srt_connection_members.proofs.disconnect_all.Given as goal
 
 abbrev pub invariant-loop-i : goal.invariant-loop-i
-invariant-loop-i l = (l.i ≤ l.count) × Changing l.i (on_leg disconnect_leg) l.initial.members l.members
-
-abbrev pub decreases-loop-i : goal.decreases-loop-i
-decreases-loop-i l = l.count - l.i
+invariant-loop-i l = Changing l.i (on_leg disconnect_leg) l.initial.members l.members

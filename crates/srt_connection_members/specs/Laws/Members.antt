@@ -1,12 +1,11 @@
 -- What is proved of the definitions in specs/Members.antt, with what the proofs need.
-use Rattle.std.specs.Prelude.{◌≡◌, refl, List, ℕ, suc, ◌+◌, ◌-◌, ◌*◌, ◌≤◌, ◌<◌, length, take, drop, get_or, set}
+use Rattle.srt_protocol.specs.Errors.{Outcome}
+use Rattle.std.specs.Prelude.{◌≡◌, refl, List, ℕ, suc, ◌+◌, ◌-◌, ◌*◌, ◌≤◌, ◌<◌, length, take, drop, get_or, None, Option, Some}
 use Rattle.std.proofs.Math.Path.{ap}
-use Rattle.std.proofs.Common.{sym, ◌∙◌, add-one, arith, length-set, get_or-set_same, get_or-set_other}
-use Rattle.std.proofs.Math.Option.{Option, none, some}
+use Rattle.std.proofs.Common.{sym, ◌∙◌, add-one, arith}
 use Rattle.std.proofs.Math.Decide.{dec_lt}
 use borrow.Author.Tests.{eq-eqb, ne_eqb, eqb-true}
 use Rattle.srt_protocol.specs.Errors.{if_accepted}
-use Rattle.srt_protocol.specs.declared.error.Outcome.{Outcome}
 use Rattle.srt_group_model.specs.Tools.{at_place, without_place}
 use Rattle.srt_group_model.specs.Calls.{enqueue}
 use Rattle.srt_group_model.specs.State.{Member, with_queue, with_leg, on_leg, on_membership, with_account, on_account}
@@ -16,18 +15,17 @@ use Rattle.srt_group_model.specs.declared.Event.{Event}
 use Rattle.srt_group_model.specs.declared.Leg.{Leg}
 use Rattle.srt_group_model.specs.declared.Membership.{Membership}
 use Rattle.srt_group_model.specs.declared.Account.{Account}
-use Rattle.srt_connection_members.specs.declared.Found.TheVariants.{At, Nothing}
 use Rattle.srt_connection_queue.specs.declared.queue.LegPoll.{LegPoll}
 use Rattle.word_rows.specs.Tab.{tab}
 use Rattle.word_rows.specs.Laws.Tab.{tab_length, tab_push}
 use Rattle.srt_connection_queue.specs.Laws.Tab.{tab_place, tab_change, tab_without, tab_each, tab_found, tab_not_found, place_below, tab_passes}
-use Rattle.word_rows.specs.Rows.{row_at}
+use Rattle.word_rows.specs.Rows.{row_at, Closed}
 use Rattle.word_rows.specs.Laws.Rows.{row_word, row_same, row_part}
 use Rattle.srt_connection_queue.specs.Row.{put_row}
 use Rattle.srt_connection_queue.specs.Laws.Row.{row_put, row_put_other, put_length}
 use Rattle.srt_connection_queue.specs.Rows.{part_size, membership_part, row_size, membership_of, member_of, member_parts, Kept, with_membership}
 use Rattle.srt_connection_queue.specs.Queue.{cleared, Pushed, queue_after, Polled}
-use Rattle.srt_connection_members.specs.Members.{member_at, members_of, HasRow, new_member, found_of, Changed, PushedAt, PolledAt, ChangedAll, Appended, Removed}
+use Rattle.srt_connection_members.specs.Members.{member_at, members_of, HasRow, new_member, Changed, PushedAt, PolledAt, ChangedAll, Appended, Removed}
 
 -- ---- laws
 
@@ -35,7 +33,7 @@ pub members_length : (n : ℕ) (t : List ℕ) → length (members_of n t) ≡ n
 unfolding members_of
 members_length n t = tab_length n (member_at t)
 
-pub members_place : (n : ℕ) (t : List ℕ) (i : ℕ) → i < n → at_place i (members_of n t) ≡ some (member_at t i)
+pub members_place : (n : ℕ) (t : List ℕ) (i : ℕ) → i < n → at_place i (members_of n t) ≡ Some (member_at t i)
 unfolding members_of
 members_place n t i h = tab_place n (member_at t) i h
 
@@ -188,30 +186,28 @@ id_word t i = sym (row_word part_size (row_at row_size t i) membership_part 0 (o
 
 module _ (n id : ℕ) (t : List ℕ) where
   pub found : (i : ℕ) → i < n → get_or t (i * row_size) 0 ≡ id → ((j : ℕ) → j < i → get_or t (j * row_size) 0 ≡ id → ⊥)
-      → found_of (find id (members_of n t)) ≡ At i
+      → (find id (members_of n t)) ≡ Some i
   unfolding members_of
   found i h is before =
-      ap found_of
       (tab_found (has_id id) n (member_at t) i h (eq-eqb (member_at t i).membership.id id (sym (id_word t i) ∙ is))
       (λ j k. ne_eqb (member_at t j).membership.id id (λ e. before j k (id_word t j ∙ e))))
 
-  pub not_found : ((j : ℕ) → j < n → get_or t (j * row_size) 0 ≡ id → ⊥) → found_of (find id (members_of n t)) ≡ Nothing
+  pub not_found : ((j : ℕ) → j < n → get_or t (j * row_size) 0 ≡ id → ⊥) → (find id (members_of n t)) ≡ None
   unfolding members_of
   not_found none_is =
-      ap found_of
       (tab_not_found (has_id id) n (member_at t) (λ j k. ne_eqb (member_at t j).membership.id id (λ e. none_is j k (id_word t j ∙ e))))
 
--- an answer, as the option that it stands for
-pub found_some : (o : Option ℕ) (i : ℕ) → At i ≡ found_of o → o ≡ some i
-found_some none i e = cc e
-found_some (some j) i e = cc e
+-- an equation of options, the other way round
+pub found_some : (o : Option ℕ) (i : ℕ) → Some i ≡ o → o ≡ Some i
+found_some None i e = cc e
+found_some (Some j) i e = cc e
 
-pub found_none : (o : Option ℕ) → Nothing ≡ found_of o → o ≡ none
-found_none none e = refl
-found_none (some j) e = cc e
+pub found_none : (o : Option ℕ) → None ≡ o → o ≡ None
+found_none None e = refl
+found_none (Some j) e = cc e
 
 -- the member that was found is there, and has the id
-module _ (n id i : ℕ) (t : List ℕ) (is : At i ≡ found_of (find id (members_of n t))) where
+module _ (n id i : ℕ) (t : List ℕ) (is : Some i ≡ find id (members_of n t)) where
   pub found_below : i < n
   found_below =
       omega (arith, place_below (has_id id) (members_of n t) i (found_some (find id (members_of n t)) i is), members_length n t)
@@ -221,45 +217,19 @@ module _ (n id i : ℕ) (t : List ℕ) (is : At i ≡ found_of (find id (members
   found_id =
       eqb-true (member_at t i).membership.id id (tab_passes (has_id id) n (member_at t) i (found_some (find id (members_of n t)) i is))
 
--- ---- a row is removed: word for word, the later rows move down
+-- ---- a row is removed: the later rows move down
 
-pub record Moved (i at : ℕ) (t u : List ℕ) : Type 0 where
-  pub long : length u ≡ length t
-  pub before : (k : ℕ) → k < i * row_size → get_or u k 0 ≡ get_or t k 0
-  pub moved : (k : ℕ) → i * row_size ≤ k → k < at → get_or u k 0 ≡ get_or t (k + row_size) 0
-  pub after : (k : ℕ) → at ≤ k → get_or u k 0 ≡ get_or t k 0
-
-pub moved_start : (i : ℕ) (t : List ℕ) → Moved i (i * row_size) t t
-moved_start i t =
-    record { long = refl; before = λ k h. refl; moved = λ k l h. absurd (omega arith); after = λ k h. refl }
-
-pub moved_on : (i at : ℕ) (t u : List ℕ) → i * row_size ≤ at → at + row_size < length t → Moved i at t u
-    → Moved i (at + 1) t (set u at (get_or u (at + row_size) 0))
-moved_on i at t u low fits m =
-    record {
-      long = length-set u at (get_or u (at + row_size) 0) ∙ m.long;
-      before = λ k h. get_or-set_other u at k (get_or u (at + row_size) 0) 0 (λ e. omega arith) ∙ m.before k h;
-      moved = λ k l h. one_more k l h (dec_lt k at);
-      after = λ k h. get_or-set_other u at k (get_or u (at + row_size) 0) 0 (λ e. omega arith) ∙ m.after k (omega arith);
-    }
-  where
-    one_more : (k : ℕ) → i * row_size ≤ k → k < at + 1 → Dec (k < at) → get_or (set u at (get_or u (at + row_size) 0)) k 0 ≡ get_or t (k + row_size) 0
-    one_more k l h (yes b) = get_or-set_other u at k (get_or u (at + row_size) 0) 0 (λ e. omega arith) ∙ m.moved k l b
-    one_more k l h (no b) =
-        let e : k ≡ at = omega arith in
-        rw e (get_or-set_same u at (get_or u (at + row_size) 0) 0 (omega (arith, m.long)) ∙ m.after (at + row_size) (omega arith))
-
-pub removed : (i n at : ℕ) (t u : List ℕ) → i < n → n * row_size ≤ length t → (n - 1) * row_size ≤ at → Moved i at t u → Removed i n t u
+pub removed : (i n : ℕ) (t u : List ℕ) → i < n → n * row_size ≤ length t → Closed row_size t (i * row_size) (n * row_size) u → Removed i n t u
 unfolding members_of member_at
-removed i n at t u h fits done m =
+removed i n t u h fits gap =
     record {
-      long = m.long;
+      long = gap.long;
       members =
           tab_without (n - 1) i (member_at t) (member_at u) (omega arith)
-          (λ j k. ap member_of (row_same row_size t u j j (omega (arith, m.long)) (omega arith) (λ w b. m.before (j * row_size + w) (omega arith))))
+          (λ j k. ap member_of (row_same row_size t u j j (omega (arith, gap.long)) (omega arith) (λ w b. gap.low (j * row_size + w) (omega arith))))
           (λ j k l.
           ap member_of
-          (row_same row_size t u j (suc j) (omega (arith, m.long)) (omega arith)
-          (λ w b. m.moved (j * row_size + w) (omega arith) (omega arith) ∙ ap (λ (x : ℕ). get_or t x 0) (omega arith))))
+          (row_same row_size t u j (suc j) (omega (arith, gap.long)) (omega arith)
+          (λ w b. gap.high (j * row_size + w) (omega arith) (omega arith) ∙ ap (λ (x : ℕ). get_or t x 0) (omega arith))))
           ∙ ap (λ (x : ℕ). without_place i (tab x (member_at t))) (omega arith);
     }

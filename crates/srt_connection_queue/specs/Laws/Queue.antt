@@ -1,36 +1,33 @@
 -- What is proved of the definitions in specs/Queue.antt, with what the proofs need.
-use Rattle.std.specs.Prelude.{◌≡◌, Bool, true, false, ℕ, suc, ◌+◌, ◌-◌, ◌%◌, ◌≤◌, ◌<◌, eqb, drop}
+use Rattle.std.specs.Prelude.{◌≡◌, Bool, true, false, ℕ, suc, ◌+◌, ◌-◌, ◌%◌, ◌≤◌, ◌<◌, eqb, drop, Err, None, Ok, Some}
 use Rattle.std.proofs.Math.Path.{refl, ap, sym}
 use Rattle.std.proofs.Common.{◌∙◌, le-leb, ne_eqb}
 use mathlib.Core.List.{List, [], ◌∷◌, ◌++◌}
-use Rattle.std.proofs.Math.Option.{none, some}
 use native.Mathlib.Omega.{arith}
 use Rattle.std.proofs.lemmas.Bool.{lt-leb}
 use Rattle.std.proofs.Math.ListN.{length}
 use Rattle.srt_protocol.specs.declared.error.Error.TheVariants.{QueueFull}
-use Rattle.srt_protocol.specs.declared.error.Outcome.TheVariants.{Accepted, Refused}
 use Rattle.srt_group_model.specs.Tools.{if_true◌then◌else◌, is_empty, at_place}
 use Rattle.srt_group_model.specs.Calls.{enqueue}
 use Rattle.srt_group_model.specs.State.{Member, with_queue}
 use Rattle.srt_group_model.specs.Validity.{max_queued}
 use Rattle.srt_group_model.specs.declared.Event.{Event}
 use Rattle.srt_connection_queue.specs.declared.rows.Ring.{Ring}
-use Rattle.srt_connection_queue.specs.declared.queue.OptionalEvent.TheVariants.{Some, None}
 use Rattle.srt_connection_queue.specs.declared.queue.LegPoll.TheVariants.{Nothing, Continuation, Event as PolledEvent}
 use Rattle.word_rows.specs.Tab.{tab}
 use Rattle.word_rows.specs.Laws.Tab.{tab_length, tab_pop, tab_push}
 use Rattle.srt_connection_queue.specs.Laws.Tab.{tab_place}
 use Rattle.srt_connection_queue.specs.Rows.{part_size, membership_part, link_part, sender_part, receiver_part, first_event_part, row_size, part, put_part, membership_of, link_part_of, sender_of, receiver_of, ring_of, ring_in, event_of, event_words, event_in, queue_of, leg_of, member_parts, member_of, Kept, member_from}
 use Rattle.srt_connection_queue.specs.Laws.Rows.{part_long, part_here, part_other, ring_put}
-use Rattle.srt_connection_queue.specs.Queue.{optional_event, popped, cleared, Pushed, budget_after, leg_poll, queue_after, Polled}
+use Rattle.srt_connection_queue.specs.Queue.{popped, cleared, Pushed, budget_after, leg_poll, queue_after, Polled}
 
 -- ---- laws of the ring, f being the events by their place in it
 
 abbrev in_ring : ℕ → (ℕ → Event) → ℕ → Event
 in_ring s f j = f ((s + j) % max_queued)
 
-ring_front : (s n : ℕ) (f : ℕ → Event) → 0 < n → at_place 0 (tab n (in_ring s f)) ≡ some (f (s % max_queued))
-ring_front s n f h = tab_place n (in_ring s f) 0 h ∙ ap (λ (k : ℕ). some (f (k % max_queued))) (omega arith)
+ring_front : (s n : ℕ) (f : ℕ → Event) → 0 < n → at_place 0 (tab n (in_ring s f)) ≡ Some (f (s % max_queued))
+ring_front s n f h = tab_place n (in_ring s f) 0 h ∙ ap (λ (k : ℕ). Some (f (k % max_queued))) (omega arith)
 
 ring_drop : (s n : ℕ) (f : ℕ → Event) → 0 < n → tab (n - 1) (in_ring ((s % max_queued + 1) % max_queued) f) ≡ drop 1 (tab n (in_ring s f))
 ring_drop s n f h =
@@ -80,11 +77,11 @@ module _ (r : List ℕ) (long : length r ≡ row_size) (ring : Ring) (read : rin
   pub empty_is : eqb ring.length 0 ≡ is_empty (member_of r).queue
   empty_is = ap (λ (n : ℕ). eqb n 0) the_length ∙ no_length (member_of r).queue
 
-  pub front_none : ring.length ≡ 0 → at_place 0 (member_of r).queue ≡ none
+  pub front_none : ring.length ≡ 0 → at_place 0 (member_of r).queue ≡ None
   unfolding at_place tab
   front_none h = ap (at_place 0) (the_queue ∙ ap (λ (n : ℕ). tab n (in_ring ring.start (event_in r))) h)
 
-  pub front_is : (ring.length ≡ 0 → ⊥) → at_place 0 (member_of r).queue ≡ some (event_of (part r (first_event_part + ring.start % max_queued)))
+  pub front_is : (ring.length ≡ 0 → ⊥) → at_place 0 (member_of r).queue ≡ Some (event_of (part r (first_event_part + ring.start % max_queued)))
   unfolding event_in
   front_is h = ap (at_place 0) the_queue ∙ ring_front ring.start ring.length (event_in r) (omega arith)
 
@@ -105,7 +102,7 @@ module _ (r : List ℕ) (long : length r ≡ row_size) (ring : Ring) (read : rin
         is = λ i. with_queue ((q ∙ sym (ap (drop 1) q)) i) (member_of r);
       }
 
-  pub push_refused : (e : Event) → max_queued ≤ ring.length → Pushed (member_of r) e (Refused QueueFull) r
+  pub push_refused : (e : Event) → max_queued ≤ ring.length → Pushed (member_of r) e (Err QueueFull) r
   push_refused e full =
       record { outcome = rw (le-leb max_queued (length (member_of r).queue) (omega (arith, the_length))); kept = record { long = long; is = refl } }
 
@@ -156,7 +153,7 @@ module _ (r : List ℕ) (long : length r ≡ row_size) (ring : Ring) (read : rin
         ∙ ap (λ (q : List Event). q ++ (e ∷ [])) (sym (the_queue r long ring read)))
         i)
 
-    pub push_accepted : Pushed (member_of r) e Accepted (put_part written receiver_part (ring_in counted (part written receiver_part)))
+    pub push_accepted : Pushed (member_of r) e (Ok tt) (put_part written receiver_part (ring_in counted (part written receiver_part)))
     push_accepted =
         record {
           outcome = rw (lt-leb max_queued (length (member_of r).queue) (omega (arith, length_is r long ring read)));
@@ -165,12 +162,12 @@ module _ (r : List ℕ) (long : length r ≡ row_size) (ring : Ring) (read : rin
 
 -- ---- the three cases of a poll
 
-no_event : (q : List Event) → None ≡ optional_event (at_place 0 q) → q ≡ []
+no_event : (q : List Event) → None ≡ at_place 0 q → q ≡ []
 unfolding at_place
 no_event [] is = refl
 no_event (e ∷ q) is = cc is
 
-first_event : (q : List Event) (e : Event) → Some e ≡ optional_event (at_place 0 q) → q ≡ e ∷ drop 1 q
+first_event : (q : List Event) (e : Event) → Some e ≡ at_place 0 q → q ≡ e ∷ drop 1 q
 unfolding at_place
 first_event [] e is = cc is
 first_event (x ∷ q) e is = cc is
@@ -209,7 +206,7 @@ module _ (r : List ℕ) where
   same_queue long q is =
       record { long = long; is = λ i. with_queue (is i) (member_of r) }
 
-  pub poll_empty : length r ≡ row_size → (budget : ℕ) → None ≡ optional_event (at_place 0 (member_of r).queue)
+  pub poll_empty : length r ≡ row_size → (budget : ℕ) → None ≡ at_place 0 (member_of r).queue
       → Polled (member_of r) budget Nothing r
   poll_empty long budget is =
       let none_there = no_event (member_of r).queue is in
@@ -220,7 +217,7 @@ module _ (r : List ℕ) where
             (none_there ∙ sym (ap (queue_after budget) none_there ∙ nothing_goes budget));
       }
 
-  pub poll_spent : length r ≡ row_size → (budget : ℕ) (e : Event) → Some e ≡ optional_event (at_place 0 (member_of r).queue) → budget ≡ 0
+  pub poll_spent : length r ≡ row_size → (budget : ℕ) (e : Event) → Some e ≡ at_place 0 (member_of r).queue → budget ≡ 0
       → Polled (member_of r) budget Continuation r
   poll_spent long budget e is spent =
       record {
@@ -233,7 +230,7 @@ module _ (r : List ℕ) where
             (sym (ap (λ (n : ℕ). queue_after n (member_of r).queue) spent ∙ spent_stays (member_of r).queue));
       }
 
-  pub poll_given : (budget : ℕ) (e : Event) (left : ℕ) (after : List ℕ) → Some e ≡ optional_event (at_place 0 (member_of r).queue)
+  pub poll_given : (budget : ℕ) (e : Event) (left : ℕ) (after : List ℕ) → Some e ≡ at_place 0 (member_of r).queue
       → (budget ≡ 0 → ⊥) → left ≡ budget_after e budget → Kept after (popped (member_of r))
       → Polled (member_of r) budget (PolledEvent e left) after
   poll_given budget e left after is unspent lowered kept =

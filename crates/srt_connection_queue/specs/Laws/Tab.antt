@@ -2,10 +2,9 @@
 -- at each place, and searched.
 use Rattle.std.proofs.Math.Path.{◌≡◌, refl, ap, subst}
 use Rattle.std.proofs.Common.{sym, ◌∙◌}
-use Rattle.std.specs.Prelude.{Bool, drop}
+use Rattle.std.specs.Prelude.{Bool, drop, None, Option, Some}
 use Rattle.std.proofs.Math.Bool.{true, false}
 use mathlib.Core.List.{List, [], ◌∷◌}
-use Rattle.std.proofs.Math.Option.{Option, none, some}
 use Prim.Native.Nat.{ℕ, zero, suc, ◌+◌, ◌-◌, ◌≤◌, ◌<◌}
 use native.Mathlib.Omega.{arith}
 use Rattle.std.proofs.Math.ListN.{length}
@@ -14,13 +13,13 @@ use Rattle.word_rows.specs.Laws.Tab.{tab_same}
 use Rattle.srt_group_model.specs.Tools.{All, if_true◌then◌else◌, if_some◌give◌otherwise◌, place_of, at_place, change, without_place, each}
 
 module _ {A : Type 0} where
-  pub tab_place : (n : ℕ) (f : ℕ → A) (i : ℕ) → i < n → at_place i (tab n f) ≡ some (f i)
+  pub tab_place : (n : ℕ) (f : ℕ → A) (i : ℕ) → i < n → at_place i (tab n f) ≡ Some (f i)
   unfolding tab at_place
   tab_place zero f i h = absurd (omega arith)
   tab_place (suc n) f zero h = refl
   tab_place (suc n) f (suc i) h = tab_place n (λ i. f (suc i)) i (omega arith)
 
-  pub tab_past : (n : ℕ) (f : ℕ → A) (i : ℕ) → n ≤ i → at_place i (tab n f) ≡ none
+  pub tab_past : (n : ℕ) (f : ℕ → A) (i : ℕ) → n ≤ i → at_place i (tab n f) ≡ None
   unfolding tab at_place
   tab_past zero f i h = refl
   tab_past (suc n) f zero h = absurd (omega arith)
@@ -70,7 +69,7 @@ module _ {A : Type 0} where
 
   -- a search: the first place that passes, or none
   pub tab_found : (test : A → Bool) (n : ℕ) (f : ℕ → A) (i : ℕ) → i < n → test (f i) ≡ true → ((j : ℕ) → j < i → test (f j) ≡ false)
-      → place_of test (tab n f) ≡ some i
+      → place_of test (tab n f) ≡ Some i
   unfolding tab place_of if_true◌then◌else◌ if_some◌give◌otherwise◌
   tab_found test zero f i h passes before = absurd (omega arith)
   tab_found test (suc n) f zero h passes before = rw passes
@@ -80,7 +79,7 @@ module _ {A : Type 0} where
         tab_found test n (λ i. f (suc i)) i (omega arith) passes (λ j k. before (suc j) (omega arith)),
       )
 
-  pub tab_not_found : (test : A → Bool) (n : ℕ) (f : ℕ → A) → ((j : ℕ) → j < n → test (f j) ≡ false) → place_of test (tab n f) ≡ none
+  pub tab_not_found : (test : A → Bool) (n : ℕ) (f : ℕ → A) → ((j : ℕ) → j < n → test (f j) ≡ false) → place_of test (tab n f) ≡ None
   unfolding tab place_of if_true◌then◌else◌ if_some◌give◌otherwise◌
   tab_not_found test zero f none_passes = refl
   tab_not_found test (suc n) f none_passes =
@@ -96,25 +95,25 @@ module _ {A : Type 0} where
       ∙ tab_as (n - k) (suc n - suc k) (λ i. f (suc (k + i))) (λ i. f (suc k + i)) (omega arith) (λ i. ap f (omega arith))
 
   -- what a search finds is there, and passes
-  pub place_below : (test : A → Bool) (l : List A) (i : ℕ) → place_of test l ≡ some i → i < length l
+  pub place_below : (test : A → Bool) (l : List A) (i : ℕ) → place_of test l ≡ Some i → i < length l
   unfolding place_of if_true◌then◌else◌ if_some◌give◌otherwise◌
   place_below test [] i e = let different : ◌≡◌ {A = ℕ} 0 1 = cc in absurd (omega arith)
   place_below test (x ∷ xs) i e = go (test x) (place_of test xs) (λ j q. place_below test xs j q) i e
     where
-      go : (b : Bool) (o : Option ℕ) → ((j : ℕ) → o ≡ some j → j < length xs) → (i : ℕ)
-          → (if_true b then some 0 else (if_some o give (λ k. some (suc k)) otherwise none)) ≡ some i → i < suc (length xs)
+      go : (b : Bool) (o : Option ℕ) → ((j : ℕ) → o ≡ Some j → j < length xs) → (i : ℕ)
+          → (if_true b then Some 0 else (if_some o give (λ k. Some (suc k)) otherwise None)) ≡ Some i → i < suc (length xs)
       go true o h i e = let first : 0 ≡ i = cc in omega arith
-      go false none h i e = let different : ◌≡◌ {A = ℕ} 0 1 = cc in absurd (omega arith)
-      go false (some j) h i e = let later : suc j ≡ i = cc in omega (arith, h j refl)
+      go false None h i e = let different : ◌≡◌ {A = ℕ} 0 1 = cc in absurd (omega arith)
+      go false (Some j) h i e = let later : suc j ≡ i = cc in omega (arith, h j refl)
 
-  pub tab_passes : (test : A → Bool) (n : ℕ) (f : ℕ → A) (i : ℕ) → place_of test (tab n f) ≡ some i → test (f i) ≡ true
+  pub tab_passes : (test : A → Bool) (n : ℕ) (f : ℕ → A) (i : ℕ) → place_of test (tab n f) ≡ Some i → test (f i) ≡ true
   unfolding tab place_of if_true◌then◌else◌ if_some◌give◌otherwise◌
   tab_passes test zero f i e = let different : ◌≡◌ {A = ℕ} 0 1 = cc in absurd (omega arith)
   tab_passes test (suc n) f i e =
       go (test (f 0)) refl (place_of test (tab n (λ k. f (suc k)))) (λ j q. tab_passes test n (λ k. f (suc k)) j q) i e
     where
-      go : (b : Bool) → test (f 0) ≡ b → (o : Option ℕ) → ((j : ℕ) → o ≡ some j → test (f (suc j)) ≡ true) → (i : ℕ)
-          → (if_true b then some 0 else (if_some o give (λ k. some (suc k)) otherwise none)) ≡ some i → test (f i) ≡ true
+      go : (b : Bool) → test (f 0) ≡ b → (o : Option ℕ) → ((j : ℕ) → o ≡ Some j → test (f (suc j)) ≡ true) → (i : ℕ)
+          → (if_true b then Some 0 else (if_some o give (λ k. Some (suc k)) otherwise None)) ≡ Some i → test (f i) ≡ true
       go true p o h i e = let first : 0 ≡ i = cc in subst (λ (k : ℕ). test (f k) ≡ true) first p
-      go false p none h i e = let different : ◌≡◌ {A = ℕ} 0 1 = cc in absurd (omega arith)
-      go false p (some j) h i e = let later : suc j ≡ i = cc in subst (λ (k : ℕ). test (f k) ≡ true) later (h j refl)
+      go false p None h i e = let different : ◌≡◌ {A = ℕ} 0 1 = cc in absurd (omega arith)
+      go false p (Some j) h i e = let later : suc j ≡ i = cc in subst (λ (k : ℕ). test (f k) ≡ true) later (h j refl)

@@ -1,5 +1,5 @@
 -- What is proved of the definitions in specs/Made.antt, with what the proofs need.
-use Rattle.std.specs.Prelude.{◌≡◌, Bool, true, false, ◌||◌, ℕ, eqb}
+use Rattle.std.specs.Prelude.{◌≡◌, Bool, true, false, ◌||◌, ℕ, eqb, Err, Ok}
 use Rattle.std.proofs.Math.Path.{refl, ap, sym}
 use Rattle.std.proofs.Common.{◌∙◌}
 use Rattle.srt_protocol.specs.Handshake.{has_group_mask}
@@ -14,7 +14,6 @@ use Rattle.srt_group_model.specs.Validity.{above, any_above, making_words}
 use Rattle.srt_group_model.specs.Guards.{no_answer}
 use Rattle.srt_group_model.specs.Calls.{new, new_code}
 use Rattle.srt_group.specs.declared.Group.{Group}
-use Rattle.srt_group.specs.declared.NewGroup.TheVariants.{Made, Refused}
 use Rattle.srt_group.specs.Made.{Fresh, PromisedNew}
 
 module _ (making : Making) where
@@ -22,7 +21,7 @@ module _ (making : Making) where
   unfolding making_words any_above any
   words_are = ap (λ (b : Bool). above largest_32 making.id || b) (or_no (above 1 making.mode))
 
-  refused_by : (e : Error) → new_code making ≡ error_number e → eqb (error_number e) 0 ≡ false → PromisedNew making (Refused e)
+  refused_by : (e : Error) → new_code making ≡ error_number e → eqb (error_number e) 0 ≡ false → PromisedNew making (Err e)
   refused_by e is other =
       record {
         holds =
@@ -37,7 +36,7 @@ module _ (making : Making) where
       }
 
   module _ {unfit : Bool} (tested : unfit ≡ (above largest_32 making.id || above 1 making.mode)) where
-    pub new_unfit : unfit ≡ true → PromisedNew making (Refused OutOfRange)
+    pub new_unfit : unfit ≡ true → PromisedNew making (Err OutOfRange)
     unfolding new_code
     new_unfit is =
         refused_by OutOfRange
@@ -50,10 +49,10 @@ module _ (making : Making) where
           when_false (any_above (making_words making)) 2 (if_true has_group_mask making.id then 0 else 1) (words_are ∙ sym tested ∙ fits)
           ∙ ap (λ (b : Bool). if_true b then 0 else 1) (sym looked)
 
-      pub new_unmarked : marked ≡ false → PromisedNew making (Refused MissingGroupMask)
+      pub new_unmarked : marked ≡ false → PromisedNew making (Err MissingGroupMask)
       new_unmarked is = refused_by MissingGroupMask (passed ∙ when_false marked 0 1 is) refl
 
-      pub new_made : marked ≡ true → (g : Group) → Fresh g (new making) → PromisedNew making (Made g)
+      pub new_made : marked ≡ true → (g : Group) → Fresh g (new making) → PromisedNew making (Ok g)
       new_made is g fresh =
           let accepted : new_code making ≡ 0 = passed ∙ when_true marked 0 1 is in
           record {

@@ -1,11 +1,9 @@
 -- What is proved of the definitions in specs/Addition.antt, with what the proofs need.
-use Rattle.std.specs.Prelude.{◌≡◌, Bool, true, false, ℕ, ◌+◌, ◌*◌, ◌≤◌, ◌<◌, eqb, length}
+use Rattle.std.specs.Prelude.{◌≡◌, Bool, true, false, ℕ, ◌+◌, ◌*◌, ◌≤◌, ◌<◌, eqb, length, Err, None, Ok, Option, Some, is_some}
 use Rattle.std.proofs.Math.Path.{refl, ap, sym, subst}
 use Rattle.std.proofs.Common.{◌∙◌, add-one, arith, eq-eqb, ne_eqb}
 use mathlib.Core.List.{List, [], ◌∷◌, ◌++◌}
-use Rattle.std.proofs.Math.Option.{Option, none, some}
 use Rattle.srt_protocol.specs.declared.error.Error.TheVariants.{AlignmentFailed}
-use Rattle.srt_protocol.specs.declared.error.Outcome.TheVariants.{Accepted, Refused}
 use Rattle.srt_group_model.specs.Tools.{if_true◌then◌else◌, if_some◌give◌otherwise◌, is_set, flagged}
 use Rattle.srt_group_model.specs.Laws.Reason.{when_true, when_false}
 use Rattle.srt_group_model.specs.State.{Member, State, next_send_sequence, with_members, with_peer}
@@ -25,8 +23,8 @@ use Rattle.word_rows.specs.Laws.Tab.{tab_push}
 use Rattle.srt_connection_queue.specs.Rows.{row_size, member_from}
 use Rattle.srt_connection_members.specs.Members.{members_size, member_at, members_of, Appended}
 use Rattle.srt_connection_members.specs.Laws.Members.{members_length}
-use Rattle.srt_group_members.specs.Scan.{is_some, Tried}
-use Rattle.srt_group_members.specs.Admission.{base_in, AdmittedAt}
+use Rattle.srt_group_members.specs.Scan.{Tried}
+use Rattle.srt_group_members.specs.Admission.{AdmittedAt}
 use Rattle.srt_group_members.specs.declared.admission.Admission.{Admission}
 use Rattle.srt_group_shown.specs.Shown.{Rest, shown}
 use Rattle.srt_group_shown.specs.Tables.{receive_tables}
@@ -50,7 +48,7 @@ module _ (id weight : ℕ) (l : Leg) (core : Core) (ms : List ℕ) {state : ℕ}
     (as_made : made ≡ membership_at_addition id weight state) (u : List ℕ)
     (appended : Appended core.counts.members (member_from made l []) ms u)
     (before answer : Admission) (v : List ℕ) (admitted : AdmittedAt core.counts.members u before answer v)
-    (bound : before.peer ≡ core.peer) (unset : before.based ≡ 0) (based : Core) (bases : Bases (base_in answer) core based) where
+    (bound : before.peer ≡ core.peer) (unset : before.base ≡ None) (based : Core) (bases : Bases answer.base core based) where
   abbrev n : ℕ
   n = core.counts.members
 
@@ -78,11 +76,10 @@ module _ (id weight : ℕ) (l : Leg) (core : Core) (ms : List ℕ) {state : ℕ}
         admitted.peer ∙ ap (λ (x : ℕ). peer_after x (member_at u n ∷ [])) bound
         ∙ ap (λ (x : Member). peer_after core.peer (x ∷ [])) there
 
-    brings : base_in answer ≡ base_after none (m ∷ [])
-    unfolding flagged
+    brings : answer.base ≡ base_after None (m ∷ [])
     brings =
-        admitted.base ∙ ap (λ (x : ℕ). base_after (flagged (is_set x) before.base) (member_at u n ∷ [])) unset
-        ∙ ap (λ (x : Member). base_after none (x ∷ [])) there
+        admitted.base ∙ ap (λ (x : Option ℕ). base_after x (member_at u n ∷ [])) unset
+        ∙ ap (λ (x : Member). base_after None (x ∷ [])) there
 
     stands : member_at v n ≡ admit_peer_group peer m
     stands =
@@ -96,7 +93,7 @@ module _ (id weight : ℕ) (l : Leg) (core : Core) (ms : List ℕ) {state : ℕ}
         ∙ tab_push n (member_at ms) (member_at v) (admit_peer_group peer m)
         (λ j h. admitted.changed.others j (λ e. omega arith) ∙ appended.others j (λ e. omega arith)) stands)
 
-    set : (set_base (base_after none (m ∷ [])) (start s)).state ≡ shown based others ms ps ws
+    set : (set_base (base_after None (m ∷ [])) (start s)).state ≡ shown based others ms ps ws
     set =
         ap (λ (o : Option ℕ). (set_base o (start s)).state) (sym brings) ∙ (bases.run others (receive_tables ms ps ws) [] 0).state
 
@@ -138,9 +135,9 @@ module _ (id weight : ℕ) (l : Leg) (core : Core) (sending : Sending) (ms : Lis
           state = t;
           code = code;
           answer = no_answer;
-          put = none;
+          put = None;
           sends = [];
-          log = (set_base (base_after none (member ∷ [])) (start before)).log;
+          log = (set_base (base_after None (member ∷ [])) (start before)).log;
         }
 
     abbrev aligning : Option (List Member)
@@ -184,8 +181,8 @@ module _ (id weight : ℕ) (l : Leg) (core : Core) (sending : Sending) (ms : Lis
     tried : (v : List ℕ) (o : Option (List Member)) → aligning ≡ o → (answer : Bool) → answer ≡ is_some o
         → members_of (count + 1) v ≡ (if_some o give (λ ns. ns) otherwise members_of (count + 1) u) → x.admitted ≡ 1
         → Left (add_body id weight l before) (if_true answer then 0 else 22) no_answer (shown after others v ps ws)
-    unfolding is_some if_some◌give◌otherwise◌ if_true◌then◌else◌
-    tried v none e answer succeeded are one =
+    unfolding if_some◌give◌otherwise◌ if_true◌then◌else◌
+    tried v None e answer succeeded are one =
         subst (λ (b : Bool). Left (add_body id weight l before) (if_true b then 0 else 22) no_answer (shown after others v ps ws)) (sym succeeded)
         (left_by (ended added 22) (starts_aligning one ∙ ap aligned e)
         record {
@@ -195,12 +192,12 @@ module _ (id weight : ℕ) (l : Leg) (core : Core) (sending : Sending) (ms : Lis
           put = refl;
           sends = refl;
         })
-    tried v (some ns) e answer succeeded are one =
+    tried v (Some ns) e answer succeeded are one =
         subst (λ (b : Bool). Left (add_body id weight l before) (if_true b then 0 else 22) no_answer (shown after others v ps ws)) (sym succeeded)
         (left_by (ended (with_members ns added) 0) (starts_aligning one ∙ ap aligned e)
         record { code = refl; answer = refl; state = shows_rows v ns are; put = refl; sends = refl })
 
-  pub adds_unaligned : (x.admitted ≡ 1 → ⊥) → Adds id weight l core sending ms record { core = after; outcome = Accepted } u
+  pub adds_unaligned : (x.admitted ≡ 1 → ⊥) → Adds id weight l core sending ms record { core = after; outcome = Ok tt } u
   adds_unaligned other =
       record { long = joining.long; step = λ others same ps ws. not_aligned others same ps ws other }
 
@@ -212,7 +209,7 @@ module _ (id weight : ℕ) (l : Leg) (core : Core) (sending : Sending) (ms : Lis
     attempted others same ps ws =
         tried others same ps ws v _ (sym (same_aligning others same ps ws)) answer attempt.succeeded attempt.is one
 
-    pub adds_aligned : answer ≡ true → Adds id weight l core sending ms record { core = after; outcome = Accepted } v
+    pub adds_aligned : answer ≡ true → Adds id weight l core sending ms record { core = after; outcome = Ok tt } v
     unfolding if_true◌then◌else◌
     adds_aligned succeeds =
         record {
@@ -224,7 +221,7 @@ module _ (id weight : ℕ) (l : Leg) (core : Core) (sending : Sending) (ms : Lis
         }
 
     -- 22: it stays added
-    pub adds_22 : answer ≡ false → Adds id weight l core sending ms record { core = after; outcome = Refused AlignmentFailed } v
+    pub adds_22 : answer ≡ false → Adds id weight l core sending ms record { core = after; outcome = Err AlignmentFailed } v
     unfolding if_true◌then◌else◌
     adds_22 fails =
         record {

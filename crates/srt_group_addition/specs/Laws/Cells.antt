@@ -1,7 +1,6 @@
 -- An addition takes and frees no cell: the new member's queue is empty.
-use Rattle.std.specs.Prelude.{◌≡◌, refl, Bool, List, [], ◌∷◌, ◌++◌, ℕ}
+use Rattle.std.specs.Prelude.{◌≡◌, refl, List, [], ◌∷◌, ◌++◌, ℕ, Option, Some}
 use Rattle.std.proofs.Common.{ap, subst, ◌∙◌, arith}
-use Rattle.std.proofs.Math.Option.{Option, none, some}
 use Rattle.srt_group_model.specs.Tools.{such_that, each}
 use Rattle.srt_group_model.specs.Laws.Reason.{if_elim, if_some_elim, none_some, some_inj}
 use Rattle.srt_group_model.specs.State.{Member, Send, State, with_leg}
@@ -17,7 +16,6 @@ use Rattle.srt_group_model.specs.Calls.{new_member, add_body}
 use Rattle.srt_group_model.specs.declared.Leg.{Leg}
 use Rattle.srt_group_model.specs.declared.Packet.{Packet}
 use Rattle.srt_group_shown.specs.Laws.Found.{change_queued}
-use Rattle.srt_group_addition.specs.Addition.{joined_by}
 
 -- a base that is set leaves the held packets and the sending side
 set_base_pending : (o : Option ℕ) (s : State) → (set_base o (start s)).state.receive.pending ≡ s.receive.pending
@@ -56,15 +54,15 @@ same_queue : (n : ℕ) (l : Leg) (m : Member) → occurs n (queue_cells (with_le
 unfolding queue_cells
 same_queue n l m = refl
 
-aligned_cells : (n : ℕ) (number : Option ℕ) (i : ℕ) (ms ns : List Member) → align_member_sequence number i ms ≡ some ns
+aligned_cells : (n : ℕ) (number : Option ℕ) (i : ℕ) (ms ns : List Member) → align_member_sequence number i ms ≡ Some ns
     → occurs n (queued_cells ns) ≡ occurs n (queued_cells ms)
 unfolding align_member_sequence
 aligned_cells n number i ms ns =
-    if_some_elim (λ (o : Option (List Member)). o ≡ some ns → occurs n (queued_cells ns) ≡ occurs n (queued_cells ms)) _ _ _
+    if_some_elim (λ (o : Option (List Member)). o ≡ Some ns → occurs n (queued_cells ns) ≡ occurs n (queued_cells ms)) _ _ _
     (λ m at.
-    if_some_elim (λ (o : Option (List Member)). o ≡ some ns → occurs n (queued_cells ns) ≡ occurs n (queued_cells ms)) _ _ _
+    if_some_elim (λ (o : Option (List Member)). o ≡ Some ns → occurs n (queued_cells ns) ≡ occurs n (queued_cells ms)) _ _ _
     (λ sequence source.
-    if_some_elim (λ (o : Option (List Member)). o ≡ some ns → occurs n (queued_cells ns) ≡ occurs n (queued_cells ms)) _ _ _
+    if_some_elim (λ (o : Option (List Member)). o ≡ Some ns → occurs n (queued_cells ns) ≡ occurs n (queued_cells ms)) _ _ _
     (λ l g e.
     subst (λ (x : List Member). occurs n (queued_cells x) ≡ occurs n (queued_cells ms)) (some_inj e)
     (change_queued n i (with_leg l) ms (same_queue n l)))

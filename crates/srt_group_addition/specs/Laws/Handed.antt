@@ -1,21 +1,19 @@
 -- What is proved of the definitions in specs/Handed.antt, with what the proofs need.
-use Rattle.std.specs.Prelude.{◌≡◌, refl, Bool, true, false, ◌||◌, List, [], ◌∷◌, ℕ, ◌≤◌, ◌<◌, leb, length}
+use Rattle.srt_protocol.specs.Errors.{Outcome}
+use Rattle.std.specs.Prelude.{◌≡◌, refl, Bool, true, false, ◌||◌, List, [], ◌∷◌, ℕ, ◌≤◌, ◌<◌, leb, length, Err, Ok}
 use Rattle.std.proofs.Math.Path.{ap}
 use Rattle.std.proofs.Common.{sym, subst, ◌∙◌, arith, leb-false, le-leb}
 use Rattle.std.proofs.lemmas.Bool.{lt-leb}
 use Rattle.srt_protocol.specs.declared.error.Error.{Error}
 use Rattle.srt_protocol.specs.declared.error.Error.TheVariants.{OutOfRange, InvalidState, MemberLimit, DuplicateMember}
-use Rattle.srt_protocol.specs.declared.error.Outcome.{Outcome}
-use Rattle.srt_protocol.specs.declared.error.Outcome.TheVariants.{Accepted, Refused}
-use Rattle.srt_protocol.specs.Errors.{error_number, outcome_number, refuse_if}
+use Rattle.srt_protocol.specs.Errors.{error_number, outcome_number}
 use Rattle.srt_group_model.specs.Tools.{if_true◌then◌else◌, any}
 use Rattle.srt_group_model.specs.State.{State}
 use Rattle.srt_group_model.specs.Members.{has_id}
 use Rattle.srt_group_model.specs.Validity.{max_members}
 use Rattle.srt_group_model.specs.Guards.{no_answer, Step, refuse, Check, ◌when◌, guard}
-use Rattle.srt_group_model.specs.Laws.Refusals.{guard_stops, guard_goes_on}
 use Rattle.srt_group_model.specs.Laws.CellsMoved.{Keeps}
-use Rattle.srt_group_model.specs.Calls.{breaks_rule, add_body, add_member}
+use Rattle.srt_group_model.specs.Calls.{add_body, add_member}
 use Rattle.srt_group_model.specs.Lent.{call_add_member, step_of}
 use Rattle.srt_group_model.specs.declared.Core.{Core}
 use Rattle.srt_group_model.specs.declared.Event.{Event}
@@ -23,9 +21,8 @@ use Rattle.srt_group_model.specs.declared.Leg.{Leg}
 use Rattle.srt_group_model.specs.declared.Sending.{Sending}
 use Rattle.srt_connection_members.specs.Members.{members_of, member_at}
 use Rattle.srt_connection_members.specs.Laws.Members.{members_length}
-use Rattle.srt_group_shown.specs.Shown.{shown}
 use Rattle.srt_group_shown.specs.Tables.{Parts, parts, Tables, tables, rest_of, state_of}
-use Rattle.srt_group_shown.specs.Steps.{Unbroken, Left, StepsKeeping}
+use Rattle.srt_group_shown.specs.Steps.{Unbroken, StepsKeeping}
 use Rattle.srt_group_shown.specs.Laws.Steps.{left_by, left_refused}
 use Rattle.srt_group_shown.specs.Laws.Found.{long_with, same_cells}
 use Rattle.srt_group_addition.specs.Addition.{Adds}
@@ -49,21 +46,21 @@ module _ (id weight : ℕ) (l : Leg) (row : List ℕ) (n : ℕ) (ms : List ℕ) 
   First o = ◌≡◌ {A = Outcome} o (addition_refused id weight l queue (members_of n ms))
 
   module _ {a : Bool} (is_a : a ≡ in_use l queue) where
-    pub stops_in_use : a ≡ true → First (Refused InvalidState)
+    pub stops_in_use : a ≡ true → First (Err InvalidState)
     stops_in_use e = ap (λ (x : Bool). first_refusal x (unfit id weight l) full duplicate) (sym e ∙ is_a)
 
     module _ (a_no : a ≡ false) {b : Bool} (is_b : b ≡ unfit id weight l) where
       after_in_use : first_refusal false (unfit id weight l) full duplicate ≡ addition_refused id weight l queue (members_of n ms)
       after_in_use = ap (λ (x : Bool). first_refusal x (unfit id weight l) full duplicate) (sym a_no ∙ is_a)
 
-      pub stops_unfit : b ≡ true → First (Refused OutOfRange)
+      pub stops_unfit : b ≡ true → First (Err OutOfRange)
       stops_unfit e = ap (λ (x : Bool). first_refusal false x full duplicate) (sym e ∙ is_b) ∙ after_in_use
 
       module _ (b_no : b ≡ false) where
         after_unfit : first_refusal false false full duplicate ≡ addition_refused id weight l queue (members_of n ms)
         after_unfit = ap (λ (x : Bool). first_refusal false x full duplicate) (sym b_no ∙ is_b) ∙ after_in_use
 
-        pub stops_full : max_members ≤ n → First (Refused MemberLimit)
+        pub stops_full : max_members ≤ n → First (Err MemberLimit)
         stops_full e =
             ap (λ (x : Bool). first_refusal false false x duplicate) (sym (ap (leb max_members) (members_length n ms) ∙ le-leb max_members n e))
             ∙ after_unfit
@@ -75,20 +72,20 @@ module _ (id weight : ℕ) (l : Leg) (row : List ℕ) (n : ℕ) (ms : List ℕ) 
               ∙ ap (λ (x : Bool). first_refusal false false x duplicate) (sym (ap (leb max_members) (members_length n ms) ∙ lt-leb max_members n room))
               ∙ after_unfit
 
-          pub stops_duplicate : d ≡ true → First (Refused DuplicateMember)
+          pub stops_duplicate : d ≡ true → First (Err DuplicateMember)
           stops_duplicate e = ap (λ (x : Bool). first_refusal false false false x) (sym e) ∙ after_full
 
-          pub none_stops : d ≡ false → First Accepted
+          pub none_stops : d ≡ false → First (Ok tt)
           none_stops e = ap (λ (x : Bool). first_refusal false false false x) (sym e) ∙ after_full
 
 abbrev checks : (a b c d : Bool) → List Check
 checks a b c d = (6 when a) ∷ (2 when b) ∷ (20 when c) ∷ (21 when d) ∷ []
 
-never : {B : Type 0} {e : Error} → ◌≡◌ {A = Outcome} Accepted (Refused e) → B
+never : {B : Type 0} {e : Error} → ◌≡◌ {A = Outcome} (Ok tt) (Err e) → B
 never is = let different : ◌≡◌ {A = ℕ} 0 1 = cc is in absurd (omega arith)
 
 -- a list of guards that stops at it, and one that goes through
-guards_stop : (a b c d : Bool) (e : Error) (s : State) (body : Step) → ◌≡◌ {A = Outcome} (Refused e) (first_refusal a b c d)
+guards_stop : (a b c d : Bool) (e : Error) (s : State) (body : Step) → ◌≡◌ {A = Outcome} (Err e) (first_refusal a b c d)
     → guard (checks a b c d) s body ≡ refuse (error_number e) s
 unfolding guard if_true◌then◌else◌
 guards_stop true b c d e s body is = ap (λ (o : Outcome). refuse (outcome_number o) s) (sym is)
@@ -97,7 +94,7 @@ guards_stop false false true d e s body is = ap (λ (o : Outcome). refuse (outco
 guards_stop false false false true e s body is = ap (λ (o : Outcome). refuse (outcome_number o) s) (sym is)
 guards_stop false false false false e s body is = never (sym is)
 
-guards_pass : (a b c d : Bool) (s : State) (body : Step) → ◌≡◌ {A = Outcome} Accepted (first_refusal a b c d)
+guards_pass : (a b c d : Bool) (s : State) (body : Step) → ◌≡◌ {A = Outcome} (Ok tt) (first_refusal a b c d)
     → guard (checks a b c d) s body ≡ body
 unfolding guard if_true◌then◌else◌
 guards_pass true b c d s body is = never is
@@ -108,11 +105,11 @@ guards_pass false false false false s body is = refl
 
 -- one that passes leaves room for a member
 room_left : (id weight : ℕ) (l : Leg) (queue : List Event) (n : ℕ) (ms : List ℕ)
-    → ◌≡◌ {A = Outcome} Accepted (addition_refused id weight l queue (members_of n ms)) → n < max_members
+    → ◌≡◌ {A = Outcome} (Ok tt) (addition_refused id weight l queue (members_of n ms)) → n < max_members
 room_left id weight l queue n ms is =
     omega (arith, members_length n ms, go (in_use l queue) (unfit id weight l) (leb max_members (length (members_of n ms))) (any (has_id id) (members_of n ms)) refl is)
   where
-    go : (a b c d : Bool) → c ≡ leb max_members (length (members_of n ms)) → ◌≡◌ {A = Outcome} Accepted (first_refusal a b c d) → length (members_of n ms) < max_members
+    go : (a b c d : Bool) → c ≡ leb max_members (length (members_of n ms)) → ◌≡◌ {A = Outcome} (Ok tt) (first_refusal a b c d) → length (members_of n ms) < max_members
     go true b c d e is = never is
     go false true c d e is = never is
     go false false true d e is = never is
@@ -131,7 +128,7 @@ module _ (id weight : ℕ) (l : Leg) (queue : List Event) (p : Parts) (t : Table
       ap (λ (x : Bool). guard (checks (x || in_use l queue) (unfit id weight l) (leb max_members (length s.members)) (any (has_id id) s.members)) s (add_body id weight l s))
       unbroken.valid
 
-  adding_refused : (e : Error) → ◌≡◌ {A = Outcome} (Refused e) (addition_refused id weight l queue s.members)
+  adding_refused : (e : Error) → ◌≡◌ {A = Outcome} (Err e) (addition_refused id weight l queue s.members)
       → StepsKeeping (call_add_member id weight l queue) p t (error_number e) no_answer p t
   adding_refused e is =
       record {
@@ -143,7 +140,7 @@ module _ (id weight : ℕ) (l : Leg) (queue : List Event) (p : Parts) (t : Table
         keeps = same_cells s;
       }
 
-  adding_done : (answer : Added) (members' : List ℕ) → ◌≡◌ {A = Outcome} Accepted (addition_refused id weight l queue s.members)
+  adding_done : (answer : Added) (members' : List ℕ) → ◌≡◌ {A = Outcome} (Ok tt) (addition_refused id weight l queue s.members)
       → Adds id weight l p.core p.sending t.members answer members'
       → StepsKeeping (call_add_member id weight l queue) p t (outcome_number answer.outcome) no_answer
       (parts p.identity answer.core p.sending p.ring) (tables members' t.pending t.waiting t.history t.sources)
@@ -165,7 +162,7 @@ module _ (id weight : ℕ) (row : List ℕ) (core : Core) (sending : Sending) (m
   of_row : r ≡ addition_refused id weight (member_at row 0).leg (member_at row 0).queue (members_of core.counts.members ms)
   of_row = tested ∙ ap (λ (l : Leg). addition_refused id weight l (member_at row 0).queue (members_of core.counts.members ms)) is_leg
 
-  pub leg_refused : (e : Error) → r ≡ Refused e → StepsAdding (call_of_row id weight row) core sending ms record { core = core; outcome = Refused e } ms
+  pub leg_refused : (e : Error) → r ≡ Err e → StepsAdding (call_of_row id weight row) core sending ms record { core = core; outcome = Err e } ms
   leg_refused e is =
       record {
         over =
@@ -174,7 +171,7 @@ module _ (id weight : ℕ) (row : List ℕ) (core : Core) (sending : Sending) (m
             (sym is ∙ of_row);
       }
 
-  module _ (accepted : r ≡ Accepted) where
+  module _ (accepted : r ≡ Ok tt) where
     pub leg_room : core.counts.members < max_members
     leg_room = room_left id weight leg (member_at row 0).queue core.counts.members ms (sym accepted ∙ tested)
 

@@ -1,8 +1,7 @@
 -- What `add_member` promises, with its refusals: 6 of the group's own state, and then what follows.
-use Rattle.std.specs.Prelude.{◌≡◌, refl, Bool, true, false, ◌||◌, List, ◌∷◌, ℕ, ◌≤◌, length}
+use Rattle.srt_protocol.specs.Errors.{Outcome}
+use Rattle.std.specs.Prelude.{◌≡◌, refl, Bool, true, false, ◌||◌, List, ◌∷◌, ℕ, ◌≤◌, length, Err, Ok}
 use Rattle.srt_protocol.specs.declared.error.Error.{Error}
-use Rattle.srt_protocol.specs.declared.error.Outcome.{Outcome}
-use Rattle.srt_protocol.specs.declared.error.Outcome.TheVariants.{Accepted, Refused}
 use Rattle.srt_protocol.specs.Errors.{error_number, outcome_number}
 use Rattle.srt_group_model.specs.Tools.{if_true◌then◌else◌}
 use Rattle.srt_group_model.specs.State.{State}
@@ -28,7 +27,7 @@ apart true b cs s body = refl
 apart false b cs s body = refl
 
 module _ (id weight : ℕ) (row : List ℕ) (p : Parts) (t : Tables) (long : row_size ≤ length row) {r : Outcome} (begins : r ≡ begun p t) where
-  pub addition_refused_6 : (e : Error) → r ≡ Refused e
+  pub addition_refused_6 : (e : Error) → r ≡ Err e
       → PromisedRow (call_of_row id weight row) p t row (showing p t nothing_lent (error_number e) no_answer 0)
   unfolding step_of add_member
   addition_refused_6 e refused =
@@ -36,7 +35,7 @@ module _ (id weight : ℕ) (row : List ℕ) (p : Parts) (t : Tables) (long : row
       (promised_refused_6 (call_of_row id weight row) p t nothing_lent begins _ (add_body id weight (member_at row 0).leg (state_of p t))
       (apart (breaks_rule (state_of p t)) _ _ _ _) e refused)
 
-  pub addition_promised : r ≡ Accepted → (answer : Added) (members' : List ℕ)
+  pub addition_promised : r ≡ Ok tt → (answer : Added) (members' : List ℕ)
       → StepsAdding (call_of_row id weight row) p.core p.sending t.members answer members'
       → PromisedRow (call_of_row id weight row) p t row
       (showing (parts p.identity answer.core p.sending p.ring) (tables members' t.pending t.waiting t.history t.sources) nothing_lent

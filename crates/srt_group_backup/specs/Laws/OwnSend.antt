@@ -1,9 +1,8 @@
 -- What is proved of the definitions in specs/OwnSend.antt, with what the proofs need.
-use Rattle.std.specs.Prelude.{◌≡◌, true, false, ℕ, ◌+◌, ◌≤◌, ◌<◌, length}
+use Rattle.std.specs.Prelude.{◌≡◌, true, false, ℕ, ◌+◌, ◌≤◌, ◌<◌, None, Option, Some, is_some}
 use Rattle.std.proofs.Math.Path.{refl, ap, sym}
 use Rattle.std.proofs.Common.{◌∙◌, arith}
 use mathlib.Core.List.{List, [], ◌∷◌}
-use Rattle.std.proofs.Math.Option.{Option, none, some}
 use Rattle.srt_protocol.specs.Sequence.{sequence_further}
 use Rattle.srt_group_model.specs.Tools.{if_true◌then◌else◌, if_some◌give◌otherwise◌, at_place, change}
 use Rattle.srt_group_model.specs.State.{Member, Send, State, with_send, with_members, with_leg, send_side, with_sending, with_number, with_carrier, entry_of}
@@ -15,13 +14,9 @@ use Rattle.srt_group_model.specs.declared.Entry.{Entry}
 use Rattle.srt_group_model.specs.declared.Leg.{Leg}
 use Rattle.srt_group_model.specs.declared.Membership.{Membership}
 use Rattle.srt_group_model.specs.declared.Sending.{Sending}
-use Rattle.srt_connection.specs.Answers.{result_of}
 use Rattle.srt_connection.specs.Laws.Answers.{result_ok, result_err}
 use Rattle.srt_connection_members.specs.Members.{member_at, members_of, Changed}
 use Rattle.srt_connection_members.specs.Laws.Members.{members_place, changed_by, unchanged}
-use Rattle.srt_connection.specs.declared.legs.LegResult.{LegResult}
-use Rattle.srt_connection.specs.declared.legs.LegResult.TheVariants.{Ok, Err}
-use Rattle.srt_group_members.specs.Scan.{is_some}
 use Rattle.srt_group_tables.specs.Ring.{Arrays, Long, Packs, with_entry, next_place, after_push, send_of}
 use Rattle.srt_group_tables.specs.Laws.Ring.{with_newest, pushed}
 use Rattle.srt_group_tables.specs.declared.history.HistoryRing.{HistoryRing}
@@ -39,14 +34,14 @@ carried_by carrier sequence x = with_carrier carrier (with_number (sequence_furt
 
 -- ---- the send
 
-module _ (time size sequence i sent : ℕ) (t list : List ℕ) {l : Leg} {result : LegResult} (leg : l ≡ (member_at t i).leg)
-    (is : result ≡ result_of (send_shared_with_sequence time size sequence l)) where
+module _ (time size sequence i sent : ℕ) (t list : List ℕ) {l : Leg} {result : Option Leg} (leg : l ≡ (member_at t i).leg)
+    (is : result ≡ send_shared_with_sequence time size sequence l) where
   its_send : (o : Option Leg) → send_shared_with_sequence time size sequence l ≡ o
       → send_shared_with_sequence time size sequence (member_at t i).leg ≡ o
   its_send o same = ap (send_shared_with_sequence time size sequence) (sym leg) ∙ same
 
-  pub own_not_sent : result ≡ Err → SentOn time size sequence i sent (send_tables t list) false (send_tables t list)
-  unfolding is_some if_true◌then◌else◌ if_some◌give◌otherwise◌
+  pub own_not_sent : result ≡ None → SentOn time size sequence i sent (send_tables t list) false (send_tables t list)
+  unfolding if_true◌then◌else◌ if_some◌give◌otherwise◌
   own_not_sent err =
       record {
         succeeded = sym (rw failed);
@@ -54,14 +49,14 @@ module _ (time size sequence i sent : ℕ) (t list : List ℕ) {l : Leg} {result
         written = wrote_nothing sent list;
       }
     where
-      failed : send_shared_with_sequence time size sequence (member_at t i).leg ≡ none
-      failed = its_send none (result_err (send_shared_with_sequence time size sequence l) (sym err ∙ is))
+      failed : send_shared_with_sequence time size sequence (member_at t i).leg ≡ None
+      failed = its_send None (result_err (send_shared_with_sequence time size sequence l) (sym err ∙ is))
 
-  pub own_sent : {x : Membership} {u list_after : List ℕ} (k : Leg) → result ≡ Ok k
+  pub own_sent : {x : Membership} {u list_after : List ℕ} (k : Leg) → result ≡ Some k
       → x ≡ (member_at t i).membership → Changed i (with_leg k) t u
       → Wrote sent (sent_row x.id sequence own_payload time time ∷ []) list (sent + 1) list_after
       → SentOn time size sequence i sent (send_tables t list) true (send_tables u list_after)
-  unfolding is_some if_true◌then◌else◌ if_some◌give◌otherwise◌
+  unfolding if_true◌then◌else◌ if_some◌give◌otherwise◌
   own_sent {x} {u} {list_after} k ok member c wrote =
       record {
         succeeded = sym (rw succeeds);
@@ -69,8 +64,8 @@ module _ (time size sequence i sent : ℕ) (t list : List ℕ) {l : Leg} {result
         written = rw member at wrote;
       }
     where
-      succeeds : send_shared_with_sequence time size sequence (member_at t i).leg ≡ some k
-      succeeds = its_send (some k) (result_ok (send_shared_with_sequence time size sequence l) k (sym ok ∙ is))
+      succeeds : send_shared_with_sequence time size sequence (member_at t i).leg ≡ Some k
+      succeeds = its_send (Some k) (result_ok (send_shared_with_sequence time size sequence l) k (sym ok ∙ is))
 
 -- ---- what is recorded
 
@@ -109,18 +104,18 @@ module _ (l : Leg) (carrier : ℕ) (e : Entry) (x : Sending) (r : HistoryRing) (
 
 module _ (time size cell sequence i n : ℕ) (t : List ℕ) (below : i < n) (failed : Member → State → Flow) (s : State)
     (ms : s.members ≡ members_of n t) where
-  own_place : at_place i s.members ≡ some (member_at t i)
+  own_place : at_place i s.members ≡ Some (member_at t i)
   own_place = ap (at_place i) ms ∙ members_place n t i below
 
   -- the send failed: it ends as `failed` says
-  pub send_own_failed : send_shared_with_sequence time size sequence (member_at t i).leg ≡ none
+  pub send_own_failed : send_shared_with_sequence time size sequence (member_at t i).leg ≡ None
       → send_own time size cell sequence i failed s ≡ failed (member_at t i) s
   unfolding send_own if_some◌give◌otherwise◌
   send_own_failed none_sent = rw (own_place, none_sent)
 
   -- it succeeded: with the entry recorded, the state shown is the model's
   pub send_own_succeeded : {u : List ℕ} (l : Leg) (y : Send)
-      → send_shared_with_sequence time size sequence (member_at t i).leg ≡ some l → Changed i (with_leg l) t u
+      → send_shared_with_sequence time size sequence (member_at t i).leg ≡ Some l → Changed i (with_leg l) t u
       → y
       ≡ record_backup_send (with_leg l (member_at t i)) (entry_of sequence cell size time)
       (with_sending (with_number (sequence_further sequence 1) s.send.numbers) s.send)
@@ -135,10 +130,9 @@ module _ (time size cell sequence i n : ℕ) (t : List ℕ) (below : i < n) (fai
       flow : Send → List Member → Flow
       flow z ns = record { state = with_send z (with_members ns s); sends = own_send time sequence (member_at t i) ∷ []; code = 0 }
 
-with_some : {B : Type 0} (o : Option Leg) → true ≡ is_some o → ((l : Leg) → o ≡ some l → B) → B
-unfolding is_some
-with_some none is go = let different : ◌≡◌ {A = ℕ} 0 1 = cc is in absurd (omega arith)
-with_some (some l) is go = go l refl
+with_some : {B : Type 0} (o : Option Leg) → true ≡ is_some o → ((l : Leg) → o ≡ Some l → B) → B
+with_some None is go = let different : ◌≡◌ {A = ℕ} 0 1 = cc is in absurd (omega arith)
+with_some (Some l) is go = go l refl
 
 -- a `send_on` that succeeded and `record_backup_send` make the model's `send_own`
 module _ (time size cell sequence i n : ℕ) (before after : SendTables) (below : i < n) (failed : Member → State → Flow) (s : State)
@@ -167,10 +161,10 @@ module _ (time size cell sequence i n : ℕ) (before after : SendTables) (below 
       m : Member
       m = member_at before.members i
 
-      sent_leg : (k : Leg) → send_shared_with_sequence time size sequence m.leg ≡ some k → k ≡ l
+      sent_leg : (k : Leg) → send_shared_with_sequence time size sequence m.leg ≡ Some k → k ≡ l
       sent_leg k succeeds = sym (leg ∙ ap (λ (z : Member). z.leg) on.changed.here ∙ rw succeeds)
 
-      all_recorded : (k : Leg) → send_shared_with_sequence time size sequence m.leg ≡ some k
+      all_recorded : (k : Leg) → send_shared_with_sequence time size sequence m.leg ≡ Some k
           → send_of answer.sending answer.ring b
           ≡ record_backup_send (with_leg k m) own_entry
           (with_sending (with_number (sequence_further sequence 1) s.send.numbers) s.send)

@@ -1,20 +1,16 @@
 -- What is proved of the definitions in specs/Replay.antt, with what the proofs need.
-use Rattle.std.specs.Prelude.{◌≡◌, refl, Bool, ℕ, ◌+◌, ◌*◌, ◌≤◌, ◌<◌, length, drop}
+use Rattle.std.specs.Prelude.{◌≡◌, refl, Bool, ℕ, ◌+◌, ◌*◌, ◌≤◌, ◌<◌, length, drop, None, Option, Some}
 use Rattle.std.proofs.Math.Path.{ap, sym}
 use Rattle.std.proofs.Common.{◌∙◌, add-one, arith}
 use Rattle.std.proofs.Math.Bool.{true, false}
 use mathlib.Core.List.{List, [], ◌∷◌, ◌++◌, append_assoc, append-nil}
-use Rattle.std.proofs.Math.Option.{none, some}
 use Rattle.srt_group_model.specs.Tools.{if_some◌give◌otherwise◌, bit}
 use Rattle.srt_group_model.specs.Sending.{sent_row_size, Sent}
 use Rattle.srt_group_model.specs.Backup.{max_history, replay_entries}
 use Rattle.srt_group_model.specs.Backup as backup
 use Rattle.srt_group_model.specs.declared.Entry.{Entry}
 use Rattle.srt_group_model.specs.declared.Leg.{Leg}
-use Rattle.srt_connection.specs.Answers.{result_of}
 use Rattle.srt_connection.specs.Laws.Answers.{result_ok, result_err}
-use Rattle.srt_connection.specs.declared.legs.LegResult.{LegResult}
-use Rattle.srt_connection.specs.declared.legs.LegResult.TheVariants.{Ok, Err}
 use Rattle.srt_group_members.specs.Laws.Scan.{tab_next, tab_ended}
 use Rattle.srt_group_tables.specs.Ring.{Arrays, entry_at, entries_of}
 use Rattle.srt_group_tables.specs.declared.history.HistoryRing.{HistoryRing}
@@ -24,13 +20,13 @@ use Rattle.srt_group_backup.specs.Replay.{replayed_sent, entry_send, EntryReplay
 
 -- ---- one entry
 
-module _ (time id : ℕ) (e : Entry) (l : Leg) (sent : ℕ) (before : List ℕ) {result : LegResult} (is : result ≡ result_of (entry_send time e l)) where
-  pub entry_failed : result ≡ Err → EntryReplayed time id e l sent before Err before
+module _ (time id : ℕ) (e : Entry) (l : Leg) (sent : ℕ) (before : List ℕ) {result : Option Leg} (is : result ≡ entry_send time e l) where
+  pub entry_failed : result ≡ None → EntryReplayed time id e l sent before None before
   unfolding if_some◌give◌otherwise◌
   entry_failed err = record { outcome = sym err ∙ is; list = sym (rw (result_err (entry_send time e l) (sym err ∙ is))) }
 
-  pub entry_sent : {after : List ℕ} (k : Leg) → result ≡ Ok k
-      → Wrote sent (replayed_sent time id e ∷ []) before (sent + 1) after → EntryReplayed time id e l sent before (Ok k) after
+  pub entry_sent : {after : List ℕ} (k : Leg) → result ≡ Some k
+      → Wrote sent (replayed_sent time id e ∷ []) before (sent + 1) after → EntryReplayed time id e l sent before (Some k) after
   unfolding if_some◌give◌otherwise◌
   entry_sent k ok wrote = record { outcome = sym ok ∙ is; list = wrote.is ∙ sym (rw (result_ok (entry_send time e l) k (sym ok ∙ is))) }
 
@@ -44,12 +40,12 @@ abbrev pub sends_before : List Sent → backup.Replayed → backup.Replayed
 sends_before sends r = with_sends (sends ++ r.sends) r
 
 module _ (time id : ℕ) (e : Entry) (es : List Entry) (l : Leg) where
-  replay_goes_on : (k : Leg) → entry_send time e l ≡ some k
+  replay_goes_on : (k : Leg) → entry_send time e l ≡ Some k
       → replay_entries time id (e ∷ es) l ≡ sends_before (replayed_sent time id e ∷ []) (replay_entries time id es k)
   unfolding replay_entries if_some◌give◌otherwise◌
   replay_goes_on k succeeds = rw succeeds
 
-  replay_ends : entry_send time e l ≡ none → replay_entries time id (e ∷ es) l ≡ record { leg = l; sends = []; whole = false }
+  replay_ends : entry_send time e l ≡ None → replay_entries time id (e ∷ es) l ≡ record { leg = l; sends = []; whole = false }
   unfolding replay_entries if_some◌give◌otherwise◌
   replay_ends failed = rw failed
 
@@ -97,9 +93,9 @@ module _ (time id : ℕ) (r : HistoryRing) (a : Arrays) (l : Leg) (sent : ℕ) (
       tab_next index r.length (entry_at r a) more
       ∙ ap (λ (j : ℕ). entry_at r a index ∷ drop j (entries_of r a)) (sym (add-one index))
 
-  module _ {e : Entry} {result : LegResult} {after : List ℕ} (entry : e ≡ entry_at r a index)
+  module _ {e : Entry} {result : Option Leg} {after : List ℕ} (entry : e ≡ entry_at r a index)
       (replayed : EntryReplayed time id e here (sent + index) list result after) where
-    pub replaying_on : (k : Leg) → index < r.length → (sent + index) * sent_row_size + sent_row_size ≤ length list → result ≡ Ok k
+    pub replaying_on : (k : Leg) → index < r.length → (sent + index) * sent_row_size + sent_row_size ≤ length list → result ≡ Some k
         → Replaying time id (entries_of r a) l sent before k (index + 1) after
     unfolding if_some◌give◌otherwise◌
     replaying_on k more room ok =
@@ -110,7 +106,7 @@ module _ (time id : ℕ) (r : HistoryRing) (a : Arrays) (l : Leg) (sent : ℕ) (
           written = wrote_then so_far.written (omega (arith, so_far.long)) row_written;
         }
       where
-        succeeds : entry_send time e here ≡ some k
+        succeeds : entry_send time e here ≡ Some k
         succeeds = result_ok (entry_send time e here) k (sym ok ∙ replayed.outcome)
 
         row_written : Wrote (sent + index) (replayed_sent time id e ∷ []) list (sent + (index + 1)) after
@@ -129,7 +125,7 @@ module _ (time id : ℕ) (r : HistoryRing) (a : Arrays) (l : Leg) (sent : ℕ) (
             (append_assoc so_far.sends (replayed_sent time id e ∷ [])
             (replay_entries time id (drop (index + 1) (entries_of r a)) k).sends))
 
-    pub replay_stopped : index < r.length → r.length ≤ max_history → result ≡ Err
+    pub replay_stopped : index < r.length → r.length ≤ max_history → result ≡ None
         → EntriesReplayed time id (entries_of r a) l sent before record { leg = here; sent = sent + index; whole = 0 } after
     unfolding if_some◌give◌otherwise◌ bit
     replay_stopped more fits err =
@@ -137,7 +133,7 @@ module _ (time id : ℕ) (r : HistoryRing) (a : Arrays) (l : Leg) (sent : ℕ) (
         (replay_as time id (entries_of r a) l sent before here false so_far.sends (sent + index) list whole_same
         so_far.written (omega arith))
       where
-        failed : entry_send time e here ≡ none
+        failed : entry_send time e here ≡ None
         failed = result_err (entry_send time e here) (sym err ∙ replayed.outcome)
 
         same_list : after ≡ list

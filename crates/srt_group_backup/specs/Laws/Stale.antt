@@ -1,5 +1,5 @@
 -- What is proved of the definitions in specs/Stale.antt, with what the proofs need.
-use Rattle.std.specs.Prelude.{◌≡◌, Bool, ◌&&◌, List, ℕ, ◌<◌, max, ltb}
+use Rattle.std.specs.Prelude.{◌≡◌, Bool, ◌&&◌, List, ℕ, ◌<◌, max, ltb, None, Some}
 use Rattle.std.proofs.Math.Path.{refl, ap, sym}
 use Rattle.std.proofs.Common.{◌∙◌, arith}
 use Rattle.std.proofs.Math.Bool.{true, false}
@@ -13,9 +13,8 @@ use Rattle.srt_group_model.specs.Backup.{stability_timeout, is_stale, demote_sta
 use Rattle.srt_group_model.specs.Sound.{MemberFit, AllFit}
 use Rattle.srt_group_model.specs.Laws.Reason.{all_at}
 use Rattle.srt_group_model.specs.declared.Leg.{Leg}
-use Rattle.srt_connection_members.specs.Members.{member_at, members_of, found_of, Changed}
+use Rattle.srt_connection_members.specs.Members.{member_at, members_of, Changed}
 use Rattle.srt_connection_members.specs.Laws.Members.{members_place, found_some, found_none, changed_by, unchanged}
-use Rattle.srt_connection_members.specs.declared.Found.TheVariants.{At, Nothing}
 use Rattle.srt_group_members.specs.Scan.{Became}
 use Rattle.srt_group_members.specs.Laws.Scan.{became_same}
 use Rattle.srt_group_backup.specs.Stale.{TripFit}
@@ -62,12 +61,12 @@ module _ (time n : ℕ) (t : List ℕ) where
   abbrev demoted : List Member
   demoted = demote_stale_backup_carrier time (members_of n t)
 
-  pub none_active_none_demoted : Nothing ≡ found_of (first_active (members_of n t)) → Became n demoted t t
+  pub none_active_none_demoted : None ≡ first_active (members_of n t) → Became n demoted t t
   unfolding demote_stale_backup_carrier if_some◌give◌otherwise◌
   none_active_none_demoted e =
       became_same n t demoted (sym (rw (found_none (first_active (members_of n t)) e)))
 
-  module _ (i : ℕ) (found : At i ≡ found_of (first_active (members_of n t))) where
+  module _ (i : ℕ) (found : Some i ≡ first_active (members_of n t)) where
     -- the carrier is changed by a function that does the same to it as the demotion
     carrier_became : {f : Member → Member} (u : List ℕ) → Changed i f t u
         → f (member_at t i)

@@ -1,15 +1,13 @@
 -- What is proved of the definitions in specs/TakeOver.antt, with what the proofs need.
-use Rattle.std.specs.Prelude.{◌≡◌, Bool, ◌&&◌, ℕ, ◌≤◌, ◌<◌, eqb, length}
+use Rattle.srt_protocol.specs.Errors.{Outcome}
+use Rattle.std.specs.Prelude.{◌≡◌, Bool, ◌&&◌, ℕ, ◌≤◌, ◌<◌, eqb, length, Err, None, Ok, Option, Some, is_some}
 use Rattle.std.proofs.Math.Path.{refl, ap, sym}
 use Rattle.std.proofs.Common.{◌∙◌, arith, le-leb}
 use Rattle.std.proofs.Math.Bool.{true, false}
 use mathlib.Core.List.{List, []}
-use Rattle.std.proofs.Math.Option.{Option, none, some}
 use Rattle.std.proofs.lemmas.Bool.{lt-leb}
 use Rattle.word_rows.specs.Laws.Tab.{tab_length, tab_none}
 use Rattle.srt_protocol.specs.Errors.{outcome_number}
-use Rattle.srt_protocol.specs.declared.error.Outcome.{Outcome}
-use Rattle.srt_protocol.specs.declared.error.Outcome.TheVariants.{Accepted, Refused}
 use Rattle.srt_protocol.specs.declared.error.Error.TheVariants.{AlignmentFailed, ReplayRefused}
 use Rattle.srt_group_model.specs.Tools.{if_true◌then◌else◌, if_some◌give◌otherwise◌, is_set, flagged, at_place, change}
 use Rattle.srt_group_model.specs.Laws.Flag.{zero_unset, other_set, bit_set}
@@ -23,14 +21,11 @@ use Rattle.srt_group_model.specs.declared.Entry.{Entry}
 use Rattle.srt_group_model.specs.declared.Leg.{Leg}
 use Rattle.srt_group_model.specs.declared.Membership.{Membership}
 use Rattle.srt_group_model.specs.declared.Sending.{Sending}
-use Rattle.srt_connection.specs.Answers.{result_of}
 use Rattle.srt_connection.specs.Laws.Answers.{result_ok, result_err}
 use Rattle.srt_connection_queue.specs.Laws.Tab.{tab_place}
 use Rattle.srt_connection_members.specs.Members.{member_at, members_of, Changed}
 use Rattle.srt_connection_members.specs.Laws.Members.{members_place}
-use Rattle.srt_connection.specs.declared.legs.LegResult.{LegResult}
-use Rattle.srt_connection.specs.declared.legs.LegResult.TheVariants.{Ok, Err}
-use Rattle.srt_group_members.specs.Scan.{is_some, Tried}
+use Rattle.srt_group_members.specs.Scan.{Tried}
 use Rattle.srt_group_tables.specs.Ring.{Arrays, entry_at, entries_of, send_of}
 use Rattle.srt_group_tables.specs.declared.history.HistoryRing.{HistoryRing}
 use Rattle.srt_group_sending.specs.SentList.{send_tables}
@@ -61,7 +56,7 @@ module _ (time i : ℕ) (r : HistoryRing) (a : Arrays) (l : Leg) (t : List ℕ) 
 
   pub no_room_to_replay : {u : List ℕ} {room : ℕ} → room ≡ remaining_window_packets l → room ≤ r.length → Changed i (with_leg l) t u
       → FlightReplayed (replay_on time i (member_at t i) l) (HistoryIs (entries_of r a)) sent (send_tables t list)
-      record { outcome = Refused ReplayRefused; sent = sent } (send_tables u list)
+      record { outcome = Err ReplayRefused; sent = sent } (send_tables u list)
   unfolding replay_on if_true◌then◌else◌
   no_room_to_replay {u} {room} is full c =
       record {
@@ -144,10 +139,10 @@ flight_once_aligned time i m first s no_gap =
         → (if_true b
         then replay_on time i m m.leg s
         else (if_some o give (λ l. replay_on time i m l s) otherwise flow_of s [] 28))
-        ≡ (if_some (if_true b then some m.leg else o) give (λ l. replay_on time i m l s) otherwise flow_of s [] 28)
+        ≡ (if_some (if_true b then Some m.leg else o) give (λ l. replay_on time i m l s) otherwise flow_of s [] 28)
     go true o = refl
-    go false none = refl
-    go false (some l) = refl
+    go false None = refl
+    go false (Some l) = refl
 
 module _ (time i : ℕ) (x : Sending) (r : HistoryRing) (a : Arrays) (t : List ℕ) (sent : ℕ) (list : List ℕ) where
   abbrev whole_flight : State → Flow
@@ -159,7 +154,7 @@ module _ (time i : ℕ) (x : Sending) (r : HistoryRing) (a : Arrays) (t : List �
 
   pub gap_not_replayed : (x.gap ≡ 0 → ⊥)
       → FlightReplayed whole_flight (SendIs (send_of x r a)) sent (send_tables t list)
-      record { outcome = Refused ReplayRefused; sent = sent } (send_tables t list)
+      record { outcome = Err ReplayRefused; sent = sent } (send_tables t list)
   gap_not_replayed gap =
       record {
         long = refl;
@@ -172,8 +167,8 @@ module _ (time i : ℕ) (x : Sending) (r : HistoryRing) (a : Arrays) (t : List �
             ∙ ap (λ (z : State). flow_of z [] 28) (members_again s (members_of n t) ms);
       }
 
-  module _ {e : Entry} {l : Leg} {result : LegResult} (no_gap : x.gap ≡ 0) (first : e ≡ entry_at r a 0)
-      (leg : l ≡ (member_at t i).leg) (is : result ≡ result_of (align_leg e.sequence l)) where
+  module _ {e : Entry} {l : Leg} {result : Option Leg} (no_gap : x.gap ≡ 0) (first : e ≡ entry_at r a 0)
+      (leg : l ≡ (member_at t i).leg) (is : result ≡ align_leg e.sequence l) where
     aligned : (o : Option Leg) → align_leg e.sequence l ≡ o → align_leg (entry_at r a 0).sequence (member_at t i).leg ≡ o
     aligned o same =
         ap (λ (f : Entry). align_leg f.sequence (member_at t i).leg) (sym first)
@@ -182,9 +177,9 @@ module _ (time i : ℕ) (x : Sending) (r : HistoryRing) (a : Arrays) (t : List �
     no_gap_now : (s : State) → s.send ≡ send_of x r a → s.send.numbers.gap ≡ 0
     no_gap_now s known = ap (λ (y : Send). y.numbers.gap) known ∙ no_gap
 
-    pub unaligned_not_replayed : result ≡ Err
+    pub unaligned_not_replayed : result ≡ None
         → FlightReplayed whole_flight (SendIs (send_of x r a)) sent (send_tables t list)
-        record { outcome = Refused ReplayRefused; sent = sent } (send_tables t list)
+        record { outcome = Err ReplayRefused; sent = sent } (send_tables t list)
     unfolding if_some◌give◌otherwise◌
     unaligned_not_replayed err =
         record {
@@ -195,11 +190,11 @@ module _ (time i : ℕ) (x : Sending) (r : HistoryRing) (a : Arrays) (t : List �
           flow =
               λ n s ms known.
               flight_once_aligned time i (member_at t i) (entry_at r a 0) s (no_gap_now s known)
-              ∙ rw (aligned none (result_err (align_leg e.sequence l) (sym err ∙ is)))
+              ∙ rw (aligned None (result_err (align_leg e.sequence l) (sym err ∙ is)))
               (ap (λ (z : State). flow_of z [] 28) (members_again s (members_of n t) ms));
         }
 
-    pub aligned_replayed : {u list_after : List ℕ} {answer : Flight} (k : Leg) → result ≡ Ok k
+    pub aligned_replayed : {u list_after : List ℕ} {answer : Flight} (k : Leg) → result ≡ Some k
         → FlightReplayed (replay_on time i (member_at t i) k) (HistoryIs (entries_of r a)) sent (send_tables t list) answer
         (send_tables u list_after)
         → FlightReplayed whole_flight (SendIs (send_of x r a)) sent (send_tables t list) answer (send_tables u list_after)
@@ -213,7 +208,7 @@ module _ (time i : ℕ) (x : Sending) (r : HistoryRing) (a : Arrays) (t : List �
           flow =
               λ n s ms known.
               flight_once_aligned time i (member_at t i) (entry_at r a 0) s (no_gap_now s known)
-              ∙ rw (aligned (some k) (result_ok (align_leg e.sequence l) k (sym ok ∙ is)))
+              ∙ rw (aligned (Some k) (result_ok (align_leg e.sequence l) k (sym ok ∙ is)))
               (replayed.flow n s ms (ap (λ (y : Send). y.history) known));
         }
 
@@ -238,7 +233,7 @@ module _ (i n : ℕ) (x : Sending) (t : List ℕ) where
       else flow_of s [] 0)
       numbers
 
-  pub not_numbered_not_aligned : x.numbered ≡ 0 → CarrierAligned i n x t Accepted t
+  pub not_numbered_not_aligned : x.numbered ≡ 0 → CarrierAligned i n x t (Ok tt) t
   unfolding if_true◌then◌else◌
   not_numbered_not_aligned none_there =
       record {
@@ -266,8 +261,8 @@ module _ (i n : ℕ) (x : Sending) (t : List ℕ) where
       ∙ ap (λ (l : List Member). alignment_flow s (align_member_sequence (flagged (is_set x.numbered) x.next) i l)) ms
 
   module _ {answer : Bool} {u : List ℕ} (numbered : x.numbered ≡ 0 → ⊥) (tried : Tried n numbered_alignment t answer u) where
-    pub carrier_not_aligned : answer ≡ false → CarrierAligned i n x t (Refused AlignmentFailed) u
-    unfolding is_some if_some◌give◌otherwise◌
+    pub carrier_not_aligned : answer ≡ false → CarrierAligned i n x t (Err AlignmentFailed) u
+    unfolding if_some◌give◌otherwise◌
     carrier_not_aligned failed =
         record {
           long = tried.long;
@@ -281,12 +276,12 @@ module _ (i n : ℕ) (x : Sending) (t : List ℕ) where
             → members_of n u ≡ (if_some o give (λ ms. ms) otherwise members_of n t)
             → (if_some o give (λ ms. flow_of (with_members ms s) [] 0) otherwise flow_of s [] 22)
             ≡ flow_of (with_members (members_of n u) s) [] 22
-        go s ms none no_some same =
+        go s ms None no_some same =
             ap (λ (z : State). flow_of z [] 22) (members_again s (members_of n u) (ms ∙ sym same))
-        go s ms (some ns) no_some same = cc no_some
+        go s ms (Some ns) no_some same = cc no_some
 
-    pub carrier_aligned : answer ≡ true → CarrierAligned i n x t Accepted u
-    unfolding is_some if_some◌give◌otherwise◌
+    pub carrier_aligned : answer ≡ true → CarrierAligned i n x t (Ok tt) u
+    unfolding if_some◌give◌otherwise◌
     carrier_aligned succeeded =
         record {
           long = tried.long;
@@ -300,14 +295,14 @@ module _ (i n : ℕ) (x : Sending) (t : List ℕ) where
             → members_of n u ≡ (if_some o give (λ ms. ms) otherwise members_of n t)
             → (if_some o give (λ ms. flow_of (with_members ms s) [] 0) otherwise flow_of s [] 22)
             ≡ flow_of (with_members (members_of n u) s) [] 0
-        go s none is_one same = cc is_one
-        go s (some ns) is_one same = ap (λ (l : List Member). flow_of (with_members l s) [] 0) (sym same)
+        go s None is_one same = cc is_one
+        go s (Some ns) is_one same = ap (λ (l : List Member). flow_of (with_members l s) [] 0) (sym same)
 
 -- ---- the take-over
 
 module _ (time i n : ℕ) (t : List ℕ) (below : i < n) where
   module _ (s : State) (ms : s.members ≡ members_of n t) where
-    its_place : at_place i s.members ≡ some (member_at t i)
+    its_place : at_place i s.members ≡ Some (member_at t i)
     its_place = ap (at_place i) ms ∙ members_place n t i below
 
     carries_already : takes_over (id_of (member_at t i)) s.send ≡ false → take_over_backup_flight time i s ≡ align_carrier i s
@@ -315,12 +310,12 @@ module _ (time i n : ℕ) (t : List ℕ) (below : i < n) where
     carries_already no_other = rw (its_place, no_other)
 
     module _ (other : takes_over (id_of (member_at t i)) s.send ≡ true) where
-      nothing_to_replay : at_place 0 (trim_by_carrier s).send.history ≡ none
+      nothing_to_replay : at_place 0 (trim_by_carrier s).send.history ≡ None
           → take_over_backup_flight time i s ≡ align_carrier i (trim_by_carrier s)
       unfolding take_over_backup_flight if_true◌then◌else◌ if_some◌give◌otherwise◌
       nothing_to_replay empty = rw (its_place, other, empty)
 
-      flight_to_replay : (first : Entry) → at_place 0 (trim_by_carrier s).send.history ≡ some first
+      flight_to_replay : (first : Entry) → at_place 0 (trim_by_carrier s).send.history ≡ Some first
           → take_over_backup_flight time i s ≡ replay_flight time i (member_at t i) first (trim_by_carrier s)
       unfolding take_over_backup_flight if_true◌then◌else◌ if_some◌give◌otherwise◌
       flight_to_replay first there = rw (its_place, other, there)

@@ -1,10 +1,9 @@
 -- What is proved of the definitions in specs/Trimming.antt, with what the proofs need.
-use Rattle.std.specs.Prelude.{◌≡◌, Bool, true, get_or}
+use Rattle.std.specs.Prelude.{◌≡◌, Bool, true, get_or, None, Some}
 use Rattle.std.proofs.Math.Path.{refl, ap, sym}
 use Rattle.std.proofs.Common.{◌∙◌, arith, eq-eqb, ne_eqb}
 use Rattle.std.proofs.Math.Bool.{false}
 use mathlib.Core.List.{List}
-use Rattle.std.proofs.Math.Option.{none, some}
 use Prim.Native.Nat.{ℕ, zero, suc, ◌+◌, ◌%◌, ◌≤◌}
 use Rattle.std.proofs.Math.Dec.{eqb}
 use Rattle.word_rows.specs.Tab.{tab}
@@ -18,9 +17,8 @@ use Rattle.srt_group_model.specs.Backup.{max_history, starts_after, drop_before,
 use Rattle.srt_group_model.specs.declared.Entry.{Entry}
 use Rattle.srt_group_model.specs.declared.Leg.{Leg}
 use Rattle.srt_group_model.specs.declared.Sending.{Sending}
-use Rattle.srt_connection_members.specs.Members.{member_at, members_of, found_of}
+use Rattle.srt_connection_members.specs.Members.{member_at, members_of}
 use Rattle.srt_connection_members.specs.Laws.Members.{members_place, found_some, found_none, found_below}
-use Rattle.srt_connection_members.specs.declared.Found.TheVariants.{At, Nothing}
 use Rattle.srt_group_tables.specs.Ring.{Arrays, word_sequence, entry_at, entries_of, Trimmed, send_of}
 use Rattle.srt_group_tables.specs.declared.history.HistoryRing.{HistoryRing}
 use Rattle.srt_group_backup.specs.declared.trimming.SendHistory.{SendHistory}
@@ -86,10 +84,10 @@ module _ (l : Leg) (history : List ℕ) (x : Sending) (r : HistoryRing) where
 -- ---- by the carrier
 
 module _ (x : Sending) (h : List Entry) (y : Send) (is : y ≡ send_side x h) where
-  no_carrier : x.carried ≡ 0 → backup_carrier y ≡ none
+  no_carrier : x.carried ≡ 0 → backup_carrier y ≡ None
   no_carrier none_there = rw is (unset_none x.carried x.carrier none_there)
 
-  its_carrier : (x.carried ≡ 0 → ⊥) → backup_carrier y ≡ some x.carrier
+  its_carrier : (x.carried ≡ 0 → ⊥) → backup_carrier y ≡ Some x.carrier
   its_carrier there = rw is (set_some x.carried x.carrier there)
 
 module _ (n : ℕ) (t : List ℕ) (history : List ℕ) (x : Sending) (r : HistoryRing) where
@@ -105,7 +103,7 @@ module _ (n : ℕ) (t : List ℕ) (history : List ℕ) (x : Sending) (r : Histor
       }
 
   module _ (carried : x.carried ≡ 0 → ⊥) where
-    pub carrier_gone_none_trimmed : r.length ≤ max_history → Nothing ≡ found_of (find x.carrier (members_of n t))
+    pub carrier_gone_none_trimmed : r.length ≤ max_history → None ≡ find x.carrier (members_of n t)
         → TrimmedByCarrier (members_of n t) history x r record { sending = x; ring = r }
     unfolding trim_by_carrier if_some◌give◌otherwise◌
     carrier_gone_none_trimmed fits gone =
@@ -120,7 +118,7 @@ module _ (n : ℕ) (t : List ℕ) (history : List ℕ) (x : Sending) (r : Histor
               (ap (λ (y : Send). with_send y s) sent);
         }
 
-    pub carrier_trimmed : {l : Leg} {answer : SendHistory} (i : ℕ) → At i ≡ found_of (find x.carrier (members_of n t))
+    pub carrier_trimmed : {l : Leg} {answer : SendHistory} (i : ℕ) → Some i ≡ find x.carrier (members_of n t)
         → l ≡ (member_at t i).leg → SendTrimmed (trim_backup_history l) history x r answer
         → TrimmedByCarrier (members_of n t) history x r answer
     unfolding trim_by_carrier if_some◌give◌otherwise◌

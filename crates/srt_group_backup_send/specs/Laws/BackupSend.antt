@@ -1,12 +1,10 @@
 -- The send at a place and the whole send make the model's flows.
-use Rattle.std.specs.Prelude.{◌≡◌, Bool, List, [], ◌∷◌, ℕ, ◌≤◌, ◌<◌, eqb}
+use Rattle.std.specs.Prelude.{◌≡◌, Bool, List, [], ◌∷◌, ℕ, ◌≤◌, ◌<◌, eqb, Err, None, Some}
 use Rattle.std.proofs.Math.Path.{refl, ap, sym}
 use Rattle.std.proofs.Common.{ap₂, ◌∙◌, eq-eqb, ne_eqb}
 use Rattle.std.proofs.Math.Bool.{true, false, not}
-use Rattle.std.proofs.Math.Option.{some}
 use Rattle.srt_protocol.specs.Errors.{error_number}
 use Rattle.srt_protocol.specs.declared.error.Error.TheVariants.{NoActiveMember, SequenceMismatch}
-use Rattle.srt_protocol.specs.declared.error.Outcome.TheVariants.{Refused}
 use Rattle.srt_group_model.specs.Tools.{if_true◌then◌else◌, if_some◌give◌otherwise◌, any, at_place}
 use Rattle.srt_group_model.specs.State.{Member, Send, State, with_send, with_members}
 use Rattle.srt_group_model.specs.Legs.{largest_sequence}
@@ -17,9 +15,8 @@ use Rattle.srt_group_model.specs.Sound.{MemberFit}
 use Rattle.srt_group_model.specs.Laws.Reason.{if_elim, all_at, or_no}
 use Rattle.srt_group_model.specs.declared.Sender.{Sender}
 use Rattle.srt_group_model.specs.declared.Sending.{Sending}
-use Rattle.srt_connection_members.specs.Members.{member_at, members_of, found_of}
+use Rattle.srt_connection_members.specs.Members.{member_at, members_of}
 use Rattle.srt_connection_members.specs.Laws.Members.{members_place}
-use Rattle.srt_connection_members.specs.declared.Found.TheVariants.{At, Nothing}
 use Rattle.srt_group_members.specs.Scan.{Became}
 use Rattle.srt_group_tables.specs.declared.history.HistoryRing.{HistoryRing}
 use Rattle.srt_group_tables.specs.Ring.{entries_of, send_of}
@@ -51,7 +48,7 @@ module _ (time size cell i n : ℕ) (x : Sending) (r : HistoryRing) (sent : ℕ)
 
   -- of a state that is shown
   module _ (s : State) (ms : s.members ≡ members_of n before.members) (sends : s.send ≡ send_of x r (arrays_in before)) where
-    here : at_place i s.members ≡ some at_i
+    here : at_place i s.members ≡ Some at_i
     here = ap (at_place i) ms ∙ members_place n before.members i below
 
     own_sequence : sequence_for_send s.send (at_i ∷ []) ≡ sequence
@@ -74,7 +71,7 @@ module _ (time size cell i n : ℕ) (x : Sending) (r : HistoryRing) (sent : ℕ)
 
   pub place_mismatched : (sender.next ≡ sequence → ⊥) → Lendable n r before → sent ≤ max_sent
       → BackupFlows every (send_at_place time size cell i) cell n x r sent before
-      record { outcome = Refused SequenceMismatch; sending = x; ring = r; sent = sent } before
+      record { outcome = Err SequenceMismatch; sending = x; ring = r; sent = sent } before
   place_mismatched other lent few =
       record {
         members_long = refl;
@@ -126,14 +123,14 @@ module _ (mode time size cell n : ℕ) (x : Sending) (r : HistoryRing) (sent : �
   ready_in_mode s is ms =
       ap₂ (λ (k : ℕ) (l : List Member). promote_if_none k (demote_stale_backup_carrier time l)) is ms ∙ sym readied.is
 
-  pub none_readied : Nothing ≡ found_of (first_active (members_of n members)) → Lendable n r before → sent ≤ max_sent
+  pub none_readied : None ≡ first_active (members_of n members) → Lendable n r before → sent ≤ max_sent
       → BackupFlows (InMode mode) (send_backup time size cell) cell n x r sent before
-      record { outcome = Refused NoActiveMember; sending = x; ring = r; sent = sent } after_readying
+      record { outcome = Err NoActiveMember; sending = x; ring = r; sent = sent } after_readying
   none_readied =
       none_active (InMode mode) (send_backup time size cell) _ (on_carrier time size cell) NoActiveMember (backup_shape time size cell) cell n x r sent before
       members ready_in_mode readied.long
 
-  pub readied_flows : (j : ℕ) {answer : BackupSend} {after : BackupTables} → At j ≡ found_of (first_active (members_of n members))
+  pub readied_flows : (j : ℕ) {answer : BackupSend} {after : BackupTables} → Some j ≡ first_active (members_of n members)
       → BackupFlows every (on_carrier time size cell j) cell n x r sent after_readying answer after
       → BackupFlows (InMode mode) (send_backup time size cell) cell n x r sent before answer after
   readied_flows =

@@ -1,5 +1,6 @@
 -- `members` in words.
-use Rattle.std.specs.Prelude.{◌≡◌, refl, Bool, ◌||◌, List, [], ◌∷◌, ℕ, ◌*◌, ◌/◌, ◌≤◌, ◌<◌, ltb, length}
+use Rattle.srt_protocol.specs.declared.error.Error.{Error}
+use Rattle.std.specs.Prelude.{◌≡◌, refl, Bool, ◌||◌, List, [], ◌∷◌, ℕ, ◌*◌, ◌/◌, ◌≤◌, ◌<◌, ltb, length, Err, Ok, Result}
 use Rattle.std.proofs.Common.{sym, subst, ◌∙◌, arith}
 use Rattle.std.proofs.Math.Path.{ap}
 use Rattle.std.proofs.Math.Bool.{true, false}
@@ -15,8 +16,6 @@ use Rattle.srt_group.specs.declared.Group.{Group}
 use Rattle.srt_group_refusals.specs.Begins.{are_short}
 use Rattle.srt_group_refusals.specs.Promised.{nothing_lent, asking, showing}
 use Rattle.srt_group_looks.specs.Looks.{member_row_size, members_list_size, members_code, rows_filled, ListsBy, ListsMembers}
-use Rattle.srt_group_looks.specs.declared.members.MembersLook.{MembersLook}
-use Rattle.srt_group_looks.specs.declared.members.MembersLook.TheVariants as of_members
 use Rattle.srt_group_words.specs.Record.{record_size, group_of}
 use Rattle.srt_group_words.specs.Words.{words, Gives, Said}
 use Rattle.srt_group_words.specs.Laws.Words.{record_gives, answer_gives, kept_gives}
@@ -30,9 +29,9 @@ one_word : length (listed_words no_answer 0) ≡ 1
 unfolding listed_words
 one_word = refl
 
-none_filled : (r : MembersLook) → members_code r ≡ 5 → rows_filled r ≡ 0
-none_filled (of_members.Listed n) h = absurd (omega (arith, h))
-none_filled (of_members.Refused e) h = refl
+none_filled : (r : Result ℕ Error) → members_code r ≡ 5 → rows_filled r ≡ 0
+none_filled (Ok n) h = absurd (omega (arith, h))
+none_filled (Err e) h = refl
 
 filled : (n rows : ℕ) → n ≡ rows * member_row_size → rows ≡ n / member_row_size
 filled n rows is = omega (arith, is)
@@ -55,7 +54,7 @@ module _ (w : List ℕ) (t : Tables) (answer list : List ℕ) where
   pub listed_no_room : length answer < 1 → Lists 5 answer list
   listed_no_room short = by_gives (answer_gives (omega (arith, one_word))) (nothing_listed list)
 
-  module _ (long : record_size ≤ length w) (room : 1 ≤ length answer) {g : Group} (read : g ≡ group_of w) (r : MembersLook) {list' : List ℕ} {code : ℕ}
+  module _ (long : record_size ≤ length w) (room : 1 ≤ length answer) {g : Group} (read : g ≡ group_of w) (r : Result ℕ Error) {list' : List ℕ} {code : ℕ}
       {answer' : List ℕ} (said : Said (members_code r) (rows_filled r ∷ []) code answer answer') where
     lists_by : (b : Bool) → ltb (length list) members_list_size ≡ b → ListsBy b (parts_of g) t list r list' → Lists code answer' list'
     unfolding showing listed_words values_of

@@ -1,10 +1,9 @@
 -- A leg that is given back, by the number of the outcome.
-use Rattle.std.specs.Prelude.{◌≡◌, refl, Bool, true, false, List, ℕ, ◌<◌, eqb, length}
+use Rattle.srt_protocol.specs.Errors.{Outcome}
+use Rattle.std.specs.Prelude.{◌≡◌, refl, Bool, true, false, List, ℕ, ◌<◌, eqb, length, Err, Ok}
 use Rattle.std.proofs.Common.{sym, ap, subst, ◌∙◌}
 use Rattle.srt_protocol.specs.declared.error.Error.{Error}
 use Rattle.srt_protocol.specs.declared.error.Error.TheVariants.{MissingGroupMask, OutOfRange, UnknownMember, PayloadTooLong, InsufficientBuffer, InvalidState, MemberLimit, DuplicateMember, AlignmentFailed, PayloadAboveLimit, NoActiveMember, SequenceMismatch, AllBroadcastFailed, AllBackupFailed, ReplayRefused, PromotionSendFailed, NoFreeCell, QueueFull, OutOfTurn}
-use Rattle.srt_protocol.specs.declared.error.Outcome.{Outcome}
-use Rattle.srt_protocol.specs.declared.error.Outcome.TheVariants.{Accepted, Refused}
 use Rattle.srt_protocol.specs.Errors.{error_number, outcome_number}
 use Rattle.srt_group_model.specs.Tools.{if_true◌then◌else◌}
 use Rattle.srt_group_model.specs.Laws.Reason.{when_false}
@@ -42,12 +41,12 @@ not_zero OutOfTurn = refl
 -- what the outcome says, its number says
 leg_by_number : (o : Outcome) (row : List ℕ) → given_back o row ≡ leg_given (outcome_number o) row
 unfolding if_true◌then◌else◌
-leg_by_number Accepted row = refl
-leg_by_number (Refused e) row = sym (when_false (eqb (error_number e) 0) (leg_back (leg_in row)) no_answer (not_zero e))
+leg_by_number (Ok tt) row = refl
+leg_by_number (Err e) row = sym (when_false (eqb (error_number e) 0) (leg_back (leg_in row)) no_answer (not_zero e))
 
 row_by_number : (o : Outcome) (row row' : List ℕ) → RowAfter o row row' → RowBy (eqb (outcome_number o) 0) row row'
-row_by_number Accepted row row' after = after
-row_by_number (Refused e) row row' after = subst (λ (b : Bool). RowBy b row row') (sym (not_zero e)) after
+row_by_number (Ok tt) row row' after = after
+row_by_number (Err e) row row' after = subst (λ (b : Bool). RowBy b row row') (sym (not_zero e)) after
 
 module _ {code : ℕ} (o : Outcome) (row row' : List ℕ) (same : code ≡ outcome_number o) (left : RowAfter o row row') where
   given : given_back o row' ≡ leg_given code row'

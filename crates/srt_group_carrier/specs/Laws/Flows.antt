@@ -1,9 +1,9 @@
 -- What a part of a Backup send leaves is the flow of the model.
-use Rattle.std.specs.Prelude.{◌≡◌, Bool, true, false, not, length}
+use Rattle.srt_protocol.specs.Errors.{Outcome}
+use Rattle.std.specs.Prelude.{◌≡◌, Bool, true, false, length, Err, None, Ok, Option, Some, is_some}
 use Rattle.std.proofs.Math.Path.{refl, ap, ap₂, sym, subst}
 use Rattle.std.proofs.Common.{◌∙◌, arith}
 use mathlib.Core.List.{List, [], ◌∷◌, ◌++◌}
-use Rattle.std.proofs.Math.Option.{Option, none, some}
 use Prim.Native.Nat.{ℕ, ◌-◌, ◌≤◌, ◌<◌}
 use borrow.Author.Tests.{ne_eqb}
 use Rattle.std.proofs.Math.Dec.{eqb}
@@ -11,8 +11,6 @@ use Rattle.srt_protocol.specs.Errors.{error_number, outcome_number}
 use Rattle.srt_protocol.specs.Laws.Errors.{refused_not_0}
 use Rattle.srt_protocol.specs.declared.error.Error.{Error}
 use Rattle.srt_protocol.specs.declared.error.Error.TheVariants.{AllBackupFailed}
-use Rattle.srt_protocol.specs.declared.error.Outcome.{Outcome}
-use Rattle.srt_protocol.specs.declared.error.Outcome.TheVariants.{Accepted, Refused}
 use Rattle.srt_group_model.specs.Tools.{if_true◌then◌else◌, if_some◌give◌otherwise◌, change}
 use Rattle.srt_group_model.specs.State.{Member, Send, State, with_send, with_members}
 use Rattle.srt_group_model.specs.Legs.{send_shared_with_sequence}
@@ -23,10 +21,9 @@ use Rattle.srt_group_model.specs.Laws.Reason.{if_some_elim}
 use Rattle.srt_group_model.specs.Laws.Places.{change_nothing}
 use Rattle.srt_group_model.specs.declared.Leg.{Leg}
 use Rattle.srt_group_model.specs.declared.Sending.{Sending}
-use Rattle.srt_connection_members.specs.Members.{member_at, members_of, found_of}
+use Rattle.srt_connection_members.specs.Members.{member_at, members_of}
 use Rattle.srt_connection_members.specs.Laws.Members.{found_some, found_none, changed_by}
-use Rattle.srt_connection_members.specs.declared.Found.TheVariants.{At, Nothing}
-use Rattle.srt_group_members.specs.Scan.{is_some, Became}
+use Rattle.srt_group_members.specs.Scan.{Became}
 use Rattle.srt_group_tables.specs.declared.history.HistoryRing.{HistoryRing}
 use Rattle.srt_group_tables.specs.Ring.{arrays, Long, entries_of, send_of}
 use Rattle.srt_group_sending.specs.SentList.{SendTables, send_tables, Wrote}
@@ -69,9 +66,9 @@ module _ (f : State → Flow) (cell n : ℕ) (x : Sending) (r : HistoryRing) (se
   left_taken : State → State
   left_taken s = with_send (send_of taken.sending taken.ring (arrays_in before)) (with_members (members_of n members) s)
 
-  pub flows_stopped : (g : State → Flow) (e : Error) → taken.outcome ≡ Refused e
+  pub flows_stopped : (g : State → Flow) (e : Error) → taken.outcome ≡ Err e
       → BackupFlows every (λ s. f s and_then g) cell n x r sent before
-      record { outcome = Refused e; sending = taken.sending; ring = taken.ring; sent = taken.sent } mid
+      record { outcome = Err e; sending = taken.sending; ring = taken.ring; sent = taken.sent } mid
   unfolding flow_of left_taken
   flows_stopped g e is =
       record {
@@ -90,7 +87,7 @@ module _ (f : State → Flow) (cell n : ℕ) (x : Sending) (r : HistoryRing) (se
             ∙ ap (λ (o : Outcome). flow_of (left_taken s) took.sends (outcome_number o)) is;
       }
 
-  pub flows_then : (g : State → Flow) {answer : BackupSend} {after : BackupTables} → taken.outcome ≡ Accepted → list_size ≤ length before.list
+  pub flows_then : (g : State → Flow) {answer : BackupSend} {after : BackupTables} → taken.outcome ≡ Ok tt → list_size ≤ length before.list
       → BackupFlows every g cell n taken.sending taken.ring taken.sent mid answer after
       → BackupFlows every (λ s. f s and_then g) cell n x r sent before answer after
   unfolding flow_of left_taken
@@ -123,8 +120,8 @@ module _ (among : State → Type 0) (f : State → Flow) (ready : State → List
   abbrev with_ready : BackupTables
   with_ready = backup_tables members before.history before.sources before.list before.used
 
-  pub none_active : Nothing ≡ found_of (first_active (members_of n members)) → Lendable n r before → sent ≤ max_sent
-      → BackupFlows among f cell n x r sent before record { outcome = Refused error; sending = x; ring = r; sent = sent } with_ready
+  pub none_active : None ≡ first_active (members_of n members) → Lendable n r before → sent ≤ max_sent
+      → BackupFlows among f cell n x r sent before record { outcome = Err error; sending = x; ring = r; sent = sent } with_ready
   unfolding if_some◌give◌otherwise◌
   none_active nowhere lent few =
       record {
@@ -149,7 +146,7 @@ module _ (among : State → Type 0) (f : State → Flow) (ready : State → List
             ∙ ap (λ (y : Send). ends_with (error_number error) (with_send y (with_members (members_of n members) s))) sends;
       }
 
-  pub first_flows : (j : ℕ) {answer : BackupSend} {after : BackupTables} → At j ≡ found_of (first_active (members_of n members))
+  pub first_flows : (j : ℕ) {answer : BackupSend} {after : BackupTables} → Some j ≡ first_active (members_of n members)
       → BackupFlows every (g j) cell n x r sent with_ready answer after → BackupFlows among f cell n x r sent before answer after
   unfolding if_some◌give◌otherwise◌
   first_flows j {answer} {after} found flows =
@@ -182,10 +179,9 @@ pub sent_as : {time size sequence i sent : ℕ} {before after : SendTables} {ans
     → SentOn time size sequence i sent before answer after → SentOn time size sequence i sent before b after
 sent_as {time} {size} {sequence} {i} {sent} {before} {after} is on = subst (λ (c : Bool). SentOn time size sequence i sent before c after) is on
 
-not_some : (o : Option Leg) → false ≡ is_some o → o ≡ none
-unfolding is_some
-not_some none is = refl
-not_some (some l) is = cc is
+not_some : (o : Option Leg) → false ≡ is_some o → o ≡ None
+not_some None is = refl
+not_some (Some l) is = cc is
 
 module _ (time size cell sequence i n : ℕ) (x : Sending) (r : HistoryRing) (sent : ℕ) (before : BackupTables) (members list : List ℕ)
     (below : i < n) where
@@ -234,7 +230,7 @@ module _ (time size cell sequence i n : ℕ) (x : Sending) (r : HistoryRing) (se
 
   -- it was not
   module _ (on : SentOn time size sequence i sent (send_tables before.members before.list) false (send_tables members list)) where
-    none_sent : send_shared_with_sequence time size sequence m.leg ≡ none
+    none_sent : send_shared_with_sequence time size sequence m.leg ≡ None
     none_sent = not_some (send_shared_with_sequence time size sequence m.leg) on.succeeded
 
     members_same : members_of n members ≡ members_of n before.members
@@ -248,7 +244,7 @@ module _ (time size cell sequence i n : ℕ) (x : Sending) (r : HistoryRing) (se
 
     pub own_refused : (error : Error) → Lendable n r before → sent < max_sent
         → BackupFlows every (own (λ k. ends_with (error_number error))) cell n x r sent before
-        record { outcome = Refused error; sending = x; ring = r; sent = sent } unsent
+        record { outcome = Err error; sending = x; ring = r; sent = sent } unsent
     unfolding if_true◌then◌else◌
     own_refused error lent few =
         record {
@@ -353,14 +349,14 @@ module _ (time size cell sequence i n : ℕ) (failed : Member) (x : Sending) (r 
       → promote_backup_member (change i mark_send_failure s.members) ≡ members_of n members
   ready_promoted s among ms = ap (λ (l : List Member). promote_backup_member (change i mark_send_failure l)) ms ∙ sym promoted.is
 
-  pub none_promoted : Nothing ≡ found_of (first_active (members_of n members)) → Lendable n r before → sent ≤ max_sent
+  pub none_promoted : None ≡ first_active (members_of n members) → Lendable n r before → sent ≤ max_sent
       → BackupFlows every (send_after_promotion time size cell sequence i failed) cell n x r sent before
-      record { outcome = Refused AllBackupFailed; sending = x; ring = r; sent = sent } after_promotion
+      record { outcome = Err AllBackupFailed; sending = x; ring = r; sent = sent } after_promotion
   none_promoted =
       none_active every (send_after_promotion time size cell sequence i failed) _ (on_promoted time size cell sequence) AllBackupFailed
       (promotion_shape time size cell sequence i n failed) cell n x r sent before members ready_promoted promoted.long
 
-  pub promoted_flows : (j : ℕ) {answer : BackupSend} {after : BackupTables} → At j ≡ found_of (first_active (members_of n members))
+  pub promoted_flows : (j : ℕ) {answer : BackupSend} {after : BackupTables} → Some j ≡ first_active (members_of n members)
       → BackupFlows every (on_promoted time size cell sequence j) cell n x r sent after_promotion answer after
       → BackupFlows every (send_after_promotion time size cell sequence i failed) cell n x r sent before answer after
   promoted_flows =

@@ -1,9 +1,8 @@
 -- A take-over leaves the end of the history, and numbers that are sequences.
-use Rattle.std.specs.Prelude.{◌≡◌, ℕ, zero, suc, ◌-◌, ◌≤◌, length, drop}
+use Rattle.std.specs.Prelude.{◌≡◌, ℕ, zero, suc, ◌-◌, ◌≤◌, length, drop, Option, Some}
 use Rattle.std.proofs.Math.Path.{refl, subst}
 use Rattle.std.proofs.Common.{ap, sym, ◌∙◌, arith}
 use mathlib.Core.List.{List, [], ◌∷◌}
-use Rattle.std.proofs.Math.Option.{Option, some}
 use Rattle.srt_group_model.specs.Tools.{All, if_true◌then◌else◌, is_set, at_place, change}
 use Rattle.srt_group_model.specs.State.{Member, Send, State, next_send_sequence, with_send, with_members, with_leg, turned, active_state, unstable_state}
 use Rattle.srt_group_model.specs.Legs.{has_sender, largest_64}
@@ -87,7 +86,7 @@ module _ (time : ℕ) where
   same_prepared s = record { trimmed = trimmed_same s.send; fit = λ small h. h }
 
   -- the member at a place gets another leg
-  leg_prepared : (s : State) (i : ℕ) (m : Member) (l : Leg) → at_place i s.members ≡ some m
+  leg_prepared : (s : State) (i : ℕ) (m : Member) (l : Leg) → at_place i s.members ≡ Some m
       → (time ≤ largest_64 → NumbersFit s.send s.members → LegFit m.leg → LegFit l)
       → Prepared time s (with_members (change i (with_leg l) s.members) s)
   leg_prepared s i m l at keeps =
@@ -111,14 +110,14 @@ module _ (time : ℕ) where
       if_some_elim (λ (x : Replayed). LegFit x.leg) _ _ _
       (λ k g. replayed_fit id es k small (send_fit time e.length e.sequence l small h k g)) (λ g. h)
 
-  module _ (s : State) (i : ℕ) (m : Member) (at : at_place i s.members ≡ some m) where
+  module _ (s : State) (i : ℕ) (m : Member) (at : at_place i s.members ≡ Some m) where
     on_prepared : (l : Leg) → (time ≤ largest_64 → NumbersFit s.send s.members → LegFit m.leg → LegFit l) → Prepares s (replay_on time i m l s)
     unfolding replay_on
     on_prepared l keeps =
         if_elim (Prepares s) _ _ _ (λ e. leg_prepared s i m l at keeps)
         (λ e. leg_prepared s i m _ at (λ small h k. replayed_fit (id_of m) s.send.history l small (keeps small h k)))
 
-    flight_prepared : (first : Entry) → at_place 0 s.send.history ≡ some first → Prepares s (replay_flight time i m first s)
+    flight_prepared : (first : Entry) → at_place 0 s.send.history ≡ Some first → Prepares s (replay_flight time i m first s)
     unfolding replay_flight
     flight_prepared first there =
         if_elim (Prepares s) _ _ _ (λ e. same_prepared s)
@@ -131,15 +130,15 @@ module _ (time : ℕ) where
         (λ small h fits. synchronize_fit first.sequence m.leg (all_at EntryFit 0 first s.send.history there h.history).sequence fits l k))
         (λ k. same_prepared s)))
 
-  aligned_fit : (number : Option ℕ) (i : ℕ) (ms ns : List Member) → OptionFit number → align_member_sequence number i ms ≡ some ns → AllFit ms
+  aligned_fit : (number : Option ℕ) (i : ℕ) (ms ns : List Member) → OptionFit number → align_member_sequence number i ms ≡ Some ns → AllFit ms
       → AllFit ns
   unfolding align_member_sequence
   aligned_fit number i ms ns fits is h =
-      if_some_elim (λ (o : Option (List Member)). o ≡ some ns → AllFit ns) _ _ _
+      if_some_elim (λ (o : Option (List Member)). o ≡ Some ns → AllFit ns) _ _ _
       (λ m at.
-      if_some_elim (λ (o : Option (List Member)). o ≡ some ns → AllFit ns) _ _ _
+      if_some_elim (λ (o : Option (List Member)). o ≡ Some ns → AllFit ns) _ _ _
       (λ sequence g.
-      if_some_elim (λ (o : Option (List Member)). o ≡ some ns → AllFit ns) _ _ _
+      if_some_elim (λ (o : Option (List Member)). o ≡ Some ns → AllFit ns) _ _ _
       (λ l k e.
       subst AllFit (some_inj e)
       (at_change_fit i (with_leg l) ms

@@ -1,14 +1,13 @@
 -- What is proved of the definitions in specs/Collect.antt, with what the proofs need.
-use Rattle.std.specs.Prelude.{◌≡◌, refl, Bool, true, false, ◌||◌, List, [], ◌∷◌, ◌++◌, ℕ, suc, ◌+◌, ◌≤◌, ◌<◌, length}
+use Rattle.std.specs.Prelude.{◌≡◌, refl, Bool, true, false, ◌||◌, List, [], ◌∷◌, ◌++◌, ℕ, ◌+◌, ◌≤◌, ◌<◌, length}
 use Rattle.std.proofs.Common.{ap, ap₂, ◌∙◌, le-leb}
 use Rattle.std.proofs.Math.Path.{sym}
-use Rattle.std.proofs.Math.Option.{Option, none, some}
 use Rattle.std.proofs.lemmas.Bool.{lt-leb}
 use Rattle.srt_protocol.specs.Sequence.{sequence_before}
 use Rattle.srt_group_model.specs.declared.Core.{Core}
 use Rattle.srt_group_model.specs.declared.Packet.{Packet}
 use Rattle.srt_group_model.specs.declared.Waiting.{Waiting}
-use Rattle.srt_group_model.specs.Tools.{if_true◌then◌else◌, if_some◌give◌otherwise◌, is_set, flagged, any, place_of, change}
+use Rattle.srt_group_model.specs.Tools.{if_true◌then◌else◌, if_some◌give◌otherwise◌, is_set, flagged, change}
 use Rattle.srt_group_model.specs.Laws.Flag.{other_set}
 use Rattle.srt_group_model.specs.Laws.Reason.{not_both, or_right, or_yes_left}
 use Rattle.srt_group_model.specs.State.{Member, State, on_leg, with_members, with_receive, with_pending, with_waiting, is_backup, turned, broken_state, on_account}
@@ -16,15 +15,13 @@ use Rattle.srt_group_model.specs.Accounts.{reserve}
 use Rattle.srt_group_model.specs.Core.{with_held, with_waiting_count}
 use Rattle.srt_group_model.specs.Legs.{release_data_reservation}
 use Rattle.srt_group_model.specs.Members.{promote_backup_member}
-use Rattle.srt_group_model.specs.Nearest.{sequence_of, has_sequence, is_held, insert}
+use Rattle.srt_group_model.specs.Nearest.{sequence_of, is_held, insert}
 use Rattle.srt_group_model.specs.Collecting.{is_late, is_discarded, retain_group_packet, report_event}
 use Rattle.srt_connection_members.specs.Members.{members_of, Changed}
 use Rattle.srt_group_members.specs.Scan.{Became}
 use Rattle.srt_group_members.specs.Laws.Scan.{became_changed, became_same, became_then}
-use Rattle.srt_group_tables.specs.Packets.{packets, Holds, found, place_found}
+use Rattle.srt_group_tables.specs.Packets.{packets, Holds}
 use Rattle.srt_group_tables.specs.Waitings.{waitings, HoldsWaiting}
-use Rattle.srt_group_tables.specs.declared.pending.Found.{Found}
-use Rattle.srt_group_tables.specs.declared.pending.Found.TheVariants.{At, Nothing}
 use Rattle.srt_group_shown.specs.Shown.{shown}
 use Rattle.srt_group_collecting.specs.Collect.{Retained, receive_of, broken_by, Reported}
 
@@ -93,39 +90,6 @@ module _ (core : Core) (ms ps : List ℕ) (i : ℕ) (p : Packet) where
 or_second : (a b : Bool) → a ≡ false → (a || b) ≡ b
 or_second true b e = not_both refl e
 or_second false b e = refl
-
--- a place is found exactly if one passes
-found_step : (b : Bool) (o : Option ℕ) (r : Bool) → (if_some o give (λ i. true) otherwise false) ≡ r
-    → (if_some (if_true b then some 0 else (if_some o give (λ i. some (suc i)) otherwise none)) give (λ i. true) otherwise false) ≡ (b || r)
-unfolding if_true◌then◌else◌ if_some◌give◌otherwise◌
-found_step true o r e = refl
-found_step false none r e = e
-found_step false (some i) r e = e
-
-place_any : {A : Type 0} (test : A → Bool) (l : List A) → (if_some place_of test l give (λ i. true) otherwise false) ≡ any test l
-unfolding place_of any if_some◌give◌otherwise◌
-place_any test [] = refl
-place_any test (x ∷ l) = found_step (test x) (place_of test l) (any test l) (place_any test l)
-
-found_at : (o : Option ℕ) (i : ℕ) → At i ≡ found o → (if_some o give (λ i. true) otherwise false) ≡ true
-unfolding if_some◌give◌otherwise◌
-found_at none i e = cc e
-found_at (some j) i e = refl
-
-found_nowhere : (o : Option ℕ) → Nothing ≡ found o → (if_some o give (λ i. true) otherwise false) ≡ false
-unfolding if_some◌give◌otherwise◌
-found_nowhere none e = refl
-found_nowhere (some j) e = cc e
-
--- whether a sequence is held, by the search for it
-module _ (sequence : ℕ) (ps : List Packet) where
-  pub held_found : {r : Found} (i : ℕ) → r ≡ At i → r ≡ place_found sequence ps → true ≡ is_held sequence ps
-  held_found i there found =
-      sym (sym (place_any (has_sequence sequence) ps) ∙ found_at (place_of (has_sequence sequence) ps) i (sym there ∙ found))
-
-  pub held_nowhere : {r : Found} → r ≡ Nothing → r ≡ place_found sequence ps → false ≡ is_held sequence ps
-  held_nowhere nowhere found =
-      sym (sym (place_any (has_sequence sequence) ps) ∙ found_nowhere (place_of (has_sequence sequence) ps) (sym nowhere ∙ found))
 
 -- a sequence is late only if there is a base
 module _ (based base sequence : ℕ) where

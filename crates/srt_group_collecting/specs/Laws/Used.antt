@@ -1,7 +1,6 @@
 -- The set of used cells, step by step of receiving: what a visit and a delivery free, by the model's own laws.
-use Rattle.std.specs.Prelude.{◌≡◌, refl, Bool, true, false, List, [], ◌∷◌, ℕ, ◌+◌, ◌%◌, ◌<◌, eqb, length}
+use Rattle.std.specs.Prelude.{◌≡◌, refl, Bool, true, false, List, [], ◌∷◌, ℕ, ◌+◌, ◌%◌, ◌<◌, eqb, length, Some}
 use Rattle.std.proofs.Common.{sym, ap, subst, ◌∙◌, eq-eqb, ne_eqb}
-use Rattle.std.proofs.Math.Option.{some}
 use Rattle.srt_group_model.specs.declared.Core.{Core}
 use Rattle.srt_group_model.specs.declared.Event.{Event}
 use Rattle.srt_group_model.specs.declared.Membership.{Membership}
@@ -56,7 +55,7 @@ module _ (id : ℕ) (e : Event) (x : Receive) (used : List ℕ) where
 
 -- ---- the front event of a leg
 
-event_moves : (s : State) (i : ℕ) (m : Member) (e : Event) → at_place i s.members ≡ some m → front m.queue ≡ some e
+event_moves : (s : State) (i : ℕ) (m : Member) (e : Event) → at_place i s.members ≡ Some m → front m.queue ≡ Some e
     → Moves [] (freed_by_event (id_of m) e s.receive) s (collect_event i (id_of m) e (popped i s))
 unfolding freed_by_event collect_event if_true◌then◌else◌
 event_moves s i m e at f =

@@ -1,10 +1,9 @@
 -- What is proved of the definitions in specs/Visit.antt, with what the proofs need.
-use Rattle.std.specs.Prelude.{◌≡◌, refl, Bool, false, ℕ, suc, ◌+◌, ◌%◌, ◌<◌, eqb, length, drop}
+use Rattle.std.specs.Prelude.{◌≡◌, refl, Bool, false, ℕ, suc, ◌+◌, ◌%◌, ◌<◌, eqb, length, drop, None, Option, Some}
 use Rattle.std.proofs.Math.Path.{ap, ap₂}
 use Rattle.std.proofs.Common.{sym, subst, ◌∙◌, arith, eq-eqb, ne_eqb}
 use Rattle.std.proofs.Math.Bool.{true}
 use mathlib.Core.List.{List, [], ◌∷◌}
-use Rattle.std.proofs.Math.Option.{Option, none, some}
 use Rattle.word_rows.specs.Laws.Tab.{tab_length}
 use Rattle.srt_group_model.specs.declared.Core.{Core}
 use Rattle.srt_group_model.specs.declared.Event.{Event}
@@ -21,12 +20,10 @@ use Rattle.srt_group_model.specs.Sound.{Sound}
 use Rattle.srt_group_model.specs.Laws.Sound.{sound_law, FrontData, front_data}
 use Rattle.srt_group_model.specs.Laws.Steps.{collect_one_has}
 use Rattle.srt_group_model.specs.Validity.{max_waiting}
-use Rattle.srt_connection_members.specs.Members.{member_at, members_of, HasRow, Changed, found_of}
+use Rattle.srt_connection_members.specs.Members.{member_at, members_of, HasRow, Changed}
 use Rattle.srt_connection_members.specs.Laws.Members.{members_length, members_place, changed_by, unchanged, found_some, found_none}
 use Rattle.srt_connection_queue.specs.Queue.{leg_poll, queue_after, budget_after}
 use Rattle.srt_connection_queue.specs.Laws.Queue.{nothing_goes}
-use Rattle.srt_connection_members.specs.declared.Found.{Found}
-use Rattle.srt_connection_members.specs.declared.Found.TheVariants.{At, Nothing as Nowhere}
 use Rattle.srt_group_collecting.specs.Laws.Turn.{in_turn_inside}
 use Rattle.srt_connection_queue.specs.declared.queue.LegPoll.{LegPoll}
 use Rattle.srt_connection_queue.specs.declared.queue.LegPoll.TheVariants.{Nothing, Continuation, Event as PolledEvent}
@@ -90,7 +87,7 @@ module _ (i id : ℕ) (e : Event) (core : Core) (ms ps ws : List ℕ) {after : C
 -- ---- what a leg gives
 
 pub record Gave (budget : ℕ) (q : List Event) (e : Event) (left : ℕ) : Type 0 where
-  pub front : at_place 0 q ≡ some e
+  pub front : at_place 0 q ≡ Some e
   pub unspent : eqb budget 0 ≡ false
   pub lowered : left ≡ budget_after e budget
 
@@ -106,7 +103,7 @@ gave_nothing budget (e ∷ q) is = go (eqb budget 0) is
 -- the continuation is asked for if the budget is spent and an event is in front
 pub record Spent (budget : ℕ) (q : List Event) : Type 0 where
   pub event : Event
-  pub front : at_place 0 q ≡ some event
+  pub front : at_place 0 q ≡ Some event
   pub spent : eqb budget 0 ≡ true
 
 pub gave_continuation : (budget : ℕ) (q : List Event) → Continuation ≡ leg_poll budget q → Spent budget q
@@ -129,7 +126,7 @@ gave_event budget (x ∷ q) e left is = go (eqb budget 0) refl is
     go false s h =
         let same : x ≡ e = cc h in
         let lowered : left ≡ budget_after x budget = cc h in
-        record { front = ap {B = Option Event} (λ (y : Event). some y) same; unspent = s; lowered = lowered ∙ ap (λ (y : Event). budget_after y budget) same }
+        record { front = ap {B = Option Event} (λ (y : Event). Some y) same; unspent = s; lowered = lowered ∙ ap (λ (y : Event). budget_after y budget) same }
 
 -- ---- the front event is taken
 
@@ -141,12 +138,12 @@ module _ (i : ℕ) (m : Member) (r : Run) where
   abbrev next_state : State
   next_state = with_round (suc i % length r.state.members) r.state
 
-  spent_taken : (e : Event) → at_place 0 m.queue ≡ some e → eqb r.budget 0 ≡ true
+  spent_taken : (e : Event) → at_place 0 m.queue ≡ Some e → eqb r.budget 0 ≡ true
       → take_front i m r ≡ record { took = false; run = record { state = with_continuation true next_state; log = r.log; budget = 0 } }
   unfolding take_front if_some◌give◌otherwise◌ if_true◌then◌else◌
   spent_taken e in_front spent = rw (in_front, spent)
 
-  event_taken : (e : Event) → at_place 0 m.queue ≡ some e → eqb r.budget 0 ≡ false
+  event_taken : (e : Event) → at_place 0 m.queue ≡ Some e → eqb r.budget 0 ≡ false
       → take_front i m r
       ≡ record {
         took = true;
@@ -300,7 +297,7 @@ module _ (core : Core) (ms ps ws : List ℕ) (usable : Usable core (receive_tabl
   pub row_there : HasRow i ms
   row_there = omega (arith, usable.members_long, usable.members_few, inside)
 
-  data_front : (e : Event) → at_place 0 (member_at ms i).queue ≡ some e → e.kind ≡ 0 → FrontData (shown core blank ms ps ws) (member_at ms i) e
+  data_front : (e : Event) → at_place 0 (member_at ms i).queue ≡ Some e → e.kind ≡ 0 → FrontData (shown core blank ms ps ws) (member_at ms i) e
   data_front e in_front is =
       front_data (shown core blank ms ps ws) i (member_at ms i) e usable.sound (members_place core.counts.members ms i inside) in_front
       (eq-eqb e.kind 0 is)
@@ -339,11 +336,11 @@ module _ (core : Core) (ms ps ws : List ℕ) (usable : Usable core (receive_tabl
 -- ---- one event, in turn
 
 module _ (r : Run) where
-  none_in_turn : in_turn r.state.visit.round r.state.members ≡ none → collect_one_event r ≡ record { took = false; run = r }
+  none_in_turn : in_turn r.state.visit.round r.state.members ≡ None → collect_one_event r ≡ record { took = false; run = r }
   unfolding collect_one_event if_some◌give◌otherwise◌
   none_in_turn is = rw is
 
-  one_in_turn : (i : ℕ) (m : Member) → in_turn r.state.visit.round r.state.members ≡ some i → at_place i r.state.members ≡ some m
+  one_in_turn : (i : ℕ) (m : Member) → in_turn r.state.visit.round r.state.members ≡ Some i → at_place i r.state.members ≡ Some m
       → collect_one_event r ≡ take_front i m r
   unfolding collect_one_event if_some◌give◌otherwise◌
   one_in_turn i m is there = rw (is, there)
@@ -362,7 +359,7 @@ usable_after core budget ms ps ws r ms' ps' ws' u few v =
     }
 
 module _ (core : Core) (budget : ℕ) (ms ps ws : List ℕ) (usable : Usable core (receive_tables ms ps ws)) (few : core.counts.waiting < max_waiting) where
-  pub collects_none : {r : Found} → r ≡ Nowhere → r ≡ found_of (in_turn core.visit.round (members_of core.counts.members ms))
+  pub collects_none : {r : Option ℕ} → r ≡ None → r ≡ in_turn core.visit.round (members_of core.counts.members ms)
       → Collects (core.counts.waiting + 1) collect_one_event core budget (receive_tables ms ps ws) record { took = 0; core = core; budget = budget } (receive_tables ms ps ws)
   collects_none nowhere found =
       let none_there = found_none (in_turn core.visit.round (members_of core.counts.members ms)) (sym nowhere ∙ found) in
@@ -381,8 +378,8 @@ module _ (core : Core) (budget : ℕ) (ms ps ws : List ℕ) (usable : Usable cor
         usable = usable;
       }
 
-  pub collects_one : {at : Found} (i : ℕ) (r : Visited) (ms' ps' ws' : List ℕ) → at ≡ At i
-      → at ≡ found_of (in_turn core.visit.round (members_of core.counts.members ms))
+  pub collects_one : {at : Option ℕ} (i : ℕ) (r : Visited) (ms' ps' ws' : List ℕ) → at ≡ Some i
+      → at ≡ in_turn core.visit.round (members_of core.counts.members ms)
       → Visits (core.counts.waiting + 1) (take_front i (member_at ms i)) core budget (receive_tables ms ps ws) r (receive_tables ms' ps' ws')
       → Collects (core.counts.waiting + 1) collect_one_event core budget (receive_tables ms ps ws) r (receive_tables ms' ps' ws')
   collects_one i r ms' ps' ws' here found v =

@@ -1,12 +1,10 @@
 -- What is proved of the definitions in specs/Polling.antt, with what the proofs need.
-use Rattle.std.specs.Prelude.{◌≡◌, Bool, false, ◌||◌, ℕ, ◌+◌, ◌≤◌, length}
+use Rattle.srt_protocol.specs.Errors.{Outcome}
+use Rattle.std.specs.Prelude.{◌≡◌, Bool, false, ◌||◌, ℕ, ◌+◌, ◌≤◌, length, None, Ok, Option, Some}
 use Rattle.std.proofs.Math.Path.{refl, ap}
 use Rattle.std.proofs.Common.{sym, ap₂, subst, ◌∙◌, arith, le-ltb}
 use mathlib.Core.List.{List, [], ◌∷◌}
-use Rattle.std.proofs.Math.Option.{Option, some}
 use Rattle.srt_protocol.specs.declared.error.Error.TheVariants.{InsufficientBuffer}
-use Rattle.srt_protocol.specs.declared.error.Outcome.{Outcome}
-use Rattle.srt_protocol.specs.declared.error.Outcome.TheVariants.{Accepted}
 use Rattle.srt_protocol.specs.Errors.{if_accepted, refuse_if}
 use Rattle.srt_protocol.specs.Cells.{output_size, cell_size, head_size, cells_of, overwritten, cell_bytes, cell_outcome, copy_outcome, Copied}
 use Rattle.srt_protocol.specs.Laws.CellLaws.{cell_accepted}
@@ -38,37 +36,35 @@ use Rattle.srt_group_shown.specs.Laws.Ready.{one_cell, performs_accepted}
 use Rattle.srt_group_collecting.specs.Leaves.{Usable, sends}
 use Rattle.srt_group_collecting.specs.Laws.Leaves.{sound_blank}
 use Rattle.srt_group_collecting.specs.Follows.{Follows}
-use Rattle.srt_group_polls.specs.declared.polls.OptionalPacket.{OptionalPacket}
-use Rattle.srt_group_polls.specs.declared.polls.OptionalPacket.TheVariants.{Some, None}
 use Rattle.srt_group_polls.specs.declared.polls.DataPoll.{DataPoll}
-use Rattle.srt_group_polls.specs.DataPoll.{option_of, GivesData, PollsData}
+use Rattle.srt_group_polls.specs.DataPoll.{GivesData, PollsData}
 use Rattle.srt_group_data_poll.specs.Polling.{answer_of, Writable}
 
 -- ---- the payload
 
 pub wrote : (p : Packet) (store output after : List ℕ) {r : Outcome} → Writable (Some p) (length store) (length output)
-    → Copied store p.content.cell p.content.length output r after → after ≡ written_out (some p) store output
+    → Copied store p.content.cell p.content.length output r after → after ≡ written_out (Some p) store output
 unfolding written_out
 wrote p store output after {r} fits copied =
     copied.copied ∙ ap (λ (x : Outcome). if_accepted x (overwritten head_size (cell_bytes p.content.cell p.content.length store) output) output)
     (copied.outcome ∙ accepted)
   where
-    accepted : copy_outcome (length store) p.content.cell p.content.length (length output) ≡ Accepted
+    accepted : copy_outcome (length store) p.content.cell p.content.length (length output) ≡ Ok tt
     accepted =
         ap (λ (b : Bool). refuse_if b InsufficientBuffer (cell_outcome (length store) p.content.cell p.content.length))
         (le-ltb (length output) (head_size + cell_size) fits.room)
         ∙ cell_accepted (length store) p.content.cell p.content.length fits.one_cell fits.given.cell fits.given.size
 
-pub wrote_some : (gave : OptionalPacket) (p : Packet) (store output after : List ℕ) {r : Outcome} → gave ≡ Some p
+pub wrote_some : (gave : Option Packet) (p : Packet) (store output after : List ℕ) {r : Outcome} → gave ≡ Some p
     → Writable gave (length store) (length output) → Copied store p.content.cell p.content.length output r after
-    → after ≡ written_out (option_of gave) store output
+    → after ≡ written_out gave store output
 wrote_some gave p store output after is fits copied =
-    wrote p store output after (subst (λ (x : OptionalPacket). Writable x (length store) (length output)) is fits) copied
-    ∙ ap (λ (x : OptionalPacket). written_out (option_of x) store output) (sym is)
+    wrote p store output after (subst (λ (x : Option Packet). Writable x (length store) (length output)) is fits) copied
+    ∙ ap (λ (x : Option Packet). written_out x store output) (sym is)
 
-pub wrote_none : (gave : OptionalPacket) (store output : List ℕ) → gave ≡ None → output ≡ written_out (option_of gave) store output
+pub wrote_none : (gave : Option Packet) (store output : List ℕ) → gave ≡ None → output ≡ written_out gave store output
 unfolding written_out
-wrote_none gave store output is = ap (λ (x : OptionalPacket). written_out (option_of x) store output) (sym is)
+wrote_none gave store output is = ap (λ (x : Option Packet). written_out x store output) (sym is)
 
 -- ---- a poll of a valid state
 
@@ -101,8 +97,8 @@ module _ {p : Parts} {t : Tables} {store : ℕ} {used : List ℕ} (ready : Ready
   sending_fits = sound.fit.sending
 
   -- what a data poll gives can be written to an output that is long enough
-  pub writable_given : {output : ℕ} (time max_events : ℕ) (gave : OptionalPacket)
-      → (poll_data_bounded time max_events (start (state_of p t))).gave ≡ option_of gave → output_size ≤ output → Writable gave store output
+  pub writable_given : {output : ℕ} (time max_events : ℕ) (gave : Option Packet)
+      → (poll_data_bounded time max_events (start (state_of p t))).gave ≡ gave → output_size ≤ output → Writable gave store output
   writable_given time max_events gave is room_there =
       record {
         given =
@@ -181,7 +177,7 @@ module _ (time max_events : ℕ) (p : Parts) (t : Tables) (r : DataPoll) (u : Re
 
   pub performed : (store output used : List ℕ) → Ready p t (length store) used → output_size ≤ length output → (used' output' : List ℕ)
       → time ≤ largest_64 → Follows p.core t.members t.pending used r.core u.members u.pending used'
-      → output' ≡ written_out (option_of r.gave) store output
+      → output' ≡ written_out r.gave store output
       → Performs (call_poll_data_bounded time max_events) p t (lending store output) 0 (answer_of r)
       (parts p.identity r.core p.sending p.ring) (with_moved u t) (lending store output') used'
   unfolding step_of poll_data_call data_poll_body delivered_by

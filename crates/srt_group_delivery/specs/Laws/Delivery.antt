@@ -1,9 +1,8 @@
 -- What is proved of the definitions in specs/Delivery.antt, with what the proofs need.
-use Rattle.std.specs.Prelude.{◌≡◌, refl, Bool, true, false, ℕ, suc, ◌+◌, ◌-◌, ◌≤◌, ◌<◌, ◌*◌, leb, length}
+use Rattle.std.specs.Prelude.{◌≡◌, refl, Bool, true, false, ℕ, suc, ◌+◌, ◌≤◌, ◌<◌, ◌*◌, leb, length, None, Option, Some}
 use Rattle.std.proofs.Math.Path.{ap, ap₂, sym}
 use Rattle.std.proofs.Common.{subst, ◌∙◌, eq-eqb, ne_eqb, arith}
 use mathlib.Core.List.{List, [], ◌∷◌, ◌++◌}
-use Rattle.std.proofs.Math.Option.{Option, none, some}
 use Rattle.srt_protocol.specs.Sequence.{sequence_further}
 use Rattle.srt_protocol.specs.declared.time.Timestamp.{Timestamp}
 use Rattle.word_rows.specs.Tab.{tab}
@@ -19,27 +18,21 @@ use Rattle.srt_group_model.specs.Legs.{is_disconnected, gives_up_at, release_dat
 use Rattle.srt_group_model.specs.Members.{has_id, find}
 use Rattle.srt_group_model.specs.Nearest.{nearest, covered, not_covered}
 use Rattle.srt_group_model.specs.Delivery.{leg_gives_up, gap_given_up, release_pending_reservation, release_all, advance_legs, pass_run, deliver_packet}
-use Rattle.srt_connection_members.specs.Members.{member_at, members_of, found_of, Changed, ChangedAll, HasRow}
+use Rattle.srt_connection_members.specs.Members.{member_at, members_of, Changed, ChangedAll, HasRow}
 use Rattle.srt_connection_members.specs.Laws.Members.{members_place, found_some, found_none, found_below, changed_twice, account_changed}
 use Rattle.srt_connection_queue.specs.Rows.{row_size}
 use Rattle.srt_connection.specs.Answers.{deadline_of}
-use Rattle.srt_connection.specs.declared.legs.Deadline.TheVariants.{At as AtMoment, Never}
-use Rattle.srt_connection_members.specs.declared.Found.TheVariants.{At, Nothing}
 use Rattle.srt_group_tables.specs.Packets.{packet_at, packets, packets_between, Holds, FoundPacket}
 use Rattle.srt_group_tables.specs.Covered.{Covers, packets_at, packets_elsewhere}
 use Rattle.srt_group_tables.specs.declared.pending.Covered.{Covered}
 use Rattle.srt_group_tables.specs.Laws.PacketLaws.{at_in_use}
 use Rattle.srt_group_tables.specs.Laws.Covered.{between_none, between_push, covered_are, not_covered_are}
-use Rattle.srt_group_tables.specs.declared.pending.Found.{Found}
-use Rattle.srt_group_tables.specs.declared.pending.Found.TheVariants.{At as PendingAt, Nothing as NothingPending}
 use Rattle.srt_group_shown.specs.Shown.{Rest, shown, blank}
 use Rattle.srt_group_shown.specs.Tables.{receive_tables}
 use Rattle.srt_group_collecting.specs.Leaves.{Usable}
 use Rattle.srt_group_shown.specs.Laws.Shown.{held_few}
 use Rattle.srt_group_delivery.specs.Delivery.{Deliverable, leg_given_up, release_member, Released, Delivered}
 use Rattle.srt_group_model.specs.Validity.{max_pending}
-use Rattle.srt_connection.specs.declared.legs.Deadline.{Deadline}
-use Rattle.srt_connection_members.specs.declared.Found.{Found as FoundMember}
 
 -- ---- what delivery may rely on
 
@@ -56,61 +49,61 @@ deliverable core ms ps ws h =
 
 -- ---- the give-up test
 
-deadline_some : (o : Option ℕ) (moment : Timestamp) → AtMoment moment ≡ deadline_of o → o ≡ some moment.0
-deadline_some none moment e = cc e
-deadline_some (some n) moment e =
+deadline_some : (o : Option ℕ) (moment : Timestamp) → Some moment ≡ deadline_of o → o ≡ Some moment.0
+deadline_some None moment e = cc e
+deadline_some (Some n) moment e =
     let same : moment ≡ record { 0 = n } = cc e in
-    ap (λ (m : Timestamp). some m.0) (sym same)
+    ap (λ (m : Timestamp). Some m.0) (sym same)
 
-deadline_none : (o : Option ℕ) → Never ≡ deadline_of o → o ≡ none
-deadline_none none e = refl
-deadline_none (some n) e = cc e
+deadline_none : (o : Option ℕ) → None ≡ deadline_of o → o ≡ None
+deadline_none None e = refl
+deadline_none (Some n) e = cc e
 
 module _ (time source : ℕ) (l : Leg) where
-  pub given_up_from : {r : Deadline} (moment : Timestamp) → r ≡ AtMoment moment → r ≡ deadline_of (gives_up_at source l) → leb moment.0 time ≡ leg_given_up time source l
+  pub given_up_from : {r : Option Timestamp} (moment : Timestamp) → r ≡ Some moment → r ≡ deadline_of (gives_up_at source l) → leb moment.0 time ≡ leg_given_up time source l
   unfolding if_some◌give◌otherwise◌
   given_up_from moment at_moment is = rw (deadline_some (gives_up_at source l) moment (sym at_moment ∙ is))
 
-  pub never_given_up : {r : Deadline} → r ≡ Never → r ≡ deadline_of (gives_up_at source l) → false ≡ leg_given_up time source l
+  pub never_given_up : {r : Option Timestamp} → r ≡ None → r ≡ deadline_of (gives_up_at source l) → false ≡ leg_given_up time source l
   unfolding if_some◌give◌otherwise◌
   never_given_up never is = rw (deadline_none (gives_up_at source l) (sym never ∙ is))
 
 -- the first that passes a test, by its place
 pub first_place : {A : Type 0} (test : A → Bool) (l : List A)
-    → first_such test l ≡ (if_some place_of test l give (λ i. at_place i l) otherwise none)
+    → first_such test l ≡ (if_some place_of test l give (λ i. at_place i l) otherwise None)
 unfolding first_such place_of at_place if_true◌then◌else◌ if_some◌give◌otherwise◌
 first_place test [] = refl
 first_place {A} test (x ∷ xs) = go (test x) (place_of test xs) (first_place test xs)
   where
-    go : (b : Bool) (o : Option ℕ) → first_such test xs ≡ (if_some o give (λ i. at_place i xs) otherwise none)
-        → (if_true b then some x else first_such test xs)
-        ≡ (if_some (if_true b then some 0 else (if_some o give (λ i. some (suc i)) otherwise none)) give (λ i. at_place i (x ∷ xs)) otherwise none)
+    go : (b : Bool) (o : Option ℕ) → first_such test xs ≡ (if_some o give (λ i. at_place i xs) otherwise None)
+        → (if_true b then Some x else first_such test xs)
+        ≡ (if_some (if_true b then Some 0 else (if_some o give (λ i. Some (suc i)) otherwise None)) give (λ i. at_place i (x ∷ xs)) otherwise None)
     go true o e = refl
-    go false none e = e
-    go false (some i) e = e
+    go false None e = e
+    go false (Some i) e = e
 
-pub found_has_row : {r : FoundMember} (n id i : ℕ) (t : List ℕ) → r ≡ At i → r ≡ found_of (find id (members_of n t))
+pub found_has_row : {r : Option ℕ} (n id i : ℕ) (t : List ℕ) → r ≡ Some i → r ≡ find id (members_of n t)
     → n * row_size ≤ length t → HasRow i t
 found_has_row n id i t there found long = omega (arith, found_below n id i t (sym there ∙ found))
 
 module _ (time n : ℕ) (t : List ℕ) (p : Packet) where
-  first_none : Nothing ≡ found_of (find p.member (members_of n t)) → first_such (has_id p.member) (members_of n t) ≡ none
+  first_none : None ≡ find p.member (members_of n t) → first_such (has_id p.member) (members_of n t) ≡ None
   unfolding if_some◌give◌otherwise◌
   first_none e = rw (first_place (has_id p.member) (members_of n t), found_none (find p.member (members_of n t)) e)
 
-  first_some : (i : ℕ) → At i ≡ found_of (find p.member (members_of n t))
-      → first_such (has_id p.member) (members_of n t) ≡ some (member_at t i)
+  first_some : (i : ℕ) → Some i ≡ find p.member (members_of n t)
+      → first_such (has_id p.member) (members_of n t) ≡ Some (member_at t i)
   unfolding if_some◌give◌otherwise◌
   first_some i e =
       rw (first_place (has_id p.member) (members_of n t), found_some (find p.member (members_of n t)) i e)
       (members_place n t i (found_below n p.member i t e))
 
-  pub own_leg_asked : {b : Bool} {l : Leg} {r : FoundMember} (i : ℕ) → r ≡ At i → r ≡ found_of (find p.member (members_of n t)) → l ≡ (member_at t i).leg
+  pub own_leg_asked : {b : Bool} {l : Leg} {r : Option ℕ} (i : ℕ) → r ≡ Some i → r ≡ find p.member (members_of n t) → l ≡ (member_at t i).leg
       → b ≡ leg_given_up time p.content.source.0 l → b ≡ leg_gives_up time p (members_of n t)
   unfolding leg_gives_up or_else if_some◌give◌otherwise◌
   own_leg_asked i there found is asked = rw (first_some i (sym there ∙ found), ← is) asked
 
-  pub first_leg_asked : {b : Bool} {l : Leg} {r : FoundMember} → r ≡ Nothing → r ≡ found_of (find p.member (members_of n t)) → (n ≡ 0 → ⊥) → l ≡ (member_at t 0).leg
+  pub first_leg_asked : {b : Bool} {l : Leg} {r : Option ℕ} → r ≡ None → r ≡ find p.member (members_of n t) → (n ≡ 0 → ⊥) → l ≡ (member_at t 0).leg
       → b ≡ leg_given_up time p.content.source.0 l → b ≡ leg_gives_up time p (members_of n t)
   unfolding leg_gives_up or_else if_some◌give◌otherwise◌
   first_leg_asked nowhere found some_member is asked = rw (first_none (sym nowhere ∙ found), members_place n t 0 (omega (arith, some_member)), ← is) asked
@@ -119,17 +112,17 @@ module _ (time n : ℕ) (t : List ℕ) (p : Packet) where
   unfolding leg_gives_up or_else if_some◌give◌otherwise◌ members_of tab first_such at_place
   no_leg_asked e = rw e
 
-pub nearest_in_table : {r : Found} {o : Option Packet} (n i : ℕ) (ps : List ℕ) → FoundPacket ps n r o → r ≡ PendingAt i → n ≤ max_pending → i < max_pending
+pub nearest_in_table : {r : Option ℕ} {o : Option Packet} (n i : ℕ) (ps : List ℕ) → FoundPacket ps n r o → r ≡ Some i → n ≤ max_pending → i < max_pending
 nearest_in_table {r} n i ps near there few = omega (arith, at_in_use n r i near.within there)
 
 -- a packet is asked for only if one is held; then all legs are asked, and then the nearest packet's
-module _ (time : ℕ) (core : Core) (ms ps : List ℕ) (r : Found)
+module _ (time : ℕ) (core : Core) (ms ps : List ℕ) (r : Option ℕ)
     (near : FoundPacket ps core.counts.pending r (nearest (packets core.counts.pending ps))) (others : Rest) (ws : List ℕ) where
-  pub nothing_held : r ≡ NothingPending → false ≡ gap_given_up time (shown core others ms ps ws)
+  pub nothing_held : r ≡ None → false ≡ gap_given_up time (shown core others ms ps ws)
   unfolding gap_given_up if_some◌give◌otherwise◌
   nothing_held e = rw (sym near.is, e)
 
-  module _ (i : ℕ) (e : r ≡ PendingAt i) where
+  module _ (i : ℕ) (e : r ≡ Some i) where
     pub all_gone : {b : Bool} → b ≡ all (λ m. is_disconnected m.leg) (members_of core.counts.members ms) → b ≡ true
         → true ≡ gap_given_up time (shown core others ms ps ws)
     unfolding gap_given_up if_some◌give◌otherwise◌
@@ -152,7 +145,7 @@ module _ (core : Core) (ms : List ℕ) (p : Packet) where
   unfolding release_all release_pending_reservation if_true◌then◌else◌
   released_own mine is = record { rest = refl; long = refl; state = λ others ps ws. rw (eq-eqb p.owned 1 mine, is) }
 
-  pub released_nowhere : {r : FoundMember} → (p.owned ≡ 1 → ⊥) → r ≡ Nothing → r ≡ found_of (find p.member (members_of core.counts.members ms))
+  pub released_nowhere : {r : Option ℕ} → (p.owned ≡ 1 → ⊥) → r ≡ None → r ≡ find p.member (members_of core.counts.members ms)
       → Released (p ∷ []) core ms core ms
   unfolding release_all release_pending_reservation if_true◌then◌else◌ if_some◌give◌otherwise◌
   released_nowhere own nowhere found =
@@ -162,8 +155,8 @@ module _ (core : Core) (ms : List ℕ) (p : Packet) where
         state = λ others ps ws. rw (ne_eqb p.owned 1 own, found_none (find p.member (members_of core.counts.members ms)) (sym nowhere ∙ found));
       }
 
-  pub released_member : {r : FoundMember} (i : ℕ) (ms' : List ℕ) → (p.owned ≡ 1 → ⊥) → r ≡ At i
-      → r ≡ found_of (find p.member (members_of core.counts.members ms)) → Changed i (release_member p.content.count) ms ms'
+  pub released_member : {r : Option ℕ} (i : ℕ) (ms' : List ℕ) → (p.owned ≡ 1 → ⊥) → r ≡ Some i
+      → r ≡ find p.member (members_of core.counts.members ms) → Changed i (release_member p.content.count) ms ms'
       → Released (p ∷ []) core ms core ms'
   unfolding release_all release_pending_reservation if_true◌then◌else◌ if_some◌give◌otherwise◌
   released_member i ms' own there found changed =

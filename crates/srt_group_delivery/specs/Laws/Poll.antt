@@ -1,9 +1,9 @@
 -- What is proved of the definitions in specs/Poll.antt, with what the proofs need.
-use Rattle.std.specs.Prelude.{◌≡◌, true, ℕ, ◌+◌, ◌-◌, ◌≤◌, ◌<◌, min, length, drop}
+use Rattle.srt_group_delivery.specs.declared.delivery.GroupEvent.TheVariants.{Event as AnEvent, Packet as APacket}
+use Rattle.std.specs.Prelude.{◌≡◌, true, ℕ, ◌+◌, ◌-◌, ◌≤◌, ◌<◌, min, length, drop, None, Option, Some}
 use Rattle.std.proofs.Math.Path.{refl, ap}
 use Rattle.std.proofs.Common.{sym, ◌∙◌, arith, eqb-true}
 use mathlib.Core.List.{List}
-use Rattle.std.proofs.Math.Option.{Option, none, some}
 use Rattle.srt_protocol.specs.Sequence.{sequence_distance}
 use Rattle.word_rows.specs.Tab.{tab}
 use Rattle.word_rows.specs.Laws.Tab.{tab_length}
@@ -21,15 +21,12 @@ use Rattle.srt_group_model.specs.Run.{Mark, Run, set_base}
 use Rattle.srt_group_model.specs.Validity.{max_pending, ascends}
 use Rattle.srt_group_model.specs.Delivery.{nothing, deliver, skip_to, give_waiting}
 use Rattle.srt_connection_queue.specs.Laws.Tab.{tab_place, place_below, tab_passes, all_tab}
-use Rattle.srt_group_tables.specs.Packets.{packet_at, packets, found, place_found}
+use Rattle.srt_group_tables.specs.Packets.{packet_at, packets, place_found}
 use Rattle.srt_group_tables.specs.Laws.PacketLaws.{ascends_up, ascends_le}
 use Rattle.srt_group_tables.specs.Waitings.{waiting_at, waitings, HoldsWaiting}
-use Rattle.srt_group_tables.specs.declared.pending.Found.{Found}
-use Rattle.srt_group_tables.specs.declared.pending.Found.TheVariants.{At as PendingAt, Nothing as NothingPending}
 use Rattle.srt_group_shown.specs.Shown.{Rest, shown}
 use Rattle.srt_group_shown.specs.Tables.{receive_tables, shown_by}
 use Rattle.srt_group_delivery.specs.declared.delivery.Poll.{Poll}
-use Rattle.srt_group_delivery.specs.declared.delivery.Polled.TheVariants.{Nothing, Event as AnEvent, Packet as APacket}
 use Rattle.srt_group_collecting.specs.Leaves.{under_way}
 use Rattle.srt_group_delivery.specs.Delivery.{HeldAt, Delivered}
 use Rattle.srt_group_delivery.specs.Laws.Delivery.{first_place}
@@ -39,7 +36,7 @@ use Rattle.srt_group_model.specs.Delivery as model
 -- ---- what a poll gives
 
 abbrev pub nothing_given : Core → Poll
-nothing_given core = record { gave = Nothing; core = core }
+nothing_given core = record { gave = None; core = core }
 
 -- a step that gives nothing and does nothing
 pub gives_nothing : (f : Run → model.Poll) (core : Core) (ms ps ws : List ℕ)
@@ -67,16 +64,16 @@ gives_nothing f core ms ps ws is =
 
 -- ---- the packet at the base
 
-found_some : (o : Option ℕ) (i : ℕ) → PendingAt i ≡ found o → o ≡ some i
-found_some none i e = cc e
-found_some (some j) i e = cc e
+found_some : (o : Option ℕ) (i : ℕ) → Some i ≡ o → o ≡ Some i
+found_some None i e = cc e
+found_some (Some j) i e = cc e
 
-found_none : (o : Option ℕ) → NothingPending ≡ found o → o ≡ none
-found_none none e = refl
-found_none (some j) e = cc e
+found_none : (o : Option ℕ) → None ≡ o → o ≡ None
+found_none None e = refl
+found_none (Some j) e = cc e
 
 module _ (n sequence : ℕ) (words : List ℕ) where
-  held_below : (i : ℕ) → PendingAt i ≡ place_found sequence (packets n words) → i < n
+  held_below : (i : ℕ) → Some i ≡ place_found sequence (packets n words) → i < n
   held_below i e =
       omega (
         arith,
@@ -84,11 +81,11 @@ module _ (n sequence : ℕ) (words : List ℕ) where
         tab_length n (packet_at words),
       )
 
-  pub found_in_table : {r : Found} (i : ℕ) → r ≡ PendingAt i → r ≡ place_found sequence (packets n words) → n ≤ max_pending → i < max_pending
+  pub found_in_table : {r : Option ℕ} (i : ℕ) → r ≡ Some i → r ≡ place_found sequence (packets n words) → n ≤ max_pending → i < max_pending
   found_in_table i there is few = omega (arith, held_below i (sym there ∙ is))
 
   -- it stands at the sequence's place, and the sequence is one of the circle, as the packet's is
-  pub found_held : {r : Found} (i : ℕ) → r ≡ PendingAt i → r ≡ place_found sequence (packets n words) → ascends (packets n words) ≡ true
+  pub found_held : {r : Option ℕ} (i : ℕ) → r ≡ Some i → r ≡ place_found sequence (packets n words) → ascends (packets n words) ≡ true
       → All PacketFit (packets n words) → HeldAt words n sequence i
   found_held i there is up fit =
       record {
@@ -112,7 +109,7 @@ module _ (n sequence : ℕ) (words : List ℕ) where
       fits : (k : ℕ) → k < n → sequence_of (packet_at words k) ≤ largest_sequence
       fits k below = (all_tab PacketFit n (packet_at words) fit k below).sequence
 
-  held_there : (i : ℕ) → PendingAt i ≡ place_found sequence (packets n words) → held_at sequence (packets n words) ≡ some (packet_at words i)
+  held_there : (i : ℕ) → Some i ≡ place_found sequence (packets n words) → held_at sequence (packets n words) ≡ Some (packet_at words i)
   unfolding if_some◌give◌otherwise◌
   held_there i e =
       rw (
@@ -121,7 +118,7 @@ module _ (n sequence : ℕ) (words : List ℕ) where
       )
       (tab_place n (packet_at words) i (held_below i e))
 
-  held_nowhere : NothingPending ≡ place_found sequence (packets n words) → held_at sequence (packets n words) ≡ none
+  held_nowhere : None ≡ place_found sequence (packets n words) → held_at sequence (packets n words) ≡ None
   unfolding if_some◌give◌otherwise◌
   held_nowhere e =
       rw (
@@ -130,20 +127,20 @@ module _ (n sequence : ℕ) (words : List ℕ) where
       )
 
 module _ (base : ℕ) (core : Core) (ms ps ws : List ℕ) where
-  pub base_not_held : {r : Found} → r ≡ NothingPending → r ≡ place_found base (packets core.counts.pending ps)
+  pub base_not_held : {r : Option ℕ} → r ≡ None → r ≡ place_found base (packets core.counts.pending ps)
       → Polls (deliver base) core (receive_tables ms ps ws) (nothing_given core) (receive_tables ms ps ws)
   unfolding deliver if_some◌give◌otherwise◌
   base_not_held none_found is =
       gives_nothing (deliver base) core ms ps ws (λ others log budget. rw (held_nowhere core.counts.pending base ps (sym none_found ∙ is)))
 
-  pub base_delivered : {p : Packet} {r : Found} (i : ℕ) (after : Core) (ms' ps' : List ℕ) → r ≡ PendingAt i
+  pub base_delivered : {p : Packet} {r : Option ℕ} (i : ℕ) (after : Core) (ms' ps' : List ℕ) → r ≡ Some i
       → r ≡ place_found base (packets core.counts.pending ps) → p ≡ packet_at ps i
       → Delivered base p core ms ps after ms' ps'
-      → Polls (deliver base) core (receive_tables ms ps ws) record { gave = APacket p; core = after } (receive_tables ms' ps' ws)
+      → Polls (deliver base) core (receive_tables ms ps ws) record { gave = Some (APacket p); core = after } (receive_tables ms' ps' ws)
   unfolding deliver if_some◌give◌otherwise◌
   base_delivered {p} i after ms' ps' found_there there is delivered =
-      let at : held_at base (packets core.counts.pending ps) ≡ some p =
-      held_there core.counts.pending base ps i (sym found_there ∙ there) ∙ ap (λ (q : Packet). some q) (sym is) in
+      let at : held_at base (packets core.counts.pending ps) ≡ Some p =
+      held_there core.counts.pending base ps i (sym found_there ∙ there) ∙ ap (λ (q : Packet). Some q) (sym is) in
       let left = delivered.leaves ws in
       record {
         members_long = left.members_long;
@@ -157,7 +154,7 @@ module _ (base : ℕ) (core : Core) (ms ps ws : List ℕ) where
 -- ---- the first waiting event
 
 module _ (core : Core) (ms ps ws : List ℕ) where
-  none_there : core.counts.waiting ≡ 0 → at_place 0 (waitings core.counts.waiting ws) ≡ none
+  none_there : core.counts.waiting ≡ 0 → at_place 0 (waitings core.counts.waiting ws) ≡ None
   unfolding at_place tab
   none_there e = rw e
 
@@ -167,11 +164,11 @@ module _ (core : Core) (ms ps ws : List ℕ) where
 
   pub first_waits : {w : Waiting} (ws' : List ℕ) → (core.counts.waiting ≡ 0 → ⊥) → w ≡ waiting_at ws 0
       → HoldsWaiting (length ws) ws' (core.counts.waiting - 1) (drop 1 (waitings core.counts.waiting ws))
-      → Polls give_waiting core (receive_tables ms ps ws) record { gave = AnEvent w; core = with_waiting_count (core.counts.waiting - 1) core } (receive_tables ms ps ws')
+      → Polls give_waiting core (receive_tables ms ps ws) record { gave = Some (AnEvent w); core = with_waiting_count (core.counts.waiting - 1) core } (receive_tables ms ps ws')
   unfolding give_waiting if_some◌give◌otherwise◌
   first_waits {w} ws' some_waits is popped =
-      let at : at_place 0 (waitings core.counts.waiting ws) ≡ some w =
-      tab_place core.counts.waiting (waiting_at ws) 0 (omega (arith, some_waits)) ∙ ap (λ (x : Waiting). some x) (sym is) in
+      let at : at_place 0 (waitings core.counts.waiting ws) ≡ Some w =
+      tab_place core.counts.waiting (waiting_at ws) 0 (omega (arith, some_waits)) ∙ ap (λ (x : Waiting). Some x) (sym is) in
       record {
         members_long = refl;
         pending_long = refl;
@@ -221,13 +218,13 @@ module _ (core : Core) where
   base_was_set option set =
       record { counts_same = refl; run = λ others t log budget. rw (other_set core.receiving.based set) record { state = refl; budget = refl } }
 
-  pub base_not_given : (base : ℕ) {based : ℕ} → core.receiving.based ≡ 0 → based ≡ 0 → Bases (flagged (is_set based) base) core core
+  pub base_not_given : {option : Option ℕ} → core.receiving.based ≡ 0 → option ≡ None → Bases option core core
   unfolding set_base flagged if_some◌give◌otherwise◌
-  base_not_given base unset not_given =
+  base_not_given unset not_given =
       record { counts_same = refl; run = λ others t log budget. rw (unset, not_given) record { state = refl; budget = refl } }
 
-  pub base_given : (base : ℕ) {based : ℕ} → core.receiving.based ≡ 0 → (based ≡ 0 → ⊥)
-      → Bases (flagged (is_set based) base) core (with_numbers base core.receiving.skipped core)
+  pub base_given : {option : Option ℕ} (base : ℕ) → core.receiving.based ≡ 0 → option ≡ Some base
+      → Bases option core (with_numbers base core.receiving.skipped core)
   unfolding set_base flagged if_some◌give◌otherwise◌
-  base_given base {based} unset given =
-      record { counts_same = refl; run = λ others t log budget. rw (unset, other_set based given) record { state = refl; budget = refl } }
+  base_given base unset given =
+      record { counts_same = refl; run = λ others t log budget. rw (unset, given) record { state = refl; budget = refl } }

@@ -1,8 +1,9 @@
 -- What is proved of the definitions in specs/Polling.antt, with what the proofs need.
-use Rattle.std.specs.Prelude.{◌≡◌, List, [], ℕ, ◌≤◌, length}
+use Rattle.srt_group_delivery.specs.declared.delivery.GroupEvent.TheVariants.{Event, Packet as GivenPacket}
+use Rattle.srt_group_delivery.specs.declared.delivery.GroupEvent.{GroupEvent}
+use Rattle.std.specs.Prelude.{◌≡◌, List, [], ℕ, ◌≤◌, length, None, Option, Some}
 use Rattle.std.proofs.Math.Path.{refl, ap}
 use Rattle.std.proofs.Common.{sym, ◌∙◌}
-use Rattle.std.proofs.Math.Option.{Option, none, some}
 use Rattle.srt_protocol.specs.Cells.{output_size}
 use Rattle.srt_group_model.specs.Tools.{if_true◌then◌else◌}
 use Rattle.srt_group_model.specs.Legs.{largest_64}
@@ -19,27 +20,23 @@ use Rattle.srt_group_shown.specs.Tables.{Parts, parts, Tables, ReceiveTables, re
 use Rattle.srt_group_shown.specs.Ready.{Ready, lending, Performs}
 use Rattle.srt_group_collecting.specs.Leaves.{sends}
 use Rattle.srt_group_collecting.specs.Follows.{Follows}
-use Rattle.srt_group_delivery.specs.declared.delivery.Polled.{Polled}
-use Rattle.srt_group_delivery.specs.declared.delivery.Polled.TheVariants.{Nothing, Event, Packet as GivenPacket}
 use Rattle.srt_group_delivery.specs.declared.delivery.Poll.{Poll}
 use Rattle.srt_group_skip.specs.Skip.{GivesState, PollsFrom}
-use Rattle.srt_group_polls.specs.declared.polls.OptionalPacket.{OptionalPacket}
-use Rattle.srt_group_polls.specs.DataPoll.{option_of}
 use Rattle.srt_group_data_poll.specs.Polling.{Writable}
 use Rattle.srt_group_data_poll.specs.Laws.Polling.{moved_of, with_moved, writable_given, poll_performed}
 use Rattle.srt_group_event_poll.specs.Polling.{answer_of, packet_in}
 
 -- ---- the packet in an answer
 
-pub none_in_nothing : (gave : Polled) → gave ≡ Nothing → none ≡ packet_in gave
+pub none_in_nothing : (gave : Option GroupEvent) → gave ≡ None → None ≡ packet_in gave
 unfolding delivered_by
 none_in_nothing gave is = ap packet_in (sym is)
 
-pub none_in_event : (gave : Polled) (w : Waiting) → gave ≡ Event w → none ≡ packet_in gave
+pub none_in_event : (gave : Option GroupEvent) (w : Waiting) → gave ≡ Some (Event w) → None ≡ packet_in gave
 unfolding delivered_by
 none_in_event gave w is = ap packet_in (sym is)
 
-pub one_in_packet : (gave : Polled) (p : Packet) → gave ≡ GivenPacket p → some p ≡ packet_in gave
+pub one_in_packet : (gave : Option GroupEvent) (p : Packet) → gave ≡ Some (GivenPacket p) → Some p ≡ packet_in gave
 unfolding delivered_by
 one_in_packet gave p is = ap packet_in (sym is)
 
@@ -61,7 +58,7 @@ module _ (time : ℕ) (p : Parts) (t : Tables) (r : Poll) (u : ReceiveTables)
   gives : GivesState (poll_event time (start (state_of p t))) r (rest_of p t) u
   gives = (polls 0).run (rest_of p t) refl []
 
-  pub writable : {store output : ℕ} {used : List ℕ} (gave : OptionalPacket) → option_of gave ≡ packet_in r.gave → Ready p t store used
+  pub writable : {store output : ℕ} {used : List ℕ} (gave : Option Packet) → gave ≡ packet_in r.gave → Ready p t store used
       → output_size ≤ output → Writable gave store output
   writable gave is ready room_there =
       writable_given ready time 1 gave

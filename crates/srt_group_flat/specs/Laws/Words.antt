@@ -1,8 +1,7 @@
 -- What is proved of the definitions in specs/Words.antt, and that a promise is the same over an answer in words.
-use Rattle.std.specs.Prelude.{◌≡◌, Bool, false, List, ℕ}
+use Rattle.std.specs.Prelude.{◌≡◌, Bool, false, List, ℕ, Err, None, Ok, Option, Result, Some}
 use Rattle.std.proofs.Math.Path.{refl, ap, subst}
 use Rattle.std.proofs.Common.{sym, ◌∙◌, true≢false, arith}
-use Rattle.std.proofs.Math.Option.{none}
 use Rattle.srt_protocol.specs.declared.error.Error.{Error}
 use Rattle.srt_protocol.specs.Errors.{error_number}
 use Rattle.srt_protocol.specs.Laws.Errors.{refused_not_0}
@@ -12,18 +11,11 @@ use Rattle.srt_group_model.specs.Guards.{Answer, no_answer, shown, number, data_
 use Rattle.srt_group_model.specs.Lent.{Lent, Call}
 use Rattle.srt_group_model.specs.declared.Packet.{Packet}
 use Rattle.srt_group_shown.specs.Tables.{Parts, Tables}
-use Rattle.srt_group_polls.specs.DataPoll.{option_of}
-use Rattle.srt_group_polls.specs.declared.polls.OptionalPacket.{OptionalPacket}
-use Rattle.srt_group_polls.specs.declared.polls.OptionalPacket.TheVariants.{Some, None}
 use Rattle.srt_group_refusals.specs.Promised.{nothing_lent, showing, Promised, PromisedRow}
 use Rattle.srt_group_refusals.specs.Laws.Promised.{promised_answers}
 use Rattle.srt_group_data_poll.specs.Answers.{data_number, data_answer}
 use Rattle.srt_group_data_poll.specs.declared.calls.GroupDataPoll.{GroupDataPoll}
-use Rattle.srt_group_data_poll.specs.declared.calls.DataAnswer.{DataAnswer}
-use Rattle.srt_group_data_poll.specs.declared.calls.DataAnswer.TheVariants.{Refused, Polled}
-use Rattle.srt_group_send_calls.specs.Answers.{send_number, send_answer}
-use Rattle.srt_group_send_calls.specs.declared.calls.SendAnswer.{SendAnswer}
-use Rattle.srt_group_send_calls.specs.declared.calls.SendAnswer.TheVariants as send
+use Rattle.srt_group_send.specs.Answers.{send_number, send_answer}
 use Rattle.srt_group_flat.specs.declared.words.DataWords.{DataWords}
 use Rattle.srt_group_flat.specs.declared.words.SendWords.{SendWords}
 use Rattle.srt_group_flat.specs.Words.{words_answer, no_packet, Says, send_words_answer, SaysSent}
@@ -33,28 +25,28 @@ use Rattle.srt_group_flat.specs.Words.{words_answer, no_packet, Says, send_words
 abbrev in_words : (code given : ℕ) → Packet → (continuation : ℕ) → DataWords
 in_words code given packet continuation = record { code = code; given = given; packet = packet; continuation = continuation }
 
-pub says_refused : {answer : DataAnswer} (e : Error) → answer ≡ Refused e → {n : ℕ} → n ≡ error_number e
+pub says_refused : {answer : Result GroupDataPoll Error} (e : Error) → answer ≡ Err e → {n : ℕ} → n ≡ error_number e
     → Says answer (in_words n 0 no_packet 0)
 unfolding words_answer if_true◌then◌else◌
 says_refused e is {n} same =
-    subst (λ (a : DataAnswer). Says a (in_words n 0 no_packet 0)) (sym is)
+    subst (λ (a : Result GroupDataPoll Error). Says a (in_words n 0 no_packet 0)) (sym is)
     record {
       answers =
           record {
             same_code = same;
-            same_answer = ap (λ (b : Bool). if_true b then no_answer else data_polled none false) (ap is_set same ∙ other_set (error_number e) (refused_not_0 e));
+            same_answer = ap (λ (b : Bool). if_true b then no_answer else data_polled None false) (ap is_set same ∙ other_set (error_number e) (refused_not_0 e));
           };
-      cleared = record { flag = omega arith; packet = λ none. refl; given = λ refused. refl; continuation = λ refused. refl };
+      cleared = record { flag = omega arith; packet = λ None. refl; given = λ refused. refl; continuation = λ refused. refl };
     }
 
-pub says_polled : {answer : DataAnswer} (poll : GroupDataPoll) → answer ≡ Polled poll → {w : DataWords} → Says (Polled poll) w → Says answer w
-says_polled poll is {w} says = subst (λ (a : DataAnswer). Says a w) (sym is) says
+pub says_polled : {answer : Result GroupDataPoll Error} (poll : GroupDataPoll) → answer ≡ Ok poll → {w : DataWords} → Says (Ok poll) w → Says answer w
+says_polled poll is {w} says = subst (λ (a : Result GroupDataPoll Error). Says a w) (sym is) says
 
-abbrev answer_with : (continuation : ℕ) → OptionalPacket → Answer
-answer_with continuation packet = data_polled (option_of packet) (is_set continuation)
+abbrev answer_with : (continuation : ℕ) → Option Packet → Answer
+answer_with continuation packet = data_polled packet (is_set continuation)
 
 module _ {poll : GroupDataPoll} where
-  pub says_none : poll.packet ≡ None → Says (Polled poll) (in_words 0 0 no_packet poll.continuation)
+  pub says_none : poll.packet ≡ None → Says (Ok poll) (in_words 0 0 no_packet poll.continuation)
   unfolding words_answer if_true◌then◌else◌
   says_none is =
       record {
@@ -62,13 +54,13 @@ module _ {poll : GroupDataPoll} where
         cleared =
             record {
               flag = omega arith;
-              packet = λ none. refl;
+              packet = λ None. refl;
               given = λ refused. refl;
               continuation = λ refused. absurd (true≢false (sym refused));
             };
       }
 
-  pub says_some : (p : Packet) → poll.packet ≡ Some p → Says (Polled poll) (in_words 0 1 p poll.continuation)
+  pub says_some : (p : Packet) → poll.packet ≡ Some p → Says (Ok poll) (in_words 0 1 p poll.continuation)
   unfolding words_answer if_true◌then◌else◌
   says_some p is =
       record {
@@ -76,7 +68,7 @@ module _ {poll : GroupDataPoll} where
         cleared =
             record {
               flag = omega arith;
-              packet = λ none. absurd (true≢false none);
+              packet = λ None. absurd (true≢false None);
               given = λ refused. absurd (true≢false (sym refused));
               continuation = λ refused. absurd (true≢false (sym refused));
             };
@@ -87,21 +79,21 @@ module _ {poll : GroupDataPoll} where
 abbrev sent_words : (code legs rows : ℕ) → SendWords
 sent_words code legs rows = record { code = code; legs = legs; rows = rows }
 
-module _ {answer : SendAnswer} (rows : ℕ) where
-  pub says_sent : (legs : ℕ) → answer ≡ send.Sent legs → SaysSent answer rows (sent_words 0 legs rows)
+module _ {answer : Result ℕ Error} (rows : ℕ) where
+  pub says_sent : (legs : ℕ) → answer ≡ Ok legs → SaysSent answer rows (sent_words 0 legs rows)
   unfolding send_words_answer if_true◌then◌else◌
   says_sent legs is =
-      subst (λ (a : SendAnswer). SaysSent a rows (sent_words 0 legs rows)) (sym is)
+      subst (λ (a : Result ℕ Error). SaysSent a rows (sent_words 0 legs rows)) (sym is)
       record {
         answers = record { same_code = refl; same_answer = refl };
         cleared = record { legs = λ refused. absurd (true≢false (sym refused)) };
         filled = refl;
       }
 
-  pub says_not_sent : (e : Error) → answer ≡ send.Refused e → {n : ℕ} → n ≡ error_number e → SaysSent answer rows (sent_words n 0 rows)
+  pub says_not_sent : (e : Error) → answer ≡ Err e → {n : ℕ} → n ≡ error_number e → SaysSent answer rows (sent_words n 0 rows)
   unfolding send_words_answer if_true◌then◌else◌
   says_not_sent e is {n} same =
-      subst (λ (a : SendAnswer). SaysSent a rows (sent_words n 0 rows)) (sym is)
+      subst (λ (a : Result ℕ Error). SaysSent a rows (sent_words n 0 rows)) (sym is)
       record {
         answers =
             record {
@@ -114,13 +106,13 @@ module _ {answer : SendAnswer} (rows : ℕ) where
 
 -- ---- a promise over an answer in words
 
-pub poll_in_words : {call : Call} {p : Parts} {t : Tables} {bytes : Lent} (p' : Parts) (t' : Tables) (bytes' : Lent) {answer : DataAnswer} {w : DataWords}
+pub poll_in_words : {call : Call} {p : Parts} {t : Tables} {bytes : Lent} (p' : Parts) (t' : Tables) (bytes' : Lent) {answer : Result GroupDataPoll Error} {w : DataWords}
     → Promised call p t bytes (showing p' t' bytes' (data_number answer) (data_answer answer) 0) → Says answer w
     → Promised call p t bytes (showing p' t' bytes' w.code (words_answer w) 0)
 unfolding showing
 poll_in_words p' t' bytes' promised says = promised_answers promised says.answers
 
-pub send_in_words : {call : Call} {p : Parts} {t : Tables} {bytes : Lent} (p' : Parts) (t' : Tables) (bytes' : Lent) {answer : SendAnswer} {rows : ℕ} {w : SendWords}
+pub send_in_words : {call : Call} {p : Parts} {t : Tables} {bytes : Lent} (p' : Parts) (t' : Tables) (bytes' : Lent) {answer : Result ℕ Error} {rows : ℕ} {w : SendWords}
     → Promised call p t bytes (showing p' t' bytes' (send_number answer) (send_answer answer) rows) → SaysSent answer rows w
     → Promised call p t bytes (showing p' t' bytes' w.code (send_words_answer w) w.rows)
 unfolding showing

@@ -1,13 +1,12 @@
 -- What is proved of the definitions in specs/Legs.antt: over a list that `members` filled, the state among its rows is the model's.
-use Rattle.std.specs.Prelude.{◌≡◌, refl, Bool, ℕ, ◌+◌, ◌*◌, eqb, drop}
-use Rattle.std.proofs.Common.{sym, subst, ◌∙◌, arith, length-append}
+use Rattle.srt_protocol.specs.declared.error.Error.{Error}
+use Rattle.std.specs.Prelude.{◌≡◌, refl, Bool, ℕ, ◌+◌, ◌*◌, eqb, drop, Option, Result, Some}
+use Rattle.std.proofs.Common.{sym, ◌∙◌, arith, length-append}
 use Rattle.std.proofs.Math.Path.{ap}
 use Rattle.std.proofs.Math.Bool.{true, false}
 use mathlib.Core.List.{List, [], ◌∷◌, ◌++◌}
-use Rattle.std.proofs.Math.Option.{Option, none, some}
 use Rattle.std.proofs.Math.ListN.{length}
 use Rattle.srt_protocol.specs.Cells.{overwritten}
-use Rattle.srt_group_model.specs.declared.MemberShown.{MemberShown}
 use Rattle.srt_group_model.specs.Tools.{if_true◌then◌else◌, if_some◌give◌otherwise◌, first_such, each}
 use Rattle.srt_group_model.specs.State.{Member}
 use Rattle.srt_group_model.specs.Members.{has_id}
@@ -22,7 +21,6 @@ use Rattle.srt_group_shown.specs.Tables.{Parts, Tables, state_of}
 use Rattle.srt_group_refusals.specs.Begins.{are_short}
 use Rattle.srt_group_refusals.specs.Promised.{nothing_lent, asking, showing}
 use Rattle.srt_group_looks.specs.Looks.{member_row_size, members_code, rows_filled, Listed}
-use Rattle.srt_group_looks.specs.declared.members.MembersLook.{MembersLook}
 use Rattle.srt_group_looks.specs.Laws.Members.{eight_words}
 use Rattle.srt_group_leg_rows.specs.declared.LegRow.{LegRow}
 use Rattle.srt_group_leg_rows.specs.Legs.{unknown_leg, state_among, leg_state, front_row, rows_in}
@@ -41,7 +39,7 @@ state_of_members id [] = refl
 state_of_members id (m ∷ ms) = by_test (eqb m.membership.id id) (first_such (has_id id) ms) (state_of_members id ms)
   where
     by_test : (b : Bool) (found : Option Member) {later : ℕ} → later ≡ (if_some found give (λ x. x.leg.link.state) otherwise unknown_leg)
-        → (if_true b then m.leg.link.state else later) ≡ (if_some (if_true b then some m else found) give (λ x. x.leg.link.state) otherwise unknown_leg)
+        → (if_true b then m.leg.link.state else later) ≡ (if_some (if_true b then Some m else found) give (λ x. x.leg.link.state) otherwise unknown_leg)
     by_test true found same = refl
     by_test false found same = same
 
@@ -71,7 +69,7 @@ module _ (p : Parts) (t : Tables) where
   answered false does accepted = does.answer ∙ call_answers (call_look look_members) nothing_lent (state_of p t) (sym does.code ∙ accepted)
 
   -- over the rows that an accepted `members` filled the state is the model's
-  pub state_in_list : {list list' : List ℕ} {r : MembersLook} → Listed p t list r list' → members_code r ≡ 0
+  pub state_in_list : {list list' : List ℕ} {r : Result ℕ Error} → Listed p t list r list' → members_code r ≡ 0
       → (id : ℕ) → state_among id (rows_in (rows_filled r) list') ≡ leg_state id (state_of p t)
   unfolding leg_state overwritten values_of shown_values
   state_in_list {list} {list'} {r} listed accepted id =

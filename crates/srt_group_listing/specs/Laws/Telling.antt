@@ -1,8 +1,10 @@
 -- What is proved of the definitions in specs/Telling.antt, with what the proofs need.
-use Rattle.std.specs.Prelude.{◌≡◌, Bool, true, false, List, [], ◌∷◌, ℕ, eqb, length}
+use Rattle.std.specs.Prelude.{◌≡◌, Bool, true, false, List, [], ◌∷◌, ℕ, eqb, length, Err, None, Ok, Option, Result, Some}
 use Rattle.std.proofs.Math.Path.{refl}
-use Rattle.std.proofs.Common.{ap, ap₂, sym, subst, ◌∙◌, eqb-true, arith}
-use Rattle.std.proofs.Math.Option.{Option, none, some}
+use Rattle.std.proofs.Common.{ap, ap₂, sym, subst, ◌∙◌, eqb-true, ne_eqb, arith}
+use Rattle.srt_protocol.specs.declared.error.Error.{Error}
+use Rattle.srt_protocol.specs.Errors.{error_number}
+use Rattle.srt_protocol.specs.Laws.Errors.{refused_not_0}
 use Rattle.srt_protocol.specs.Cells.{output_size}
 use Rattle.srt_group_model.specs.declared.Data.{Data}
 use Rattle.srt_group_model.specs.declared.Event.{Event}
@@ -11,20 +13,18 @@ use Rattle.srt_group_model.specs.declared.Packet.{Packet}
 use Rattle.srt_group_model.specs.Tools.{if_true◌then◌else◌}
 use Rattle.srt_group_model.specs.State.{Member, State, with_leg}
 use Rattle.srt_group_model.specs.Sending.{list_size}
-use Rattle.srt_group_model.specs.Guards.{number, Answer, no_answer, shown, data_polled, leg_back, Step}
+use Rattle.srt_group_model.specs.Guards.{Answer, no_answer, data_polled, leg_back, Step}
 use Rattle.srt_group_model.specs.Lent.{Lent, Call, call_add_member, call_queue_data, call_send, call_remove_member_connection, step_of, with_bytes, perform}
 use Rattle.srt_group_model.specs.Listing.{Line, column, leg_of_line, columns, refused_line, printed}
 use Rattle.srt_group_model.specs.Laws.Answers.{call_answers}
-use Rattle.srt_group_model.specs.Laws.Reason.{if_elim, when_true, when_false, by_test}
+use Rattle.srt_group_model.specs.Laws.Reason.{if_elim, when_false}
 use Rattle.srt_connection_queue.specs.Queue.{cleared}
 use Rattle.srt_connection_members.specs.Members.{member_at, HasRow, Changed}
 use Rattle.srt_group_shown.specs.Tables.{Tables, state_of}
 use Rattle.srt_group_shown.specs.Ready.{Ready, storing, lending, sending_into, Performs}
-use Rattle.srt_group_send.specs.Sends.{sent_answer, Sends}
+use Rattle.srt_group_send.specs.Answers.{send_number, send_answer}
+use Rattle.srt_group_send.specs.Sends.{Sends}
 use Rattle.srt_group_send.specs.declared.sending.GroupSend.{GroupSend}
-use Rattle.srt_group_polls.specs.DataPoll.{option_of}
-use Rattle.srt_group_polls.specs.declared.polls.OptionalPacket.{OptionalPacket}
-use Rattle.srt_group_polls.specs.declared.polls.OptionalPacket.TheVariants.{Some, None}
 use Rattle.srt_group_addition.specs.Handed.{call_of_row}
 use Rattle.srt_group_removal.specs.Connection.{answer_dropped, PerformsDropping}
 use Rattle.srt_group.specs.Made.{parts_of}
@@ -65,17 +65,13 @@ prints_code verb code given s none_shown =
 pub prints_packet : (gave : Option Packet) (more : Bool) (s : State)
     → packet_line gave s.receive.numbers.skipped ≡ prints 5 0 (data_polled gave more) s
 unfolding columns if_true◌then◌else◌
-prints_packet none more s = refl
-prints_packet (some p) more s = refl
+prints_packet None more s = refl
+prints_packet (Some p) more s = refl
 
-pub prints_sent : (r : GroupSend) (s : State) → sent_line r.code r.legs ≡ prints 6 r.code (sent_answer r) s
-unfolding columns
-prints_sent r s =
-    by_test (eqb r.code 0)
-    (λ e.
-    let accepted : sent_answer r ≡ shown (number r.legs) = when_true (eqb r.code 0) _ _ e in
-    when_true (eqb r.code 0) _ _ e ∙ ap (λ (a : Answer). 6 ∷ 0 ∷ columns a s) (sym accepted) ∙ sym (when_true (eqb r.code 0) _ _ e))
-    (λ e. when_false (eqb r.code 0) _ _ e ∙ sym (when_false (eqb r.code 0) _ _ e))
+pub prints_sent : (r : Result ℕ Error) (s : State) → sent_line r ≡ prints 6 (send_number r) (send_answer r) s
+unfolding columns if_true◌then◌else◌
+prints_sent (Ok legs) s = refl
+prints_sent (Err e) s = sym (when_false (eqb (error_number e) 0) _ _ (ne_eqb (error_number e) 0 (refused_not_0 e)))
 
 -- ---- which calls look at no more of what they are lent than the store's length
 
@@ -187,13 +183,13 @@ handed_over made long put emptied =
 
 -- ---- the lines of a poll
 
-pub line_without_packet : {gave : OptionalPacket} {skipped : ℕ} → gave ≡ None
-    → 5 ∷ 0 ∷ 0 ∷ 0 ∷ 0 ∷ skipped ∷ [] ≡ packet_line (option_of gave) skipped
-line_without_packet {gave} {skipped} is = ap (λ (o : OptionalPacket). packet_line (option_of o) skipped) (sym is)
+pub line_without_packet : {gave : Option Packet} {skipped : ℕ} → gave ≡ None
+    → 5 ∷ 0 ∷ 0 ∷ 0 ∷ 0 ∷ skipped ∷ [] ≡ packet_line gave skipped
+line_without_packet {gave} {skipped} is = ap (λ (o : Option Packet). packet_line o skipped) (sym is)
 
-pub line_with_packet : {gave : OptionalPacket} {skipped : ℕ} (p : Packet) → gave ≡ Some p
-    → 5 ∷ 0 ∷ p.member ∷ p.content.sequence ∷ p.content.count ∷ skipped ∷ [] ≡ packet_line (option_of gave) skipped
-line_with_packet {gave} {skipped} p is = ap (λ (o : OptionalPacket). packet_line (option_of o) skipped) (sym is)
+pub line_with_packet : {gave : Option Packet} {skipped : ℕ} (p : Packet) → gave ≡ Some p
+    → 5 ∷ 0 ∷ p.member ∷ p.content.sequence ∷ p.content.count ∷ skipped ∷ [] ≡ packet_line gave skipped
+line_with_packet {gave} {skipped} p is = ap (λ (o : Option Packet). packet_line o skipped) (sym is)
 
 pub tells_poll : (line : Line) {g g' : Group} {t t' : Tables} {store output output' : List ℕ} {gave : Option Packet} {more : Bool} {used' : List ℕ} {out : Printed}
     → length output ≡ output_size
@@ -210,20 +206,20 @@ pub tells_send : (line : Line) {g : Group} {t t' : Tables} {store store' list li
     → length list ≡ list_size
     → length store' ≡ length store
     → payload ≡ column 1 line ∷ []
-    → numbers_of out ≡ sent_line sent.code sent.legs
+    → numbers_of out ≡ sent_line sent.answer
     → Sends (column 2 line) payload (parts_of g) t (sending_into store list) sent t' (sending_into store' list') used'
     → Tells 6 (sending line) g t (length store)
     (record { group = record { identity = g.identity; core = sent.core; sending = sent.sending; ring = sent.ring }; line = out }) t' used'
 unfolding step_of
 tells_send line {g} {t} {t'} {store} {store'} {list} {list'} {payload} {sent} {used'} {out} rows size byte says done =
-    tells 6 (sending line) g after t t' (sending_into store list) (sending_into store' list') sent.code (sent_answer sent) used' out
+    tells 6 (sending line) g after t t' (sending_into store list) (sending_into store' list') (send_number sent.answer) (send_answer sent.answer) used' out
     (subst
     (λ (b : List ℕ).
-    Performs (call_send (column 2 line) b) (parts_of g) t (sending_into store list) sent.code (sent_answer sent) (parts_of after) t'
+    Performs (call_send (column 2 line) b) (parts_of g) t (sending_into store list) (send_number sent.answer) (send_answer sent.answer) (parts_of after) t'
     (sending_into store' list') used')
     byte done.performs)
     (ap (λ (n : ℕ). step_of (length store) 0 n (sending line) (state_of (parts_of g) t)) rows) size
-    (says ∙ prints_sent sent (state_of (parts_of after) t'))
+    (says ∙ prints_sent sent.answer (state_of (parts_of after) t'))
   where
     after : Group
     after = record { identity = g.identity; core = sent.core; sending = sent.sending; ring = sent.ring }

@@ -1,9 +1,8 @@
 -- What is proved of the definitions in specs/Verbs.antt, with what the proofs need.
-use Rattle.std.specs.Prelude.{◌≡◌, true, false, ℕ, ◌≤◌, ◌<◌}
+use Rattle.std.specs.Prelude.{◌≡◌, true, false, ℕ, ◌≤◌, ◌<◌, Some}
 use Rattle.std.proofs.Math.Path.{refl, ap, sym, subst}
 use Rattle.std.proofs.Common.{ap₂, ◌∙◌, lt-ltb, le-ltb}
 use mathlib.Core.List.{List}
-use Rattle.std.proofs.Math.Option.{some}
 use Rattle.srt_group_model.specs.Tools.{if_true◌then◌else◌, if_some◌give◌otherwise◌, at_place}
 use Rattle.srt_group_model.specs.State.{State}
 use Rattle.srt_group_model.specs.Guards.{Step, refuse}
@@ -26,70 +25,70 @@ use Rattle.srt_group_listing.specs.Verbs.{TellsVerb}
 -- what the listing tells of a call
 abbrev told_of : Line → Call → State → Told
 told_of line call s =
-    record { group = some (asks store_length call s).state; line = printed (column 0 line) (asks store_length call s) }
+    record { group = Some (asks store_length call s).state; line = printed (column 0 line) (asks store_length call s) }
 
 module _ (line : Line) (s : State) where
-  tell_2 : tell 2 line (some s) ≡ told_of line (addition line) s
+  tell_2 : tell 2 line (Some s) ≡ told_of line (addition line) s
   unfolding tell verbs at_place if_some◌give◌otherwise◌ tell_verb step_of
   tell_2 = refl
 
-  tell_3 : tell 3 line (some s) ≡ told_of line (reading line) s
+  tell_3 : tell 3 line (Some s) ≡ told_of line (reading line) s
   unfolding tell verbs at_place if_some◌give◌otherwise◌ tell_verb step_of
   tell_3 = refl
 
-  tell_4 : above 255 (column 5 line) ≡ false → tell 4 line (some s) ≡ told_of line (queueing line) s
+  tell_4 : above 255 (column 5 line) ≡ false → tell 4 line (Some s) ≡ told_of line (queueing line) s
   unfolding tell verbs at_place if_some◌give◌otherwise◌ tell_verb step_of
   tell_4 byte =
-      ap (λ (x : Step). record { group = some x.state; line = printed (column 0 line) x })
+      ap (λ (x : Step). record { group = Some x.state; line = printed (column 0 line) x })
       (when_false (above 255 (column 5 line)) (refuse 2 s) (asks store_length (queueing line) s) byte)
 
-  tell_5 : tell 5 line (some s) ≡ told_of line (polling line) s
+  tell_5 : tell 5 line (Some s) ≡ told_of line (polling line) s
   unfolding tell verbs at_place if_some◌give◌otherwise◌ tell_verb step_of
   tell_5 = refl
 
-  tell_6 : above 255 (column 1 line) ≡ false → tell 6 line (some s) ≡ told_of line (sending line) s
+  tell_6 : above 255 (column 1 line) ≡ false → tell 6 line (Some s) ≡ told_of line (sending line) s
   unfolding tell verbs at_place if_some◌give◌otherwise◌ tell_verb step_of
   tell_6 byte =
-      ap (λ (x : Step). record { group = some x.state; line = printed (column 0 line) x })
+      ap (λ (x : Step). record { group = Some x.state; line = printed (column 0 line) x })
       (when_false (above 255 (column 1 line)) (refuse 2 s) (asks store_length (sending line) s) byte)
 
-  tell_7 : tell 7 line (some s) ≡ told_of line (removing line) s
+  tell_7 : tell 7 line (Some s) ≡ told_of line (removing line) s
   unfolding tell verbs at_place if_some◌give◌otherwise◌ tell_verb step_of
   tell_7 = refl
 
-  tell_8 : tell 8 line (some s) ≡ told_of line (breaking line) s
+  tell_8 : tell 8 line (Some s) ≡ told_of line (breaking line) s
   unfolding tell verbs at_place if_some◌give◌otherwise◌ tell_verb step_of
   tell_8 = refl
 
-  tell_9 : tell 9 line (some s) ≡ told_of line (event line) s
+  tell_9 : tell 9 line (Some s) ≡ told_of line (event line) s
   unfolding tell verbs at_place if_some◌give◌otherwise◌ tell_verb step_of
   tell_9 = refl
 
   -- a byte above 255
   refused_2 : Told
-  refused_2 = record { group = some s; line = refused_line (column 0 line) 2 }
+  refused_2 = record { group = Some s; line = refused_line (column 0 line) 2 }
 
-  tell_4_refused : above 255 (column 5 line) ≡ true → tell 4 line (some s) ≡ refused_2
+  tell_4_refused : above 255 (column 5 line) ≡ true → tell 4 line (Some s) ≡ refused_2
   unfolding tell verbs at_place if_some◌give◌otherwise◌ tell_verb printed if_true◌then◌else◌ step_of refused_2
   tell_4_refused byte =
-      ap (λ (x : Step). record { group = some x.state; line = printed (column 0 line) x })
+      ap (λ (x : Step). record { group = Some x.state; line = printed (column 0 line) x })
       (when_true (above 255 (column 5 line)) (refuse 2 s) (asks store_length (queueing line) s) byte)
 
-  tell_6_refused : above 255 (column 1 line) ≡ true → tell 6 line (some s) ≡ refused_2
+  tell_6_refused : above 255 (column 1 line) ≡ true → tell 6 line (Some s) ≡ refused_2
   unfolding tell verbs at_place if_some◌give◌otherwise◌ tell_verb printed if_true◌then◌else◌ step_of refused_2
   tell_6_refused byte =
-      ap (λ (x : Step). record { group = some x.state; line = printed (column 0 line) x })
+      ap (λ (x : Step). record { group = Some x.state; line = printed (column 0 line) x })
       (when_true (above 255 (column 1 line)) (refuse 2 s) (asks store_length (sending line) s) byte)
 
 module _ (line : Line) {g : Group} {t t' : Tables} {store : ℕ} {r : told.Told} {used' : List ℕ} (cells : store ≡ store_length) where
   -- the verb k is this call, and the code tells it
   tells_verb : (k : ℕ) (call : Call) → column 0 line ≡ k
-      → ((s : State) → tell k line (some s) ≡ told_of line call s) → Tells k call g t store r t' used' → TellsVerb line g t r t' used'
+      → ((s : State) → tell k line (Some s) ≡ told_of line call s) → Tells k call g t store r t' used' → TellsVerb line g t r t' used'
   tells_verb k call is rule done =
       record {
         told =
-            ap (λ (n : ℕ). tell n line (some (state_of (parts_of g) t))) is ∙ rule (state_of (parts_of g) t)
-            ∙ ap₂ (λ (x : State) (l : List ℕ). record { group = some x; line = l }) (sym here.state)
+            ap (λ (n : ℕ). tell n line (Some (state_of (parts_of g) t))) is ∙ rule (state_of (parts_of g) t)
+            ∙ ap₂ (λ (x : State) (l : List ℕ). record { group = Some x; line = l }) (sym here.state)
             (ap (λ (n : ℕ). printed n (asks store_length call (state_of (parts_of g) t))) is ∙ sym here.line);
         ready = here.ready;
       }
@@ -125,14 +124,14 @@ module _ (line : Line) {g : Group} {t t' : Tables} {store : ℕ} {r : told.Told}
 
 -- a byte above 255: nothing changes
 module _ (line : Line) {g : Group} {t : Tables} {store : ℕ} {used : List ℕ} {out : Printed} (cells : store ≡ store_length) (ready : Ready (parts_of g) t store used) where
-  unmoved : (k : ℕ) → column 0 line ≡ k → tell k line (some (state_of (parts_of g) t)) ≡ refused_2 line (state_of (parts_of g) t)
+  unmoved : (k : ℕ) → column 0 line ≡ k → tell k line (Some (state_of (parts_of g) t)) ≡ refused_2 line (state_of (parts_of g) t)
       → numbers_of out ≡ refused_line k 2 → TellsVerb line g t (record { group = g; line = out }) t used
   unfolding refused_2
   unmoved k is rule says =
       record {
         told =
-            ap (λ (n : ℕ). tell n line (some (state_of (parts_of g) t))) is ∙ rule
-            ∙ ap (λ (l : List ℕ). record { group = some (state_of (parts_of g) t); line = l })
+            ap (λ (n : ℕ). tell n line (Some (state_of (parts_of g) t))) is ∙ rule
+            ∙ ap (λ (l : List ℕ). record { group = Some (state_of (parts_of g) t); line = l })
             (ap (λ (n : ℕ). refused_line n 2) is ∙ sym says);
         ready = subst (λ (n : ℕ). Ready (parts_of g) t n used) cells ready;
       }

@@ -1,13 +1,11 @@
 -- What is proved of the looks: how each is refused, by what it is about, and what it shows.
-use Rattle.std.specs.Prelude.{◌≡◌, Bool, not, ℕ, ◌≤◌, eqb}
+use Rattle.srt_protocol.specs.Errors.{Outcome}
+use Rattle.std.specs.Prelude.{◌≡◌, Bool, not, ℕ, ◌≤◌, eqb, Err, None, Ok, Some}
 use Rattle.std.proofs.Math.Path.{refl, ap, subst}
 use Rattle.std.proofs.Common.{sym, ◌∙◌, le-ltb}
 use Rattle.std.proofs.Math.Bool.{true, false}
 use mathlib.Core.List.{List, [], ◌∷◌}
-use Rattle.std.proofs.Math.Option.{none, some}
 use Rattle.srt_protocol.specs.declared.error.Error.{Error}
-use Rattle.srt_protocol.specs.declared.error.Outcome.{Outcome}
-use Rattle.srt_protocol.specs.declared.error.Outcome.TheVariants.{Accepted, Refused}
 use Rattle.srt_protocol.specs.Errors.{error_number}
 use Rattle.srt_group_model.specs.Tools.{if_true◌then◌else◌}
 use Rattle.srt_group_model.specs.State.{State}
@@ -51,10 +49,10 @@ module _ (look : Look) (p : Parts) (t : Tables) {r : Outcome} (begins : r ≡ be
   unfolding step_of look_at
   is_guarded store output list = ap (λ (cs : List Check). guard cs s body) (begins_with_6 (looking look).about s)
 
-  pub look_refused : (e : Error) → r ≡ Refused e → Looked look p t (error_number e) no_answer
+  pub look_refused : (e : Error) → r ≡ Err e → Looked look p t (error_number e) no_answer
   look_refused e refused = promised_refused_6 (call_look look) p t nothing_lent begins _ body (is_guarded 0 0 0) e refused
 
-  module _ (accepted : r ≡ Accepted) where
+  module _ (accepted : r ≡ Ok tt) where
     after : (about : About) → (looking look).about ≡ about → (store output list : ℕ)
         → step_of store output list (call_look look) s ≡ guard (after_6 about s) s body
     after about is store output list =
@@ -110,7 +108,7 @@ module _ (look : Look) (p : Parts) (t : Tables) {r : Outcome} (begins : r ≡ be
 
 -- ---- the looks at the group
 
-module _ (p : Parts) (t : Tables) {r : Outcome} (begins : r ≡ begun p t) (accepted : r ≡ Accepted) where
+module _ (p : Parts) (t : Tables) {r : Outcome} (begins : r ≡ begun p t) (accepted : r ≡ Ok tt) where
   pub group_id_shown : Looked look_group_id p t 0 (shown (number p.identity.id))
   unfolding looking group_id
   group_id_shown = group_look look_group_id p t begins accepted refl
@@ -124,17 +122,17 @@ module _ (p : Parts) (t : Tables) {r : Outcome} (begins : r ≡ begun p t) (acce
   skipped_shown = group_look look_skipped_receive_packets p t begins accepted refl
 
   peer_shown : (b : Bool) → eqb p.core.peer 0 ≡ b
-      → Looked look_peer_group_id p t 0 (shown (optional (if_true b then none else some p.core.peer)))
+      → Looked look_peer_group_id p t 0 (shown (optional (if_true b then None else Some p.core.peer)))
   unfolding looking peer_group_id
   peer_shown b is =
-      subst (λ (c : Bool). Looked look_peer_group_id p t 0 (shown (optional (if_true c then none else some p.core.peer)))) is
+      subst (λ (c : Bool). Looked look_peer_group_id p t 0 (shown (optional (if_true c then None else Some p.core.peer)))) is
       (group_look look_peer_group_id p t begins accepted refl)
 
-  pub no_peer_shown : eqb p.core.peer 0 ≡ true → Looked look_peer_group_id p t 0 (shown (optional none))
+  pub no_peer_shown : eqb p.core.peer 0 ≡ true → Looked look_peer_group_id p t 0 (shown (optional None))
   unfolding if_true◌then◌else◌
   no_peer_shown is = peer_shown true is
 
-  pub a_peer_shown : eqb p.core.peer 0 ≡ false → Looked look_peer_group_id p t 0 (shown (optional (some p.core.peer)))
+  pub a_peer_shown : eqb p.core.peer 0 ≡ false → Looked look_peer_group_id p t 0 (shown (optional (Some p.core.peer)))
   unfolding if_true◌then◌else◌
   a_peer_shown is = peer_shown false is
 

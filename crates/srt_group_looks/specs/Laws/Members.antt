@@ -1,11 +1,10 @@
 -- What is proved of `members`: the rows that are written one behind the other are the answer's values.
-use Rattle.std.specs.Prelude.{◌≡◌, refl, Bool, true, false, List, [], ◌∷◌, ◌++◌, ℕ, suc, ◌+◌, ◌*◌, ◌≤◌, ltb, length}
-use Rattle.std.proofs.Common.{ap, ◌∙◌, append_assoc, append-nil, arith, length-append}
+use Rattle.srt_protocol.specs.Errors.{Outcome}
+use Rattle.std.specs.Prelude.{◌≡◌, refl, Bool, true, false, List, [], ◌∷◌, ◌++◌, ℕ, suc, ◌+◌, ◌*◌, ◌≤◌, ltb, length, Err, Ok}
+use Rattle.std.proofs.Common.{ap, ◌∙◌, append_assoc, arith, length-append}
 use Rattle.std.proofs.Math.Path.{sym, subst}
 use Rattle.srt_protocol.specs.declared.error.Error.{Error}
 use Rattle.srt_protocol.specs.declared.error.Error.TheVariants.{InsufficientBuffer}
-use Rattle.srt_protocol.specs.declared.error.Outcome.{Outcome}
-use Rattle.srt_protocol.specs.declared.error.Outcome.TheVariants.{Accepted, Refused}
 use Rattle.srt_protocol.specs.Cells.{overwritten}
 use Rattle.srt_protocol.specs.Laws.CellLaws.{overwritten_length}
 use Rattle.srt_group_model.specs.Tools.{each}
@@ -24,9 +23,8 @@ use Rattle.srt_group_sending.specs.Laws.SentList.{overwritten_by_nothing, overwr
 use Rattle.srt_group_shown.specs.Tables.{Parts, Tables, state_of}
 use Rattle.srt_group_shown.specs.Steps.{Unbroken}
 use Rattle.srt_group_refusals.specs.Begins.{begun}
-use Rattle.srt_group_looks.specs.Looks.{member_row_size, members_list_size, TooShort, Listed, ListsBy, ListsMembers}
+use Rattle.srt_group_looks.specs.Looks.{member_row_size, members_list_size, ListsBy, ListsMembers}
 use Rattle.srt_group_looks.specs.Laws.Looks.{look_refused, group_look}
-use Rattle.srt_group_looks.specs.declared.members.MembersLook.TheVariants as of_members
 
 pub eight_words : (m : MemberShown) → length (member_values m) ≡ member_row_size
 eight_words m = refl
@@ -113,16 +111,16 @@ room_there p t unbroken list long =
     )
 
 pub list_too_short : (p : Parts) (t : Tables) (list : List ℕ) → ltb (length list) members_list_size ≡ true
-    → ListsMembers p t list (of_members.Refused InsufficientBuffer) list
+    → ListsMembers p t list (Err InsufficientBuffer) list
 list_too_short p t list short =
-    subst (λ (b : Bool). ListsBy b p t list (of_members.Refused InsufficientBuffer) list) (sym short)
+    subst (λ (b : Bool). ListsBy b p t list (Err InsufficientBuffer) list) (sym short)
     record { code = refl; same = refl }
 
 module _ (p : Parts) (t : Tables) (list : List ℕ) (long : ltb (length list) members_list_size ≡ false) {r : Outcome} (begins : r ≡ begun p t) where
-  pub listing_refused : (e : Error) → r ≡ Refused e → ListsMembers p t list (of_members.Refused e) list
+  pub listing_refused : (e : Error) → r ≡ Err e → ListsMembers p t list (Err e) list
   unfolding values_of
   listing_refused e refused =
-      subst (λ (b : Bool). ListsBy b p t list (of_members.Refused e) list) (sym long)
+      subst (λ (b : Bool). ListsBy b p t list (Err e) list) (sym long)
       record {
         answer = no_answer;
         looked = look_refused look_members p t begins e refused;
@@ -130,11 +128,11 @@ module _ (p : Parts) (t : Tables) (list : List ℕ) (long : ltb (length list) me
         rows = refl;
       }
 
-  pub members_listed : r ≡ Accepted → (list' : List ℕ) → list' ≡ overwritten 0 (rows_of p.core.counts.members t.members) list
-      → ListsMembers p t list (of_members.Listed p.core.counts.members) list'
+  pub members_listed : r ≡ Ok tt → (list' : List ℕ) → list' ≡ overwritten 0 (rows_of p.core.counts.members t.members) list
+      → ListsMembers p t list (Ok p.core.counts.members) list'
   unfolding looking members_call values_of shown_values
   members_listed accepted list' wrote =
-      subst (λ (b : Bool). ListsBy b p t list (of_members.Listed p.core.counts.members) list') (sym long)
+      subst (λ (b : Bool). ListsBy b p t list (Ok p.core.counts.members) list') (sym long)
       record {
         answer = shown (all_members (each member_shown (state_of p t).members));
         looked = group_look look_members p t begins accepted refl;

@@ -1,7 +1,7 @@
 -- A member that is marked broken is document 01's.
-use Rattle.std.specs.Prelude.{◌≡◌, Bool, false, List, [], ◌∷◌, ℕ}
+use Rattle.std.specs.Prelude.{◌≡◌, Bool, false, [], ◌∷◌, ℕ}
 use Rattle.std.proofs.Math.Path.{refl, ap}
-use Rattle.std.proofs.Common.{sym, ◌∙◌}
+use Rattle.std.proofs.Common.{sym}
 use Rattle.srt_protocol.specs.declared.error.Error.TheVariants.{UnknownMember}
 use Rattle.srt_group_model.specs.Tools.{if_true◌then◌else◌}
 use Rattle.srt_group_model.specs.Laws.Reason.{if_some_elim}

@@ -1,11 +1,10 @@
 -- The members' states refreshed, and every leg disconnected, are document 01's.
-use Rattle.std.specs.Prelude.{◌≡◌, false, ℕ, ◌≤◌, length}
+use Rattle.srt_protocol.specs.Errors.{Outcome}
+use Rattle.std.specs.Prelude.{◌≡◌, ℕ, ◌≤◌, Err}
 use Rattle.std.proofs.Math.Path.{refl, ap, subst}
 use Rattle.std.proofs.Common.{sym, ◌∙◌, arith, le-ltb}
 use mathlib.Core.List.{List, [], ◌∷◌}
 use Rattle.srt_protocol.specs.declared.error.Error.{Error}
-use Rattle.srt_protocol.specs.declared.error.Outcome.{Outcome}
-use Rattle.srt_protocol.specs.declared.error.Outcome.TheVariants.{Refused}
 use Rattle.srt_protocol.specs.Errors.{error_number}
 use Rattle.srt_group_model.specs.Tools.{each}
 use Rattle.srt_group_model.specs.declared.Core.{Core}
@@ -42,7 +41,7 @@ module _ (p : Parts) (t : Tables) where
   abbrev before : State
   before = state_of p t
 
-  pub refresh_refused : {r : Outcome} (begins : r ≡ begun p t) (e : Error) → r ≡ Refused e
+  pub refresh_refused : {r : Outcome} (begins : r ≡ begun p t) (e : Error) → r ≡ Err e
       → Promised call_refresh_member_states p t nothing_lent (showing p t nothing_lent (error_number e) no_answer 0)
   unfolding step_of refresh_member_states
   refresh_refused begins e refused = promised_refused_6 call_refresh_member_states p t nothing_lent begins _ _ refl e refused
@@ -81,7 +80,7 @@ unfolding queue_cells
 same_queue n m = refl
 
 module _ (time : ℕ) (p : Parts) (t : Tables) where
-  pub disconnect_refused : {r : Outcome} (begins : r ≡ begun p t) (e : Error) → r ≡ Refused e
+  pub disconnect_refused : {r : Outcome} (begins : r ≡ begun p t) (e : Error) → r ≡ Err e
       → Promised (call_disconnect time) p t nothing_lent (showing p t nothing_lent (error_number e) no_answer 0)
   unfolding step_of disconnect
   disconnect_refused begins e refused = promised_refused_6 (call_disconnect time) p t nothing_lent begins _ _ refl e refused

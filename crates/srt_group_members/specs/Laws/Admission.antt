@@ -1,9 +1,9 @@
 -- What is proved of the definitions in specs/Admission.antt, with what the proofs need.
-use Rattle.std.specs.Prelude.{◌≡◌, Bool, ◌&&◌, ◌||◌, List, [], ◌∷◌, drop}
+use Rattle.std.specs.Prelude.{◌≡◌, Bool, ◌&&◌, ◌||◌, List, [], ◌∷◌, drop, None, Option, Some}
+use Rattle.std.specs.Option.{option_or}
 use Rattle.std.proofs.Math.Path.{refl, ap, sym}
 use Rattle.std.proofs.Common.{◌∙◌, arith}
 use Rattle.std.proofs.Math.Bool.{true, false}
-use Rattle.std.proofs.Math.Option.{Option, none}
 use Prim.Native.Nat.{ℕ, ◌+◌, ◌≤◌, ◌<◌}
 use borrow.Author.Tests.{eq-eqb, ne_eqb}
 use Rattle.std.proofs.Math.Dec.{eqb}
@@ -15,14 +15,12 @@ use Rattle.srt_group_model.specs.Members.{arrives, base_after, peer_after, admit
 use Rattle.srt_group_model.specs.Laws.Arrivals.{base_after_none, base_after_one, base_after_next, peer_after_none, peer_after_one, peer_after_next, peer_stays}
 use Rattle.srt_group_model.specs.declared.Leg.{Leg}
 use Rattle.srt_group_model.specs.declared.Membership.{Membership}
-use Rattle.srt_connection.specs.Answers.{sequence_of}
 use Rattle.srt_connection_queue.specs.Rows.{with_membership}
 use Rattle.srt_connection_members.specs.Members.{member_at, members_of, Changed, ChangedAll}
 use Rattle.srt_connection_members.specs.Laws.Members.{changed_by, unchanged, Changing, changing_start, changing_on, changing_done}
-use Rattle.srt_connection.specs.declared.legs.OptionalSequence.TheVariants.{Some, None}
 use Rattle.srt_group_members.specs.Laws.Scan.{left_next, left_none, sequence_some, sequence_none}
 use Rattle.srt_group_members.specs.declared.admission.Admission.{Admission}
-use Rattle.srt_group_members.specs.Admission.{base_in, membership_after, Answered, AdmittedAt, Admitted}
+use Rattle.srt_group_members.specs.Admission.{membership_after, Answered, AdmittedAt, Admitted}
 
 -- ---- the tests
 
@@ -47,25 +45,18 @@ module _ (m : Member) {x : Membership} (membership : x ≡ m.membership) where
 
 -- ---- one member
 
+-- std's `or` is the model's
+or_is : (o p : Option ℕ) → option_or o p ≡ or_else o p
+unfolding or_else
+or_is None p = refl
+or_is (Some n) p = refl
+
 module _ (before : Admission) (leg : Leg) where
-  pub answered_based : (after : Admission) → after.peer ≡ (if_true eqb before.peer 0 then leg.link.peer else before.peer)
-      → (before.based ≡ 0 → ⊥) → after.based ≡ 1 → after.base ≡ before.base → Answered before leg after
-  unfolding flagged or_else
-  answered_based after peer was is base =
-      record { peer = peer; base = rw (is, base, other_set before.based was) }
-
-  pub answered_first : (after : Admission) → after.peer ≡ (if_true eqb before.peer 0 then leg.link.peer else before.peer)
-      → before.based ≡ 0 → after.based ≡ 1 → Some after.base ≡ sequence_of (peer_initial_sequence leg)
-      → Answered before leg after
-  unfolding flagged or_else
-  answered_first after peer was is first =
-      record { peer = peer; base = rw (is, was) (sym (sequence_some (peer_initial_sequence leg) after.base first)) }
-
-  pub answered_nothing : (after : Admission) → after.peer ≡ (if_true eqb before.peer 0 then leg.link.peer else before.peer)
-      → before.based ≡ 0 → after.based ≡ 0 → None ≡ sequence_of (peer_initial_sequence leg) → Answered before leg after
-  unfolding flagged or_else
-  answered_nothing after peer was is first =
-      record { peer = peer; base = rw (is, was) (sym (sequence_none (peer_initial_sequence leg) first)) }
+  pub answered_as : {peer : ℕ} {first base : Option ℕ} → peer ≡ (if_true eqb before.peer 0 then leg.link.peer else before.peer)
+      → first ≡ peer_initial_sequence leg → base ≡ option_or before.base first
+      → Answered before leg record { peer = peer; base = base }
+  answered_as peer first base =
+      record { peer = peer; base = base ∙ or_is before.base _ ∙ ap (or_else before.base) first }
 
 module _ (i : ℕ) (t : List ℕ) (before : Admission) {arriving : Bool} (is : arriving ≡ arrives (member_at t i)) where
   pub admitted_not_arriving : arriving ≡ false → AdmittedAt i t before before t
@@ -73,7 +64,7 @@ module _ (i : ℕ) (t : List ℕ) (before : Admission) {arriving : Bool} (is : a
   admitted_not_arriving stays =
       record {
         peer = sym (peer_after_one before.peer (member_at t i) ∙ rw (← is, stays));
-        base = sym (base_after_one (base_in before) (member_at t i) ∙ rw (← is, stays));
+        base = sym (base_after_one before.base (member_at t i) ∙ rw (← is, stays));
         changed = changed_by i t t (admit_peer_group before.peer) (unchanged i t) (sym (rw (← is, stays)));
       }
 
@@ -84,7 +75,7 @@ module _ (i : ℕ) (t : List ℕ) (before : Admission) {arriving : Bool} (is : a
   admitted_arriving {l} {x} {y} {u} after comes leg answered membership answer c =
       record {
         peer = answered.peer ∙ sym (peer_after_one before.peer (member_at t i) ∙ rw (← is, comes, ← leg));
-        base = answered.base ∙ sym (base_after_one (base_in before) (member_at t i) ∙ rw (← is, comes, ← leg));
+        base = answered.base ∙ sym (base_after_one before.base (member_at t i) ∙ rw (← is, comes, ← leg));
         changed =
             changed_by i t u (admit_peer_group after.peer) c
             (rw (whole, ← is, comes) (go (eqb actual 0 || eqb actual after.peer)));
@@ -154,12 +145,11 @@ admitted_either_way peer m ms =
 pub record Admitting (n bound : ℕ) (t : List ℕ) (i : ℕ) (so_far : Admission) (u : List ℕ) : Type 0 where
   pub within : i ≤ n
   pub peer : peer_after so_far.peer (drop i (members_of n t)) ≡ peer_after bound (members_of n t)
-  pub base : base_after (base_in so_far) (drop i (members_of n t)) ≡ base_after none (members_of n t)
+  pub base : base_after so_far.base (drop i (members_of n t)) ≡ base_after None (members_of n t)
   pub changing : Changing i (admit_peer_group (peer_after bound (members_of n t))) t u
 
 module _ (n peer : ℕ) (t : List ℕ) where
-  pub admitting_start : (so_far : Admission) → so_far.peer ≡ peer → so_far.based ≡ 0 → Admitting n peer t 0 so_far t
-  unfolding flagged
+  pub admitting_start : (so_far : Admission) → so_far.peer ≡ peer → so_far.base ≡ None → Admitting n peer t 0 so_far t
   admitting_start so_far is none_yet =
       record {
         within = omega arith;
@@ -178,8 +168,8 @@ module _ (n peer : ℕ) (t : List ℕ) where
             ∙ sym (peer_after_next before.peer (member_at t i) rest) ∙ all_peer;
         base =
             ap (λ (b : Option ℕ). base_after b rest)
-            (step.base ∙ ap (λ (m : Member). base_after (base_in before) (m ∷ [])) same)
-            ∙ sym (base_after_next (base_in before) (member_at t i) rest) ∙ all_base;
+            (step.base ∙ ap (λ (m : Member). base_after before.base (m ∷ [])) same)
+            ∙ sym (base_after_next before.base (member_at t i) rest) ∙ all_base;
         changing =
             changing_on i (admit_peer_group (peer_after peer (members_of n t))) t u v so_far.changing
             (changed_by i u v (admit_peer_group (peer_after peer (members_of n t))) step.changed
@@ -198,21 +188,21 @@ module _ (n peer : ℕ) (t : List ℕ) where
       all_peer : peer_after before.peer (member_at t i ∷ rest) ≡ peer_after peer (members_of n t)
       all_peer = rw (left_next n i t h) at so_far.peer
 
-      all_base : base_after (base_in before) (member_at t i ∷ rest) ≡ base_after none (members_of n t)
+      all_base : base_after before.base (member_at t i ∷ rest) ≡ base_after None (members_of n t)
       all_base = rw (left_next n i t h) at so_far.base
 
   pub admitting_done : (i : ℕ) (answer : Admission) (u : List ℕ) → n ≤ i → Admitting n peer t i answer u → Admitted n peer t answer u
   admitting_done i answer u h done =
       record {
         peer = sym (peer_after_none answer.peer) ∙ none_left_peer;
-        base = sym (base_after_none (base_in answer)) ∙ none_left_base;
+        base = sym (base_after_none answer.base) ∙ none_left_base;
         became = record { long = done.changing.long; is = every.members };
       }
     where
       none_left_peer : peer_after answer.peer [] ≡ peer_after peer (members_of n t)
       none_left_peer = rw (left_none n i t h) at done.peer
 
-      none_left_base : base_after (base_in answer) [] ≡ base_after none (members_of n t)
+      none_left_base : base_after answer.base [] ≡ base_after None (members_of n t)
       none_left_base = rw (left_none n i t h) at done.base
 
       every : ChangedAll n (admit_peer_group (peer_after peer (members_of n t))) t u

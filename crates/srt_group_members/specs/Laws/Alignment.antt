@@ -1,9 +1,8 @@
 -- What is proved of the definitions in specs/Alignment.antt, with what the proofs need.
-use Rattle.std.specs.Prelude.{◌≡◌, Bool, not, ◌&&◌, List, [], ◌∷◌, ℕ, suc, ◌≤◌, ◌<◌, eqb}
+use Rattle.std.specs.Prelude.{◌≡◌, Bool, not, ◌&&◌, List, [], ◌∷◌, ℕ, suc, ◌≤◌, ◌<◌, eqb, None, Option, Some, is_some}
 use Rattle.std.proofs.Math.Path.{refl, ap, sym}
 use Rattle.std.proofs.Common.{◌∙◌}
 use Rattle.std.proofs.Math.Bool.{true, false}
-use Rattle.std.proofs.Math.Option.{Option, none, some}
 use borrow.Author.Tests.{eq-eqb, ne_eqb}
 use Rattle.srt_group_model.specs.Tools.{if_true◌then◌else◌, if_some◌give◌otherwise◌, or_else, is_set, flagged, first_such, place_of, at_place, change}
 use Rattle.srt_group_model.specs.Laws.Places.{change_nothing}
@@ -14,15 +13,11 @@ use Rattle.srt_group_model.specs.Members.{has_id, alignment_source, align_leg, a
 use Rattle.srt_group_model.specs.declared.Leg.{Leg}
 use Rattle.srt_group_model.specs.declared.Membership.{Membership}
 use Rattle.srt_group_model.specs.declared.Sender.{Sender}
-use Rattle.srt_connection.specs.Answers.{sequence_of, result_of}
 use Rattle.srt_connection.specs.Laws.Answers.{result_ok, result_err}
 use Rattle.srt_connection_queue.specs.Laws.Tab.{tab_past, tab_passes}
-use Rattle.srt_connection_members.specs.Members.{member_at, members_of, found_of, Changed}
+use Rattle.srt_connection_members.specs.Members.{member_at, members_of, Changed}
 use Rattle.srt_connection_members.specs.Laws.Members.{members_place, found_some, found_none, changed_by, unchanged}
-use Rattle.srt_connection.specs.declared.legs.LegResult.TheVariants.{Ok, Err}
-use Rattle.srt_connection.specs.declared.legs.OptionalSequence.TheVariants.{Some, None}
-use Rattle.srt_connection_members.specs.declared.Found.TheVariants.{At, Nothing}
-use Rattle.srt_group_members.specs.Scan.{is_some, Tried}
+use Rattle.srt_group_members.specs.Scan.{Tried}
 use Rattle.srt_group_members.specs.Laws.Scan.{found_row, sequence_some, sequence_none}
 use Rattle.srt_group_members.specs.Alignment.{is_other_sender, AlignedAt}
 
@@ -50,61 +45,68 @@ module _ (id : ℕ) (m : Member) where
 -- ---- the source
 
 -- the first that passes a test stands at its place
-pub first_such_at : {A : Type 0} (test : A → Bool) (l : List A) (i : ℕ) → place_of test l ≡ some i → first_such test l ≡ at_place i l
+pub first_such_at : {A : Type 0} (test : A → Bool) (l : List A) (i : ℕ) → place_of test l ≡ Some i → first_such test l ≡ at_place i l
 unfolding place_of first_such at_place if_true◌then◌else◌ if_some◌give◌otherwise◌
 first_such_at test [] i e = refl
 first_such_at {A} test (x ∷ xs) i e = go (test x) (place_of test xs) (λ j q. first_such_at test xs j q) i e
   where
-    go : (b : Bool) (o : Option ℕ) → ((j : ℕ) → o ≡ some j → first_such test xs ≡ at_place j xs) → (i : ℕ)
-        → (if_true b then some 0 else (if_some o give (λ k. some (suc k)) otherwise none)) ≡ some i
-        → (if_true b then some x else first_such test xs) ≡ at_place i (x ∷ xs)
+    go : (b : Bool) (o : Option ℕ) → ((j : ℕ) → o ≡ Some j → first_such test xs ≡ at_place j xs) → (i : ℕ)
+        → (if_true b then Some 0 else (if_some o give (λ k. Some (suc k)) otherwise None)) ≡ Some i
+        → (if_true b then Some x else first_such test xs) ≡ at_place i (x ∷ xs)
     go true o h i e = let first : 0 ≡ i = cc in rw (← first)
-    go false none h i e = cc e
-    go false (some j) h i e = let later : suc j ≡ i = cc in rw (← later) (h j refl)
+    go false None h i e = cc e
+    go false (Some j) h i e = let later : suc j ≡ i = cc in rw (← later) (h j refl)
 
-pub no_such : {A : Type 0} (test : A → Bool) (l : List A) → place_of test l ≡ none → first_such test l ≡ none
+pub no_such : {A : Type 0} (test : A → Bool) (l : List A) → place_of test l ≡ None → first_such test l ≡ None
 unfolding place_of first_such if_true◌then◌else◌ if_some◌give◌otherwise◌
 no_such test [] e = refl
 no_such test (x ∷ xs) e = go (test x) (place_of test xs) (λ q. no_such test xs q) e
   where
-    go : (b : Bool) (o : Option ℕ) → (o ≡ none → first_such test xs ≡ none)
-        → (if_true b then some 0 else (if_some o give (λ k. some (suc k)) otherwise none)) ≡ none
-        → (if_true b then some x else first_such test xs) ≡ none
+    go : (b : Bool) (o : Option ℕ) → (o ≡ None → first_such test xs ≡ None)
+        → (if_true b then Some 0 else (if_some o give (λ k. Some (suc k)) otherwise None)) ≡ None
+        → (if_true b then Some x else first_such test xs) ≡ None
     go true o h e = cc e
-    go false none h e = h refl
-    go false (some j) h e = cc e
+    go false None h e = h refl
+    go false (Some j) h e = cc e
 
-module _ (n id : ℕ) (t : List ℕ) (number : ℕ) {numbered : ℕ} where
-  pub source_numbered : (numbered ≡ 0 → ⊥)
-      → Some number ≡ sequence_of (alignment_source (flagged (is_set numbered) number) id (members_of n t))
-  unfolding alignment_source flagged or_else
-  source_numbered is = sym (rw (other_set numbered is))
+unset : (o : Option ℕ) → is_some o ≡ false → o ≡ None
+unset None is = refl
+unset (Some s) is = cc is
 
-  pub source_none : numbered ≡ 0 → Nothing ≡ found_of (place_of (is_other_sender id) (members_of n t))
-      → None ≡ sequence_of (alignment_source (flagged (is_set numbered) number) id (members_of n t))
-  unfolding alignment_source is_other_sender flagged or_else if_some◌give◌otherwise◌
+module _ (n id : ℕ) (t : List ℕ) (number : Option ℕ) where
+  pub source_numbered : is_some number ≡ true → number ≡ alignment_source number id (members_of n t)
+  unfolding alignment_source or_else
+  source_numbered = go number
+    where
+      go : (o : Option ℕ) → is_some o ≡ true → o ≡ alignment_source o id (members_of n t)
+      go (Some s) is = refl
+      go None is = cc is
+
+  pub source_none : is_some number ≡ false → None ≡ place_of (is_other_sender id) (members_of n t)
+      → None ≡ alignment_source number id (members_of n t)
+  unfolding alignment_source is_other_sender or_else if_some◌give◌otherwise◌
   source_none is e =
       sym
       (rw (
-        is,
+        unset number is,
         no_such (is_other_sender id) (members_of n t) (found_none (place_of (is_other_sender id) (members_of n t)) e),
       ))
 
-  pub source_other : {s : Sender} (i : ℕ) → numbered ≡ 0 → At i ≡ found_of (place_of (is_other_sender id) (members_of n t))
+  pub source_other : {s : Sender} (i : ℕ) → is_some number ≡ false → Some i ≡ place_of (is_other_sender id) (members_of n t)
       → s ≡ (member_at t i).leg.sender
-      → Some s.next ≡ sequence_of (alignment_source (flagged (is_set numbered) number) id (members_of n t))
+      → Some s.next ≡ alignment_source number id (members_of n t)
   unfolding alignment_source is_other_sender flagged or_else if_some◌give◌otherwise◌ members_of
   source_other {s} i is e sender =
       sym
       (rw (
-        is,
+        unset number is,
         first_such_at (is_other_sender id) (members_of n t) i place,
         members_place n t i (found_row (is_other_sender id) n t i e),
         ← sender,
         started,
       ))
     where
-      place : place_of (is_other_sender id) (members_of n t) ≡ some i
+      place : place_of (is_other_sender id) (members_of n t) ≡ Some i
       place = found_some (place_of (is_other_sender id) (members_of n t)) i e
 
       both : (a b c : Bool) → (a && (b && c)) ≡ true → c ≡ true
@@ -121,8 +123,8 @@ module _ (n id : ℕ) (t : List ℕ) (number : ℕ) {numbered : ℕ} where
 -- ---- one leg
 
 module _ (i sequence : ℕ) (t : List ℕ) {leg : Leg} (is_leg : leg ≡ (member_at t i).leg) where
-  pub leg_not_aligned : Err ≡ result_of (align_leg sequence leg) → AlignedAt i sequence t false t
-  unfolding is_some if_some◌give◌otherwise◌
+  pub leg_not_aligned : None ≡ align_leg sequence leg → AlignedAt i sequence t false t
+  unfolding if_some◌give◌otherwise◌
   leg_not_aligned failed =
       record {
         aligned = sym (rw fails);
@@ -131,12 +133,12 @@ module _ (i sequence : ℕ) (t : List ℕ) {leg : Leg} (is_leg : leg ≡ (member
             (sym (rw fails));
       }
     where
-      fails : align_leg sequence (member_at t i).leg ≡ none
+      fails : align_leg sequence (member_at t i).leg ≡ None
       fails = ap (align_leg sequence) (sym is_leg) ∙ result_err (align_leg sequence leg) failed
 
-  pub leg_aligned : {u : List ℕ} (l : Leg) → Ok l ≡ result_of (align_leg sequence leg) → Changed i (with_leg l) t u
+  pub leg_aligned : {u : List ℕ} (l : Leg) → Some l ≡ align_leg sequence leg → Changed i (with_leg l) t u
       → AlignedAt i sequence t true u
-  unfolding is_some if_some◌give◌otherwise◌
+  unfolding if_some◌give◌otherwise◌
   leg_aligned {u} l aligned c =
       record {
         aligned = sym (rw goes);
@@ -144,20 +146,20 @@ module _ (i sequence : ℕ) (t : List ℕ) {leg : Leg} (is_leg : leg ≡ (member
             changed_by i t u (λ m. if_some align_leg sequence m.leg give (λ l. with_leg l m) otherwise m) c (sym (rw goes));
       }
     where
-      goes : align_leg sequence (member_at t i).leg ≡ some l
+      goes : align_leg sequence (member_at t i).leg ≡ Some l
       goes = ap (align_leg sequence) (sym is_leg) ∙ result_ok (align_leg sequence leg) l aligned
 
 -- ---- one member
 
 module _ (n i : ℕ) (number : Option ℕ) (t : List ℕ) where
   pub align_past : n ≤ i → Tried n (align_member_sequence number i (members_of n t)) t false t
-  unfolding align_member_sequence is_some if_some◌give◌otherwise◌ members_of
+  unfolding align_member_sequence if_some◌give◌otherwise◌ members_of
   align_past h = rw (tab_past n (member_at t) i h) record { long = refl; succeeded = refl; is = refl }
 
   module _ (there : i < n) {x : Membership} (membership : x ≡ (member_at t i).membership) where
-    pub align_no_source : None ≡ sequence_of (alignment_source number x.id (members_of n t))
+    pub align_no_source : None ≡ alignment_source number x.id (members_of n t)
         → Tried n (align_member_sequence number i (members_of n t)) t true t
-    unfolding align_member_sequence is_some if_some◌give◌otherwise◌
+    unfolding align_member_sequence if_some◌give◌otherwise◌
     align_no_source e =
         rw (
           members_place n t i there,
@@ -166,9 +168,9 @@ module _ (n i : ℕ) (number : Option ℕ) (t : List ℕ) where
         ) record { long = refl; succeeded = refl; is = refl }
 
     pub align_with : {answer : Bool} {u : List ℕ} (sequence : ℕ)
-        → Some sequence ≡ sequence_of (alignment_source number x.id (members_of n t)) → AlignedAt i sequence t answer u
+        → Some sequence ≡ alignment_source number x.id (members_of n t) → AlignedAt i sequence t answer u
         → Tried n (align_member_sequence number i (members_of n t)) t answer u
-    unfolding align_member_sequence is_some if_some◌give◌otherwise◌
+    unfolding align_member_sequence if_some◌give◌otherwise◌
     align_with {answer} {u} sequence e a =
         rw (
           members_place n t i there,
@@ -177,8 +179,8 @@ module _ (n i : ℕ) (number : Option ℕ) (t : List ℕ) where
         ) (go (align_leg sequence (member_at t i).leg) refl)
       where
         go : (o : Option Leg) → align_leg sequence (member_at t i).leg ≡ o
-            → Tried n (if_some o give (λ l. some (change i (with_leg l) (members_of n t))) otherwise none) t answer u
-        go none fails =
+            → Tried n (if_some o give (λ l. Some (change i (with_leg l) (members_of n t))) otherwise None) t answer u
+        go None fails =
             record {
               long = a.changed.long;
               succeeded = a.aligned ∙ ap is_some fails;
@@ -186,7 +188,7 @@ module _ (n i : ℕ) (number : Option ℕ) (t : List ℕ) where
                   (changed_by i t u (λ m. m) a.changed (rw fails)).members n
                   ∙ change_nothing i (members_of n t);
             }
-        go (some l) goes =
+        go (Some l) goes =
             record {
               long = a.changed.long;
               succeeded = a.aligned ∙ ap is_some goes;

@@ -1,14 +1,13 @@
 -- What is proved of the definitions in specs/Quiet.antt: a refresh of a quiet group changes nothing.
-use Rattle.std.specs.Prelude.{◌≡◌, Bool, ◌&&◌, ◌||◌, ◌⊎◌, ℕ, zero, suc, eqb, length}
+use Rattle.std.specs.Prelude.{◌≡◌, Bool, ◌&&◌, ◌||◌, ◌⊎◌, ℕ, zero, suc, eqb, length, None, Option, Some}
 use Rattle.std.proofs.Math.Path.{refl, ap, ap₂, sym}
-use Rattle.std.proofs.Common.{subst, ◌∙◌, arith, eqb-true, eq-eqb, ne_eqb}
+use Rattle.std.proofs.Common.{subst, ◌∙◌, arith, eqb-true, ne_eqb}
 use Rattle.std.proofs.Math.Bool.{true, false, not}
 use mathlib.Core.List.{List, [], ◌∷◌}
 use Rattle.std.proofs.Math.Logic.{inl, inr}
-use Rattle.std.proofs.Math.Option.{Option, none, some}
 use Rattle.std.proofs.lemmas.Bool.{eqb-false, not-true}
 use Rattle.srt_group_model.specs.Tools.{if_true◌then◌else◌, if_some◌give◌otherwise◌, or_else, flagged, all, at_place, change, each, first_given}
-use Rattle.srt_group_model.specs.State.{Member, State, is_backup, turned, pending_state, active_state, standby_state, unstable_state, broken_state, next_receive_sequence, next_send_sequence, with_peer, with_members}
+use Rattle.srt_group_model.specs.State.{Member, is_backup, turned, pending_state, active_state, standby_state, unstable_state, broken_state, next_receive_sequence, next_send_sequence, with_peer, with_members}
 use Rattle.srt_group_model.specs.Legs.{handshaking, connected, disconnected, is_connected, is_disconnected, can_send}
 use Rattle.srt_group_model.specs.Members.{in_state, has_active_member, arrives, sequence_brought, group_brought, base_after, peer_after, admit_peer_group, turn_aligned, steps_from, at_each_place, settle, requalify, break_disconnected, promote_backup_member, promote_if_none, settle_members, requalify_members, align_member_sequence}
 use Rattle.srt_group_model.specs.Run.{Run, on_state, on_members, set_base, admit_connected_peer_groups, refresh_pending_states, refresh_states}
@@ -98,8 +97,8 @@ module _ (m : Member) (ms : List Member) (e : all is_steady (m ∷ ms) ≡ true)
   unfolding all
   others_steady = and_right (is_steady m) (all is_steady ms) e
 
-module _ {A : Type 0} (f : Member → Option A) (nothing : (m : Member) → Steady m → f m ≡ none) where
-  none_given : (ms : List Member) → all is_steady ms ≡ true → first_given f ms ≡ none
+module _ {A : Type 0} (f : Member → Option A) (nothing : (m : Member) → Steady m → f m ≡ None) where
+  none_given : (ms : List Member) → all is_steady ms ≡ true → first_given f ms ≡ None
   unfolding first_given or_else
   none_given [] e = refl
   none_given (m ∷ ms) e = rw (nothing m (first_steady m ms e)) (none_given ms (others_steady m ms e))
@@ -110,7 +109,7 @@ each_stays f same [] e = refl
 each_stays f same (m ∷ ms) e =
     ap₂ (λ (x : Member) (xs : List Member). x ∷ xs) (same m (first_steady m ms e)) (each_stays f same ms (others_steady m ms e))
 
-steady_there : (i : ℕ) (ms : List Member) (m : Member) → all is_steady ms ≡ true → at_place i ms ≡ some m → Steady m
+steady_there : (i : ℕ) (ms : List Member) (m : Member) → all is_steady ms ≡ true → at_place i ms ≡ Some m → Steady m
 unfolding at_place
 steady_there i [] m e there = let different : ◌≡◌ {A = ℕ} 0 1 = cc in absurd (omega arith)
 steady_there zero (x ∷ xs) m e there = let same : x ≡ m = cc in subst Steady same (first_steady x xs e)
@@ -131,8 +130,8 @@ module _ (ms : List Member) (steady : all is_steady ms ≡ true) where
           else ms)
           otherwise ms)
           ≡ ms
-      go none e = refl
-      go (some m) e = rw (fails m (steady_there i ms m steady e))
+      go None e = refl
+      go (Some m) e = rw (fails m (steady_there i ms m steady e))
 
 steps_stay : (step : ℕ → List Member → List Member) (ms : List Member) → ((i : ℕ) → step i ms ≡ ms) → (k i : ℕ) → steps_from step k i ms ≡ ms
 unfolding steps_from
@@ -192,7 +191,7 @@ module _ (mode : ℕ) (ms : List Member) (quiet : is_quiet mode ms ≡ true) whe
       (steps_stay (requalify mode number) ms (none_turns ms steady _ _ number stays_qualified) (length ms) 0)
       ∙ none_promoted mode ms has_carrier
 
-  base_stays : base_after none ms ≡ none
+  base_stays : base_after None ms ≡ None
   unfolding base_after or_else sequence_brought if_true◌then◌else◌
   base_stays = none_given sequence_brought (λ m s. rw (stays_out m s)) ms steady
 
@@ -202,13 +201,13 @@ module _ (mode : ℕ) (ms : List Member) (quiet : is_quiet mode ms ≡ true) whe
       rw (none_given group_brought (λ m s. rw (stays_out m s)) ms steady) (peer_after_none peer)
 
 module _ (r : Run) (quiet : is_quiet r.state.making.mode r.state.members ≡ true) where
-  no_base_set : set_base none r ≡ r
+  no_base_set : set_base None r ≡ r
   unfolding set_base if_some◌give◌otherwise◌
   no_base_set = go (next_receive_sequence r.state.receive)
     where
       go : (o : Option ℕ) → (if_some o give (λ b. r) otherwise r) ≡ r
-      go none = refl
-      go (some b) = refl
+      go None = refl
+      go (Some b) = refl
 
   none_admitted : admit_connected_peer_groups r ≡ r
   unfolding admit_connected_peer_groups

@@ -1,8 +1,7 @@
 -- What is proved of the definitions in specs/Rank.antt, with what the proofs need.
 use Rattle.std.proofs.Math.Path.{◌≡◌, refl, ap, sym}
-use Rattle.std.specs.Prelude.{Bool, ◌&&◌, List, [], ◌∷◌, ltb, drop}
+use Rattle.std.specs.Prelude.{Bool, ◌&&◌, List, [], ◌∷◌, ltb, drop, None, Option, Some}
 use Rattle.std.proofs.Math.Bool.{true, false, not}
-use Rattle.std.proofs.Math.Option.{Option, none, some}
 use Prim.Native.Nat.{ℕ, suc, ◌+◌, ◌-◌, ◌*◌, ◌≤◌, ◌<◌}
 use native.Mathlib.Omega.{arith}
 use borrow.Author.Tests.{lt-ltb, le-ltb, eq-eqb, ne_eqb}
@@ -12,63 +11,61 @@ use Rattle.srt_group_model.specs.State.{Member, is_backup, turned, active_state}
 use Rattle.srt_group_model.specs.Members.{Placed, is_standby, outranks, first_in_rank, promotion, promote_backup_member, promote_if_none, has_active_member}
 use Rattle.srt_group_model.specs.declared.Membership.{Membership}
 use Rattle.srt_connection_queue.specs.Rows.{row_size}
-use Rattle.srt_connection_members.specs.Members.{member_at, members_of, HasRow, found_of, Changed}
+use Rattle.srt_connection_members.specs.Members.{member_at, members_of, HasRow, Changed}
 use Rattle.srt_connection_members.specs.Laws.Members.{members_length, found_some, found_none}
-use Rattle.srt_connection_members.specs.declared.Found.{Found}
-use Rattle.srt_connection_members.specs.declared.Found.TheVariants.{At, Nothing}
 use Rattle.srt_group_members.specs.Scan.{Became}
 use Rattle.srt_group_members.specs.Laws.Scan.{left_next, left_none, became_changed, became_same}
 use Rattle.srt_group_members.specs.Rank.{RowFound, first_with}
 
 -- what was found, with its place counted from k on
-unfoldable pub ranked_from : List ℕ → ℕ → Found → Option Placed
-ranked_from t k Nothing = none
-ranked_from t k (At i) = some record { place = i - k; member = member_at t i }
+unfoldable pub ranked_from : List ℕ → ℕ → Option ℕ → Option Placed
+ranked_from t k None = None
+ranked_from t k (Some i) = Some record { place = i - k; member = member_at t i }
 
-abbrev pub between : ℕ → ℕ → Found → Type 0
-between k n Nothing = Unit {0}
-between k n (At i) = (k ≤ i) × (i < n)
+abbrev pub between : ℕ → ℕ → Option ℕ → Type 0
+between k n None = Unit {0}
+between k n (Some i) = (k ≤ i) × (i < n)
 
 -- `best` is the first in rank of the rows from `left` on
-pub record Ranking (n : ℕ) (t : List ℕ) (left : ℕ) (best : Found) : Type 0 where
+pub record Ranking (n : ℕ) (t : List ℕ) (left : ℕ) (best : Option ℕ) : Type 0 where
   pub within : left ≤ n
   pub there : between left n best
   pub is : ranked_from t left best ≡ first_in_rank is_standby (drop left (members_of n t))
 
 module _ (n : ℕ) (t : List ℕ) where
-  pub ranking_start : Ranking n t n Nothing
+  pub ranking_start : Ranking n t n None
   unfolding ranked_from first_in_rank
   ranking_start = record { within = omega arith; there = tt; is = rw (left_none n n t (omega arith)) refl }
 
-  with_one_more : (i : ℕ) (best : Found) → i < n → between (i + 1) n best
+  with_one_more : (i : ℕ) (best : Option ℕ) → i < n → between (i + 1) n best
       → ranked_from t (i + 1) best ≡ first_in_rank is_standby (drop (i + 1) (members_of n t))
       → between i n (first_with t i best)
       × (ranked_from t i (first_with t i best) ≡ first_in_rank is_standby (drop i (members_of n t)))
   unfolding first_with ranked_from first_in_rank if_true◌then◌else◌ if_some◌give◌otherwise◌
-  with_one_more i Nothing h there is = rw (left_next n i t h, ← is) (go (is_standby (member_at t i)))
+  with_one_more i None h there is = rw (left_next n i t h, ← is) (go (is_standby (member_at t i)))
     where
       go : (b : Bool)
-          → between i n (if_true b then At i else Nothing)
-          × (ranked_from t i (if_true b then At i else Nothing) ≡ (if_true b then some record { place = 0; member = member_at t i } else none))
-      go true = ((omega arith, h), ap (λ (p : ℕ). some record { place = p; member = member_at t i }) (omega arith))
+          → between i n (if_true b then Some i else None)
+          × (ranked_from t i (if_true b then Some i else None) ≡ (if_true b then Some record { place = 0; member = member_at t i } else None))
+      go true = ((omega arith, h), ap (λ (p : ℕ). Some record { place = p; member = member_at t i }) (omega arith))
       go false = (tt, refl)
-  with_one_more i (At b) h there is =
+  with_one_more i (Some b) h there is =
       rw (left_next n i t h, ← is) (go (is_standby (member_at t i) && not (outranks (member_at t b) (member_at t i))))
     where
       go : (c : Bool)
-          → between i n (if_true c then At i else At b)
-          × (ranked_from t i (if_true c then At i else At b)
-          ≡ some
+          → between i n (if_true c then Some i else Some b)
+          × (ranked_from t i (if_true c then Some i else Some b)
+          ≡ Some
           (if_true c
           then record { place = 0; member = member_at t i }
           else record { place = suc (b - (i + 1)); member = member_at t b }))
-      go true = ((omega arith, h), ap (λ (p : ℕ). some record { place = p; member = member_at t i }) (omega arith))
+      go true = ((omega arith, h), ap (λ (p : ℕ). Some record { place = p; member = member_at t i }) (omega arith))
       go false = (
         (omega (arith, there), omega (arith, there)),
-        ap (λ (p : ℕ). some record { place = p; member = member_at t b }) (omega (arith, there)),
+        ap (λ (p : ℕ). Some record { place = p; member = member_at t b }) (omega (arith, there)),
       )
 
-  pub ranking_on : (left i : ℕ) (best r : Found) → Ranking n t left best → 0 < left → i ≡ left - 1 → r ≡ first_with t i best
+  pub ranking_on : (left i : ℕ) (best r : Option ℕ) → Ranking n t left best → 0 < left → i ≡ left - 1 → r ≡ first_with t i best
       → Ranking n t i r
   ranking_on left i best r ranking some_left e is =
       let next : left ≡ i + 1 = omega arith in
@@ -77,21 +74,21 @@ module _ (n : ℕ) (t : List ℕ) where
       in
       rw is record { within = omega (arith, ranking.within); there = step.0; is = step.1 }
 
-  pub ranking_done : (left : ℕ) (best : Found) → Ranking n t left best → left ≤ 0 → best ≡ found_of (promotion (members_of n t))
+  pub ranking_done : (left : ℕ) (best : Option ℕ) → Ranking n t left best → left ≤ 0 → best ≡ promotion (members_of n t)
   unfolding promotion ranked_from if_some◌give◌otherwise◌
   ranking_done left best ranking e =
       let none_left : left ≡ 0 = omega arith in
       go best (rw none_left at ranking.is)
     where
-      go : (best : Found) → ranked_from t 0 best ≡ first_in_rank is_standby (members_of n t)
-          → best ≡ found_of (promotion (members_of n t))
-      go Nothing is = rw (← is)
-      go (At i) is = rw (← is) (ap At (omega arith))
+      go : (best : Option ℕ) → ranked_from t 0 best ≡ first_in_rank is_standby (members_of n t)
+          → best ≡ promotion (members_of n t)
+      go None is = rw (← is)
+      go (Some i) is = rw (← is) (ap Some (omega arith))
 
   -- what was found is a row of the table
-  pub ranking_row : (left : ℕ) (best : Found) → n * row_size ≤ length t → Ranking n t left best → RowFound best t
-  ranking_row left Nothing fits ranking = tt
-  ranking_row left (At i) fits ranking = omega (arith, ranking.there)
+  pub ranking_row : (left : ℕ) (best : Option ℕ) → n * row_size ≤ length t → Ranking n t left best → RowFound best t
+  ranking_row left None fits ranking = tt
+  ranking_row left (Some i) fits ranking = omega (arith, ranking.there)
 
 -- ---- one comparison
 
@@ -111,80 +108,80 @@ module _ (a b : Member) {x y : Membership} (first : x ≡ a.membership) (second 
       sym (rw (← first, ← second, le-ltb y.weight x.weight (omega arith), eq-eqb x.weight y.weight same))
 
 module _ (t : List ℕ) (i : ℕ) where
-  pub first_unless_standby : {answer : Bool} (best : Found) → answer ≡ is_standby (member_at t i) → answer ≡ false
+  pub first_unless_standby : {answer : Bool} (best : Option ℕ) → answer ≡ is_standby (member_at t i) → answer ≡ false
       → best ≡ first_with t i best
   unfolding first_with if_true◌then◌else◌
-  first_unless_standby Nothing is no_standby = sym (rw (← is, no_standby))
-  first_unless_standby (At b) is no_standby = sym (rw (← is, no_standby))
+  first_unless_standby None is no_standby = sym (rw (← is, no_standby))
+  first_unless_standby (Some b) is no_standby = sym (rw (← is, no_standby))
 
-  pub first_alone : {answer : Bool} (best : Found) → best ≡ Nothing → answer ≡ is_standby (member_at t i) → answer ≡ true
-      → At i ≡ first_with t i best
+  pub first_alone : {answer : Bool} (best : Option ℕ) → best ≡ None → answer ≡ is_standby (member_at t i) → answer ≡ true
+      → Some i ≡ first_with t i best
   unfolding first_with if_true◌then◌else◌
   first_alone best none_before is standby = sym (rw (none_before, ← is, standby))
 
-  module _ (b : ℕ) (best : Found) (found : best ≡ At b) where
+  module _ (b : ℕ) (best : Option ℕ) (found : best ≡ Some b) where
     pub first_still : {outranked : Bool} → outranked ≡ outranks (member_at t b) (member_at t i) → outranked ≡ true
-        → At b ≡ first_with t i best
+        → Some b ≡ first_with t i best
     unfolding first_with if_true◌then◌else◌
     first_still is higher = sym (rw (found, ← is, higher) (go (is_standby (member_at t i))))
       where
-        go : (c : Bool) → (if_true c && false then At i else At b) ≡ At b
+        go : (c : Bool) → (if_true c && false then Some i else Some b) ≡ Some b
         go true = refl
         go false = refl
 
     pub first_now : {answer outranked : Bool} → answer ≡ is_standby (member_at t i) → answer ≡ true
-        → outranked ≡ outranks (member_at t b) (member_at t i) → outranked ≡ false → At i ≡ first_with t i best
+        → outranked ≡ outranks (member_at t b) (member_at t i) → outranked ≡ false → Some i ≡ first_with t i best
     unfolding first_with if_true◌then◌else◌
     first_now is standby is_outranked not_higher = sym (rw (found, ← is, standby, ← is_outranked, not_higher))
 
-pub row_of_found : (t : List ℕ) (best : Found) (b : ℕ) → RowFound best t → best ≡ At b → HasRow b t
+pub row_of_found : (t : List ℕ) (best : Option ℕ) (b : ℕ) → RowFound best t → best ≡ Some b → HasRow b t
 row_of_found t best b there found = rw found at there
 
 -- ---- the member that is promoted
 
-rank_below : (candidate : Member → Bool) (ms : List Member) (r : Placed) → first_in_rank candidate ms ≡ some r → r.place < length ms
+rank_below : (candidate : Member → Bool) (ms : List Member) (r : Placed) → first_in_rank candidate ms ≡ Some r → r.place < length ms
 unfolding first_in_rank if_true◌then◌else◌ if_some◌give◌otherwise◌
 rank_below candidate [] r e = let different : ◌≡◌ {A = ℕ} 0 1 = cc in absurd (omega arith)
 rank_below candidate (m ∷ ms) r e =
     go (first_in_rank candidate ms) (λ q is. rank_below candidate ms q is) (candidate m) r e
   where
-    go : (o : Option Placed) → ((q : Placed) → o ≡ some q → q.place < length ms) → (b : Bool) (r : Placed)
+    go : (o : Option Placed) → ((q : Placed) → o ≡ Some q → q.place < length ms) → (b : Bool) (r : Placed)
         → (if_some o
         give
         (λ q.
-        some
+        Some
         (if_true b && not (outranks q.member m)
         then record { place = 0; member = m } else record { place = suc q.place; member = q.member }))
-        otherwise (if_true b then some record { place = 0; member = m } else none))
-        ≡ some r
+        otherwise (if_true b then Some record { place = 0; member = m } else None))
+        ≡ Some r
         → r.place < suc (length ms)
-    go none h true r e = let first : 0 ≡ r.place = cc in omega arith
-    go none h false r e = let different : ◌≡◌ {A = ℕ} 0 1 = cc in absurd (omega arith)
-    go (some q) h b r e = chosen (b && not (outranks q.member m)) (h q refl) e
+    go None h true r e = let first : 0 ≡ r.place = cc in omega arith
+    go None h false r e = let different : ◌≡◌ {A = ℕ} 0 1 = cc in absurd (omega arith)
+    go (Some q) h b r e = chosen (b && not (outranks q.member m)) (h q refl) e
       where
         chosen : (c : Bool) → q.place < length ms
-            → some (if_true c then record { place = 0; member = m } else record { place = suc q.place; member = q.member }) ≡ some r
+            → Some (if_true c then record { place = 0; member = m } else record { place = suc q.place; member = q.member }) ≡ Some r
             → r.place < suc (length ms)
         chosen true below e = let first : 0 ≡ r.place = cc in omega arith
         chosen false below e = let later : suc q.place ≡ r.place = cc in omega arith
 
 module _ (n : ℕ) (t : List ℕ) where
-  pub promotion_below : (i : ℕ) → At i ≡ found_of (promotion (members_of n t)) → i < n
+  pub promotion_below : (i : ℕ) → Some i ≡ promotion (members_of n t) → i < n
   unfolding promotion if_some◌give◌otherwise◌
   promotion_below i e =
       go (first_in_rank is_standby (members_of n t)) (λ r is. rank_below is_standby (members_of n t) r is) e
     where
-      go : (o : Option Placed) → ((r : Placed) → o ≡ some r → r.place < length (members_of n t))
-          → At i ≡ found_of (if_some o give (λ r. some r.place) otherwise none) → i < n
-      go none h e = let different : ◌≡◌ {A = ℕ} 0 1 = cc in absurd (omega arith)
-      go (some r) h e = let place : i ≡ r.place = cc in omega (arith, h r refl, members_length n t)
+      go : (o : Option Placed) → ((r : Placed) → o ≡ Some r → r.place < length (members_of n t))
+          → Some i ≡ if_some o give (λ r. Some r.place) otherwise None → i < n
+      go None h e = let different : ◌≡◌ {A = ℕ} 0 1 = cc in absurd (omega arith)
+      go (Some r) h e = let place : i ≡ r.place = cc in omega (arith, h r refl, members_length n t)
 
-  pub promoted : {u : List ℕ} (i : ℕ) → At i ≡ found_of (promotion (members_of n t)) → Changed i (turned active_state) t u
+  pub promoted : {u : List ℕ} (i : ℕ) → Some i ≡ promotion (members_of n t) → Changed i (turned active_state) t u
       → Became n (promote_backup_member (members_of n t)) t u
   unfolding promote_backup_member if_some◌give◌otherwise◌
   promoted {u} i e c = rw (found_some (promotion (members_of n t)) i e) (became_changed n i t u c)
 
-  pub promoted_none : Nothing ≡ found_of (promotion (members_of n t)) → Became n (promote_backup_member (members_of n t)) t t
+  pub promoted_none : None ≡ promotion (members_of n t) → Became n (promote_backup_member (members_of n t)) t t
   unfolding promote_backup_member if_some◌give◌otherwise◌
   promoted_none e = rw (found_none (promotion (members_of n t)) e) (became_same n t (members_of n t) refl)
 

@@ -1,10 +1,9 @@
 -- What is proved of the definitions in specs/Refresh.antt, with what the proofs need.
 use Rattle.std.proofs.Math.Path.{◌≡◌, refl, ap}
 use Rattle.std.proofs.Common.{sym, ◌∙◌, add-one}
-use Rattle.std.specs.Prelude.{Bool, ◌&&◌, length}
+use Rattle.std.specs.Prelude.{Bool, ◌&&◌, length, None, Option, Some, is_some}
 use Rattle.std.proofs.Math.Bool.{true, false}
 use mathlib.Core.List.{List}
-use Rattle.std.proofs.Math.Option.{Option, none, some}
 use Prim.Native.Nat.{ℕ, suc, ◌+◌, ◌-◌, ◌≤◌, ◌<◌}
 use native.Mathlib.Omega.{arith}
 use Rattle.srt_group_model.specs.Tools.{if_true◌then◌else◌, if_some◌give◌otherwise◌, change, each}
@@ -15,7 +14,7 @@ use Rattle.srt_group_model.specs.declared.Leg.{Leg}
 use Rattle.srt_group_model.specs.declared.Membership.{Membership}
 use Rattle.srt_connection_members.specs.Members.{member_at, members_of, Changed, ChangedAll}
 use Rattle.srt_connection_members.specs.Laws.Members.{members_length, members_place, changed_by, unchanged}
-use Rattle.srt_group_members.specs.Scan.{is_some, Became, Tried}
+use Rattle.srt_group_members.specs.Scan.{Became, Tried}
 use Rattle.srt_group_members.specs.Laws.Scan.{became_same, became_then}
 use Rattle.srt_group_members.specs.Refresh.{requalifies}
 
@@ -52,7 +51,7 @@ module _ (test : Member → Bool) (state : List Member → ℕ) (number : Option
 
   pub turn_refused : {u : List ℕ} {aligned : Bool} → answer ≡ true
       → Tried n (align_member_sequence number i (members_of n t)) t aligned u → aligned ≡ false → Became n (turn_aligned test state number i (members_of n t)) t u
-  unfolding turn_aligned is_some if_true◌then◌else◌ if_some◌give◌otherwise◌
+  unfolding turn_aligned if_true◌then◌else◌ if_some◌give◌otherwise◌
   turn_refused {u} passes tried fails =
       rw (members_place n t i there, ← is, passes)
       (go (align_member_sequence number i (members_of n t)) (sym fails ∙ tried.succeeded) tried.is)
@@ -60,13 +59,13 @@ module _ (test : Member → Bool) (state : List Member → ℕ) (number : Option
       go : (o : Option (List Member)) → false ≡ is_some o
           → members_of n u ≡ (if_some o give (λ ms. ms) otherwise members_of n t)
           → Became n (if_some o give (λ ms. change i (turned (state ms)) ms) otherwise members_of n t) t u
-      go none e same = record { long = tried.long; is = same }
-      go (some ms) e same = let different : ◌≡◌ {A = ℕ} 0 1 = cc in absurd (omega arith)
+      go None e same = record { long = tried.long; is = same }
+      go (Some ms) e same = let different : ◌≡◌ {A = ℕ} 0 1 = cc in absurd (omega arith)
 
   pub turn_made : {u v : List ℕ} {aligned : Bool} {turns : ℕ} → answer ≡ true
       → Tried n (align_member_sequence number i (members_of n t)) t aligned u → aligned ≡ true → turns ≡ state (members_of n u)
       → Changed i (turned turns) u v → Became n (turn_aligned test state number i (members_of n t)) t v
-  unfolding turn_aligned is_some if_true◌then◌else◌ if_some◌give◌otherwise◌
+  unfolding turn_aligned if_true◌then◌else◌ if_some◌give◌otherwise◌
   turn_made {u} {v} {aligned} {turns} passes tried goes to c =
       rw (members_place n t i there, ← is, passes)
       (go (align_member_sequence number i (members_of n t)) (sym goes ∙ tried.succeeded) tried.is)
@@ -74,8 +73,8 @@ module _ (test : Member → Bool) (state : List Member → ℕ) (number : Option
       go : (o : Option (List Member)) → true ≡ is_some o
           → members_of n u ≡ (if_some o give (λ ms. ms) otherwise members_of n t)
           → Became n (if_some o give (λ ms. change i (turned (state ms)) ms) otherwise members_of n t) t v
-      go none e same = let different : ◌≡◌ {A = ℕ} 0 1 = cc in absurd (omega arith)
-      go (some ms) e same =
+      go None e same = let different : ◌≡◌ {A = ℕ} 0 1 = cc in absurd (omega arith)
+      go (Some ms) e same =
           record {
             long = c.long ∙ tried.long;
             is =

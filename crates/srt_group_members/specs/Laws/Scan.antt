@@ -1,10 +1,9 @@
 -- What is proved of the definitions in specs/Scan.antt, with what the proofs need.
-use Rattle.std.specs.Prelude.{◌≡◌, Bool, ◌||◌}
+use Rattle.std.specs.Prelude.{◌≡◌, Bool, ◌||◌, None, Option, Some, is_some}
 use Rattle.std.proofs.Math.Path.{refl, ap, sym}
 use Rattle.std.proofs.Common.{◌∙◌, add-one, arith}
 use Rattle.std.proofs.Math.Bool.{true, false}
 use mathlib.Core.List.{List, [], ◌∷◌}
-use Rattle.std.proofs.Math.Option.{Option, none, some}
 use Prim.Native.Nat.{ℕ, zero, suc, ◌+◌, ◌≤◌, ◌<◌}
 use Rattle.std.proofs.Math.Decide.{dec_lt}
 use Rattle.std.proofs.Math.ListN.{drop}
@@ -12,21 +11,18 @@ use Rattle.word_rows.specs.Tab.{tab}
 use Rattle.srt_group_model.specs.Tools.{if_true◌then◌else◌, if_some◌give◌otherwise◌, any, all, place_of, change}
 use Rattle.srt_group_model.specs.State.{Member}
 use Rattle.srt_connection_queue.specs.Laws.Tab.{tab_found, tab_not_found, place_below}
-use Rattle.srt_connection_members.specs.Members.{member_at, members_of, found_of, Changed}
+use Rattle.srt_connection_members.specs.Members.{member_at, members_of, Changed}
 use Rattle.srt_connection_members.specs.Laws.Members.{members_length, found_some, found_none}
-use Rattle.srt_connection.specs.Answers.{sequence_of}
-use Rattle.srt_connection.specs.declared.legs.OptionalSequence.TheVariants.{Some, None}
-use Rattle.srt_connection_members.specs.declared.Found.TheVariants.{At, Nothing}
-use Rattle.srt_group_members.specs.Scan.{is_some, Became}
+use Rattle.srt_group_members.specs.Scan.{Became}
 
--- an answer, as the option that it stands for
-pub sequence_some : (o : Option ℕ) (n : ℕ) → Some n ≡ sequence_of o → o ≡ some n
-sequence_some none n e = cc e
-sequence_some (some m) n e = cc e
+-- an equation of options, the other way round
+pub sequence_some : (o : Option ℕ) (n : ℕ) → Some n ≡ o → o ≡ Some n
+sequence_some None n e = cc e
+sequence_some (Some m) n e = cc e
 
-pub sequence_none : (o : Option ℕ) → None ≡ sequence_of o → o ≡ none
-sequence_none none e = refl
-sequence_none (some m) e = cc e
+pub sequence_none : (o : Option ℕ) → None ≡ o → o ≡ None
+sequence_none None e = refl
+sequence_none (Some m) e = cc e
 
 -- ---- what a call makes of the first n members of a table, t before and u after
 
@@ -60,15 +56,15 @@ module _ {A : Type 0} where
   tab_ended (suc k) (suc n) f h = tab_ended k n (λ i. f (suc i)) (omega arith)
 
   pub any_found : (test : A → Bool) (l : List A) → any test l ≡ is_some (place_of test l)
-  unfolding any place_of is_some if_true◌then◌else◌ if_some◌give◌otherwise◌
+  unfolding any place_of if_true◌then◌else◌ if_some◌give◌otherwise◌
   any_found test [] = refl
   any_found test (x ∷ xs) = go (test x) (place_of test xs) (any_found test xs)
     where
       go : (b : Bool) (o : Option ℕ) → any test xs ≡ is_some o
-          → (b || any test xs) ≡ is_some (if_true b then some 0 else (if_some o give (λ i. some (suc i)) otherwise none))
+          → (b || any test xs) ≡ is_some (if_true b then Some 0 else (if_some o give (λ i. Some (suc i)) otherwise None))
       go true o e = refl
-      go false none e = e
-      go false (some j) e = e
+      go false None e = e
+      go false (Some j) e = e
 
 module _ (n k : ℕ) (t : List ℕ) where
   -- the member at the place, and those behind it
@@ -101,28 +97,26 @@ module _ (test : Member → Bool) (t : List ℕ) where
           rw e (sym is ∙ no_pass)
 
   pub found_first : {answer : Bool} (n i : ℕ) → i < n → Passed test t 0 i → answer ≡ test (member_at t i) → answer ≡ true
-      → At i ≡ found_of (place_of test (members_of n t))
+      → Some i ≡ place_of test (members_of n t)
   unfolding members_of
   found_first n i h p is pass =
-      ap found_of (sym (tab_found test n (member_at t) i h (sym is ∙ pass) (λ j k. p.fails j (omega arith) k)))
+      (sym (tab_found test n (member_at t) i h (sym is ∙ pass) (λ j k. p.fails j (omega arith) k)))
 
-  pub found_nowhere : (n i : ℕ) → n ≤ i → Passed test t 0 i → Nothing ≡ found_of (place_of test (members_of n t))
+  pub found_nowhere : (n i : ℕ) → n ≤ i → Passed test t 0 i → None ≡ place_of test (members_of n t)
   unfolding members_of
   found_nowhere n i h p =
-      ap found_of (sym (tab_not_found test n (member_at t) (λ j k. p.fails j (omega arith) (omega arith))))
+      (sym (tab_not_found test n (member_at t) (λ j k. p.fails j (omega arith) (omega arith))))
 
 -- what was found is there
-pub found_row : (test : Member → Bool) (n : ℕ) (t : List ℕ) (i : ℕ) → At i ≡ found_of (place_of test (members_of n t)) → i < n
+pub found_row : (test : Member → Bool) (n : ℕ) (t : List ℕ) (i : ℕ) → Some i ≡ place_of test (members_of n t) → i < n
 found_row test n t i e =
     omega (arith, place_below test (members_of n t) i (found_some (place_of test (members_of n t)) i e), members_length n t)
 
 -- whether any passes
-pub any_at : (test : Member → Bool) (ms : List Member) (i : ℕ) → At i ≡ found_of (place_of test ms) → true ≡ any test ms
-unfolding is_some
+pub any_at : (test : Member → Bool) (ms : List Member) (i : ℕ) → Some i ≡ place_of test ms → true ≡ any test ms
 any_at test ms i e = sym (any_found test ms ∙ ap is_some (found_some (place_of test ms) i e))
 
-pub any_nowhere : (test : Member → Bool) (ms : List Member) → Nothing ≡ found_of (place_of test ms) → false ≡ any test ms
-unfolding is_some
+pub any_nowhere : (test : Member → Bool) (ms : List Member) → None ≡ place_of test ms → false ≡ any test ms
 any_nowhere test ms e = sym (any_found test ms ∙ ap is_some (found_none (place_of test ms) e))
 
 -- whether all pass: so far all do, and it is for those that are left to say

@@ -1,8 +1,7 @@
 -- What is proved of the definitions in specs/Turns.antt, with what the proofs need.
-use Rattle.std.specs.Prelude.{◌≡◌, Bool, true, List, ℕ, zero, suc, ◌+◌, ◌-◌, ◌≤◌, ◌<◌, min, max, drop}
+use Rattle.std.specs.Prelude.{◌≡◌, Bool, true, List, ℕ, zero, suc, ◌+◌, ◌-◌, ◌≤◌, ◌<◌, min, max, drop, None, Option, Some}
 use Rattle.std.proofs.Math.Path.{refl, ap, sym}
 use Rattle.std.proofs.Common.{◌∙◌}
-use Rattle.std.proofs.Math.Option.{Option, none, some}
 use Rattle.std.proofs.Math.Decide.{dec_le}
 use native.Mathlib.Omega.{arith}
 use Rattle.word_rows.specs.Tab.{tab}
@@ -12,9 +11,7 @@ use Rattle.srt_group_model.specs.Collecting.{in_turn}
 use Rattle.srt_group_model.specs.Removal.{largest_window}
 use Rattle.srt_group_model.specs.declared.Receiver.{Receiver}
 use Rattle.srt_connection_queue.specs.Laws.Tab.{tab_found, tab_not_found, tab_from}
-use Rattle.srt_connection_members.specs.Members.{member_at, members_of, found_of}
-use Rattle.srt_connection_members.specs.declared.Found.{Found}
-use Rattle.srt_connection_members.specs.declared.Found.TheVariants.{At, Nothing}
+use Rattle.srt_connection_members.specs.Members.{member_at, members_of}
 use Rattle.srt_group_members.specs.Laws.Scan.{Passed, left_next, left_none}
 use Rattle.srt_group_members.specs.Turns.{has_event, place_from}
 
@@ -22,26 +19,24 @@ use Rattle.srt_group_members.specs.Turns.{has_event, place_from}
 
 module _ (test : Member → Bool) (t : List ℕ) (start end i : ℕ) (passed : Passed test t start i) where
   pub found_from : {answer : Bool} → start ≤ i → i < end → answer ≡ test (member_at t i) → answer ≡ true
-      → At i ≡ found_of (place_from start (place_of test (drop start (members_of end t))))
+      → Some i ≡ place_from start (place_of test (drop start (members_of end t)))
   unfolding members_of place_from if_some◌give◌otherwise◌
   found_from low high is pass =
-      ap found_of
       (sym
-      (ap (place_from start) (ap (place_of test) (tab_from start end (member_at t)) ∙ place) ∙ ap (λ (j : ℕ). some j) there))
+      (ap (place_from start) (ap (place_of test) (tab_from start end (member_at t)) ∙ place) ∙ ap (λ (j : ℕ). Some j) there))
     where
       there : start + (i - start) ≡ i
       there = omega arith
 
-      place : place_of test (tab (end - start) (λ j. member_at t (start + j))) ≡ some (i - start)
+      place : place_of test (tab (end - start) (λ j. member_at t (start + j))) ≡ Some (i - start)
       place =
           tab_found test (end - start) (λ j. member_at t (start + j)) (i - start) (omega arith)
           (ap (λ (j : ℕ). test (member_at t j)) there ∙ sym is ∙ pass)
           (λ j k. passed.fails (start + j) (omega arith) (omega arith))
 
-  pub found_from_nowhere : end ≤ i → Nothing ≡ found_of (place_from start (place_of test (drop start (members_of end t))))
+  pub found_from_nowhere : end ≤ i → None ≡ place_from start (place_of test (drop start (members_of end t)))
   unfolding members_of place_from if_some◌give◌otherwise◌
   found_from_nowhere high =
-      ap found_of
       (sym
       (ap (place_from start)
       (ap (place_of test) (tab_from start end (member_at t))
@@ -49,14 +44,14 @@ module _ (test : Member → Bool) (t : List ℕ) (start end i : ℕ) (passed : P
       (λ j k. passed.fails (start + j) (omega arith) (omega arith)))))
 
 -- where none from k on passes, the first that does is among the first k
-tab_first_part : {A : Type 0} (test : A → Bool) (k n : ℕ) (f : ℕ → A) → k ≤ n → place_of test (drop k (tab n f)) ≡ none
+tab_first_part : {A : Type 0} (test : A → Bool) (k n : ℕ) (f : ℕ → A) → k ≤ n → place_of test (drop k (tab n f)) ≡ None
     → place_of test (tab n f) ≡ place_of test (tab k f)
 unfolding tab place_of
 tab_first_part test zero n f h e = e
 tab_first_part test (suc k) zero f h e = absurd (omega arith)
 tab_first_part test (suc k) (suc n) f h e = rw (tab_first_part test k n (λ i. f (suc i)) (omega arith) e)
 
-tab_all_first : {A : Type 0} (test : A → Bool) (k n : ℕ) (f : ℕ → A) → place_of test (drop k (tab n f)) ≡ none
+tab_all_first : {A : Type 0} (test : A → Bool) (k n : ℕ) (f : ℕ → A) → place_of test (drop k (tab n f)) ≡ None
     → place_of test (tab n f) ≡ place_of test (tab (min k n) f)
 tab_all_first test k n f e = go (dec_le k n)
   where
@@ -65,38 +60,37 @@ tab_all_first test k n f e = go (dec_le k n)
     go (no h) = ap (λ (j : ℕ). place_of test (tab j f)) (omega arith)
 
 module _ (n round : ℕ) (t : List ℕ) where
-  pub turn_later : (i : ℕ) → At i ≡ found_of (place_from round (place_of has_event (drop round (members_of n t))))
-      → At i ≡ found_of (in_turn round (members_of n t))
+  pub turn_later : (i : ℕ) → Some i ≡ place_from round (place_of has_event (drop round (members_of n t)))
+      → Some i ≡ in_turn round (members_of n t)
   unfolding in_turn has_event place_from if_some◌give◌otherwise◌
   turn_later i e = go (place_of has_event (drop round (members_of n t))) e
     where
-      go : (o : Option ℕ) → At i ≡ found_of (place_from round o)
-          → At i
-          ≡ found_of (if_some o give (λ j. some (round + j)) otherwise place_of has_event (members_of n t))
-      go none e = cc e
-      go (some j) e = e
+      go : (o : Option ℕ) → Some i ≡ place_from round o
+          → Some i
+          ≡ if_some o give (λ j. Some (round + j)) otherwise place_of has_event (members_of n t)
+      go None e = cc e
+      go (Some j) e = e
 
-  pub turn_again : {answer : Found} (k : ℕ) → Nothing ≡ found_of (place_from round (place_of has_event (drop round (members_of n t))))
-      → k ≡ min round n → answer ≡ found_of (place_from 0 (place_of has_event (drop 0 (members_of k t))))
-      → answer ≡ found_of (in_turn round (members_of n t))
+  pub turn_again : {answer : Option ℕ} (k : ℕ) → None ≡ place_from round (place_of has_event (drop round (members_of n t)))
+      → k ≡ min round n → answer ≡ place_from 0 (place_of has_event (drop 0 (members_of k t)))
+      → answer ≡ in_turn round (members_of n t)
   unfolding in_turn has_event place_from if_some◌give◌otherwise◌ members_of
   turn_again k e is answer =
       answer
-      ∙ ap found_of
-      (from_first (place_of has_event (tab k (member_at t)))
+      ∙ (from_first (place_of has_event (tab k (member_at t)))
       ∙ ap (λ (j : ℕ). place_of has_event (tab j (member_at t))) is
       ∙ sym (tab_all_first has_event round n (member_at t) none_later)
       ∙ sym from_the_first)
     where
       from_first : (o : Option ℕ) → place_from 0 o ≡ o
-      from_first none = refl
-      from_first (some j) = ap (λ (k : ℕ). some k) (omega arith)
+      from_first None = refl
+      from_first (Some j) = ap (λ (k : ℕ). Some k) (omega arith)
 
-      not_later : (o : Option ℕ) → Nothing ≡ found_of (place_from round o) → o ≡ none
-      not_later none e = refl
-      not_later (some j) e = cc e
+      not_later : (o : Option ℕ) → None ≡ place_from round o → o ≡ None
+      not_later None e = refl
+      not_later (Some j) e = cc e
 
-      none_later : place_of has_event (drop round (tab n (member_at t))) ≡ none
+      none_later : place_of has_event (drop round (tab n (member_at t))) ≡ None
       none_later = not_later (place_of has_event (drop round (tab n (member_at t)))) e
 
       from_the_first : in_turn round (members_of n t) ≡ place_of has_event (tab n (member_at t))

@@ -1,11 +1,10 @@
 -- Accounts of packets over every call: what queueing, collecting, releasing, retiring and removing do to accounts, as one record; an account
 -- that keeps it is kept by every call. The reserved sums are an instance (SumsKept).
-use Rattle.std.specs.Prelude.{◌≡◌, Bool, true, ◌||◌, ℕ, ◌+◌, ◌-◌, eqb, length, drop}
+use Rattle.std.specs.Prelude.{◌≡◌, Bool, true, ◌||◌, ℕ, ◌+◌, ◌-◌, eqb, length, drop, Some}
 use Rattle.std.proofs.Math.Path.{refl, sym, ap, subst}
 use Rattle.std.proofs.Common.{◌∙◌, arith}
 use Rattle.std.proofs.Math.Bool.{false, not}
 use mathlib.Core.List.{List, [], ◌∷◌, ◌++◌}
-use Rattle.std.proofs.Math.Option.{some}
 use borrow.Author.Tests.{eqb-true}
 use Rattle.srt_protocol.specs.Sequence.{sequence_further}
 use Rattle.srt_group_model.specs.Tools.{such_that, at_place, change, each, without_place, total, All}
@@ -116,7 +115,7 @@ module _ (rule : AccountRule) (law : AccountLaw rule) where
   Kept s = Accounted rule s.receive.pending s.members s.own
 
   -- one member is changed; what is held for the others weighs what it did
-  changed : (ps qs : List Packet) (i : ℕ) (m : Member) (f : Member → Member) (ms : List Member) (a b : Account) → at_place i ms ≡ some m → id_of (f m) ≡ id_of m
+  changed : (ps qs : List Packet) (i : ℕ) (m : Member) (f : Member → Member) (ms : List Member) (a b : Account) → at_place i ms ≡ Some m → id_of (f m) ≡ id_of m
       → ((id : ℕ) → (id ≡ id_of m → ⊥) → held_weight weight id qs ≡ held_weight weight id ps) → (RowOf ps m → RowOf qs (f m)) → All (Placed (ids ms)) qs
       → Own (own_weight weight qs) b → Keeps ps ms a → Keeps qs (change i f ms) b
   changed ps qs i m f ms a b at same others mine placed own k =
@@ -133,7 +132,7 @@ module _ (rule : AccountRule) (law : AccountLaw rule) where
       }
 
   -- one member is changed, and nothing that is held
-  changes : (s : State) (i : ℕ) (m : Member) (f : Member → Member) → at_place i s.members ≡ some m → id_of (f m) ≡ id_of m
+  changes : (s : State) (i : ℕ) (m : Member) (f : Member → Member) → at_place i s.members ≡ Some m → id_of (f m) ≡ id_of m
       → (RowOf s.receive.pending m → RowOf s.receive.pending (f m)) → Kept s → Kept (with_members (change i f s.members) s)
   changes s i m f at same mine h =
       let k = h.accounts in
@@ -257,7 +256,7 @@ module _ (rule : AccountRule) (law : AccountLaw rule) where
         own = k.own;
       }
 
-  leaves : (i : ℕ) (m : Member) (ps : List Packet) (ms : List Member) (a : Account) → at_place i ms ≡ some m → Keeps ps ms a
+  leaves : (i : ℕ) (m : Member) (ps : List Packet) (ms : List Member) (a : Account) → at_place i ms ≡ Some m → Keeps ps ms a
       → Keeps (each (own_packet (id_of m)) ps) (without_place i ms) (add_account m.membership.account a)
   leaves i m ps ms a at k =
       record {
@@ -272,7 +271,7 @@ module _ (rule : AccountRule) (law : AccountLaw rule) where
             (law.takes_over _ _ _ _ _ a (all_at (RowOf ps) i m ms at k.members) k.own);
       }
 
-  retires : (base : ℕ) (p : Packet) (ps : List Packet) (ms : List Member) (a : Account) → farthest base (such_that is_owned ps) ≡ some p → ascends ps ≡ true → Keeps ps ms a
+  retires : (base : ℕ) (p : Packet) (ps : List Packet) (ms : List Member) (a : Account) → farthest base (such_that is_owned ps) ≡ Some p → ascends ps ≡ true → Keeps ps ms a
       → Keeps (such_that (λ q. not (has_sequence (sequence_of p) q)) ps) ms (release p.content.count a)
   unfolding total
   retires base p ps ms a far up k =

@@ -1,7 +1,6 @@
 -- Arriving members one after the other: what the first of them leaves is what the others begin with.
-use Rattle.std.specs.Prelude.{◌≡◌, refl, Bool, true, false, not, ◌&&◌, List, [], ◌∷◌, ℕ, suc, eqb}
+use Rattle.std.specs.Prelude.{◌≡◌, refl, Bool, true, false, not, ◌&&◌, List, [], ◌∷◌, ℕ, suc, eqb, None, Option, Some}
 use Rattle.std.proofs.Common.{sym, ap, subst, ◌∙◌, eqb-true}
-use Rattle.std.proofs.Math.Option.{Option, none, some}
 use Rattle.srt_group_model.specs.Tools.{if_true◌then◌else◌, if_some◌give◌otherwise◌, or_else, flagged, first_given, at_place}
 use Rattle.srt_group_model.specs.Laws.Reason.{if_elim, and_left, and_right}
 use Rattle.srt_group_model.specs.State.{Member}
@@ -10,15 +9,15 @@ use Rattle.srt_group_model.specs.Members.{arrives, sequence_brought, group_broug
 
 -- ---- the base
 
-or_else_none : (o : Option ℕ) → or_else o none ≡ o
+or_else_none : (o : Option ℕ) → or_else o None ≡ o
 unfolding or_else
-or_else_none none = refl
-or_else_none (some n) = refl
+or_else_none None = refl
+or_else_none (Some n) = refl
 
 or_else_assoc : (a b c : Option ℕ) → or_else a (or_else b c) ≡ or_else (or_else a b) c
 unfolding or_else
-or_else_assoc none b c = refl
-or_else_assoc (some n) b c = refl
+or_else_assoc None b c = refl
+or_else_assoc (Some n) b c = refl
 
 pub base_after_none : (base : Option ℕ) → base_after base [] ≡ base
 unfolding base_after first_given
@@ -30,7 +29,7 @@ unfolding base_after first_given sequence_brought or_else if_true◌then◌else�
 base_after_one base m =
     ap (or_else base) (or_else_none (sequence_brought m)) ∙ go (arrives m) (peer_initial_sequence m.leg)
   where
-    go : (b : Bool) (o : Option ℕ) → or_else base (if_true b then o else none) ≡ (if_true b then or_else base o else base)
+    go : (b : Bool) (o : Option ℕ) → or_else base (if_true b then o else None) ≡ (if_true b then or_else base o else base)
     go true o = refl
     go false o = or_else_none base
 
@@ -72,7 +71,7 @@ peer_after_one peer m = go (arrives m) (eqb m.leg.link.peer 0) (eqb peer 0) refl
     q = m.leg.link.peer
 
     go : (a y z : Bool) → eqb q 0 ≡ y → eqb peer 0 ≡ z
-        → (if_true z then or_zero (or_else (flagged (a && not y) q) none) else peer) ≡ (if_true a && z then q else peer)
+        → (if_true z then or_zero (or_else (flagged (a && not y) q) None) else peer) ≡ (if_true a && z then q else peer)
     go true y false is_q is = refl
     go false y false is_q is = refl
     go false y true is_q is = sym (eqb-true peer 0 is)
@@ -92,7 +91,7 @@ peer_after_next peer m ms = go (arrives m) (eqb m.leg.link.peer 0) (eqb peer 0) 
 
     go : (a y z : Bool) → eqb q 0 ≡ y → eqb peer 0 ≡ z
         → (if_true z then or_zero (or_else (flagged (a && not y) q) rest) else peer)
-        ≡ bound_to (if_true z then or_zero (or_else (flagged (a && not y) q) none) else peer) rest
+        ≡ bound_to (if_true z then or_zero (or_else (flagged (a && not y) q) None) else peer) rest
     go a y false is_q is = ap (λ (b : Bool). if_true b then or_zero rest else peer) (sym is)
     go false y true is_q is = refl
     go true true true is_q is = refl
@@ -101,7 +100,7 @@ peer_after_next peer m ms = go (arrives m) (eqb m.leg.link.peer 0) (eqb peer 0) 
 -- ---- where they come from
 
 pub base_after_elim : (Q : Option ℕ → Type 0) (base : Option ℕ) (ms : List Member) → Q base
-    → ((i : ℕ) (m : Member) → at_place i ms ≡ some m → arrives m ≡ true → Q (peer_initial_sequence m.leg)) → Q (base_after base ms)
+    → ((i : ℕ) (m : Member) → at_place i ms ≡ Some m → arrives m ≡ true → Q (peer_initial_sequence m.leg)) → Q (base_after base ms)
 unfolding at_place or_else
 base_after_elim Q base [] h g = subst Q (sym (base_after_none base)) h
 base_after_elim Q base (m ∷ ms) h g =
@@ -112,11 +111,11 @@ base_after_elim Q base (m ∷ ms) h g =
     (λ i x at a. g (suc i) x at a))
   where
     either : (a b : Option ℕ) → Q a → Q b → Q (or_else a b)
-    either none b f k = k
-    either (some x) b f k = f
+    either None b f k = k
+    either (Some x) b f k = f
 
 pub peer_after_elim : (Q : ℕ → Type 0) (peer : ℕ) (ms : List Member) → Q peer
-    → ((n i : ℕ) (m : Member) → at_place i ms ≡ some m → arrives m ≡ true → eqb n 0 ≡ true → Q n → Q m.leg.link.peer) → Q (peer_after peer ms)
+    → ((n i : ℕ) (m : Member) → at_place i ms ≡ Some m → arrives m ≡ true → eqb n 0 ≡ true → Q n → Q m.leg.link.peer) → Q (peer_after peer ms)
 unfolding at_place
 peer_after_elim Q peer [] h g = subst Q (sym (peer_after_none peer)) h
 peer_after_elim Q peer (m ∷ ms) h g =

@@ -1,8 +1,7 @@
 -- Laws of the base and of the skipped total, over every call: the total never falls, and a base that is set moves only by
 -- delivery and skip. Document 01, "Receiving" and "Skip".
-use Rattle.std.specs.Prelude.{◌≡◌, refl, Bool, true, false, List, ℕ, ◌+◌, ◌≤◌, min}
+use Rattle.std.specs.Prelude.{◌≡◌, refl, Bool, true, false, List, ℕ, ◌+◌, ◌≤◌, min, Some}
 use Rattle.std.proofs.Common.{sym, ◌∙◌, arith}
-use Rattle.std.proofs.Math.Option.{some}
 use Rattle.srt_protocol.specs.Sequence.{sequence_distance}
 use Rattle.srt_group_model.specs.Legs.{largest_64}
 use Rattle.srt_group_model.specs.Tools.{any}
@@ -61,7 +60,7 @@ moves_base (gap_skipped s time distance) = true
 moves_base (delivered p) = true
 
 abbrev StaysAt : ℕ → Receive → List Mark → Type 0
-StaysAt b x log = any moves_base log ≡ false → next_receive_sequence x ≡ some b
+StaysAt b x log = any moves_base log ≡ false → next_receive_sequence x ≡ Some b
 
 stays_law : (b : ℕ) → Law (StaysAt b)
 unfolding any skip_to pass_run
@@ -78,7 +77,7 @@ stays_law b =
     }
 
 -- Once set, the base moves only by delivery and skip: a call whose log has neither leaves it.
-pub base_moves_only : (c : Call) (lent : Lent) (s : State) (b : ℕ) → next_receive_sequence s.receive ≡ some b
-    → any moves_base (perform c lent s).log ≡ false → next_receive_sequence (perform c lent s).state.receive ≡ some b
+pub base_moves_only : (c : Call) (lent : Lent) (s : State) (b : ℕ) → next_receive_sequence s.receive ≡ Some b
+    → any moves_base (perform c lent s).log ≡ false → next_receive_sequence (perform c lent s).state.receive ≡ Some b
 unfolding perform with_bytes
 base_moves_only c lent s b e = call_keeps (StaysAt b) (stays_law b) _ _ _ c s (λ k. e)

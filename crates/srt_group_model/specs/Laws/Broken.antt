@@ -1,8 +1,7 @@
 -- A Broken member stays Broken until its removal, over every call. Document 01 gives the states; the Rust's `Broken`: "permanently
 -- excluded from the group".
-use Rattle.std.specs.Prelude.{◌≡◌, refl, Bool, true, false, ◌&&◌, List, [], ◌∷◌, ◌++◌, ℕ, zero, suc, eqb}
+use Rattle.std.specs.Prelude.{◌≡◌, refl, Bool, true, false, ◌&&◌, List, [], ◌∷◌, ◌++◌, ℕ, zero, suc, eqb, Some}
 use Rattle.std.proofs.Common.{ap, ◌∙◌, eqb-true}
-use Rattle.std.proofs.Math.Option.{some}
 use Rattle.srt_group_model.specs.Tools.{any, at_place, change, without_place}
 use Rattle.srt_group_model.specs.Laws.Reason.{by_test, not_both, none_some, some_inj, and_left, and_right, and_yes, or_cases, or_yes_left, or_yes_right, EachTo, each_to_change, each_to_map}
 use Rattle.srt_group_model.specs.State.{Member, State, broken_state}
@@ -72,7 +71,7 @@ append_keeps id (m ∷ ms) ns e =
     or_cases (is_broken id m) _ e (λ b. or_yes_left (is_broken id m) _ b)
     (λ b. or_yes_right (is_broken id m) _ (append_keeps id ms ns b))
 
-without_keeps : (id i : ℕ) (m : Member) (ms : List Member) → at_place i ms ≡ some m → has_id id m ≡ false → BrokenIn id ms → BrokenIn id (without_place i ms)
+without_keeps : (id i : ℕ) (m : Member) (ms : List Member) → at_place i ms ≡ Some m → has_id id m ≡ false → BrokenIn id ms → BrokenIn id (without_place i ms)
 unfolding any at_place without_place
 without_keeps id zero m [] at h e = none_some at
 without_keeps id (suc i) m [] at h e = none_some at

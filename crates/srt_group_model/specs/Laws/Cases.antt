@@ -1,7 +1,6 @@
 -- Document 01's cases P1 to P9 as rows of one table, proved by one computed test, and the law that turns the test into each
 -- row.
-use Rattle.std.specs.Prelude.{◌≡◌, refl, Bool, true, false, ◌&&◌, List, [], ◌∷◌, ℕ, ◌-◌, ◌^◌, eqb, length}
-use Rattle.std.proofs.Math.Option.{Option}
+use Rattle.std.specs.Prelude.{◌≡◌, refl, Bool, true, false, ◌&&◌, List, [], ◌∷◌, ℕ, ◌-◌, ◌^◌, eqb, length, Option}
 use Rattle.srt_protocol.specs.Sequence.{sequence_before}
 use Rattle.srt_group_model.specs.Tools.{if_some◌give◌otherwise◌, bit, at_place, each, All}
 use Rattle.std.proofs.Common.{eqb-true}

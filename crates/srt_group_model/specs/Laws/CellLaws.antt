@@ -1,8 +1,7 @@
 -- Laws of cells: the free cell is the lowest, and 30 comes exactly if every cell carries a queued, held or history payload.
 -- Document 01, "Codes from the state" and "Receiving".
-use Rattle.std.specs.Prelude.{◌≡◌, refl, Bool, true, false, ◌&&◌, ◌||◌, List, [], ◌∷◌, ◌++◌, ℕ, zero, suc, ◌+◌, ◌≤◌, ◌<◌, length}
+use Rattle.std.specs.Prelude.{◌≡◌, refl, Bool, true, false, ◌&&◌, ◌||◌, List, [], ◌∷◌, ◌++◌, ℕ, zero, suc, ◌+◌, ◌≤◌, ◌<◌, length, None, Option, Some}
 use Rattle.std.proofs.Common.{sym, ap, subst, ◌∙◌, arith}
-use Rattle.std.proofs.Math.Option.{Option, none, some}
 use Rattle.std.proofs.Math.Decide.{dec_le}
 use Rattle.srt_protocol.specs.Cells.{cell_size, cells_of}
 use Rattle.srt_group_model.specs.Tools.{any, All}
@@ -24,7 +23,7 @@ pub record Lowest (left first : ℕ) (used : List ℕ) (cell : ℕ) : Type 0 whe
   pub lower_used : (n : ℕ) → first ≤ n → n < cell → is_among n used ≡ true
 
 abbrev Finds : (left first : ℕ) → List ℕ → Option ℕ → Type 0
-Finds left first used o = (cell : ℕ) → o ≡ some cell → Lowest left first used cell
+Finds left first used o = (cell : ℕ) → o ≡ Some cell → Lowest left first used cell
 
 -- n is first, or beyond it
 from_first : (P : ℕ → Type 0) (first n : ℕ) → P first → (suc first ≤ n → P n) → first ≤ n → P n
@@ -55,18 +54,18 @@ lowest_free_lowest (suc left) first used =
     })
 
 -- none is free only if every one of them is used
-lowest_free_none : (left first : ℕ) (used : List ℕ) → lowest_free left first used ≡ none → (n : ℕ) → first ≤ n → n < first + left → is_among n used ≡ true
+lowest_free_none : (left first : ℕ) (used : List ℕ) → lowest_free left first used ≡ None → (n : ℕ) → first ≤ n → n < first + left → is_among n used ≡ true
 unfolding lowest_free
 lowest_free_none zero first used = λ e n h g. absurd (omega arith)
 lowest_free_none (suc left) first used =
-    if_elim (λ (o : Option ℕ). o ≡ none → (n : ℕ) → first ≤ n → n < first + suc left → is_among n used ≡ true) _ _ _
+    if_elim (λ (o : Option ℕ). o ≡ None → (n : ℕ) → first ≤ n → n < first + suc left → is_among n used ≡ true) _ _ _
     (λ among e n h.
     from_first (λ (k : ℕ). k < first + suc left → is_among k used ≡ true) first n (λ g. among)
     (λ k g. lowest_free_none left (suc first) used e n k (omega arith)) h)
     (λ free e. none_some (sym e))
 
 -- The free cell is the lowest: it is a cell of the store that no payload uses, and every lower one is used.
-pub free_cell_is_lowest : (cells : ℕ) (s : State) (cell : ℕ) → free_cell cells s ≡ some cell → Lowest cells 0 (used_cells s) cell
+pub free_cell_is_lowest : (cells : ℕ) (s : State) (cell : ℕ) → free_cell cells s ≡ Some cell → Lowest cells 0 (used_cells s) cell
 unfolding free_cell
 free_cell_is_lowest cells s cell e = lowest_free_lowest cells 0 (used_cells s) cell e
 

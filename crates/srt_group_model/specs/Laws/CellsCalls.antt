@@ -1,7 +1,6 @@
 -- The cells over every call: none is named twice and none lies beyond the store, the cell that a call has taken included.
-use Rattle.std.specs.Prelude.{◌≡◌, refl, false, List, [], ℕ, ◌+◌, ◌≤◌, ◌<◌, ltb, eqb, length}
+use Rattle.std.specs.Prelude.{◌≡◌, refl, false, List, [], ℕ, ◌+◌, ◌≤◌, ◌<◌, ltb, eqb, length, None, Option, Some}
 use Rattle.std.proofs.Common.{ap, subst, arith, eqb-true, lt-ltb}
-use Rattle.std.proofs.Math.Option.{Option, none, some}
 use Rattle.srt_protocol.specs.Cells.{cells_of}
 use Rattle.srt_group_model.specs.Laws.Reason.{if_elim, by_test, not_both}
 use Rattle.srt_group_model.specs.State.{State}
@@ -22,13 +21,13 @@ room_of cells cell h = if_elim (λ (r : ℕ). r ≡ 1) (ltb cell cells) 1 0 (λ 
 
 -- a cell in hand counts as one that is used
 abbrev pub in_hand : Option ℕ → ℕ → ℕ
-in_hand none n = 0
-in_hand (some cell) n = one cell n
+in_hand None n = 0
+in_hand (Some cell) n = one cell n
 
 abbrev pub Holding : (ℕ → ℕ) → Option ℕ → State → List Mark → Type 0
 Holding bound hand s log = (n : ℕ) → uses n s.members s.receive.pending s.send.history + in_hand hand n ≤ bound n
 
-takes_free : (cells : ℕ) (s : State) → no_free_cell cells s ≡ false → Holding (room cells) none s [] → Holding (room cells) (some (taken_cell cells s)) s []
+takes_free : (cells : ℕ) (s : State) → no_free_cell cells s ≡ false → Holding (room cells) None s [] → Holding (room cells) (Some (taken_cell cells s)) s []
 takes_free cells s free h n =
     let cell = taken_cell cells s in
     let low = taken_lowest cells s free in

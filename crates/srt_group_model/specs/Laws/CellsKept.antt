@@ -1,8 +1,7 @@
 -- Cells stay apart over every call: no cell is named twice and none lies beyond the store, so the rules `cell_twice` and
 -- `cell_beyond_store` of validity are kept, and a payload is only ever put into a cell that nothing else uses.
-use Rattle.std.specs.Prelude.{◌≡◌, refl, Bool, true, false, ◌||◌, List, [], ◌∷◌, ◌++◌, ℕ, zero, suc, ◌+◌, ◌≤◌, ◌<◌, leb, ltb, eqb, drop}
+use Rattle.std.specs.Prelude.{◌≡◌, refl, Bool, true, false, ◌||◌, List, [], ◌∷◌, ◌++◌, ℕ, zero, suc, ◌+◌, ◌≤◌, ◌<◌, leb, ltb, eqb, drop, Some}
 use Rattle.std.proofs.Common.{sym, ap, ap₂, ◌∙◌, arith, eqb-true, ltb-true, ltb-false, leb-true, leb-false, eq-eqb}
-use Rattle.std.proofs.Math.Option.{some}
 use Rattle.std.proofs.lemmas.Bool.{lt-leb}
 use Rattle.srt_group_model.specs.Tools.{any, such_that, at_place, change, each}
 use Rattle.srt_group_model.specs.Laws.Reason.{if_elim, by_test, not_both, none_some, some_inj, or_left, or_right}
@@ -117,7 +116,7 @@ relabelled_cells (m ∷ ms) (n ∷ ns) h =
     (ap (λ (q : List Event). each (λ (e : Event). e.content.cell) (such_that is_data q)) h.0.queue)
     (relabelled_cells ms ns h.1)
 
-front_data : (n : ℕ) (q : List Event) (e : Event) → front q ≡ some e → eqb e.kind 0 ≡ true
+front_data : (n : ℕ) (q : List Event) (e : Event) → front q ≡ Some e → eqb e.kind 0 ≡ true
     → occurs n (each (λ (x : Event). x.content.cell) (such_that is_data q)) ≡ one e.content.cell n + occurs n (each (λ (x : Event). x.content.cell) (such_that is_data (drop 1 q)))
 unfolding such_that each occurs at_place
 front_data n [] e f d = none_some f
@@ -128,14 +127,14 @@ front_data n (x ∷ q) e f d =
     (λ g. ap (λ (y : Event). one y.content.cell n + occurs n (each (λ (z : Event). z.content.cell) (such_that is_data q))) (some_inj f))
     (λ g. not_both (ap (λ (y : Event). eqb y.kind 0) (some_inj f) ∙ d) g)
 
-front_event : (q : List Event) (e : Event) → front q ≡ some e → eqb e.kind 0 ≡ false → such_that is_data q ≡ such_that is_data (drop 1 q)
+front_event : (q : List Event) (e : Event) → front q ≡ Some e → eqb e.kind 0 ≡ false → such_that is_data q ≡ such_that is_data (drop 1 q)
 unfolding such_that at_place
 front_event [] e f d = none_some f
 front_event (x ∷ q) e f d =
     if_elim (λ (l : List Event). l ≡ such_that is_data q) _ _ _
     (λ g. not_both g (ap (λ (y : Event). eqb y.kind 0) (some_inj f) ∙ d)) (λ g. refl)
 
-pub popped_data : (n i : ℕ) (m : Member) (e : Event) (ms : List Member) → at_place i ms ≡ some m → front m.queue ≡ some e → eqb e.kind 0 ≡ true
+pub popped_data : (n i : ℕ) (m : Member) (e : Event) (ms : List Member) → at_place i ms ≡ Some m → front m.queue ≡ Some e → eqb e.kind 0 ≡ true
     → occurs n (queued_cells ms) ≡ one e.content.cell n + occurs n (queued_cells (change i pop ms))
 unfolding queued_cells queue_cells at_place change
 popped_data n zero m e [] at f d = none_some at
@@ -158,7 +157,7 @@ popped_data n (suc i) m e (x ∷ ms) at f d =
     shift : (a b c : ℕ) → a + (b + c) ≡ b + (a + c)
     shift a b c = omega arith
 
-pub popped_event : (i : ℕ) (m : Member) (e : Event) (ms : List Member) → at_place i ms ≡ some m → front m.queue ≡ some e → eqb e.kind 0 ≡ false
+pub popped_event : (i : ℕ) (m : Member) (e : Event) (ms : List Member) → at_place i ms ≡ Some m → front m.queue ≡ Some e → eqb e.kind 0 ≡ false
     → queued_cells ms ≡ queued_cells (change i pop ms)
 unfolding queued_cells queue_cells at_place change
 popped_event zero m e [] at f d = none_some at

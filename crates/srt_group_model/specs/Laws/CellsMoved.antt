@@ -1,9 +1,8 @@
 -- Which cells each step of a call takes and frees, exactly: what a table of the cells in use follows, where it is kept from call
 -- to call and not made anew. CellsKept and CellsCalls bound the same counts from above.
-use Rattle.std.specs.Prelude.{◌≡◌, refl, Bool, true, false, not, ℕ, zero, suc, ◌+◌, eqb}
+use Rattle.std.specs.Prelude.{◌≡◌, refl, Bool, true, false, not, ℕ, zero, suc, ◌+◌, eqb, None, Some}
 use Rattle.std.proofs.Math.Path.{ap}
 use mathlib.Core.List.{List, [], ◌∷◌}
-use Rattle.std.proofs.Math.Option.{none, some}
 use Rattle.std.proofs.Common.{arith}
 use Rattle.srt_group_model.specs.Tools.{if_true◌then◌else◌, such_that, at_place, change, each, without_place}
 use Rattle.srt_group_model.specs.Laws.Reason.{if_elim, by_test, not_both, none_some, some_inj}
@@ -61,7 +60,7 @@ keeps_refresh s =
 
 -- ---- a collected event
 
-module _ (s : State) (i : ℕ) (m : Member) (e : Event) (at : at_place i s.members ≡ some m) (f : front m.queue ≡ some e) where
+module _ (s : State) (i : ℕ) (m : Member) (e : Event) (at : at_place i s.members ≡ Some m) (f : front m.queue ≡ Some e) where
   abbrev retained : State
   retained = retain_group_packet i (packet_of m e) (popped i s)
 
@@ -98,7 +97,7 @@ module _ (s : State) (i : ℕ) (m : Member) (e : Event) (at : at_place i s.membe
   pub reported_keeps : (w : Waiting) → eqb e.kind 0 ≡ false → Keeps s (report_event i w (popped i s))
   unfolding occurs
   reported_keeps w d =
-      breaks (λ hand t log. Keeps s t) (keeps_refresh s) none [] s i w
+      breaks (λ hand t log. Keeps s t) (keeps_refresh s) None [] s i w
       (parts_move [] [] s _ (λ n. omega (arith, ap (occurs n) (popped_event i m e s.members at f d))))
 
 -- ---- a delivery
@@ -123,7 +122,7 @@ delivery_frees base p s =
 
 -- ---- queueing
 
-change_cells : (n more i : ℕ) (f : Member → Member) (m : Member) (ms : List Member) → at_place i ms ≡ some m
+change_cells : (n more i : ℕ) (f : Member → Member) (m : Member) (ms : List Member) → at_place i ms ≡ Some m
     → ((m : Member) → occurs n (queue_cells (f m)) ≡ occurs n (queue_cells m) + more)
     → occurs n (queued_cells (change i f ms)) ≡ occurs n (queued_cells ms) + more
 unfolding queued_cells at_place change
@@ -135,7 +134,7 @@ change_cells n more (suc i) f m (x ∷ ms) at h =
     omega (arith, change_cells n more i f m ms at h, occurs_append n (queue_cells x) (queued_cells (change i f ms)), occurs_append n (queue_cells x) (queued_cells ms))
 
 -- data at the end of a member's queue takes its cell
-pub enqueue_takes : (i cell size : ℕ) (d : Data) (m : Member) (s : State) → at_place i s.members ≡ some m
+pub enqueue_takes : (i cell size : ℕ) (d : Data) (m : Member) (s : State) → at_place i s.members ≡ Some m
     → Moves (cell ∷ []) [] s (with_members (change i (λ x. on_leg (add_reservation d.count) (enqueue (data_event cell size d) x)) s.members) s)
 unfolding queue_cells such_that each occurs if_true◌then◌else◌
 enqueue_takes i cell size d m s at =
@@ -145,7 +144,7 @@ enqueue_takes i cell size d m s at =
 
 -- ---- a removal
 
-without_cells : (n i : ℕ) (m : Member) (ms : List Member) → at_place i ms ≡ some m
+without_cells : (n i : ℕ) (m : Member) (ms : List Member) → at_place i ms ≡ Some m
     → occurs n (queued_cells (without_place i ms)) + occurs n (queue_cells m) ≡ occurs n (queued_cells ms)
 unfolding queued_cells at_place without_place
 without_cells n zero m [] at = none_some at
@@ -156,7 +155,7 @@ without_cells n (suc i) m (x ∷ ms) at =
     omega (arith, without_cells n i m ms at, occurs_append n (queue_cells x) (queued_cells (without_place i ms)), occurs_append n (queue_cells x) (queued_cells ms))
 
 -- the queue of the member is dropped
-pub take_out_frees : (i : ℕ) (m : Member) (s : State) → at_place i s.members ≡ some m → Moves [] (queue_cells m) s (take_out i m s)
+pub take_out_frees : (i : ℕ) (m : Member) (s : State) → at_place i s.members ≡ Some m → Moves [] (queue_cells m) s (take_out i m s)
 unfolding take_out occurs
 take_out_frees i m s at =
     parts_move [] (queue_cells m) s (take_out i m s)
@@ -175,7 +174,7 @@ same_cells : (s : State) → Keeps s s
 same_cells s = record { cells = λ n. refl }
 
 pub refresh_pending_keeps : (r : Run) → Keeps r.state (refresh_pending_states r).state
-refresh_pending_keeps r = refreshes_pending (λ hand t log. Keeps r.state t) (keeps_refresh r.state) none r (same_cells r.state)
+refresh_pending_keeps r = refreshes_pending (λ hand t log. Keeps r.state t) (keeps_refresh r.state) None r (same_cells r.state)
 
 pub refresh_keeps : (r : Run) → Keeps r.state (refresh_states r).state
-refresh_keeps r = refreshes (λ hand t log. Keeps r.state t) (keeps_refresh r.state) none r (same_cells r.state)
+refresh_keeps r = refreshes (λ hand t log. Keeps r.state t) (keeps_refresh r.state) None r (same_cells r.state)

@@ -1,10 +1,9 @@
 -- The one walk over every call: what each move of CallLaw keeps, every call keeps.
-use Rattle.std.specs.Prelude.{◌≡◌, Bool, ◌&&◌}
+use Rattle.std.specs.Prelude.{◌≡◌, Bool, ◌&&◌, None, Option, Some}
 use Rattle.std.proofs.Math.Path.{refl, sym, ap, subst}
 use Rattle.std.proofs.Common.{◌∙◌, arith, eqb-true, ltb-false, leb-false}
 use Rattle.std.proofs.Math.Bool.{true, false, not}
 use mathlib.Core.List.{List, [], ◌∷◌, ◌++◌, append_assoc}
-use Rattle.std.proofs.Math.Option.{Option, none, some}
 use Prim.Native.Nat.{ℕ, zero, suc, ◌+◌, ◌%◌, ◌≤◌, ◌<◌}
 use Rattle.std.proofs.lemmas.Bool.{not-false}
 use Rattle.std.proofs.Math.Dec.{eqb}
@@ -48,11 +47,11 @@ use Rattle.srt_group_model.specs.declared.Waiting.{Waiting}
 
 -- ---- places of a list
 
-by_option : {A B : Type 0} (o : Option A) → ((a : A) → o ≡ some a → B) → (o ≡ none → B) → B
-by_option none f g = g refl
-by_option (some a) f g = f a refl
+by_option : {A B : Type 0} (o : Option A) → ((a : A) → o ≡ Some a → B) → (o ≡ None → B) → B
+by_option None f g = g refl
+by_option (Some a) f g = f a refl
 
-change_past : (i : ℕ) (f : Member → Member) (ms : List Member) → at_place i ms ≡ none → change i f ms ≡ ms
+change_past : (i : ℕ) (f : Member → Member) (ms : List Member) → at_place i ms ≡ None → change i f ms ≡ ms
 unfolding at_place change
 change_past zero f [] e = refl
 change_past (suc i) f [] e = refl
@@ -67,12 +66,12 @@ change_twice zero f g (m ∷ ms) = refl
 change_twice (suc i) f g (m ∷ ms) = ap (λ (l : List Member). m ∷ l) (change_twice i f g ms)
 
 -- the one member of a list
-one_place : (m x : Member) (i : ℕ) → at_place i (m ∷ []) ≡ some x → m ≡ x
+one_place : (m x : Member) (i : ℕ) → at_place i (m ∷ []) ≡ Some x → m ≡ x
 unfolding at_place
 one_place m x zero e = some_inj e
 one_place m x (suc i) e = none_some e
 
-at_end : (done : List Member) (m : Member) (rest : List Member) → at_place (length done) (done ++ (m ∷ rest)) ≡ some m
+at_end : (done : List Member) (m : Member) (rest : List Member) → at_place (length done) (done ++ (m ∷ rest)) ≡ Some m
 unfolding at_place
 at_end [] m rest = refl
 at_end (x ∷ done) m rest = at_end done m rest
@@ -86,33 +85,33 @@ change_end f (x ∷ done) m rest = ap (λ (l : List Member). x ∷ l) (change_en
 
 pub record Found (id : ℕ) (ms : List Member) (i : ℕ) : Type 0 where
   pub member : Member
-  pub stands : at_place i ms ≡ some member
-  pub first : first_such (has_id id) ms ≡ some member
+  pub stands : at_place i ms ≡ Some member
+  pub first : first_such (has_id id) ms ≡ Some member
 
-pub found : (id : ℕ) (ms : List Member) (i : ℕ) → find id ms ≡ some i → Found id ms i
+pub found : (id : ℕ) (ms : List Member) (i : ℕ) → find id ms ≡ Some i → Found id ms i
 unfolding place_of at_place first_such
 found id [] i = λ g. none_some g
 found id (m ∷ ms) i =
-    if_elim (λ (o : Option ℕ). o ≡ some i → Found id (m ∷ ms) i) _ _ _
+    if_elim (λ (o : Option ℕ). o ≡ Some i → Found id (m ∷ ms) i) _ _ _
     (λ e g. subst (Found id (m ∷ ms)) (some_inj g) record { member = m; stands = refl; first = here e })
     (λ e.
-    if_some_elim (λ (o : Option ℕ). o ≡ some i → Found id (m ∷ ms) i) _ _ _
+    if_some_elim (λ (o : Option ℕ). o ≡ Some i → Found id (m ∷ ms) i) _ _ _
     (λ k f g.
     let rest = found id ms k f in
     subst (Found id (m ∷ ms)) (some_inj g) record { member = rest.member; stands = rest.stands; first = later e ∙ rest.first })
     (λ f g. none_some g))
   where
-    here : has_id id m ≡ true → first_such (has_id id) (m ∷ ms) ≡ some m
-    here e = if_elim (λ (o : Option Member). o ≡ some m) (has_id id m) _ _ (λ g. refl) (λ g. not_both e g)
+    here : has_id id m ≡ true → first_such (has_id id) (m ∷ ms) ≡ Some m
+    here e = if_elim (λ (o : Option Member). o ≡ Some m) (has_id id m) _ _ (λ g. refl) (λ g. not_both e g)
 
     later : has_id id m ≡ false → first_such (has_id id) (m ∷ ms) ≡ first_such (has_id id) ms
     later e = if_elim (λ (o : Option Member). o ≡ first_such (has_id id) ms) (has_id id m) _ _ (λ g. not_both g e) (λ g. refl)
 
 -- what a guard says of it
-of_found : (id : ℕ) (test : Member → Bool) (s : State) (m : Member) → of_member id test s ≡ false → first_such (has_id id) s.members ≡ some m → test m ≡ false
+of_found : (id : ℕ) (test : Member → Bool) (s : State) (m : Member) → of_member id test s ≡ false → first_such (has_id id) s.members ≡ Some m → test m ≡ false
 unfolding of_member
 of_found id test s m =
-    if_some_elim (λ (b : Bool). b ≡ false → first_such (has_id id) s.members ≡ some m → test m ≡ false) _ _ _
+    if_some_elim (λ (b : Bool). b ≡ false → first_such (has_id id) s.members ≡ Some m → test m ≡ false) _ _ _
     (λ x e g f. ap test (some_inj (sym f ∙ e)) ∙ g) (λ e g f. none_some (sym e ∙ f))
 
 any_members : (ms : List Member) → All (λ (m : Member). Unit {0}) ms
@@ -120,17 +119,17 @@ any_members [] = tt
 any_members (m ∷ ms) = (tt, any_members ms)
 
 named : (X : State → Type 0) (id : ℕ) (f : Member → Member) (s : State)
-    → ((i : ℕ) (m : Member) → at_place i s.members ≡ some m → first_such (has_id id) s.members ≡ some m → X (with_members (change i f s.members) s))
+    → ((i : ℕ) (m : Member) → at_place i s.members ≡ Some m → first_such (has_id id) s.members ≡ Some m → X (with_members (change i f s.members) s))
     → X s → X (change_member id f s)
 unfolding change_member
 named X id f s g h =
     if_some_elim X _ _ _ (λ i e. let m = found id s.members i e in g i m.member m.stands m.first) (λ e. h)
 
 -- a leg sends at its next number only
-at_next : (time size sequence : ℕ) (l k : Leg) → send_shared_with_sequence time size sequence l ≡ some k → sequence ≡ l.sender.next
+at_next : (time size sequence : ℕ) (l k : Leg) → send_shared_with_sequence time size sequence l ≡ Some k → sequence ≡ l.sender.next
 unfolding send_shared_with_sequence
 at_next time size sequence l k =
-    if_elim (λ (o : Option Leg). o ≡ some k → sequence ≡ l.sender.next) _ _ _
+    if_elim (λ (o : Option Leg). o ≡ Some k → sequence ≡ l.sender.next) _ _ _
     (λ e g. eqb-true sequence l.sender.next (and_left (eqb sequence l.sender.next) _ (and_right (can_send l) _ e))) (λ e g. none_some g)
 
 set_base_send : (o : Option ℕ) (r : Run) → (set_base o r).state.send ≡ r.state.send
@@ -143,7 +142,7 @@ pub refresh_mode : (r : Run) → (refresh_states r).state.making.mode ≡ r.stat
 unfolding refresh_states refresh_pending_states admit_connected_peer_groups set_base
 refresh_mode r =
     if_some_elim (λ (q : Run). q.state.making.mode ≡ r.state.making.mode) (next_receive_sequence r.state.receive) _ _ (λ b e. refl)
-    (λ e. if_some_elim (λ (q : Run). q.state.making.mode ≡ r.state.making.mode) (base_after none r.state.members) _ _ (λ b e. refl) (λ e. refl))
+    (λ e. if_some_elim (λ (q : Run). q.state.making.mode ≡ r.state.making.mode) (base_after None r.state.members) _ _ (λ b e. refl) (λ e. refl))
 
 admission_move : (s : State) (m : Member) → MemberMove s m (admit_peer_group s.peer m)
 unfolding admit_peer_group
@@ -157,7 +156,7 @@ module _ (P : Option ℕ → State → List Mark → Type 0) (law : RefreshLaw P
     abbrev Having : List Member → Type 0
     Having ms = P hand (with_members ms s) log
 
-    moves_at : (i : ℕ) (f : Member → Member) (ms : List Member) → ((m : Member) → at_place i ms ≡ some m → MemberMove (with_members ms s) m (f m)) → Having ms → Having (change i f ms)
+    moves_at : (i : ℕ) (f : Member → Member) (ms : List Member) → ((m : Member) → at_place i ms ≡ Some m → MemberMove (with_members ms s) m (f m)) → Having ms → Having (change i f ms)
     moves_at i f ms g h =
         by_option (at_place i ms) (λ m at. law.moves (with_members ms s) i m f at (g m at) h)
         (λ at. subst Having (sym (change_past i f ms at)) h)
@@ -184,14 +183,14 @@ module _ (P : Option ℕ → State → List Mark → Type 0) (law : RefreshLaw P
     unfolding promote_if_none
     promotes_if_none mode ms h = if_elim Having _ _ _ (λ e. promotes ms h) (λ e. h)
 
-    aligns : (i : ℕ) (ms ns : List Member) → align_member_sequence (next_send_sequence s.send) i ms ≡ some ns → Having ms → Having ns
+    aligns : (i : ℕ) (ms ns : List Member) → align_member_sequence (next_send_sequence s.send) i ms ≡ Some ns → Having ms → Having ns
     unfolding align_member_sequence
     aligns i ms ns =
-        if_some_elim (λ (o : Option (List Member)). o ≡ some ns → Having ms → Having ns) _ _ _
+        if_some_elim (λ (o : Option (List Member)). o ≡ Some ns → Having ms → Having ns) _ _ _
         (λ m at.
-        if_some_elim (λ (o : Option (List Member)). o ≡ some ns → Having ms → Having ns) _ _ _
+        if_some_elim (λ (o : Option (List Member)). o ≡ Some ns → Having ms → Having ns) _ _ _
         (λ sequence source.
-        if_some_elim (λ (o : Option (List Member)). o ≡ some ns → Having ms → Having ns) _ _ _
+        if_some_elim (λ (o : Option (List Member)). o ≡ Some ns → Having ms → Having ns) _ _ _
         (λ l g e h. subst Having (some_inj e) (law.moves (with_members ms s) i m (with_leg l) at (alignment sequence l source g) h))
         (λ g e h. none_some e))
         (λ source e h. subst Having (some_inj e) h))
@@ -257,9 +256,9 @@ module _ (P : Option ℕ → State → List Mark → Type 0) (law : RefreshLaw P
       moves_each hand log (with_peer peer s) (admit_peer_group peer) (λ ms m. admission_move (with_members ms (with_peer peer s)) m) [] s.members
       (binds_all hand log s h)
 
-  base_source : (s : State) (b : ℕ) → base_after none s.members ≡ some b → BaseSource s b
+  base_source : (s : State) (b : ℕ) → base_after None s.members ≡ Some b → BaseSource s b
   base_source s b =
-      base_after_elim (λ (o : Option ℕ). o ≡ some b → BaseSource s b) none s.members (λ e. none_some e) (λ i m at a e. first_of i m at a e)
+      base_after_elim (λ (o : Option ℕ). o ≡ Some b → BaseSource s b) None s.members (λ e. none_some e) (λ i m at a e. first_of i m at a e)
 
   abbrev pub Has : Option ℕ → Run → Type 0
   Has hand r = P hand r.state r.log
@@ -318,7 +317,7 @@ module _ (P : Option ℕ → State → List Mark → Type 0) (law : RefreshLaw P
     collects hand log budget s i m e f few h =
         if_elim (Has hand) _ _ _ (λ k. retains hand log s i m e f k h) (λ k. breaks hand log s i _ (collecting.reports s i m e f k few h))
 
-    takes_front : (hand : Option ℕ) (i : ℕ) (m : Member) (r : Run) → at_place i r.state.members ≡ some m → FewWait r → Has hand r → Has hand (take_front i m r).run
+    takes_front : (hand : Option ℕ) (i : ℕ) (m : Member) (r : Run) → at_place i r.state.members ≡ Some m → FewWait r → Has hand r → Has hand (take_front i m r).run
     unfolding take_front
     takes_front hand i m r at few h =
         let next = with_round (suc i % length r.state.members) r.state in
@@ -388,11 +387,11 @@ module _ (P : Option ℕ → State → List Mark → Type 0) (law : RefreshLaw P
           skips_after hand time r.state base (collect_until_empty max_visits base r) (until_empty_base max_visits base r ∙ b)
           (until_empty_not_held max_visits base r) (collects_until_empty hand max_visits base r (omega (arith, few)) h))
 
-      nearest_based : (hand : Option ℕ) (r : Run) (p : Packet) → nearest r.state.receive.pending ≡ some p → Has hand r → Has hand (set_base (some (sequence_of p)) r)
+      nearest_based : (hand : Option ℕ) (r : Run) (p : Packet) → nearest r.state.receive.pending ≡ Some p → Has hand r → Has hand (set_base (Some (sequence_of p)) r)
       unfolding set_base
       nearest_based hand r p g h =
           if_some_elim (Has hand) _ _ _ (λ b e. h)
-          (λ e. if_some_elim (Has hand) (some (sequence_of p)) _ _ (λ b k. law.sets_base r.state b e (nearest_held p g (some_inj k)) h) (λ k. h))
+          (λ e. if_some_elim (Has hand) (Some (sequence_of p)) _ _ (λ b k. law.sets_base r.state b e (nearest_held p g (some_inj k)) h) (λ k. h))
 
       pub delivers_next : (hand : Option ℕ) (time : ℕ) (r : Run) → waits r ≡ 0 → Has hand r → Has hand (deliver_next time r).run
       unfolding deliver_next
@@ -428,7 +427,7 @@ module _ (P : Option ℕ → State → List Mark → Type 0) (law : RefreshLaw P
           if_elim (λ (q : DataPoll). Has hand q.run) _ _ _ (λ e. h) (λ e. polls_until_data hand time _ r h)
 
 module _ (c : Calling) (P : Option ℕ → State → List Mark → Type 0) (law : CallLaw c P)
-    (unused : (log : List Mark) (s : State) (cell : ℕ) → P (some cell) s log → is_among cell (used_cells s) ≡ false) where
+    (unused : (log : List Mark) (s : State) (cell : ℕ) → P (Some cell) s log → is_among cell (used_cells s) ≡ false) where
   -- ---- sending
 
   module _ (hand : Option ℕ) (log : List Mark) where
@@ -485,7 +484,7 @@ module _ (c : Calling) (P : Option ℕ → State → List Mark → Type 0) (law 
           (λ e. if_elim InFlow _ _ _ (λ g. h) (λ g. if_elim InFlow _ _ _ (λ k. tried _) (λ k. law.numbers _ _ (tried _))))
 
       -- a leg after another at one place
-      replays : (i id : ℕ) (m : Member) (s : State) (es : List Entry) (l : Leg) → at_place i s.members ≡ some m → P hand (put_leg i l s) log
+      replays : (i id : ℕ) (m : Member) (s : State) (es : List Entry) (l : Leg) → at_place i s.members ≡ Some m → P hand (put_leg i l s) log
           → P hand (put_leg i (replay_entries time id es l).leg s) log
       unfolding replay_entries
       replays i id m s [] l at h = h
@@ -497,11 +496,11 @@ module _ (c : Calling) (P : Option ℕ → State → List Mark → Type 0) (law 
           (law.refreshing.moves (put_leg i l s) i (with_leg l m) (with_leg k) (at_change i (with_leg l) s.members m at) (leg_send time e.length e.sequence k fits g) h)))
           (λ g. h)
 
-      replays_on : (i : ℕ) (m : Member) (l : Leg) (s : State) → at_place i s.members ≡ some m → P hand (put_leg i l s) log → InFlow (replay_on time i m l s)
+      replays_on : (i : ℕ) (m : Member) (l : Leg) (s : State) → at_place i s.members ≡ Some m → P hand (put_leg i l s) log → InFlow (replay_on time i m l s)
       unfolding replay_on
       replays_on i m l s at h = if_elim InFlow _ _ _ (λ e. h) (λ e. replays i (id_of m) m s s.send.history l at h)
 
-      replays_flight : (i : ℕ) (m : Member) (e : Entry) (s : State) → at_place i s.members ≡ some m → at_place 0 s.send.history ≡ some e → P hand s log
+      replays_flight : (i : ℕ) (m : Member) (e : Entry) (s : State) → at_place i s.members ≡ Some m → at_place 0 s.send.history ≡ Some e → P hand s log
           → InFlow (replay_flight time i m e s)
       unfolding replay_flight
       replays_flight i m e s at there h =
@@ -533,20 +532,20 @@ module _ (c : Calling) (P : Option ℕ → State → List Mark → Type 0) (law 
   -- a Backup send with a cell in hand: it succeeds and the payload is put, or it fails and the cell is still in hand
   module _ (time : ℕ) (fits : time ≤ largest_64) (log : List Mark) (cell : ℕ) (payload : List ℕ) (is : c.call ≡ call_send time payload) (short : length payload ≤ cell_size) where
     pub record Ended (f : Flow) : Type 0 where
-      pub done : eqb f.code 0 ≡ true → c.code ≡ 0 → P none f.state (put cell payload ∷ log)
-      pub failed : eqb f.code 0 ≡ false → P (some cell) f.state log
+      pub done : eqb f.code 0 ≡ true → c.code ≡ 0 → P None f.state (put cell payload ∷ log)
+      pub failed : eqb f.code 0 ≡ false → P (Some cell) f.state log
 
-    fails_with : (code : ℕ) (s : State) → eqb code 0 ≡ false → P (some cell) s log → Ended (ends_with code s)
+    fails_with : (code : ℕ) (s : State) → eqb code 0 ≡ false → P (Some cell) s log → Ended (ends_with code s)
     fails_with code s e h = record { done = λ g accepted. not_both g e; failed = λ g. h }
 
-    then_ends : (x : Flow) (f : State → Flow) → P (some cell) x.state log → (P (some cell) x.state log → Ended (f x.state)) → Ended (x and_then f)
+    then_ends : (x : Flow) (f : State → Flow) → P (Some cell) x.state log → (P (Some cell) x.state log → Ended (f x.state)) → Ended (x and_then f)
     unfolding ◌and_then◌
     then_ends x f h k =
         let y = f x.state in
         if_elim Ended (eqb x.code 0) record { state = y.state; sends = x.sends ++ y.sends; code = y.code } x
         (λ e. record { done = (k h).done; failed = (k h).failed }) (λ e. record { done = λ g accepted. not_both g e; failed = λ g. h })
 
-    sends_own : (sequence i : ℕ) (failed : Member → State → Flow) (s : State) → ((m : Member) → at_place i s.members ≡ some m → Ended (failed m s)) → P (some cell) s log
+    sends_own : (sequence i : ℕ) (failed : Member → State → Flow) (s : State) → ((m : Member) → at_place i s.members ≡ Some m → Ended (failed m s)) → P (Some cell) s log
         → Ended (send_own time (length payload) cell sequence i failed s)
     unfolding send_own record_backup_send append_history
     sends_own sequence i failed s g h =
@@ -568,19 +567,19 @@ module _ (c : Calling) (P : Option ℕ → State → List Mark → Type 0) (law 
         (λ k. g m at))
         (λ at. fails_with 24 s refl h)
 
-    sends_after_promotion : (sequence i : ℕ) (failed : Member) (s : State) → ActiveAt i s → P (some cell) s log
+    sends_after_promotion : (sequence i : ℕ) (failed : Member) (s : State) → ActiveAt i s → P (Some cell) s log
         → Ended (send_after_promotion time (length payload) cell sequence i failed s)
     unfolding send_after_promotion
     sends_after_promotion sequence i failed s active h =
-        let marked = moves_at P law.refreshing (some cell) log s i mark_send_failure s.members (λ m at. failure_move (some cell) log s m (active m at)) h in
-        let promoted = promotes P law.refreshing (some cell) log s _ marked in
+        let marked = moves_at P law.refreshing (Some cell) log s i mark_send_failure s.members (λ m at. failure_move (Some cell) log s m (active m at)) h in
+        let promoted = promotes P law.refreshing (Some cell) log s _ marked in
         if_some_elim Ended _ _ _
         (λ j g.
-        then_ends _ _ (takes_over_flight (some cell) log time fits j _ promoted)
+        then_ends _ _ (takes_over_flight (Some cell) log time fits j _ promoted)
         (λ k. sends_own sequence j _ _ (λ m at. fails_with 29 _ refl k) k))
         (λ g. fails_with 27 _ refl promoted)
 
-    sends_at_place : (i : ℕ) (s : State) → ActiveAt i s → P (some cell) s log → Ended (send_at_place time (length payload) cell i s)
+    sends_at_place : (i : ℕ) (s : State) → ActiveAt i s → P (Some cell) s log → Ended (send_at_place time (length payload) cell i s)
     unfolding send_at_place
     sends_at_place i s active h =
         if_some_elim Ended _ _ _
@@ -589,43 +588,43 @@ module _ (c : Calling) (P : Option ℕ → State → List Mark → Type 0) (law 
         (λ e. sends_own _ i _ s (λ n there. sends_after_promotion _ i n s active h) h))
         (λ at. fails_with 24 s refl h)
 
-    sends_backup : (s : State) → P (some cell) s log → Ended (send_backup time (length payload) cell s)
+    sends_backup : (s : State) → P (Some cell) s log → Ended (send_backup time (length payload) cell s)
     unfolding send_backup
     sends_backup s h =
         let ready : State = with_members (promote_if_none s.making.mode (demote_stale_backup_carrier time s.members)) s in
-        let begun : P (some cell) ready log = demotes_and_promotes (some cell) log time s.making.mode s h in
+        let begun : P (Some cell) ready log = demotes_and_promotes (Some cell) log time s.making.mode s h in
         if_some_elim Ended _ _ _
         (λ i g.
-        then_ends (take_over_backup_flight time i ready) (send_at_place time (length payload) cell i) (takes_over_flight (some cell) log time fits i ready begun)
+        then_ends (take_over_backup_flight time i ready) (send_at_place time (length payload) cell i) (takes_over_flight (Some cell) log time fits i ready begun)
         (λ k. sends_at_place i _ (take_over_active i ready (take_over_backup_flight time i ready).state (take_over_kept time i ready) (first_active_at ready i g)) k))
         (λ g. fails_with 24 ready refl begun)
 
   -- ---- bodies
 
   abbrev Keeps : Step → Type 0
-  Keeps x = P none x.state x.log
+  Keeps x = P None x.state x.log
 
   -- the last member, once it stands there
-  module _ (log : List Mark) (t : State) (i : ℕ) (m : Member) (at : at_place i t.members ≡ some m) where
-    binds_one : P none t log → P none (with_peer (peer_after t.peer (m ∷ [])) t) log
+  module _ (log : List Mark) (t : State) (i : ℕ) (m : Member) (at : at_place i t.members ≡ Some m) where
+    binds_one : P None t log → P None (with_peer (peer_after t.peer (m ∷ [])) t) log
     binds_one h =
-        peer_after_elim (λ (n : ℕ). P none (with_peer n t) log) t.peer (m ∷ []) h
+        peer_after_elim (λ (n : ℕ). P None (with_peer n t) log) t.peer (m ∷ []) h
         (λ n k x there a unbound q.
         let same = one_place m x k there in
-        subst (λ (y : Member). P none (with_peer y.leg.link.peer t) log) same (law.refreshing.binds (with_peer n t) i m at (ap arrives same ∙ a) unbound q))
+        subst (λ (y : Member). P None (with_peer y.leg.link.peer t) log) same (law.refreshing.binds (with_peer n t) i m at (ap arrives same ∙ a) unbound q))
 
-    one_source : (b : ℕ) → base_after none (m ∷ []) ≡ some b → BaseSource t b
+    one_source : (b : ℕ) → base_after None (m ∷ []) ≡ Some b → BaseSource t b
     one_source b =
-        base_after_elim (λ (o : Option ℕ). o ≡ some b → BaseSource t b) none (m ∷ []) (λ e. none_some e)
+        base_after_elim (λ (o : Option ℕ). o ≡ Some b → BaseSource t b) None (m ∷ []) (λ e. none_some e)
         (λ k x there a e.
         let same = one_place m x k there in first_of i m at (ap arrives same ∙ a) (ap (λ (y : Member). peer_initial_sequence y.leg) same ∙ e))
 
-    admits_one : P none t log → let peer = peer_after t.peer (m ∷ []) in P none (with_peer peer (with_members (change i (admit_peer_group peer) t.members) t)) log
+    admits_one : P None t log → let peer = peer_after t.peer (m ∷ []) in P None (with_peer peer (with_members (change i (admit_peer_group peer) t.members) t)) log
     admits_one h =
         let peer = peer_after t.peer (m ∷ []) in
         law.refreshing.moves (with_peer peer t) i m (admit_peer_group peer) at (admission_move (with_peer peer t) m) (binds_one h)
 
-  adds : (id weight : ℕ) (l : Leg) (queue : List Event) (s : State) → c.call ≡ call_add_member id weight l queue → Joining id weight l s → P none s [] → Keeps (add_body id weight l s)
+  adds : (id weight : ℕ) (l : Leg) (queue : List Event) (s : State) → c.call ≡ call_add_member id weight l queue → Joining id weight l s → P None s [] → Keeps (add_body id weight l s)
   unfolding add_body set_base
   adds id weight l queue s is j h =
       let m = new_member id weight (handed l) s in
@@ -633,56 +632,56 @@ module _ (c : Calling) (P : Option ℕ → State → List Mark → Type 0) (law 
       let peer = peer_after s.peer (m ∷ []) in
       let joined : State = with_members (s.members ++ (m ∷ [])) s in
       let begun = law.joins s id weight l queue is j h in
-      let Added : Run → Type 0 = λ x. P none (with_peer peer (with_members (s.members ++ (admit_peer_group peer m ∷ [])) x.state)) x.log in
-      let admitted : (t : Receive) (log : List Mark) → P none (with_receive t joined) log
-      → P none (with_peer peer (with_members (s.members ++ (admit_peer_group peer m ∷ [])) (with_receive t s))) log =
+      let Added : Run → Type 0 = λ x. P None (with_peer peer (with_members (s.members ++ (admit_peer_group peer m ∷ [])) x.state)) x.log in
+      let admitted : (t : Receive) (log : List Mark) → P None (with_receive t joined) log
+      → P None (with_peer peer (with_members (s.members ++ (admit_peer_group peer m ∷ [])) (with_receive t s))) log =
       λ t log k.
-      subst (λ (ms : List Member). P none (with_peer peer (with_members ms (with_receive t s))) log) (change_end (admit_peer_group peer) s.members m [])
+      subst (λ (ms : List Member). P None (with_peer peer (with_members ms (with_receive t s))) log) (change_end (admit_peer_group peer) s.members m [])
       (admits_one log (with_receive t joined) i m (at_end s.members m []) k)
       in
-      let added : Added (set_base (base_after none (m ∷ [])) (start s)) =
+      let added : Added (set_base (base_after None (m ∷ [])) (start s)) =
       if_some_elim Added _ _ _ (λ b e. admitted s.receive [] begun)
       (λ e.
       if_some_elim Added _ _ _
       (λ b g. admitted (with_base b s.receive) (base_set b ∷ []) (law.refreshing.sets_base joined b e (one_source [] joined i m (at_end s.members m []) b g) begun))
       (λ g. admitted s.receive [] begun))
       in
-      let based = set_base (base_after none (m ∷ [])) (start s) in
+      let based = set_base (base_after None (m ∷ [])) (start s) in
       let ns = s.members ++ (admit_peer_group peer m ∷ []) in
       if_elim Keeps _ _ _
       (λ e.
       if_some_elim Keeps _ _ _
       (λ ms g.
-      aligns P law.refreshing none based.log (with_peer peer (with_members ns based.state)) i ns ms
-      (ap (λ (x : Send). align_member_sequence (next_send_sequence x) i ns) (set_base_send (base_after none (m ∷ [])) (start s)) ∙ g) added)
+      aligns P law.refreshing None based.log (with_peer peer (with_members ns based.state)) i ns ms
+      (ap (λ (x : Send). align_member_sequence (next_send_sequence x) i ns) (set_base_send (base_after None (m ∷ [])) (start s)) ∙ g) added)
       (λ g. added))
       (λ e. added)
 
-  removes : (id : ℕ) (s : State) → c.call ≡ call_remove_member_connection id → P none s [] → Keeps (remove_body id s)
+  removes : (id : ℕ) (s : State) → c.call ≡ call_remove_member_connection id → P None s [] → Keeps (remove_body id s)
   unfolding remove_body remove_member_at
   removes id s is h =
       if_some_elim Keeps _ _ _
       (λ f e.
       let there = found_stands (has_id id) s.members f e in
-      retirements_keep (λ (t : State). P none t []) _ (λ t p far k. law.retires t id _ p is far k) _ _ (take_out f.place f.member s)
+      retirements_keep (λ (t : State). P None t []) _ (λ t p far k. law.retires t id _ p is far k) _ _ (take_out f.place f.member s)
       (law.leaves s f.place f.member
       (is ∙ ap (λ (k : ℕ). call_remove_member_connection k) (sym (eqb-true (id_of f.member) id there.is))) there.at h))
       (λ e. h)
 
-  reads_ready : (s : State) → P none s [] → Keeps (can_send_body s)
+  reads_ready : (s : State) → P None s [] → Keeps (can_send_body s)
   unfolding can_send_body
   reads_ready s h =
-      let fresh = refreshes P law.refreshing none (start s) h in
-      if_elim Keeps _ _ _ (λ e. trims_by_carrier none _ _ fresh) (λ e. fresh)
+      let fresh = refreshes P law.refreshing None (start s) h in
+      if_elim Keeps _ _ _ (λ e. trims_by_carrier None _ _ fresh) (λ e. fresh)
 
-  reads_paced_ready : (time : ℕ) (s : State) → P none s [] → Keeps (can_send_with_pacing_body time s)
+  reads_paced_ready : (time : ℕ) (s : State) → P None s [] → Keeps (can_send_with_pacing_body time s)
   unfolding can_send_with_pacing_body
   reads_paced_ready time s h =
-      let fresh = refreshes P law.refreshing none (start s) h in
-      if_elim Keeps _ _ _ (λ e. trims_by_carrier none _ _ (demotes_and_promotes none _ time s.making.mode _ fresh)) (λ e. fresh)
+      let fresh = refreshes P law.refreshing None (start s) h in
+      if_elim Keeps _ _ _ (λ e. trims_by_carrier None _ _ (demotes_and_promotes None _ time s.making.mode _ fresh)) (λ e. fresh)
 
   sends : (time : ℕ) (payload : List ℕ) → c.call ≡ call_send time payload → time ≤ largest_64 → length payload ≤ cell_size → is_backup c.from.making.mode && no_free_cell c.cells c.from ≡ false
-      → P none c.from [] → (send_body (taken_cell c.cells c.from) time payload c.from).code ≡ c.code → Keeps (send_body (taken_cell c.cells c.from) time payload c.from)
+      → P None c.from [] → (send_body (taken_cell c.cells c.from) time payload c.from).code ≡ c.code → Keeps (send_body (taken_cell c.cells c.from) time payload c.from)
   unfolding send_body send_flow left_by_send
   sends time payload is fits short free h =
       let s = c.from in
@@ -692,7 +691,7 @@ module _ (c : Calling) (P : Option ℕ → State → List Mark → Type 0) (law 
       by_test (is_backup s.making.mode)
       (λ b.
       let taken = law.takes payload (sends_it time is) (ap (λ (x : Bool). x && no_free_cell c.cells s) (sym b) ∙ free) h in
-      let fresh : P (some cell) r.state r.log = refreshes P law.refreshing (some cell) (start s) taken in
+      let fresh : P (Some cell) r.state r.log = refreshes P law.refreshing (Some cell) (start s) taken in
       let ended : Ended time fits r.log cell payload is short (send_flow cell time payload s r) =
       if_elim (Ended time fits r.log cell payload is short) _ _ _ (λ e. fails_with time fits r.log cell payload is short 23 r.state refl fresh)
       (λ e.
@@ -700,37 +699,37 @@ module _ (c : Calling) (P : Option ℕ → State → List Mark → Type 0) (law 
       in
       if_elim (λ (x : Step). x.code ≡ c.code → Keeps x) _ _ _
       (λ e ends.
-      if_elim (λ (log : List Mark). P none (send_flow cell time payload s r).state log) _ _ _ (λ g. ended.done e (sym ends)) (λ g. not_both (same ∙ b) g))
+      if_elim (λ (log : List Mark). P None (send_flow cell time payload s r).state log) _ _ _ (λ g. ended.done e (sym ends)) (λ g. not_both (same ∙ b) g))
       (λ e ends. law.lets_go _ cell (ended.failed e)))
       (λ b.
-      let fresh = refreshes P law.refreshing none (start s) h in
-      let flow : P none (send_flow cell time payload s r).state r.log =
-      if_elim (InFlow none r.log) _ _ _ (λ e. fresh)
-      (λ e. if_elim (InFlow none r.log) _ _ _ (λ g. not_both g b) (λ g. broadcasts none r.log time fits (length payload) r.state fresh))
+      let fresh = refreshes P law.refreshing None (start s) h in
+      let flow : P None (send_flow cell time payload s r).state r.log =
+      if_elim (InFlow None r.log) _ _ _ (λ e. fresh)
+      (λ e. if_elim (InFlow None r.log) _ _ _ (λ g. not_both g b) (λ g. broadcasts None r.log time fits (length payload) r.state fresh))
       in
       if_elim (λ (x : Step). x.code ≡ c.code → Keeps x) _ _ _
-      (λ e ends. if_elim (λ (log : List Mark). P none (send_flow cell time payload s r).state log) _ _ _ (λ g. not_both g (same ∙ b)) (λ g. flow))
+      (λ e ends. if_elim (λ (log : List Mark). P None (send_flow cell time payload s r).state log) _ _ _ (λ g. not_both g (same ∙ b)) (λ g. flow))
       (λ e ends. flow))
 
   queues : (id : ℕ) (d : Data) (payload : List ℕ) → c.call ≡ call_queue_data id d payload → c.code ≡ 0 → of_member id queue_full c.from ≡ false → data_unfit id d ≡ false → length payload ≤ cell_size
-      → no_free_cell c.cells c.from ≡ false → P none c.from [] → Keeps (queue_data_body id (taken_cell c.cells c.from) d payload c.from)
+      → no_free_cell c.cells c.from ≡ false → P None c.from [] → Keeps (queue_data_body id (taken_cell c.cells c.from) d payload c.from)
   unfolding queue_data_body
   queues id d payload is accepted full unfit short free h =
       let s = c.from in
       let cell = taken_cell c.cells s in
       let taken = law.takes payload (queues_it id d is) free h in
       let held = law.puts s cell payload (queues_it id d is) accepted short (unused [] s cell taken) taken in
-      named (λ (t : State). P none t (put cell payload ∷ [])) id _ s
+      named (λ (t : State). P None t (put cell payload ∷ [])) id _ s
       (λ i m at first.
       let same : id ≡ id_of m = sym (eqb-true (id_of m) id (first_such_of (λ (x : Member). Unit {0}) (has_id id) s.members m first (any_members s.members)).1) in
       law.queues_data s i m cell d payload (is ∙ ap (λ (n : ℕ). call_queue_data n d payload) same) accepted at (of_found id queue_full s m full first)
       (ap (λ (n : ℕ). data_unfit n d) (sym same) ∙ unfit) short held)
       (law.lets_go s cell held)
 
-  kept : (cs : List Check) (s : State) (body : Step) → P none s [] → Keeps body → Keeps (guard cs s body)
+  kept : (cs : List Check) (s : State) (body : Step) → P None s [] → Keeps body → Keeps (guard cs s body)
   kept cs s body h k = guard_elim Keeps cs s body (λ code. h) k
 
-  passed : (cs : List Check) (s : State) (body : Step) → P none s [] → (All (λ (c : Check). c.fails ≡ false) cs → Keeps body) → Keeps (guard cs s body)
+  passed : (cs : List Check) (s : State) (body : Step) → P None s [] → (All (λ (c : Check). c.fails ≡ false) cs → Keeps body) → Keeps (guard cs s body)
   passed cs s body h k = guard_passed Keeps cs s body (λ code. h) k
 
 -- ---- two laws together
@@ -787,8 +786,8 @@ module _ (P Q : Option ℕ → State → List Mark → Type 0) where
 -- ---- every call
 
 walks : (P : Option ℕ → State → List Mark → Type 0) (store output list : ℕ) (c : Call) (s : State) → CallLaw (calling store output list c s) P
-    → ((log : List Mark) (t : State) (cell : ℕ) → P (some cell) t log → is_among cell (used_cells t) ≡ false)
-    → P none s [] → P none (step_of store output list c s).state (step_of store output list c s).log
+    → ((log : List Mark) (t : State) (cell : ℕ) → P (Some cell) t log → is_among cell (used_cells t) ≡ false)
+    → P None s [] → P None (step_of store output list c s).state (step_of store output list c s).log
 unfolding step_of add_member mark_member_broken remove_member_connection refresh_member_states disconnect event_poll_body poll_event_call data_poll_body poll_data_call send can_send_call can_send_with_pacing_call read_leg queue_data queue_event queue_data_body
 walks P store output list (call_add_member id weight l queue) s law unused h =
     passed _ P law unused _ s _ h
@@ -806,29 +805,29 @@ walks P store output list (call_add_member id weight l queue) s law unused h =
       sequences_fit = or_right (leg_out_of_range (handed l)) _ leg;
     } h)
 walks P store output list (call_mark_member_broken id) s law unused h =
-    kept _ P law unused _ s _ h (named (λ (t : State). P none t []) id _ s (λ i m at first. law.refreshing.moves s i m _ at (turn broken_state (omega arith) (λ b. refl)) h) h)
+    kept _ P law unused _ s _ h (named (λ (t : State). P None t []) id _ s (λ i m at first. law.refreshing.moves s i m _ at (turn broken_state (omega arith) (λ b. refl)) h) h)
 walks P store output list (call_remove_member_connection id) s law unused h = kept _ P law unused _ s _ h (removes _ P law unused id s refl h)
-walks P store output list call_refresh_member_states s law unused h = kept _ P law unused _ s _ h (refreshes P law.refreshing none (start s) h)
+walks P store output list call_refresh_member_states s law unused h = kept _ P law unused _ s _ h (refreshes P law.refreshing None (start s) h)
 walks P store output list (call_disconnect time) s law unused h =
-    kept _ P law unused _ s _ h (moves_each P law.refreshing none [] s (on_leg disconnect_leg) (λ ms m. leg_end) [] s.members h)
-walks P store output list (call_poll_event time) s law unused h = kept _ P law unused _ s _ h (polls_event P law.refreshing (law.collecting (polls_events time refl)) (law.polling (polls_events time refl)) none time (start s) h)
-walks P store output list (call_poll_data_bounded time max_events) s law unused h = kept _ P law unused _ s _ h (polls_data P law.refreshing (law.collecting (polls_packets time max_events refl)) (law.polling (polls_packets time max_events refl)) none time max_events (start s) h)
+    kept _ P law unused _ s _ h (moves_each P law.refreshing None [] s (on_leg disconnect_leg) (λ ms m. leg_end) [] s.members h)
+walks P store output list (call_poll_event time) s law unused h = kept _ P law unused _ s _ h (polls_event P law.refreshing (law.collecting (polls_events time refl)) (law.polling (polls_events time refl)) None time (start s) h)
+walks P store output list (call_poll_data_bounded time max_events) s law unused h = kept _ P law unused _ s _ h (polls_data P law.refreshing (law.collecting (polls_packets time max_events refl)) (law.polling (polls_packets time max_events refl)) None time max_events (start s) h)
 walks P store output list (call_send time payload) s law unused h =
-    guard_passed (λ (x : Step). x.code ≡ (send store list time payload s).code → P none x.state x.log) _ s (send_body (taken_cell (cells_of store) s) time payload s) (λ code e. h)
+    guard_passed (λ (x : Step). x.code ≡ (send store list time payload s).code → P None x.state x.log) _ s (send_body (taken_cell (cells_of store) s) time payload s) (λ code e. h)
     (λ g. sends _ P law unused time payload refl (ltb-false largest_64 time g.1.1.0) (ltb-false cell_size (length payload) g.1.1.1.0) g.1.1.1.1.0 h)
     refl
 walks P store output list call_can_send s law unused h = kept _ P law unused _ s _ h (reads_ready _ P law unused s h)
 walks P store output list (call_can_send_with_pacing time) s law unused h = kept _ P law unused _ s _ h (reads_paced_ready _ P law unused time s h)
-walks P store output list (call_look look) s law unused h = look_elim (λ (x : Step). P none x.state x.log) look s (λ code. h) (λ answer e. h)
+walks P store output list (call_look look) s law unused h = look_elim (λ (x : Step). P None x.state x.log) look s (λ code. h) (λ answer e. h)
 walks P store output list (call_read_leg id field n) s law unused h =
     passed _ P law unused _ s _ h
     (λ g.
-    named (λ (t : State). P none t []) id _ s
+    named (λ (t : State). P None t []) id _ s
     (λ i m at first.
     law.refreshing.moves s i m _ at
     (leg_reading field n (or_right (above largest_32 id) _ g.1.0) (of_found id (λ x. goes_back field n x.leg) s m g.1.1.1.0 first)) h) h)
 walks P store output list (call_queue_data id d payload) s law unused h =
-    guard_passed (λ (x : Step). x.code ≡ (queue_data store id d payload s).code → P none x.state x.log) _ s (queue_data_body id (taken_cell (cells_of store) s) d payload s) (λ code e. h)
+    guard_passed (λ (x : Step). x.code ≡ (queue_data store id d payload s).code → P None x.state x.log) _ s (queue_data_body id (taken_cell (cells_of store) s) d payload s) (λ code e. h)
     (λ g e. queues _ P law unused id d payload refl (sym e) g.1.1.1.1.1.1.0 g.1.1.0 (ltb-false cell_size (length payload) g.1.1.1.1.0) g.1.1.1.1.1.0 h)
     refl
 walks P store output list (call_queue_event id kind reason) s law unused h =
@@ -836,17 +835,17 @@ walks P store output list (call_queue_event id kind reason) s law unused h =
     (λ g.
     let rest = or_right (above largest_32 id) _ g.1.0 in
     let kinds = or_right (eqb kind 0) _ rest in
-    named (λ (t : State). P none t []) id _ s
+    named (λ (t : State). P None t []) id _ s
     (λ i m at first.
     law.queues_event s i m id kind reason refl at (of_found id queue_full s m g.1.1.1.0 first) (or_left (eqb kind 0) _ rest) (or_left (above 3 kind) _ kinds) (or_right (above 3 kind) _ kinds) h) h)
 
 -- while a cell is in hand nothing uses it, so the walk may rely on that
 pub step_keeps : (P : Option ℕ → State → List Mark → Type 0) (store output list : ℕ) (c : Call) (s : State) → CallLaw (calling store output list c s) P
-    → P none s [] → P none (step_of store output list c s).state (step_of store output list c s).log
+    → P None s [] → P None (step_of store output list c s).state (step_of store output list c s).log
 step_keeps P store output list c s law h =
     (walks (λ hand t log. P hand t log × Unnamed hand t log) store output list c s (both_laws P Unnamed law (unnamed_moves _)) (λ log t cell h. unnamed_unused t cell h.1) (h, tt)).0
 
 pub call_keeps : (P : Option ℕ → State → List Mark → Type 0) (c : Call) (lent : Lent) (s : State) → CallLaw (called c lent s) P
-    → P none s [] → P none (perform c lent s).state (perform c lent s).log
+    → P None s [] → P None (perform c lent s).state (perform c lent s).log
 unfolding perform with_bytes
 call_keeps P c lent s law h = step_keeps P _ _ _ c s law h

@@ -1,7 +1,6 @@
 -- A flag read and written: what a test of the word says of the flag, and which word a test is written as.
-use Rattle.std.specs.Prelude.{◌≡◌, refl, Bool, true, false, not, ℕ, zero, suc, ◌≤◌, eqb}
+use Rattle.std.specs.Prelude.{◌≡◌, refl, Bool, true, false, not, ℕ, zero, suc, ◌≤◌, eqb, None, Some}
 use Rattle.std.proofs.Common.{sym, ap, arith, ne_eqb}
-use Rattle.std.proofs.Math.Option.{none, some}
 use Rattle.srt_group_model.specs.Tools.{is_set, bit, flagged}
 
 -- ---- reading: from the word to the flag, and back
@@ -39,10 +38,10 @@ set_bit (suc (suc n)) h = absurd (omega arith)
 
 -- ---- a number with its flag
 
-pub unset_none : (flag n : ℕ) → flag ≡ 0 → flagged (is_set flag) n ≡ none
+pub unset_none : (flag n : ℕ) → flag ≡ 0 → flagged (is_set flag) n ≡ None
 unfolding flagged
 unset_none flag n h = ap (λ (b : Bool). flagged b n) (zero_unset flag h)
 
-pub set_some : (flag n : ℕ) → (flag ≡ 0 → ⊥) → flagged (is_set flag) n ≡ some n
+pub set_some : (flag n : ℕ) → (flag ≡ 0 → ⊥) → flagged (is_set flag) n ≡ Some n
 unfolding flagged
 set_some flag n h = ap (λ (b : Bool). flagged b n) (other_set flag h)

@@ -1,7 +1,6 @@
 -- What alignment and a take-over leave of a member: its label, its queue, its leg's receiving side and link. And where searches stand.
-use Rattle.std.specs.Prelude.{◌≡◌, refl, Bool, true, false, ◌&&◌, List, [], ◌∷◌, ℕ, suc, eqb}
+use Rattle.std.specs.Prelude.{◌≡◌, refl, Bool, true, false, ◌&&◌, List, [], ◌∷◌, ℕ, suc, eqb, None, Option, Some}
 use Rattle.std.proofs.Common.{sym, ap, ap₂, subst, ◌∙◌, eqb-true}
-use Rattle.std.proofs.Math.Option.{Option, none, some}
 use Rattle.srt_group_model.specs.Tools.{if_true◌then◌else◌, if_some◌give◌otherwise◌, at_place, change, place_of}
 use Rattle.srt_group_model.specs.Laws.Reason.{if_elim, if_some_elim, and_left, none_some, some_inj, EachTo, each_to_same, each_to_change, each_to_none, each_to_before}
 use Rattle.srt_group_model.specs.State.{Member, State, with_leg, active_state, broken_state}
@@ -40,15 +39,15 @@ pub record SameLeg (l k : Leg) : Type 0 where
   pub link : k.link ≡ l.link
 
 abbrev pub Gives : (l : Leg) → Option Leg → Type 0
-Gives l o = (k : Leg) → o ≡ some k → SameLeg l k
+Gives l o = (k : Leg) → o ≡ Some k → SameLeg l k
 
 same_leg : (l : Leg) → SameLeg l l
 same_leg l = record { receiver = refl; link = refl }
 
-gives_some : (l k : Leg) → SameLeg l k → Gives l (some k)
+gives_some : (l k : Leg) → SameLeg l k → Gives l (Some k)
 gives_some l k h x e = subst (SameLeg l) (some_inj e) h
 
-gives_none : (l : Leg) → Gives l none
+gives_none : (l : Leg) → Gives l None
 gives_none l x e = none_some e
 
 pub send_gives : (time size sequence : ℕ) (l : Leg) → Gives l (send_shared_with_sequence time size sequence l)
@@ -70,7 +69,7 @@ pub leg_kept : (m : Member) (l : Leg) → SameLeg m.leg l → Kept m (with_leg l
 leg_kept m l h = record { membership = refl; queue = refl; receiver = h.receiver; link = h.link }
 
 -- the member at a place is the one that was looked up there
-pub put_leg_kept : (i : ℕ) (l : Leg) (m : Member) (ms : List Member) → at_place i ms ≡ some m → SameLeg m.leg l → AllKept ms (change i (with_leg l) ms)
+pub put_leg_kept : (i : ℕ) (l : Leg) (m : Member) (ms : List Member) → at_place i ms ≡ Some m → SameLeg m.leg l → AllKept ms (change i (with_leg l) ms)
 put_leg_kept i l m ms at h =
     each_to_change Kept kept_same i (with_leg l) ms
     (λ x e. leg_kept x l (subst (λ (y : Member). SameLeg y.leg l) (some_inj (sym at ∙ e)) h))
@@ -78,9 +77,9 @@ put_leg_kept i l m ms at h =
 -- ---- alignment and promotion
 
 abbrev pub Aligns : List Member → Option (List Member) → Type 0
-Aligns ms o = (ns : List Member) → o ≡ some ns → AllKept ms ns
+Aligns ms o = (ns : List Member) → o ≡ Some ns → AllKept ms ns
 
-aligns_some : (ms ns : List Member) → AllKept ms ns → Aligns ms (some ns)
+aligns_some : (ms ns : List Member) → AllKept ms ns → Aligns ms (Some ns)
 aligns_some ms ns h x e = subst (AllKept ms) (some_inj e) h
 
 pub align_kept : (number : Option ℕ) (i : ℕ) (ms : List Member) → Aligns ms (align_member_sequence number i ms)
@@ -98,13 +97,13 @@ align_kept number i ms =
 
 -- the one that is first in rank stands at its place and is a candidate
 pub record Stands (candidate : Member → Bool) (ms : List Member) (r : Placed) : Type 0 where
-  pub at : at_place r.place ms ≡ some r.member
+  pub at : at_place r.place ms ≡ Some r.member
   pub is : candidate r.member ≡ true
 
 abbrev Ranks : (Member → Bool) → List Member → Option Placed → Type 0
-Ranks candidate ms o = (r : Placed) → o ≡ some r → Stands candidate ms r
+Ranks candidate ms o = (r : Placed) → o ≡ Some r → Stands candidate ms r
 
-ranks_some : (candidate : Member → Bool) (ms : List Member) (r : Placed) → Stands candidate ms r → Ranks candidate ms (some r)
+ranks_some : (candidate : Member → Bool) (ms : List Member) (r : Placed) → Stands candidate ms r → Ranks candidate ms (Some r)
 ranks_some candidate ms r h x e = subst (Stands candidate ms) (some_inj e) h
 
 -- the one that is found does, too
@@ -120,27 +119,27 @@ found_stands test (m ∷ ms) =
 
 -- found at its place
 abbrev placed : ℕ → Member → Option Placed
-placed i m = some record { place = i; member = m }
+placed i m = Some record { place = i; member = m }
 
 abbrev placed_on : Option Placed → Option Placed
-placed_on o = if_some o give (λ f. placed (suc f.place) f.member) otherwise none
+placed_on o = if_some o give (λ f. placed (suc f.place) f.member) otherwise None
 
-pub found_at : (test : Member → Bool) (ms : List Member) (i : ℕ) (m : Member) → place_of test ms ≡ some i → at_place i ms ≡ some m
-    → found test ms ≡ some record { place = i; member = m }
+pub found_at : (test : Member → Bool) (ms : List Member) (i : ℕ) (m : Member) → place_of test ms ≡ Some i → at_place i ms ≡ Some m
+    → found test ms ≡ Some record { place = i; member = m }
 unfolding found place_of at_place if_true◌then◌else◌ if_some◌give◌otherwise◌
 found_at test [] i m is at = none_some is
 found_at test (x ∷ ms) i m is at = go (test x) (place_of test ms) (λ j there stands. found_at test ms j m there stands) is at
   where
     go : (b : Bool) (o : Option ℕ)
-        → ((j : ℕ) → o ≡ some j → at_place j ms ≡ some m → found test ms ≡ some record { place = j; member = m })
-        → (if_true b then some 0 else (if_some o give (λ j. some (suc j)) otherwise none)) ≡ some i → at_place i (x ∷ ms) ≡ some m
+        → ((j : ℕ) → o ≡ Some j → at_place j ms ≡ Some m → found test ms ≡ Some record { place = j; member = m })
+        → (if_true b then Some 0 else (if_some o give (λ j. Some (suc j)) otherwise None)) ≡ Some i → at_place i (x ∷ ms) ≡ Some m
         → (if_true b then placed 0 x else placed_on (found test ms)) ≡ placed i m
     go true o rest is at =
         let here : 0 ≡ i = some_inj is in
         let same : x ≡ m = some_inj (ap (λ (n : ℕ). at_place n (x ∷ ms)) here ∙ at) in
         λ k. placed (here k) (same k)
-    go false none rest is at = none_some is
-    go false (some j) rest is at =
+    go false None rest is at = none_some is
+    go false (Some j) rest is at =
         let here : suc j ≡ i = some_inj is in
         let h = rest j refl (ap (λ (n : ℕ). at_place n (x ∷ ms)) here ∙ at) in
         ap placed_on h ∙ (λ k. placed (here k) m)
@@ -160,28 +159,28 @@ first_in_rank_stands candidate (m ∷ ms) =
     if_elim (Ranks candidate (m ∷ ms)) _ _ _ (λ h. ranks_some candidate (m ∷ ms) _ record { at = refl; is = h })
     (λ h r e. none_some e))
 
-pub promotion_standby : (ms : List Member) (i : ℕ) → promotion ms ≡ some i → (m : Member) → at_place i ms ≡ some m → is_standby m ≡ true
+pub promotion_standby : (ms : List Member) (i : ℕ) → promotion ms ≡ Some i → (m : Member) → at_place i ms ≡ Some m → is_standby m ≡ true
 unfolding promotion
 promotion_standby ms i =
-    if_some_elim (λ (o : Option ℕ). o ≡ some i → (m : Member) → at_place i ms ≡ some m → is_standby m ≡ true) _ _ _
+    if_some_elim (λ (o : Option ℕ). o ≡ Some i → (m : Member) → at_place i ms ≡ Some m → is_standby m ≡ true) _ _ _
     (λ r g e m at.
     let stands = first_in_rank_stands is_standby ms r g in
     let place : r.place ≡ i = some_inj e in
-    let here : at_place r.place ms ≡ some m = ap (λ (k : ℕ). at_place k ms) place ∙ at in
+    let here : at_place r.place ms ≡ Some m = ap (λ (k : ℕ). at_place k ms) place ∙ at in
     ap is_standby (some_inj (sym here ∙ stands.at)) ∙ stands.is)
     (λ g e. none_some e)
 
 -- ---- sends
 
 -- the place that `place_of` finds holds one that passes the test
-pub place_passes : (test : Member → Bool) (ms : List Member) (i : ℕ) → place_of test ms ≡ some i → (m : Member) → at_place i ms ≡ some m → test m ≡ true
+pub place_passes : (test : Member → Bool) (ms : List Member) (i : ℕ) → place_of test ms ≡ Some i → (m : Member) → at_place i ms ≡ Some m → test m ≡ true
 unfolding place_of at_place
 place_passes test [] i = λ e. none_some e
 place_passes test (x ∷ ms) i =
-    if_elim (λ (o : Option ℕ). o ≡ some i → (m : Member) → at_place i (x ∷ ms) ≡ some m → test m ≡ true) _ _ _
+    if_elim (λ (o : Option ℕ). o ≡ Some i → (m : Member) → at_place i (x ∷ ms) ≡ Some m → test m ≡ true) _ _ _
     (λ t e m at. ap test (some_inj (sym at ∙ ap (λ (k : ℕ). at_place k (x ∷ ms)) (sym (some_inj e)))) ∙ t)
     (λ t.
-    if_some_elim (λ (o : Option ℕ). o ≡ some i → (m : Member) → at_place i (x ∷ ms) ≡ some m → test m ≡ true) _ _ _
+    if_some_elim (λ (o : Option ℕ). o ≡ Some i → (m : Member) → at_place i (x ∷ ms) ≡ Some m → test m ≡ true) _ _ _
     (λ k g e m at.
     place_passes test ms k g m (ap (λ (j : ℕ). at_place j (x ∷ ms)) (some_inj e) ∙ at))
     (λ g e. none_some e))
@@ -219,13 +218,13 @@ replay_entries_leg time id (e ∷ es) l =
     (λ k g. same_leg_then l k _ (send_gives time e.length e.sequence l k g) (replay_entries_leg time id es k))
     (λ g. same_leg l)
 
-replay_on_kept : (time i : ℕ) (m : Member) (l : Leg) (s : State) → at_place i s.members ≡ some m → SameLeg m.leg l → TakesOver s (replay_on time i m l s)
+replay_on_kept : (time i : ℕ) (m : Member) (l : Leg) (s : State) → at_place i s.members ≡ Some m → SameLeg m.leg l → TakesOver s (replay_on time i m l s)
 unfolding replay_on
 replay_on_kept time i m l s at h =
     if_elim (TakesOver s) _ _ _ (λ e. put_leg_kept i l m s.members at h)
     (λ e. put_leg_kept i _ m s.members at (same_leg_then m.leg l _ h (replay_entries_leg time (id_of m) s.send.history l)))
 
-replay_flight_kept : (time i : ℕ) (m : Member) (e : Entry) (s : State) → at_place i s.members ≡ some m → TakesOver s (replay_flight time i m e s)
+replay_flight_kept : (time i : ℕ) (m : Member) (e : Entry) (s : State) → at_place i s.members ≡ Some m → TakesOver s (replay_flight time i m e s)
 unfolding replay_flight
 replay_flight_kept time i m e s at =
     if_elim (TakesOver s) _ _ _ (λ h. all_kept_same s)
@@ -264,9 +263,9 @@ take_over_kept time i s =
 -- ---- one Backup send
 
 abbrev pub ActiveAt : ℕ → State → Type 0
-ActiveAt i s = (m : Member) → at_place i s.members ≡ some m → is_active m ≡ true
+ActiveAt i s = (m : Member) → at_place i s.members ≡ Some m → is_active m ≡ true
 
-pub first_active_at : (s : State) (i : ℕ) → place_of is_active s.members ≡ some i → ActiveAt i s
+pub first_active_at : (s : State) (i : ℕ) → place_of is_active s.members ≡ Some i → ActiveAt i s
 first_active_at s i e m at = place_passes is_active s.members i e m at
 
 -- a take-over leaves the member active
@@ -279,19 +278,19 @@ take_over_active i s t h active n at =
     ∙ active m before)
 
 -- A place that a search gave has a member, and has one after a take-over: so `with_member_at` refuses in no Backup send.
-place_taken : (test : Member → Bool) (ms : List Member) (i : ℕ) → place_of test ms ≡ some i → at_place i ms ≡ none → ⊥
+place_taken : (test : Member → Bool) (ms : List Member) (i : ℕ) → place_of test ms ≡ Some i → at_place i ms ≡ None → ⊥
 unfolding place_of at_place
 place_taken test [] i = λ e. none_some e
 place_taken test (x ∷ ms) i =
-    if_elim (λ (o : Option ℕ). o ≡ some i → at_place i (x ∷ ms) ≡ none → ⊥) _ _ _
+    if_elim (λ (o : Option ℕ). o ≡ Some i → at_place i (x ∷ ms) ≡ None → ⊥) _ _ _
     (λ t e at. none_some (sym at ∙ ap (λ (k : ℕ). at_place k (x ∷ ms)) (sym (some_inj e))))
     (λ t.
-    if_some_elim (λ (o : Option ℕ). o ≡ some i → at_place i (x ∷ ms) ≡ none → ⊥) _ _ _
+    if_some_elim (λ (o : Option ℕ). o ≡ Some i → at_place i (x ∷ ms) ≡ None → ⊥) _ _ _
     (λ k g e at. place_taken test ms k g (ap (λ (j : ℕ). at_place j (x ∷ ms)) (some_inj e) ∙ at))
     (λ g e. none_some e))
 
-pub searched_place_taken : (test : Member → Bool) (time i : ℕ) (s : State) → place_of test s.members ≡ some i
-    → (at_place i s.members ≡ none → ⊥) × (at_place i (take_over_backup_flight time i s).state.members ≡ none → ⊥)
+pub searched_place_taken : (test : Member → Bool) (time i : ℕ) (s : State) → place_of test s.members ≡ Some i
+    → (at_place i s.members ≡ None → ⊥) × (at_place i (take_over_backup_flight time i s).state.members ≡ None → ⊥)
 searched_place_taken test time i s searched =
     let before = place_taken test s.members i searched in
     (before, λ at. before (each_to_none Kept s.members _ (take_over_kept time i s) i at))

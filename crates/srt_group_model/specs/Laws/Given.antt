@@ -1,9 +1,8 @@
 -- The packet that a poll gives was held when it was delivered. So in a poll of a valid state its cell lies in the store, and its
 -- payload in the cell. A walk beside Steps, for what is given.
-use Rattle.std.specs.Prelude.{◌≡◌, Bool, true, List, [], ◌∷◌, eqb}
+use Rattle.std.specs.Prelude.{◌≡◌, Bool, true, List, [], ◌∷◌, eqb, Option, Some}
 use Rattle.std.proofs.Math.Path.{subst}
 use Rattle.std.proofs.Math.Bool.{false}
-use Rattle.std.proofs.Math.Option.{Option, some}
 use Prim.Native.Nat.{ℕ, zero, suc, ◌≤◌, min}
 use Rattle.std.proofs.Common.{arith}
 use Rattle.srt_protocol.specs.Cells.{cell_size}
@@ -36,7 +35,7 @@ Gave Q (event w) = Unit {0}
 Gave Q (packet p) = Q p
 
 module _ (Good : State → Type 0) (law : StateLaw Good) (Q : Packet → Type 0)
-    (held : (s : State) (base : ℕ) (p : Packet) → Good s → held_at base s.receive.pending ≡ some p → Q p) where
+    (held : (s : State) (base : ℕ) (p : Packet) → Good s → held_at base s.receive.pending ≡ Some p → Q p) where
   abbrev Ok : Poll → Type 0
   Ok q = Gave Q q.gave
 
@@ -68,7 +67,7 @@ module _ (Good : State → Type 0) (law : StateLaw Good) (Q : Packet → Type 0)
       (λ p g.
       deliver_gives _ _
       (if_some_elim (λ (q : Run). Good q.state) _ _ _ (λ n k. h)
-      (λ k. if_some_elim (λ (q : Run). Good q.state) (some (sequence_of p)) _ _ (λ n e. subst (λ (x : ℕ). Good (with_receive (with_base x r.state.receive) r.state)) (some_inj e) (law.bases _ p g h)) (λ e. h))))
+      (λ k. if_some_elim (λ (q : Run). Good q.state) (Some (sequence_of p)) _ _ (λ n e. subst (λ (x : ℕ). Good (with_receive (with_base x r.state.receive) r.state)) (some_inj e) (law.bases _ p g h)) (λ e. h))))
       (λ g. tt))
 
   event_gives : (time : ℕ) (r : Run) → Good r.state → Ok (poll_event time r)
@@ -100,14 +99,14 @@ module _ (Good : State → Type 0) (law : StateLaw Good) (Q : Packet → Type 0)
 abbrev There : Packet → List Packet → Type 0
 There p ps = PacketFit p × (1 ≤ occurs p.content.cell (pending_cells ps))
 
-there_first : (b : Bool) (q p : Packet) (qs : List Packet) (o : Option Packet) → (if_true b then some q else o) ≡ some p → PacketFit q
-    → (o ≡ some p → There p qs) → There p (q ∷ qs)
+there_first : (b : Bool) (q p : Packet) (qs : List Packet) (o : Option Packet) → (if_true b then Some q else o) ≡ Some p → PacketFit q
+    → (o ≡ Some p → There p qs) → There p (q ∷ qs)
 unfolding each occurs if_true◌then◌else◌
 there_first true q p qs o is fit later =
     subst (λ (x : Packet). There x (q ∷ qs)) (some_inj is) (fit, omega (arith, one_same q.content.cell))
 there_first false q p qs o is fit later = let found = later is in (found.0, omega (arith, found.1))
 
-first_there : (test : Packet → Bool) (ps : List Packet) (p : Packet) → first_such test ps ≡ some p → All PacketFit ps → There p ps
+first_there : (test : Packet → Bool) (ps : List Packet) (p : Packet) → first_such test ps ≡ Some p → All PacketFit ps → There p ps
 unfolding first_such
 first_there test [] p e fit = none_some e
 first_there test (q ∷ qs) p e fit =
@@ -124,7 +123,7 @@ module _ (cells : ℕ) where
   lying_law : StateLaw Lying
   lying_law = both_laws (Within (room cells)) Fit (within_law cells) fit_law
 
-  held_lies : (s : State) (base : ℕ) (p : Packet) → Lying s → held_at base s.receive.pending ≡ some p → InStore cells p
+  held_lies : (s : State) (base : ℕ) (p : Packet) → Lying s → held_at base s.receive.pending ≡ Some p → InStore cells p
   held_lies s base p h is =
       let there = first_there (has_sequence base) s.receive.pending p is h.1.pending in
       record {

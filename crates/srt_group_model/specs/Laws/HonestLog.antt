@@ -1,8 +1,7 @@
 -- The log is honest: what a poll takes off the queues is exactly what it marks as collected, leg by leg and in order. Demand 3
 -- speaks through the log of packets collected, "taken as it was queued".
-use Rattle.std.specs.Prelude.{◌≡◌, refl, Bool, true, false, List, [], ◌∷◌, ◌++◌, ℕ, zero, suc, eqb, drop}
+use Rattle.std.specs.Prelude.{◌≡◌, refl, Bool, true, false, List, [], ◌∷◌, ◌++◌, ℕ, zero, suc, eqb, drop, Some}
 use Rattle.std.proofs.Common.{sym, ap, ap₂, ◌∙◌, append_assoc, eqb-true, eq-eqb}
-use Rattle.std.proofs.Math.Option.{some}
 use Rattle.srt_group_model.specs.Tools.{if_true◌then◌else◌, any, at_place, change, each, such_that}
 use Rattle.srt_group_model.specs.Laws.Reason.{if_elim, by_test, not_both, none_some, some_inj, or_left, or_right, or_yes_left, or_yes_right}
 use Rattle.srt_group_model.specs.State.{Member, State}
@@ -24,7 +23,7 @@ use Rattle.srt_group_model.specs.Queued.{contents, queued_at, collected_from}
 
 -- ---- the front of a queue
 
-contents_data : (q : List Event) (e : Event) → front q ≡ some e → eqb e.kind 0 ≡ true → contents q ≡ e.content ∷ contents (drop 1 q)
+contents_data : (q : List Event) (e : Event) → front q ≡ Some e → eqb e.kind 0 ≡ true → contents q ≡ e.content ∷ contents (drop 1 q)
 unfolding contents such_that each at_place
 contents_data [] e f d = none_some f
 contents_data (x ∷ q) e f d =
@@ -32,7 +31,7 @@ contents_data (x ∷ q) e f d =
     (λ g. ap (λ (y : Event). y.content ∷ each (λ z. z.content) (such_that is_data q)) (some_inj f))
     (λ g. not_both (ap (λ (y : Event). eqb y.kind 0) (some_inj f) ∙ d) g)
 
-contents_event : (q : List Event) (e : Event) → front q ≡ some e → eqb e.kind 0 ≡ false → contents q ≡ contents (drop 1 q)
+contents_event : (q : List Event) (e : Event) → front q ≡ Some e → eqb e.kind 0 ≡ false → contents q ≡ contents (drop 1 q)
 unfolding contents such_that each at_place
 contents_event [] e f d = none_some f
 contents_event (x ∷ q) e f d =
@@ -42,7 +41,7 @@ contents_event (x ∷ q) e f d =
 
 -- ---- one id, one member
 
-pub among_ids : (i : ℕ) (m : Member) (ms : List Member) → at_place i ms ≡ some m → is_among (id_of m) (ids ms) ≡ true
+pub among_ids : (i : ℕ) (m : Member) (ms : List Member) → at_place i ms ≡ Some m → is_among (id_of m) (ids ms) ≡ true
 unfolding each any at_place
 among_ids zero m [] at = none_some at
 among_ids (suc i) m [] at = none_some at
@@ -71,7 +70,7 @@ past_other false true d p old new h e = ap (λ (l : List Data). p ++ l) e
 past_other false false d p old new h e = e
 
 -- an id that a later member has is no other's
-pub not_twice : (id i : ℕ) (m x : Member) (ms : List Member) → one_twice (ids (x ∷ ms)) ≡ false → at_place i ms ≡ some m → eqb (id_of m) id ≡ true → has_id id x ≡ false
+pub not_twice : (id i : ℕ) (m x : Member) (ms : List Member) → one_twice (ids (x ∷ ms)) ≡ false → at_place i ms ≡ Some m → eqb (id_of m) id ≡ true → has_id id x ≡ false
 unfolding each one_twice
 not_twice id i m x ms u at e =
     by_test (has_id id x)
@@ -85,8 +84,8 @@ pub later_once : (x : Member) (ms : List Member) → one_twice (ids (x ∷ ms)) 
 unfolding each one_twice
 later_once x ms u = or_right (is_among (id_of x) (ids ms)) _ u
 
-popped_data : (id i : ℕ) (m : Member) (e : Event) (ms : List Member) → one_twice (ids ms) ≡ false → at_place i ms ≡ some m
-    → front m.queue ≡ some e → eqb e.kind 0 ≡ true → queued_at id ms ≡ taken id m e ++ queued_at id (change i pop ms)
+popped_data : (id i : ℕ) (m : Member) (e : Event) (ms : List Member) → one_twice (ids ms) ≡ false → at_place i ms ≡ Some m
+    → front m.queue ≡ Some e → eqb e.kind 0 ≡ true → queued_at id ms ≡ taken id m e ++ queued_at id (change i pop ms)
 unfolding queued_at at_place change taken
 popped_data id zero m e [] u at f d = none_some at
 popped_data id (suc i) m e [] u at f d = none_some at
@@ -98,7 +97,7 @@ popped_data id (suc i) m e (x ∷ ms) u at f d =
     past_other (eqb (id_of m) id) (has_id id x) (e.content ∷ []) (contents x.queue) _ _ (not_twice id i m x ms u at)
     (popped_data id i m e ms (later_once x ms u) at f d)
 
-popped_event : (id i : ℕ) (m : Member) (e : Event) (ms : List Member) → at_place i ms ≡ some m → front m.queue ≡ some e
+popped_event : (id i : ℕ) (m : Member) (e : Event) (ms : List Member) → at_place i ms ≡ Some m → front m.queue ≡ Some e
     → eqb e.kind 0 ≡ false → queued_at id ms ≡ queued_at id (change i pop ms)
 unfolding queued_at at_place change
 popped_event id zero m e [] at f d = none_some at

@@ -1,10 +1,9 @@
 -- The cells in use, move by move: no move makes a cell used more often, but that the cell in hand is named where the call queues or
 -- remembers its payload. So what fewer uses keep is kept by every move, and while a cell is in hand nothing uses it.
-use Rattle.std.specs.Prelude.{◌≡◌, refl, Bool, true, false, List, [], ◌∷◌, ◌++◌, ℕ, zero, suc, ◌+◌, ◌≤◌, leb, eqb, length, drop}
+use Rattle.std.specs.Prelude.{◌≡◌, refl, Bool, true, false, List, [], ◌∷◌, ◌++◌, ℕ, zero, suc, ◌+◌, ◌≤◌, leb, eqb, length, drop, None, Option, Some}
 use Rattle.std.proofs.Common.{sym, ◌∙◌, arith}
 use Rattle.std.proofs.Math.Path.{ap}
 use Rattle.std.proofs.Math.Bool.{not}
-use Rattle.std.proofs.Math.Option.{Option, none, some}
 use Rattle.srt_group_model.specs.Tools.{if_true◌then◌else◌, such_that, change, each, without_place}
 use Rattle.srt_group_model.specs.Laws.Reason.{if_elim, if_some_elim, by_test, not_both, none_some}
 use Rattle.srt_group_model.specs.State.{Member, Send, State, on_leg, on_account}
@@ -204,8 +203,8 @@ module _ (P : Option ℕ → State → List Mark → Type 0)
       }
 
   -- and what naming the cell in hand keeps
-  pub fewer_moves : (k : Calling) → (no_free_cell k.cells k.from ≡ false → P none k.from [] → P (some (taken_cell k.cells k.from)) k.from [])
-      → ((log : List Mark) (s t : State) (cell : ℕ) → ((n : ℕ) → used n t ≤ used n s + one cell n) → P (some cell) s log → P none t log)
+  pub fewer_moves : (k : Calling) → (no_free_cell k.cells k.from ≡ false → P None k.from [] → P (Some (taken_cell k.cells k.from)) k.from [])
+      → ((log : List Mark) (s t : State) (cell : ℕ) → ((n : ℕ) → used n t ≤ used n s + one cell n) → P (Some cell) s log → P None t log)
       → CallLaw k P
   unfolding take_out retire queue_cells
   fewer_moves k takes names =
@@ -237,12 +236,12 @@ module _ (P : Option ℕ → State → List Mark → Type 0)
 -- ---- nothing uses the cell in hand
 
 abbrev pub Unnamed : Option ℕ → State → List Mark → Type 0
-Unnamed none s log = Unit {0}
-Unnamed (some cell) s log = used cell s ≡ 0
+Unnamed None s log = Unit {0}
+Unnamed (Some cell) s log = used cell s ≡ 0
 
 fewer_unnamed : (hand : Option ℕ) (log later : List Mark) (s t : State) → ((n : ℕ) → used n t ≤ used n s) → Unnamed hand s log → Unnamed hand t later
-fewer_unnamed none log later s t fewer h = tt
-fewer_unnamed (some cell) log later s t fewer h = omega (arith, fewer cell, h)
+fewer_unnamed None log later s t fewer h = tt
+fewer_unnamed (Some cell) log later s t fewer h = omega (arith, fewer cell, h)
 
 pub unnamed_moves : (k : Calling) → CallLaw k Unnamed
 unnamed_moves k =

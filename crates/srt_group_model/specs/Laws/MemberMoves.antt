@@ -1,7 +1,6 @@
 -- What stays with a member whose label or leg moves: the frame of the moves of CallLaw, for the laws that do not look closer.
-use Rattle.std.specs.Prelude.{◌≡◌, refl, true, List, ℕ, eqb}
+use Rattle.std.specs.Prelude.{◌≡◌, refl, true, List, ℕ, eqb, Some}
 use Rattle.std.proofs.Common.{sym, ap, subst, ◌∙◌}
-use Rattle.std.proofs.Math.Option.{some}
 use Rattle.srt_group_model.specs.Tools.{at_place, change, All}
 use Rattle.srt_group_model.specs.Laws.Reason.{if_some_elim, some_inj, first_such_of, EachTo, each_to_change}
 use Rattle.srt_group_model.specs.State.{Member, State, broken_state, with_leg}
@@ -24,7 +23,7 @@ unfolding readings LeavesBoth
 readings_leave =
     (λ n l. (refl, refl), (λ n l. (refl, refl), (λ n l. (refl, refl), (λ n l. (refl, refl), (λ n l. (refl, refl), (λ n l. (refl, refl), (λ n l. (refl, refl), (λ n l. (refl, refl), (λ n l. (refl, refl), (λ n l. (refl, refl), (λ n l. (refl, refl), (λ n l. (refl, refl), tt))))))))))))
 
-reading_leaves : (field : ℕ) (r : Reading) → reading_of field ≡ some r → LeavesBoth r
+reading_leaves : (field : ℕ) (r : Reading) → reading_of field ≡ Some r → LeavesBoth r
 unfolding reading_of
 reading_leaves field r e = (first_such_of LeavesBoth _ readings r e readings_leave).0
 
@@ -76,15 +75,15 @@ moved_account {s} {m} (leg_reading field n fits forth) =
 moved_account (advance base count) = record { id = refl; queue = refl; account = refl; reservation = refl; first = refl; broken = λ b. b }
 
 -- the member at a place moves, and the others stay
-pub moved_at : (R : Member → Member → Type 0) → ((m : Member) → R m m) → (i : ℕ) (m : Member) (f : Member → Member) (ms : List Member) → at_place i ms ≡ some m
+pub moved_at : (R : Member → Member → Type 0) → ((m : Member) → R m m) → (i : ℕ) (m : Member) (f : Member → Member) (ms : List Member) → at_place i ms ≡ Some m
     → R m (f m) → EachTo R ms (change i f ms)
 moved_at R r i m f ms at h = each_to_change R r i f ms (λ x e. subst (λ (y : Member). R y (f y)) (some_inj (sym at ∙ e)) h)
 
-pub moved_accounts : {s : State} (i : ℕ) (m : Member) (f : Member → Member) (ms : List Member) → at_place i ms ≡ some m → MemberMove s m (f m) → EachTo SameAccount ms (change i f ms)
+pub moved_accounts : {s : State} (i : ℕ) (m : Member) (f : Member → Member) (ms : List Member) → at_place i ms ≡ Some m → MemberMove s m (f m) → EachTo SameAccount ms (change i f ms)
 moved_accounts i m f ms at move = moved_at SameAccount same_account i m f ms at (moved_account move)
 
 pub account_relabelled : (m n : Member) → SameAccount m n → Relabelled m n
 account_relabelled m n h = record { id = h.id; queue = h.queue; broken = h.broken }
 
-pub moved_relabelled : {s : State} (i : ℕ) (m : Member) (f : Member → Member) (ms : List Member) → at_place i ms ≡ some m → MemberMove s m (f m) → AllRelabelled ms (change i f ms)
+pub moved_relabelled : {s : State} (i : ℕ) (m : Member) (f : Member → Member) (ms : List Member) → at_place i ms ≡ Some m → MemberMove s m (f m) → AllRelabelled ms (change i f ms)
 moved_relabelled i m f ms at move = moved_at Relabelled relabelled_same i m f ms at (account_relabelled m (f m) (moved_account move))

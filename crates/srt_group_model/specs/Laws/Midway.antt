@@ -1,10 +1,9 @@
 -- What a call leaves that ends midway, with 22 to 29: document 01, "The Rust's own, in its order, leaving what it leaves". What no refused call
 -- moves (`refused_stays`), 22 at an addition (`addition_22`), and a refused send (`send_refused`).
-use Rattle.std.specs.Prelude.{◌≡◌, Bool, true, false, not, ◌&&◌, ◌||◌, eqb, length}
+use Rattle.std.specs.Prelude.{◌≡◌, Bool, true, false, not, ◌&&◌, ◌||◌, eqb, length, None, Option, Some}
 use Rattle.std.proofs.Math.Path.{refl}
 use Rattle.std.proofs.Common.{sym, ap, subst, ◌∙◌, eq-eqb, eqb-true}
 use mathlib.Core.List.{List, [], ◌∷◌, ◌++◌, append_assoc}
-use Rattle.std.proofs.Math.Option.{Option, none, some}
 use Prim.Native.Nat.{ℕ, zero, suc}
 use Rattle.std.proofs.lemmas.Bool.{not-true}
 use Rattle.srt_protocol.specs.Cells.{cells_of, overwritten}
@@ -48,7 +47,7 @@ pub record Stays (s t : State) : Type 0 where
   pub making : t.making ≡ s.making
   -- a peer group, once the group is bound to it; a base, once it is set
   pub peer : eqb s.peer 0 ≡ false → t.peer ≡ s.peer
-  pub base : (b : ℕ) → next_receive_sequence s.receive ≡ some b → t.receive ≡ s.receive
+  pub base : (b : ℕ) → next_receive_sequence s.receive ≡ Some b → t.receive ≡ s.receive
   pub pending : t.receive.pending ≡ s.receive.pending
   pub skipped : t.receive.numbers.skipped ≡ s.receive.numbers.skipped
   pub send : OnlyTrimmed s.send t.send
@@ -193,7 +192,7 @@ align_carrier_left i s =
 
 -- a member stands at the place
 abbrev Taken : ℕ → State → Type 0
-Taken i s = at_place i s.members ≡ none → ⊥
+Taken i s = at_place i s.members ≡ None → ⊥
 
 take_over_left : (time i : ℕ) (s : State) → Taken i s → Left s.send (take_over_backup_flight time i s)
 unfolding take_over_backup_flight
@@ -259,7 +258,7 @@ readied time s = promote_if_none s.making.mode (demote_stale_backup_carrier time
 record BackupLeft (time : ℕ) (s : State) (f : Flow) : Type 0 where
   send : OnlyTrimmed s.send f.state.send
   sends : All (Replays s.send.history) f.sends
-  at_24 : eqb f.code 24 ≡ true → (first_active (readied time s) ≡ none) × (f ≡ ends_with 24 (with_members (readied time s) s))
+  at_24 : eqb f.code 24 ≡ true → (first_active (readied time s) ≡ None) × (f ≡ ends_with 24 (with_members (readied time s) s))
 
 backup_left : (time size cell : ℕ) (s : State) → eqb (send_backup time size cell s).code 0 ≡ false → BackupLeft time s (send_backup time size cell s)
 unfolding send_backup
@@ -278,22 +277,22 @@ backup_left time size cell s =
 -- ---- 24 in Backup: where no leg is active, neither silence nor promotion has moved a label
 
 module _ {A : Type 0} (test : A → Bool) where
-  place_none : (l : List A) → place_of test l ≡ none → any test l ≡ false
+  place_none : (l : List A) → place_of test l ≡ None → any test l ≡ false
   unfolding place_of any
   place_none [] = λ e. refl
   place_none (x ∷ xs) =
-      if_elim (λ (o : Option ℕ). o ≡ none → test x || any test xs ≡ false) (test x) _ _ (λ t e. none_some (sym e))
+      if_elim (λ (o : Option ℕ). o ≡ None → test x || any test xs ≡ false) (test x) _ _ (λ t e. none_some (sym e))
       (λ t.
-      if_some_elim (λ (o : Option ℕ). o ≡ none → test x || any test xs ≡ false) (place_of test xs) _ _ (λ k g e. none_some (sym e))
+      if_some_elim (λ (o : Option ℕ). o ≡ None → test x || any test xs ≡ false) (place_of test xs) _ _ (λ k g e. none_some (sym e))
       (λ g e. no_either (test x) _ t (place_none xs g)))
 
-  at_any : (l : List A) (i : ℕ) (a : A) → at_place i l ≡ some a → test a ≡ true → any test l ≡ true
+  at_any : (l : List A) (i : ℕ) (a : A) → at_place i l ≡ Some a → test a ≡ true → any test l ≡ true
   unfolding at_place any
   at_any [] i a e t = none_some e
   at_any (x ∷ xs) zero a e t = or_yes_left (test x) _ (ap test (some_inj e) ∙ t)
   at_any (x ∷ xs) (suc i) a e t = or_yes_right (test x) _ (at_any xs i a e t)
 
-  any_change : (i : ℕ) (f : A → A) (l : List A) → any test l ≡ true → ((a : A) → at_place i l ≡ some a → test a ≡ false) → any test (change i f l) ≡ true
+  any_change : (i : ℕ) (f : A → A) (l : List A) → any test l ≡ true → ((a : A) → at_place i l ≡ Some a → test a ≡ false) → any test (change i f l) ≡ true
   unfolding at_place any change
   any_change i f [] h fails = h
   any_change zero f (x ∷ xs) h fails = or_cases (test x) (any test xs) h (λ t. not_both t (fails x refl)) (λ t. or_yes_right (test (f x)) _ t)
@@ -306,13 +305,13 @@ change_same i f [] h = refl
 change_same zero f (x ∷ xs) h = ap (λ y. y ∷ xs) (h x)
 change_same (suc i) f (x ∷ xs) h = ap (λ ys. x ∷ ys) (change_same i f xs h)
 
-rank_none : (candidate : Member → Bool) (ms : List Member) → first_in_rank candidate ms ≡ none → any candidate ms ≡ false
+rank_none : (candidate : Member → Bool) (ms : List Member) → first_in_rank candidate ms ≡ None → any candidate ms ≡ false
 unfolding first_in_rank any
 rank_none candidate [] = λ e. refl
 rank_none candidate (m ∷ ms) =
-    if_some_elim (λ (o : Option Placed). o ≡ none → candidate m || any candidate ms ≡ false) (first_in_rank candidate ms) _ _ (λ r g e. none_some (sym e))
+    if_some_elim (λ (o : Option Placed). o ≡ None → candidate m || any candidate ms ≡ false) (first_in_rank candidate ms) _ _ (λ r g e. none_some (sym e))
     (λ g.
-    if_elim (λ (o : Option Placed). o ≡ none → candidate m || any candidate ms ≡ false) (candidate m) _ _ (λ t e. none_some (sym e))
+    if_elim (λ (o : Option Placed). o ≡ None → candidate m || any candidate ms ≡ false) (candidate m) _ _ (λ t e. none_some (sym e))
     (λ t e. no_either (candidate m) _ t (rank_none candidate ms g)))
 
 active_not_standby : (m : Member) → is_active m ≡ true → is_standby m ≡ false
@@ -321,13 +320,13 @@ active_not_standby m h =
     ap (λ (n : ℕ). eqb n standby_state && is_connected m.leg) (eqb-true m.membership.state active_state (and_left _ _ h))
 
 -- a connected Standby that is promoted is active
-promoted_active : (ms : List Member) (i : ℕ) → promotion ms ≡ some i → any is_active (change i (turned active_state) ms) ≡ true
+promoted_active : (ms : List Member) (i : ℕ) → promotion ms ≡ Some i → any is_active (change i (turned active_state) ms) ≡ true
 unfolding promotion is_active is_standby
 promoted_active ms i =
-    if_some_elim (λ (o : Option ℕ). o ≡ some i → any is_active (change i (turned active_state) ms) ≡ true) (first_in_rank is_standby ms) _ _
+    if_some_elim (λ (o : Option ℕ). o ≡ Some i → any is_active (change i (turned active_state) ms) ≡ true) (first_in_rank is_standby ms) _ _
     (λ r g e.
     let stands = first_in_rank_stands is_standby ms r g in
-    let at : at_place i ms ≡ some r.member = subst (λ (k : ℕ). at_place k ms ≡ some r.member) (some_inj e) stands.at in
+    let at : at_place i ms ≡ Some r.member = subst (λ (k : ℕ). at_place k ms ≡ Some r.member) (some_inj e) stands.at in
     at_any is_active (change i (turned active_state) ms) i (turned active_state r.member) (at_change i (turned active_state) ms r.member at)
     (and_right (eqb r.member.membership.state standby_state) _ stands.is))
     (λ g e. none_some e)
@@ -344,7 +343,7 @@ no_standby_undemoted time ms =
     (λ t. change_same i _ ms (λ m. when_false (any is_standby ms && is_stale time m.leg) _ _ (ap (λ (b : Bool). b && is_stale time m.leg) t))))
     (λ g alone. refl)
 
-none_readied : (mode time : ℕ) (ms : List Member) → is_backup mode ≡ true → first_active (promote_if_none mode (demote_stale_backup_carrier time ms)) ≡ none
+none_readied : (mode time : ℕ) (ms : List Member) → is_backup mode ≡ true → first_active (promote_if_none mode (demote_stale_backup_carrier time ms)) ≡ None
     → promote_if_none mode (demote_stale_backup_carrier time ms) ≡ ms
 unfolding promote_if_none promote_backup_member promotion
 none_readied mode time ms backup =
@@ -358,11 +357,11 @@ none_readied mode time ms backup =
     not_both (and_yes (is_backup mode) (not (has_active_member silent)) backup (ap not (place_none is_active silent none_active))) t)
   where
     Unmoved : List Member → Type 0
-    Unmoved l = first_active l ≡ none → l ≡ ms
+    Unmoved l = first_active l ≡ None → l ≡ ms
 
-    standby_none : (l : List Member) → promotion l ≡ none → any is_standby l ≡ false
+    standby_none : (l : List Member) → promotion l ≡ None → any is_standby l ≡ false
     standby_none l =
-        if_some_elim (λ (o : Option ℕ). o ≡ none → any is_standby l ≡ false) (first_in_rank is_standby l) _ _ (λ r g e. none_some (sym e))
+        if_some_elim (λ (o : Option ℕ). o ≡ None → any is_standby l ≡ false) (first_in_rank is_standby l) _ _ (λ r g e. none_some (sym e))
         (λ g e. rank_none is_standby l g)
 
 -- ---- Broadcast, refused
@@ -391,7 +390,7 @@ record Based (s t : State) : Type 0 where
   rest : with_receive s.receive t ≡ s
   pending : t.receive.pending ≡ s.receive.pending
   skipped : t.receive.numbers.skipped ≡ s.receive.numbers.skipped
-  base : (b : ℕ) → next_receive_sequence s.receive ≡ some b → t.receive ≡ s.receive
+  base : (b : ℕ) → next_receive_sequence s.receive ≡ Some b → t.receive ≡ s.receive
 
 set_base_based : (o : Option ℕ) (r : Run) → Based r.state (set_base o r).state
 unfolding set_base
@@ -407,7 +406,7 @@ set_base_based o r =
 pub record Admits (s t : State) : Type 0 where
   pub rest : with_members s.members (with_peer s.peer (with_receive s.receive t)) ≡ s
   pub peer : eqb s.peer 0 ≡ false → t.peer ≡ s.peer
-  pub base : (b : ℕ) → next_receive_sequence s.receive ≡ some b → t.receive ≡ s.receive
+  pub base : (b : ℕ) → next_receive_sequence s.receive ≡ Some b → t.receive ≡ s.receive
   pub pending : t.receive.pending ≡ s.receive.pending
   pub skipped : t.receive.numbers.skipped ≡ s.receive.numbers.skipped
 
@@ -429,7 +428,7 @@ refresh_admits : (s : State) → Admits s (refresh_states (start s)).state
 unfolding refresh_states refresh_pending_states admit_connected_peer_groups
 refresh_admits s =
     based_admits s _ (peer_after s.peer s.members) (refresh_states (start s)).state.members
-    (set_base_based (base_after none s.members) (start s)) (peer_after_bound s.peer s.members)
+    (set_base_based (base_after None s.members) (start s)) (peer_after_bound s.peer s.members)
 
 -- ---- what a refused call leaves
 
@@ -554,7 +553,7 @@ add_stays id weight l queue s =
     (if_elim (RefusedStays s) _ _ _
     (λ e.
     if_some_elim (RefusedStays s) _ _ _ (λ ms g h. absurd (h refl))
-    (λ g h. admits_stays s _ (based_admits s _ _ _ (set_base_based (base_after none (m ∷ [])) (start s)) (peer_after_bound s.peer (m ∷ [])))))
+    (λ g h. admits_stays s _ (based_admits s _ _ _ (set_base_based (base_after None (m ∷ [])) (start s)) (peer_after_bound s.peer (m ∷ [])))))
     (λ e h. absurd (h refl)))
 
 only_trimmed_by : (store list time : ℕ) (payload : List ℕ) (s : State) → ((send store list time payload s).code ≡ 0 → ⊥)
@@ -630,7 +629,7 @@ addition_22 id weight l queue lent s =
     (λ g h.
     record {
       members = refl;
-      send = ap (λ (x : State). x.send) (set_base_based (base_after none (m ∷ [])) (start s)).rest;
+      send = ap (λ (x : State). x.send) (set_base_based (base_after None (m ∷ [])) (start s)).rest;
       lent_same = refl;
       rows = refl;
     }))

@@ -1,8 +1,7 @@
 -- What receiving can move. A `Law` names the few moves, and one walk shows that whatever they keep is kept by every call, with
 -- its log. The laws of the skipped total, of the base and demand 3 are instances.
-use Rattle.std.specs.Prelude.{◌≡◌, refl, true, false, not, List, ◌∷◌, ℕ, zero, suc}
+use Rattle.std.specs.Prelude.{◌≡◌, refl, true, false, not, List, ◌∷◌, ℕ, zero, suc, None, Some}
 use Rattle.std.proofs.Common.{sym, ap, ◌∙◌}
-use Rattle.std.proofs.Math.Option.{none, some}
 use Rattle.srt_protocol.specs.Sequence.{sequence_distance}
 use Rattle.srt_group_model.specs.Tools.{is_set, flagged, such_that, each}
 use Rattle.srt_group_model.specs.Laws.Reason.{if_elim, if_some_elim, not_both, none_some, or_right}
@@ -20,16 +19,16 @@ use Rattle.srt_group_model.specs.declared.Packet.{Packet}
 
 pub record Law (I : Receive → List Mark → Type 0) : Type 0 where
   -- the base is set, once
-  pub sets_base : (x : Receive) (log : List Mark) (b : ℕ) → next_receive_sequence x ≡ none → I x log → I (with_base b x) (base_set b ∷ log)
+  pub sets_base : (x : Receive) (log : List Mark) (b : ℕ) → next_receive_sequence x ≡ None → I x log → I (with_base b x) (base_set b ∷ log)
   -- a packet is collected, and retained or discarded
   pub retains : (x : Receive) (log : List Mark) (p : Packet) → is_discarded p x ≡ false → I x log → I (with_pending (insert p x.pending) x) (collected p ∷ log)
   pub discards : (x : Receive) (log : List Mark) (p : Packet) → is_discarded p x ≡ true → I x log → I x (collected p ∷ log)
   -- a gap before the nearest packet is skipped, the base not being held
   pub skips : (x : Receive) (log : List Mark) (base : ℕ) (p : Packet) (tested : State) (time : ℕ)
-      → next_receive_sequence x ≡ some base → is_held base x.pending ≡ false → nearest x.pending ≡ some p → I x log
+      → next_receive_sequence x ≡ Some base → is_held base x.pending ≡ false → nearest x.pending ≡ Some p → I x log
       → I (skip_to base (sequence_of p) x) (gap_skipped tested time (sequence_distance base (sequence_of p)) ∷ log)
   -- the packet at the base is delivered
-  pub delivers : (x : Receive) (log : List Mark) (base : ℕ) (p : Packet) → next_receive_sequence x ≡ some base → held_at base x.pending ≡ some p → I x log → I (pass_run base p x) (delivered p ∷ log)
+  pub delivers : (x : Receive) (log : List Mark) (base : ℕ) (p : Packet) → next_receive_sequence x ≡ Some base → held_at base x.pending ≡ Some p → I x log → I (pass_run base p x) (delivered p ∷ log)
   -- a removed leg's packets become the group's own, and one of those is retired
   pub owns : (x : Receive) (log : List Mark) (id : ℕ) → I x log → I (with_pending (each (own_packet id) x.pending) x) log
   pub retires : (x : Receive) (log : List Mark) (p : Packet) → I x log → I (with_pending (such_that (λ q. not (has_sequence (sequence_of p) q)) x.pending) x) log
@@ -110,15 +109,15 @@ pub until_empty_base : (n sequence : ℕ) (r : Run)
 until_empty_base n sequence r = ap (λ (x : Receiving). flagged (is_set x.based) x.base) (until_empty_numbers n sequence r)
 
 -- after a skip, and after the base was set, it is where it was put
-pub skip_base : (base next : ℕ) (x : Receive) → next_receive_sequence (skip_to base next x) ≡ some next
+pub skip_base : (base next : ℕ) (x : Receive) → next_receive_sequence (skip_to base next x) ≡ Some next
 unfolding skip_to flagged
 skip_base base next x = refl
 
 abbrev pub AtBase : ℕ → Run → Type 0
-AtBase n r = next_receive_sequence r.state.receive ≡ some n
+AtBase n r = next_receive_sequence r.state.receive ≡ Some n
 
-pub set_base_base : (n : ℕ) (r : Run) → next_receive_sequence r.state.receive ≡ none → AtBase n (set_base (some n) r)
+pub set_base_base : (n : ℕ) (r : Run) → next_receive_sequence r.state.receive ≡ None → AtBase n (set_base (Some n) r)
 unfolding set_base flagged
 set_base_base n r e =
     if_some_elim (AtBase n) _ _ _ (λ b g. none_some (sym e ∙ g))
-    (λ g. if_some_elim (AtBase n) (some n) _ _ (λ b k. sym k) (λ k. none_some (sym k)))
+    (λ g. if_some_elim (AtBase n) (Some n) _ _ (λ b k. sym k) (λ k. none_some (sym k)))

@@ -1,8 +1,7 @@
 -- Why the nearest held packet is the right one: where all held packets lie within half a circle ahead of the base, it is the one
 -- least far ahead. Document 01, "Nearest held packet".
-use Rattle.std.specs.Prelude.{◌≡◌, refl, Bool, true, List, [], ◌∷◌, ℕ, ◌+◌, ◌≤◌, ◌<◌, leb}
+use Rattle.std.specs.Prelude.{◌≡◌, refl, Bool, true, List, [], ◌∷◌, ℕ, ◌+◌, ◌≤◌, ◌<◌, leb, None, Option, Some}
 use Rattle.std.proofs.Common.{sym, subst, inl, inr, arith, leb-true, leb-false, le-leb}
-use Rattle.std.proofs.Math.Option.{Option, none, some}
 use Rattle.srt_protocol.specs.Circle.{distance}
 use Rattle.srt_protocol.specs.Sequence.{half, sequence_distance}
 use Rattle.srt_group_model.specs.Laws.Circle.{ways}
@@ -14,30 +13,30 @@ use Rattle.srt_group_model.specs.declared.Packet.{Packet}
 -- ---- the lowest
 
 -- it is one of them
-lowest_is : (P : Packet → Type 0) (ps : List Packet) (p : Packet) → lowest ps ≡ some p → All P ps → P p
+lowest_is : (P : Packet → Type 0) (ps : List Packet) (p : Packet) → lowest ps ≡ Some p → All P ps → P p
 unfolding lowest
 lowest_is P [] p = λ e h. none_some e
 lowest_is P (q ∷ qs) p =
-    if_some_elim (λ (o : Option Packet). o ≡ some p → All P (q ∷ qs) → P p) _ _ _
+    if_some_elim (λ (o : Option Packet). o ≡ Some p → All P (q ∷ qs) → P p) _ _ _
     (λ r g e h.
     if_elim (λ (x : Packet). x ≡ p → P p) _ _ _ (λ t k. subst P k h.0) (λ t k. subst P k (lowest_is P qs r g h.1)) (some_inj e))
     (λ g e h. subst P (some_inj e) h.0)
 
-none_lowest : (P : Packet → Type 0) (ps : List Packet) → lowest ps ≡ none → All P ps
+none_lowest : (P : Packet → Type 0) (ps : List Packet) → lowest ps ≡ None → All P ps
 unfolding lowest
 none_lowest P [] = λ e. tt
 none_lowest P (q ∷ qs) =
-    if_some_elim (λ (o : Option Packet). o ≡ none → All P (q ∷ qs)) _ _ _ (λ r g e. none_some (sym e)) (λ g e. none_some (sym e))
+    if_some_elim (λ (o : Option Packet). o ≡ None → All P (q ∷ qs)) _ _ _ (λ r g e. none_some (sym e)) (λ g e. none_some (sym e))
 
 abbrev AtLeast : ℕ → List Packet → Type 0
 AtLeast n = All (λ (q : Packet). n ≤ sequence_of q)
 
 -- and no other is lower
-lowest_least : (ps : List Packet) (p : Packet) → lowest ps ≡ some p → AtLeast (sequence_of p) ps
+lowest_least : (ps : List Packet) (p : Packet) → lowest ps ≡ Some p → AtLeast (sequence_of p) ps
 unfolding lowest
 lowest_least [] p = λ e. none_some e
 lowest_least (q ∷ qs) p =
-    if_some_elim (λ (o : Option Packet). o ≡ some p → AtLeast (sequence_of p) (q ∷ qs)) _ _ _
+    if_some_elim (λ (o : Option Packet). o ≡ Some p → AtLeast (sequence_of p) (q ∷ qs)) _ _ _
     (λ r g e.
     if_elim (λ (x : Packet). x ≡ p → AtLeast (sequence_of p) (q ∷ qs)) _ _ _
     (λ t k.
@@ -95,16 +94,16 @@ abbrev pub Ahead : ℕ → Packet → Type 0
 Ahead base p = (sequence_of p < half + half) × (sequence_distance base (sequence_of p) < half)
 
 abbrev LeastFar : ℕ → List Packet → Option Packet → Type 0
-LeastFar base ps o = (p : Packet) → o ≡ some p → All (λ (q : Packet). sequence_distance base (sequence_of p) ≤ sequence_distance base (sequence_of q)) ps
+LeastFar base ps o = (p : Packet) → o ≡ Some p → All (λ (q : Packet). sequence_distance base (sequence_of p) ≤ sequence_distance base (sequence_of q)) ps
 
 all_two : (P Q R S : Packet → Type 0) → ((q : Packet) → P q → Q q → R q → S q) → (ps : List Packet) → All P ps → All Q ps → All R ps → All S ps
 all_two P Q R S f [] a b c = tt
 all_two P Q R S f (q ∷ qs) a b c = (f q a.0 b.0 c.0, all_two P Q R S f qs a.1 b.1 c.1)
 
-chosen_least : (base : ℕ) (ps : List Packet) (low : Packet) → base < half + half → All (Ahead base) ps → lowest ps ≡ some low
-    → (o : Option Packet) → lowest (such_that (λ p. leb (sequence_of low + half) (sequence_of p)) ps) ≡ o → LeastFar base ps (or_else o (some low))
+chosen_least : (base : ℕ) (ps : List Packet) (low : Packet) → base < half + half → All (Ahead base) ps → lowest ps ≡ Some low
+    → (o : Option Packet) → lowest (such_that (λ p. leb (sequence_of low + half) (sequence_of p)) ps) ≡ o → LeastFar base ps (or_else o (Some low))
 unfolding or_else
-chosen_least base ps low a h g none e p k =
+chosen_least base ps low a h g None e p k =
     let mine = lowest_is (Ahead base) ps low g h in
     let none_far = of_chosen (λ (q : Packet). ⊥) (λ q. leb (sequence_of low + half) (sequence_of q)) ps (none_lowest (λ (q : Packet). ⊥) _ e) in
     subst (λ (x : Packet). All (λ (q : Packet). sequence_distance base (sequence_of x) ≤ sequence_distance base (sequence_of q)) ps) (some_inj k)
@@ -113,7 +112,7 @@ chosen_least base ps low a h g none e p k =
     unwrapped half base (sequence_of low) (sequence_of q) a mine.0 ahead.0 mine.1 ahead.1 least
     (by_test (leb (sequence_of low + half) (sequence_of q)) (λ t. absurd (far t)) (λ t. leb-false (sequence_of low + half) (sequence_of q) t)))
     ps h (lowest_least ps low g) none_far)
-chosen_least base ps low a h g (some x) e p k =
+chosen_least base ps low a h g (Some x) e p k =
     let mine = lowest_is (Ahead base) ps low g h in
     let far : Packet → Bool = λ q. leb (sequence_of low + half) (sequence_of q) in
     let chosen = lowest_is (λ (q : Packet). Ahead base q × (far q ≡ true)) (such_that far ps) x e (chosen_all (Ahead base) far ps h) in
@@ -126,7 +125,7 @@ chosen_least base ps low a h g (some x) e p k =
     ps h (lowest_least ps low g) best)
 
 -- The nearest is the one least far ahead of the base.
-pub nearest_least_far : (base : ℕ) (ps : List Packet) (p : Packet) → base < half + half → All (Ahead base) ps → nearest ps ≡ some p
+pub nearest_least_far : (base : ℕ) (ps : List Packet) (p : Packet) → base < half + half → All (Ahead base) ps → nearest ps ≡ Some p
     → All (λ (q : Packet). sequence_distance base (sequence_of p) ≤ sequence_distance base (sequence_of q)) ps
 unfolding nearest
 nearest_least_far base ps p a h e =

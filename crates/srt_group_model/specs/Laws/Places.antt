@@ -1,15 +1,14 @@
 -- The places of a list, in the library's words: for code that reads and writes rows by their index.
-use Rattle.std.specs.Prelude.{◌≡◌, Bool, length, get_or, set, take, drop}
+use Rattle.std.specs.Prelude.{◌≡◌, Bool, length, get_or, set, take, drop, None, Option, Some}
 use Rattle.std.proofs.Math.Path.{refl, ap}
 use Rattle.std.proofs.Math.Bool.{true, false}
 use mathlib.Core.List.{List, [], ◌∷◌, ◌++◌}
-use Rattle.std.proofs.Math.Option.{Option, none, some}
 use Prim.Native.Nat.{ℕ, zero, suc, ◌<◌}
 use Rattle.std.proofs.Common.{not-suc-le-zero, le_of_suc-le-suc}
 use Rattle.srt_group_model.specs.Tools.{if_true◌then◌else◌, if_some◌give◌otherwise◌, first_such, place_of, at_place, change, without_place}
 
 module _ {A : Type 0} where
-  pub at_place_is_getD : (l : List A) (i : ℕ) (d : A) → i < length l → at_place i l ≡ some (get_or l i d)
+  pub at_place_is_getD : (l : List A) (i : ℕ) (d : A) → i < length l → at_place i l ≡ Some (get_or l i d)
   unfolding at_place
   at_place_is_getD [] i d h = absurd (not-suc-le-zero h)
   at_place_is_getD (x ∷ xs) zero d h = refl
@@ -36,14 +35,14 @@ module _ {A : Type 0} where
 
   -- the first that passes a test stands at the place that is found
   abbrev pub found : List A → Option ℕ → Option A
-  found l o = if_some o give (λ i. at_place i l) otherwise none
+  found l o = if_some o give (λ i. at_place i l) otherwise None
 
   found_past : (t : Bool) (x : A) (xs : List A) (r : Option A) (o : Option ℕ) → r ≡ found xs o
-      → (if_true t then some x else r) ≡ found (x ∷ xs) (if_true t then some 0 else (if_some o give (λ i. some (suc i)) otherwise none))
+      → (if_true t then Some x else r) ≡ found (x ∷ xs) (if_true t then Some 0 else (if_some o give (λ i. Some (suc i)) otherwise None))
   unfolding at_place if_true◌then◌else◌ if_some◌give◌otherwise◌
   found_past true x xs r o h = refl
-  found_past false x xs r none h = h
-  found_past false x xs r (some i) h = h
+  found_past false x xs r None h = h
+  found_past false x xs r (Some i) h = h
 
   pub first_such_is_found : (test : A → Bool) (l : List A) → first_such test l ≡ found l (place_of test l)
   unfolding first_such place_of if_some◌give◌otherwise◌

@@ -1,8 +1,7 @@
 -- What a poll can do to the members: take the front of a queue, with the mark of what it collected, and change labels, sums and
 -- sending sides. Walk shows that whatever these keep is kept by the polls.
-use Rattle.std.specs.Prelude.{◌≡◌, refl, Bool, true, false, List, ◌∷◌, ℕ, eqb, drop}
+use Rattle.std.specs.Prelude.{◌≡◌, refl, Bool, true, false, List, ◌∷◌, ℕ, eqb, drop, Some}
 use Rattle.std.proofs.Common.{◌∙◌}
-use Rattle.std.proofs.Math.Option.{some}
 use Rattle.srt_group_model.specs.Tools.{at_place, change}
 use Rattle.srt_group_model.specs.Laws.Reason.{if_elim, EachTo, each_to_change}
 use Rattle.srt_group_model.specs.State.{Member, State, with_queue, broken_state}
@@ -54,10 +53,10 @@ is_collected (delivered p) = false
 
 pub record QueueLaw (J : List Member → List Mark → Type 0) : Type 0 where
   pub relabels : (ms ns : List Member) (log : List Mark) → AllRelabelled ms ns → J ms log → J ns log
-  pub takes_data : (ms : List Member) (log : List Mark) (i : ℕ) (m : Member) (e : Event) → at_place i ms ≡ some m
-      → front m.queue ≡ some e → eqb e.kind 0 ≡ true → J ms log → J (change i pop ms) (collected (packet_of m e) ∷ log)
-  pub takes_event : (ms : List Member) (log : List Mark) (i : ℕ) (m : Member) (e : Event) → at_place i ms ≡ some m
-      → front m.queue ≡ some e → eqb e.kind 0 ≡ false → J ms log → J (change i pop ms) log
+  pub takes_data : (ms : List Member) (log : List Mark) (i : ℕ) (m : Member) (e : Event) → at_place i ms ≡ Some m
+      → front m.queue ≡ Some e → eqb e.kind 0 ≡ true → J ms log → J (change i pop ms) (collected (packet_of m e) ∷ log)
+  pub takes_event : (ms : List Member) (log : List Mark) (i : ℕ) (m : Member) (e : Event) → at_place i ms ≡ Some m
+      → front m.queue ≡ Some e → eqb e.kind 0 ≡ false → J ms log → J (change i pop ms) log
   pub marks : (ms : List Member) (log : List Mark) (mark : Mark) → is_collected mark ≡ false → J ms log → J ms (mark ∷ log)
 
 -- ---- what is relabelled

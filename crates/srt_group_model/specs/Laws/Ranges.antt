@@ -1,8 +1,7 @@
 -- Every number of a state stays in its range: what `sequence_too_large` and `field_out_of_range` ask, as statements, and how the
 -- moves of a poll keep them.
-use Rattle.std.specs.Prelude.{◌≡◌, refl, Bool, true, false, not, ◌&&◌, List, [], ◌∷◌, ℕ, zero, suc, ◌-◌, ◌≤◌, ltb, eqb}
+use Rattle.std.specs.Prelude.{◌≡◌, refl, Bool, true, false, not, ◌&&◌, List, [], ◌∷◌, ℕ, zero, suc, ◌-◌, ◌≤◌, ltb, eqb, None, Option, Some}
 use Rattle.std.proofs.Common.{subst, arith, ltb-true, ltb-false}
-use Rattle.std.proofs.Math.Option.{Option, none, some}
 use Rattle.srt_protocol.specs.Circle.{further}
 use Rattle.srt_protocol.specs.Sequence.{half, sequence_further}
 use Rattle.srt_group_model.specs.Tools.{or_else, flagged, first_such, at_place, change}
@@ -23,12 +22,12 @@ unfolding further half
 further_fits a n = omega arith
 
 abbrev pub OptionFit : Option ℕ → Type 0
-OptionFit o = (n : ℕ) → o ≡ some n → n ≤ largest_sequence
+OptionFit o = (n : ℕ) → o ≡ Some n → n ≤ largest_sequence
 
 abbrev pub LegGives : Option Leg → Type 0
-LegGives o = (k : Leg) → o ≡ some k → LegFit k
+LegGives o = (k : Leg) → o ≡ Some k → LegFit k
 
-pub gives_leg : (k : Leg) → LegFit k → LegGives (some k)
+pub gives_leg : (k : Leg) → LegFit k → LegGives (Some k)
 gives_leg k h x e = subst LegFit (some_inj e) h
 
 pub synchronize_fit : (sequence : ℕ) (l : Leg) → sequence ≤ largest_sequence → LegFit l → LegGives (synchronize_send_sequence sequence l)
@@ -124,18 +123,18 @@ with_leg_fit l m b h =
       short = h.short;
     }
 
-pub at_change_fit : (i : ℕ) (f : Member → Member) (ms : List Member) → ((m : Member) → at_place i ms ≡ some m → MemberFit m → MemberFit (f m)) → AllFit ms → AllFit (change i f ms)
+pub at_change_fit : (i : ℕ) (f : Member → Member) (ms : List Member) → ((m : Member) → at_place i ms ≡ Some m → MemberFit m → MemberFit (f m)) → AllFit ms → AllFit (change i f ms)
 unfolding change at_place
 at_change_fit zero f [] g h = tt
 at_change_fit (suc i) f [] g h = tt
 at_change_fit zero f (m ∷ ms) g h = (g m refl h.0, h.1)
 at_change_fit (suc i) f (m ∷ ms) g h = (h.0, at_change_fit i f ms g h.1)
 
-first_such_fit : (test : Member → Bool) (m : Member) (ms : List Member) → first_such test ms ≡ some m → AllFit ms → MemberFit m
+first_such_fit : (test : Member → Bool) (m : Member) (ms : List Member) → first_such test ms ≡ Some m → AllFit ms → MemberFit m
 unfolding first_such
 first_such_fit test m [] = λ e h. none_some e
 first_such_fit test m (x ∷ ms) =
-    if_elim (λ (o : Option Member). o ≡ some m → AllFit (x ∷ ms) → MemberFit m) _ _ _
+    if_elim (λ (o : Option Member). o ≡ Some m → AllFit (x ∷ ms) → MemberFit m) _ _ _
     (λ t e h. subst MemberFit (some_inj e) h.0) (λ t e h. first_such_fit test m ms e h.1)
 
 pub flagged_fit : (b : Bool) (n : ℕ) → n ≤ largest_sequence → OptionFit (flagged b n)
@@ -145,8 +144,8 @@ flagged_fit false n h k e = none_some e
 
 pub source_fit : (number : Option ℕ) (id : ℕ) (ms : List Member) → OptionFit number → AllFit ms → OptionFit (alignment_source number id ms)
 unfolding alignment_source or_else
-source_fit (some n) id ms b h = b
-source_fit none id ms b h =
+source_fit (Some n) id ms b h = b
+source_fit None id ms b h =
     if_some_elim OptionFit _ _ _
     (λ m e. flagged_fit (has_sender m.leg) m.leg.sender.next (first_such_fit _ m ms e h).leg.next) (λ e n g. none_some g)
 

@@ -1,7 +1,6 @@
 -- Every number of a state stays in its range over every call.
-use Rattle.std.specs.Prelude.{◌≡◌, refl, Bool, true, false, not, ◌&&◌, List, [], ◌∷◌, ℕ, zero, suc, ◌≤◌, ◌<◌, leb, eqb, length, drop}
+use Rattle.std.specs.Prelude.{◌≡◌, refl, Bool, true, false, not, ◌&&◌, List, [], ◌∷◌, ℕ, zero, suc, ◌≤◌, ◌<◌, leb, eqb, length, drop, None, Option, Some}
 use Rattle.std.proofs.Common.{sym, ap, subst, ◌∙◌, arith, eqb-true, eq-eqb, ltb-false, le-ltb, leb-true, leb-false, length-append}
-use Rattle.std.proofs.Math.Option.{Option, none, some}
 use Rattle.std.proofs.lemmas.Bool.{not-false}
 use Rattle.srt_protocol.specs.Sequence.{sequence_distance, sequence_further}
 use Rattle.srt_protocol.specs.Cells.{cell_size}
@@ -111,8 +110,8 @@ read_fit field n l b g h = go (reading_of field) refl b
   where
     go : (o : Option Reading) → reading_of field ≡ o → (if_some o give (λ r. above r.largest n) otherwise true) ≡ false
         → LegFit (if_some o give (λ r. r.put n l) otherwise l)
-    go none e b = h
-    go (some r) e b =
+    go None e b = h
+    go (Some r) e b =
         let row = first_such_of ReadsFit _ readings r e readings_fit in
         row.0 n l b (subst (λ (k : ℕ). goes_back k n l ≡ false) (sym (eqb-true r.field field row.1)) g) h
 
@@ -158,7 +157,7 @@ trim_numbers_fit l x h =
     if_elim (λ (y : Send). SendingFit y.numbers) _ _ _
     (λ e. record { numbered = h.numbered; next = h.next; carried = h.carried; carrier = h.carrier; gap = bit_most _ }) (λ e. h)
 
-front_entry_fit : (e : Entry) (es : List Entry) → at_place 0 es ≡ some e → All EntryFit es → EntryFit e
+front_entry_fit : (e : Entry) (es : List Entry) → at_place 0 es ≡ Some e → All EntryFit es → EntryFit e
 unfolding at_place
 front_entry_fit e [] at h = none_some at
 front_entry_fit e (x ∷ es) at h = subst EntryFit (some_inj at) h.0
@@ -320,7 +319,7 @@ move_fit s m n (leg_reading field number fits forth) h k = read_leg_fit field nu
 move_fit s m n (advance base count) h k = advance_leg_fit (sequence_further base count) m (further_fits base count) k
 
 -- the member at a place is changed
-changes_fit : (s : State) (i : ℕ) (m : Member) (f : Member → Member) → at_place i s.members ≡ some m → (MemberFit m → MemberFit (f m)) → Fit s → Fit (with_members (change i f s.members) s)
+changes_fit : (s : State) (i : ℕ) (m : Member) (f : Member → Member) → at_place i s.members ≡ Some m → (MemberFit m → MemberFit (f m)) → Fit s → Fit (with_members (change i f s.members) s)
 changes_fit s i m f at g h =
     members_fit _ s (at_change_fit i f s.members (λ x e. subst (λ (y : Member). MemberFit y → MemberFit (f y)) (some_inj (sym at ∙ e)) g) h.members) h
 
@@ -332,7 +331,7 @@ base_fit s b (nearest_held p g e) h = subst (λ (n : ℕ). n ≤ largest_sequenc
 based_fit : {n total : ℕ} → n ≤ largest_sequence → ReceivingFit (based_at n total)
 based_fit h = record { based = omega arith; base = h }
 
-skips_fit : (s : State) (base : ℕ) (p : Packet) → nearest s.receive.pending ≡ some p → Fit s → Fit (with_receive (skip_to base (sequence_of p) s.receive) s)
+skips_fit : (s : State) (base : ℕ) (p : Packet) → nearest s.receive.pending ≡ Some p → Fit s → Fit (with_receive (skip_to base (sequence_of p) s.receive) s)
 unfolding skip_to
 skips_fit s base p near h = receive_fit _ s h.pending (based_fit (nearest_fit s.receive.pending h.pending p near).sequence) h
 

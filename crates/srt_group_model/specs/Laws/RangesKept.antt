@@ -1,7 +1,6 @@
 -- Every number of a state stays in its range over the polls.
-use Rattle.std.specs.Prelude.{◌≡◌, Bool, true, false, ◌&&◌, List, [], ◌∷◌, ℕ, ◌≤◌, eqb, length, drop}
+use Rattle.std.specs.Prelude.{◌≡◌, Bool, true, false, ◌&&◌, List, [], ◌∷◌, ℕ, ◌≤◌, eqb, length, drop, None, Option, Some}
 use Rattle.std.proofs.Common.{sym, ap, subst, ◌∙◌, arith, ltb-false}
-use Rattle.std.proofs.Math.Option.{Option, none, some}
 use Rattle.srt_group_model.specs.Tools.{is_set, or_else, at_place, All}
 use Rattle.srt_group_model.specs.Laws.Reason.{if_elim, if_some_elim, none_some, some_inj, or_left, or_right, all_each, each_to_all}
 use Rattle.srt_group_model.specs.State.{Member, Receive, Send, State, next_send_sequence, with_receive, with_send, with_visit, with_members, with_waiting, with_peer, on_leg}
@@ -92,7 +91,7 @@ advance_leg_fit n m = recounted_fit m.membership.account m.leg.receiver.reserved
 pub counted_fit : (account : Account) (reservation : ℕ) (m : Member) → MemberFit m → MemberFit (recounted account reservation m)
 counted_fit account reservation m h = recounted_fit account reservation m.leg.receiver.advanced m h.leg.advanced h
 
-pub front_fit : (q : List Event) (e : Event) → front q ≡ some e → All EventFit q → EventFit e
+pub front_fit : (q : List Event) (e : Event) → front q ≡ Some e → All EventFit q → EventFit e
 unfolding at_place
 front_fit [] e f h = none_some f
 front_fit (x ∷ q) e f h = subst EventFit (some_inj f) h.0
@@ -168,7 +167,7 @@ delivers_fit s base p h =
     (members_fit _ s (all_each MemberFit _ (λ m k. advance_leg_fit _ m further k) s.members h.members) h))
 
 abbrev PacketGives : Option Packet → Type 0
-PacketGives o = (p : Packet) → o ≡ some p → PacketFit p
+PacketGives o = (p : Packet) → o ≡ Some p → PacketFit p
 
 lowest_fit : (ps : List Packet) → All PacketFit ps → PacketGives (lowest ps)
 unfolding lowest
@@ -181,13 +180,13 @@ lowest_fit (q ∷ qs) h =
 
 or_else_fit : (a b : Option Packet) → PacketGives a → PacketGives b → PacketGives (or_else a b)
 unfolding or_else
-or_else_fit none b f g = g
-or_else_fit (some x) b f g = f
+or_else_fit None b f g = g
+or_else_fit (Some x) b f g = f
 
 pub nearest_fit : (ps : List Packet) → All PacketFit ps → PacketGives (nearest ps)
 unfolding nearest
 nearest_fit ps h =
     if_some_elim PacketGives _ _ _
     (λ low g.
-    or_else_fit _ (some low) (lowest_fit _ (all_such_that PacketFit _ ps h)) (λ p e. subst PacketFit (some_inj e) (lowest_fit ps h low g)))
+    or_else_fit _ (Some low) (lowest_fit _ (all_such_that PacketFit _ ps h)) (λ p e. subst PacketFit (some_inj e) (lowest_fit ps h low g)))
     (λ g p e. none_some e)

@@ -1,9 +1,8 @@
 -- Ways to go through a choice, an option and a list in a proof.
-use Rattle.std.specs.Prelude.{◌≡◌, Bool, true, false, ◌&&◌, ◌||◌, T}
+use Rattle.std.specs.Prelude.{◌≡◌, Bool, true, false, ◌&&◌, ◌||◌, T, None, Option, Some}
 use Rattle.std.proofs.Math.Path.{refl, sym, ap, ap₂, subst}
 use Rattle.std.proofs.Common.{◌∙◌}
 use mathlib.Core.List.{List, [], ◌∷◌, ◌++◌}
-use Rattle.std.proofs.Math.Option.{Option, none, some}
 use Prim.Native.Nat.{ℕ, zero, suc}
 use Rattle.srt_group_model.specs.Tools.{if_true◌then◌else◌, if_some◌give◌otherwise◌, any, first_such, at_place, change, each, All, place_of}
 
@@ -91,19 +90,19 @@ and_yes false b e f = e
 -- ---- an option
 
 pub if_some_elim : {A B : Type 0} (P : B → Type 0) (o : Option A) (f : A → B) (b : B)
-    → ((a : A) → o ≡ some a → P (f a)) → (o ≡ none → P b) → P (if_some o give f otherwise b)
+    → ((a : A) → o ≡ Some a → P (f a)) → (o ≡ None → P b) → P (if_some o give f otherwise b)
 unfolding if_some◌give◌otherwise◌
-if_some_elim P none f b g h = h refl
-if_some_elim P (some a) f b g h = g a refl
+if_some_elim P None f b g h = h refl
+if_some_elim P (Some a) f b g h = g a refl
 
-pub if_given : {A B : Type 0} {o : Option A} {a : A} (f : A → B) (b : B) → o ≡ some a → (if_some o give f otherwise b) ≡ f a
+pub if_given : {A B : Type 0} {o : Option A} {a : A} (f : A → B) (b : B) → o ≡ Some a → (if_some o give f otherwise b) ≡ f a
 unfolding if_some◌give◌otherwise◌
 if_given f b e = rw e
 
-pub some_inj : {A : Type 0} {a b : A} → ◌≡◌ {A = Option A} (some a) (some b) → a ≡ b
+pub some_inj : {A : Type 0} {a b : A} → ◌≡◌ {A = Option A} (Some a) (Some b) → a ≡ b
 some_inj {A} {a} {b} e = cc
 
-pub none_some : {A : Type 0} {a : A} {B : Type 0} → ◌≡◌ {A = Option A} none (some a) → B
+pub none_some : {A : Type 0} {a : A} {B : Type 0} → ◌≡◌ {A = Option A} None (Some a) → B
 unfolding if_some◌give◌otherwise◌
 none_some {A} {a} {B} e =
     absurd (subst (λ (o : Option A). if_some o give (λ (x : A). ⊥) otherwise Unit {0}) e tt)
@@ -145,28 +144,28 @@ module _ {A : Type 0} where
   all_each P f g [] h = tt
   all_each P f g (x ∷ xs) h = (g x h.0, all_each P f g xs h.1)
 
-  pub all_at : (P : A → Type 0) (i : ℕ) (a : A) (l : List A) → at_place i l ≡ some a → All P l → P a
+  pub all_at : (P : A → Type 0) (i : ℕ) (a : A) (l : List A) → at_place i l ≡ Some a → All P l → P a
   unfolding at_place
   all_at P i a [] at h = none_some at
   all_at P zero a (x ∷ xs) at h = subst P (some_inj at) h.0
   all_at P (suc i) a (x ∷ xs) at h = all_at P i a xs at h.1
 
   -- where a search finds no place, none passes
-  pub place_none : (test : A → Bool) (l : List A) → place_of test l ≡ none → any test l ≡ false
+  pub place_none : (test : A → Bool) (l : List A) → place_of test l ≡ None → any test l ≡ false
   unfolding place_of any
   place_none test [] = λ g. refl
   place_none test (x ∷ xs) =
-      if_elim (λ (o : Option ℕ). o ≡ none → any test (x ∷ xs) ≡ false) _ _ _ (λ e g. none_some (sym g))
+      if_elim (λ (o : Option ℕ). o ≡ None → any test (x ∷ xs) ≡ false) _ _ _ (λ e g. none_some (sym g))
       (λ e.
-      if_some_elim (λ (o : Option ℕ). o ≡ none → any test (x ∷ xs) ≡ false) _ _ _ (λ k f g. none_some (sym g))
+      if_some_elim (λ (o : Option ℕ). o ≡ None → any test (x ∷ xs) ≡ false) _ _ _ (λ k f g. none_some (sym g))
       (λ f g. no_either _ _ e (place_none test xs f)))
 
   -- the first that passes a test is one of them, and passes it
-  pub first_such_of : (P : A → Type 0) (test : A → Bool) (l : List A) (a : A) → first_such test l ≡ some a → All P l → P a × (test a ≡ true)
+  pub first_such_of : (P : A → Type 0) (test : A → Bool) (l : List A) (a : A) → first_such test l ≡ Some a → All P l → P a × (test a ≡ true)
   unfolding first_such
   first_such_of P test [] a e h = none_some e
   first_such_of P test (x ∷ xs) a e h =
-      if_elim (λ (o : Option A). o ≡ some a → P a × (test a ≡ true)) (test x) _ _
+      if_elim (λ (o : Option A). o ≡ Some a → P a × (test a ≡ true)) (test x) _ _
       (λ t g. subst (λ (b : A). P b × (test b ≡ true)) (some_inj g) (h.0, t)) (λ t g. first_such_of P test xs a g h.1) e
 
   pub all_append : (P : A → Type 0) (l m : List A) → All P l → All P m → All P (l ++ m)
@@ -199,7 +198,7 @@ module _ {A : Type 0} where
     each_to_each f r (x ∷ xs) = (r x, each_to_each f r xs)
 
     -- a change at one place
-    pub each_to_change : ((a : A) → R a a) → (i : ℕ) (f : A → A) (l : List A) → ((a : A) → at_place i l ≡ some a → R a (f a)) → EachTo R l (change i f l)
+    pub each_to_change : ((a : A) → R a a) → (i : ℕ) (f : A → A) (l : List A) → ((a : A) → at_place i l ≡ Some a → R a (f a)) → EachTo R l (change i f l)
     unfolding change at_place
     each_to_change r zero f [] h = tt
     each_to_change r (suc i) f [] h = tt
@@ -207,11 +206,11 @@ module _ {A : Type 0} where
     each_to_change r (suc i) f (x ∷ xs) h = (r x, each_to_change r i f xs h)
 
   -- what stands at the place of a change
-  pub at_change : (i : ℕ) (f : A → A) (l : List A) (a : A) → at_place i l ≡ some a → at_place i (change i f l) ≡ some (f a)
+  pub at_change : (i : ℕ) (f : A → A) (l : List A) (a : A) → at_place i l ≡ Some a → at_place i (change i f l) ≡ Some (f a)
   unfolding change at_place
   at_change zero f [] a e = none_some e
   at_change (suc i) f [] a e = none_some e
-  at_change zero f (x ∷ xs) a e = ap {B = Option A} (λ z. some (f z)) (some_inj e)
+  at_change zero f (x ∷ xs) a e = ap {B = Option A} (λ z. Some (f z)) (some_inj e)
   at_change (suc i) f (x ∷ xs) a e = at_change i f xs a e
 
   -- both lists changed alike, and what holds of each of the first
@@ -235,21 +234,21 @@ module _ {A : Type 0} where
   each_to_map R S f (x ∷ xs) (y ∷ ys) h = (f x y h.0, each_to_map R S f xs ys h.1)
 
   -- what stands at one place of both
-  pub each_to_at : (R : A → A → Type 0) (l m : List A) → EachTo R l m → (i : ℕ) (a b : A) → at_place i l ≡ some a → at_place i m ≡ some b → R a b
+  pub each_to_at : (R : A → A → Type 0) (l m : List A) → EachTo R l m → (i : ℕ) (a b : A) → at_place i l ≡ Some a → at_place i m ≡ Some b → R a b
   unfolding at_place
   each_to_at R [] m h i a b e g = none_some e
   each_to_at R (x ∷ xs) [] h i a b e g = absurd h
   each_to_at R (x ∷ xs) (y ∷ ys) h zero a b e g = subst (λ (z : A). R z b) (some_inj e) (subst (R x) (some_inj g) h.0)
   each_to_at R (x ∷ xs) (y ∷ ys) h (suc i) a b e g = each_to_at R xs ys h.1 i a b e g
 
-  pub each_to_none : (R : A → A → Type 0) (l m : List A) → EachTo R l m → (i : ℕ) → at_place i m ≡ none → at_place i l ≡ none
+  pub each_to_none : (R : A → A → Type 0) (l m : List A) → EachTo R l m → (i : ℕ) → at_place i m ≡ None → at_place i l ≡ None
   unfolding at_place
   each_to_none R [] m h i e = refl
   each_to_none R (x ∷ xs) [] h i e = absurd h
   each_to_none R (x ∷ xs) (y ∷ ys) h zero e = none_some (sym e)
   each_to_none R (x ∷ xs) (y ∷ ys) h (suc i) e = each_to_none R xs ys h.1 i e
 
-  pub each_to_before : (R : A → A → Type 0) {B : Type 0} (l m : List A) → EachTo R l m → (i : ℕ) (b : A) → at_place i m ≡ some b → ((a : A) → at_place i l ≡ some a → R a b → B) → B
+  pub each_to_before : (R : A → A → Type 0) {B : Type 0} (l m : List A) → EachTo R l m → (i : ℕ) (b : A) → at_place i m ≡ Some b → ((a : A) → at_place i l ≡ Some a → R a b → B) → B
   unfolding at_place
   each_to_before R [] [] h i b e k = none_some e
   each_to_before R [] (y ∷ ys) h i b e k = absurd h

@@ -1,8 +1,7 @@
 -- Laws of refusals: after 1 to 6, 20, 21 and 30 to 32 everything is as it was, and no refusal at all writes the output or the
 -- store. Document 01, "Codes from the input" and "No code writes to the output".
-use Rattle.std.specs.Prelude.{◌≡◌, refl, Bool, true, false, not, List, [], ◌∷◌, ℕ, eqb, length}
+use Rattle.std.specs.Prelude.{◌≡◌, refl, Bool, true, false, not, List, [], ◌∷◌, ℕ, eqb, length, None, Option}
 use Rattle.std.proofs.Common.{sym, ap, subst, ◌∙◌, eqb-true}
-use Rattle.std.proofs.Math.Option.{Option, none}
 use Rattle.std.proofs.lemmas.Bool.{not-true}
 use Rattle.srt_protocol.specs.Cells.{overwritten}
 use Rattle.srt_group_model.specs.Tools.{if_true◌then◌else◌, any, all, All}
@@ -28,7 +27,7 @@ changes_nothing code =
 pub data Ends (s : State) (step : Step) : Type 0 where
   untouched : (code : ℕ) → step ≡ refuse code s → Ends s step
   accepted : step.code ≡ 0 → Ends s step
-  midway : changes_nothing step.code ≡ false → step.answer ≡ no_answer → step.put ≡ none → Ends s step
+  midway : changes_nothing step.code ≡ false → step.answer ≡ no_answer → step.put ≡ None → Ends s step
 
 -- One lemma through all guards: what holds of every refusal and of the body holds of the call.
 pub guard_elim : (P : Step → Type 0) (cs : List Check) (s : State) (body : Step) → ((code : ℕ) → P (refuse code s)) → P body → P (guard cs s body)
@@ -57,16 +56,16 @@ guard_goes_on c cs s body passes = rw passes
 
 -- of what a look leaves
 pub look_elim : (P : Step → Type 0) (look : Look) (s : State) → ((code : ℕ) → P (refuse code s))
-    → ((answer : Answer) → delivered_by answer ≡ none → P (accept s answer)) → P (look_at look s)
+    → ((answer : Answer) → delivered_by answer ≡ None → P (accept s answer)) → P (look_at look s)
 unfolding look_at delivered_by
 look_elim P look s h k = guard_elim P _ s _ h (k _ refl)
 
 pub record OnlyLooked (s : State) (step : Step) : Type 0 where
   pub state : step.state ≡ s
-  pub put : step.put ≡ none
+  pub put : step.put ≡ None
   pub sends : step.sends ≡ []
   pub log : step.log ≡ []
-  pub delivered : delivered_by step.answer ≡ none
+  pub delivered : delivered_by step.answer ≡ None
 
 -- A look leaves the state as it is, puts, sends, marks and delivers nothing, refused or accepted.
 pub look_changes_nothing : (look : Look) (s : State) → OnlyLooked s (look_at look s)

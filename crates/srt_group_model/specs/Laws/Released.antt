@@ -1,9 +1,8 @@
 -- What a release leaves alone, walked once: the laws of deliveries cite it. A member is recounted: its account and its leg's reservation
 -- may move, and nothing else of it does. Releasing packets recounts the members and moves the group's own sum. A delivery
 -- leaves, but for that, the state in which the run is passed. A removal retires the group's own packets one by one.
-use Rattle.std.specs.Prelude.{◌≡◌, refl, List, [], ◌∷◌, ℕ, zero, suc}
+use Rattle.std.specs.Prelude.{◌≡◌, refl, List, [], ◌∷◌, ℕ, zero, suc, Some}
 use Rattle.std.proofs.Common.{ap, ◌∙◌}
-use Rattle.std.proofs.Math.Option.{some}
 use Rattle.srt_protocol.specs.Sequence.{sequence_further}
 use Rattle.srt_group_model.specs.Tools.{such_that, each}
 use Rattle.srt_group_model.specs.Laws.Reason.{if_elim, if_some_elim, EachTo, each_to_same, each_to_then, each_to_each, each_to_change, each_to_map, each_to_both}
@@ -114,7 +113,7 @@ deliver_relabelled base p s =
 -- ---- the group's own packets are bounded
 
 -- what each retirement keeps, all of them keep
-pub retirements_keep : (P : State → Type 0) (base : ℕ) → ((s : State) (p : Packet) → farthest base (such_that is_owned s.receive.pending) ≡ some p → P s → P (retire p s))
+pub retirements_keep : (P : State → Type 0) (base : ℕ) → ((s : State) (p : Packet) → farthest base (such_that is_owned s.receive.pending) ≡ Some p → P s → P (retire p s))
     → (left limit : ℕ) (s : State) → P s → P (bound_group_owned_pending left limit base s)
 unfolding bound_group_owned_pending
 retirements_keep P base f zero limit s h = h

@@ -1,7 +1,6 @@
 -- The round's place is that of a member, or 0 with none: the rule of counts on it is kept over every call.
-use Rattle.std.specs.Prelude.{◌≡◌, refl, List, [], ◌∷◌, ℕ, zero, suc, ◌-◌, ◌%◌, ◌≤◌, ◌<◌, length}
+use Rattle.std.specs.Prelude.{◌≡◌, refl, List, [], ◌∷◌, ℕ, zero, suc, ◌-◌, ◌%◌, ◌≤◌, ◌<◌, length, Some}
 use Rattle.std.proofs.Common.{ap, arith, mod-lt, length-append}
-use Rattle.std.proofs.Math.Option.{some}
 use Rattle.srt_group_model.specs.Tools.{at_place, change}
 use Rattle.srt_group_model.specs.Laws.Reason.{none_some, EachTo}
 use Rattle.srt_group_model.specs.State.{Member, State}
@@ -32,7 +31,7 @@ change_length (suc i) f [] = refl
 change_length zero f (m ∷ ms) = refl
 change_length (suc i) f (m ∷ ms) = ap suc (change_length i f ms)
 
-at_length : (i : ℕ) (m : Member) (ms : List Member) → at_place i ms ≡ some m → 0 < length ms
+at_length : (i : ℕ) (m : Member) (ms : List Member) → at_place i ms ≡ Some m → 0 < length ms
 unfolding at_place
 at_length zero m [] at = none_some at
 at_length (suc i) m [] at = none_some at

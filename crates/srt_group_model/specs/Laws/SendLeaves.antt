@@ -1,8 +1,7 @@
 -- A send leaves all of receiving, its refresh included, but that the refresh may set the base: the frame that demand 3 asks of sends. An
 -- instance of the law of calls.
-use Rattle.std.specs.Prelude.{◌≡◌, refl, true, false, List, ℕ, eqb}
+use Rattle.std.specs.Prelude.{◌≡◌, refl, true, false, List, ℕ, eqb, Option, Some}
 use Rattle.std.proofs.Common.{sym, ap, ◌∙◌}
-use Rattle.std.proofs.Math.Option.{Option, some}
 use Rattle.srt_group_model.specs.State.{State, next_receive_sequence}
 use Rattle.srt_group_model.specs.Run.{Mark}
 use Rattle.srt_group_model.specs.Lent.{call_send, step_of}
@@ -16,7 +15,7 @@ pub record LeavesReceiving (s t : State) : Type 0 where
   pub making : t.making ≡ s.making
   -- a peer group, once the group is bound to it; a base, once it is set
   pub peer : eqb s.peer 0 ≡ false → t.peer ≡ s.peer
-  pub base : (b : ℕ) → next_receive_sequence s.receive ≡ some b → t.receive ≡ s.receive
+  pub base : (b : ℕ) → next_receive_sequence s.receive ≡ Some b → t.receive ≡ s.receive
   pub skipped : t.receive.numbers.skipped ≡ s.receive.numbers.skipped
   pub pending : t.receive.pending ≡ s.receive.pending
   pub visit : t.visit ≡ s.visit

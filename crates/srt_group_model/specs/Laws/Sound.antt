@@ -1,8 +1,7 @@
 -- A law of the steps: a valid state is sound, and stays so between the steps of a poll. And what soundness says of the event in
 -- front of a queue.
-use Rattle.std.specs.Prelude.{◌≡◌, refl, Bool, true, false, ◌&&◌, List, [], ◌∷◌, ℕ, suc, ◌+◌, ◌*◌, ◌≤◌, ◌<◌, ltb, eqb, length}
+use Rattle.std.specs.Prelude.{◌≡◌, refl, Bool, true, false, ◌&&◌, List, [], ◌∷◌, ℕ, suc, ◌+◌, ◌*◌, ◌≤◌, ◌<◌, ltb, eqb, length, Some}
 use Rattle.std.proofs.Common.{sym, subst, arith, ltb-false, ltb-true}
-use Rattle.std.proofs.Math.Option.{some}
 use Rattle.std.proofs.lemmas.Bool.{not-false}
 use Rattle.srt_protocol.specs.Cells.{max_cells}
 use Rattle.srt_group_model.specs.Tools.{at_place, total, All}
@@ -100,8 +99,8 @@ count_fits d h = (in_range_of _ (or_right (eqb d.count 0) _ h)).1.0
 pub small_packets : (ps : List Packet) → All PacketFit ps → All Small ps
 small_packets = all_map PacketFit Small (λ p h. count_fits p.content h.fields)
 
-module _ (s : State) (i : ℕ) (m : Member) (e : Event) (sound : Sound s) (at : at_place i s.members ≡ some m)
-    (in_front : front m.queue ≡ some e) (is_packet : eqb e.kind 0 ≡ true) where
+module _ (s : State) (i : ℕ) (m : Member) (e : Event) (sound : Sound s) (at : at_place i s.members ≡ Some m)
+    (in_front : front m.queue ≡ Some e) (is_packet : eqb e.kind 0 ≡ true) where
   member_fits : MemberFit m
   member_fits = all_at MemberFit i m s.members at sound.fit.members
 
@@ -159,7 +158,7 @@ queued_most (e ∷ q) h =
     omega (arith, counted_most largest_16 is_data (λ x. x.content.count) e (λ d. count_fits e.content (right_of (is_data e) _ d fields)), queued_most q h.1)
 
 -- it is the counts of at most 2,048 held packets and 16 queued ones
-pub reservation_most : (s : State) (i : ℕ) (m : Member) → Sound s → at_place i s.members ≡ some m
+pub reservation_most : (s : State) (i : ℕ) (m : Member) → Sound s → at_place i s.members ≡ Some m
     → m.leg.receiver.reserved ≤ largest_16 * (max_pending + max_queued)
 reservation_most s i m sound at =
     let fits = all_at MemberFit i m s.members at sound.fit.members in

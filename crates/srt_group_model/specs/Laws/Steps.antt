@@ -1,9 +1,8 @@
 -- A walk over the whole state: what the refresh, a collected event, a delivery and a skip each keep, the polls keep. For laws
 -- that speak of members and held packets together, as the rules of validity do.
-use Rattle.std.specs.Prelude.{◌≡◌, Bool, List, [], eqb, drop}
+use Rattle.std.specs.Prelude.{◌≡◌, Bool, List, [], eqb, drop, None, Option, Some}
 use Rattle.std.proofs.Math.Path.{subst}
 use Rattle.std.proofs.Math.Bool.{true, false}
-use Rattle.std.proofs.Math.Option.{Option, none, some}
 use Prim.Native.Nat.{ℕ, zero, suc, ◌%◌}
 use Rattle.std.proofs.Math.ListN.{length}
 use Rattle.srt_group_model.specs.Tools.{at_place, change}
@@ -30,14 +29,14 @@ pub record StateLaw (Good : State → Type 0) : Type 0 where
   pub settles : (s : State) → Good s → Good (with_members (settle_members s.making.mode (next_send_sequence s.send) s.members) s)
   pub requalifies : (s : State) → Good s → Good (with_members (requalify_members s.making.mode (next_send_sequence s.send) s.members) s)
   pub continues : (s : State) (b : Bool) → Good s → Good (with_continuation b s)
-  pub turns : (s : State) (i : ℕ) (m : Member) → at_place i s.members ≡ some m → Good s → Good (with_round (suc i % length s.members) s)
-  pub takes : (s : State) (i : ℕ) (m : Member) (e : Event) → at_place i s.members ≡ some m → front m.queue ≡ some e
+  pub turns : (s : State) (i : ℕ) (m : Member) → at_place i s.members ≡ Some m → Good s → Good (with_round (suc i % length s.members) s)
+  pub takes : (s : State) (i : ℕ) (m : Member) (e : Event) → at_place i s.members ≡ Some m → front m.queue ≡ Some e
       → eqb e.kind 0 ≡ true → Good s → Good (retain_group_packet i (packet_of m e) (popped i s))
-  pub reports : (s : State) (i : ℕ) (m : Member) (e : Event) → at_place i s.members ≡ some m → front m.queue ≡ some e
+  pub reports : (s : State) (i : ℕ) (m : Member) (e : Event) → at_place i s.members ≡ Some m → front m.queue ≡ Some e
       → eqb e.kind 0 ≡ false → Good s → Good (report_event i (waiting_of m e) (popped i s))
-  pub delivers : (s : State) (base : ℕ) (p : Packet) → held_at base s.receive.pending ≡ some p → Good s → Good (deliver_packet base p s)
-  pub skips : (s : State) (base : ℕ) (p : Packet) → nearest s.receive.pending ≡ some p → Good s → Good (with_receive (skip_to base (sequence_of p) s.receive) s)
-  pub bases : (s : State) (p : Packet) → nearest s.receive.pending ≡ some p → Good s → Good (with_receive (with_base (sequence_of p) s.receive) s)
+  pub delivers : (s : State) (base : ℕ) (p : Packet) → held_at base s.receive.pending ≡ Some p → Good s → Good (deliver_packet base p s)
+  pub skips : (s : State) (base : ℕ) (p : Packet) → nearest s.receive.pending ≡ Some p → Good s → Good (with_receive (skip_to base (sequence_of p) s.receive) s)
+  pub bases : (s : State) (p : Packet) → nearest s.receive.pending ≡ Some p → Good s → Good (with_receive (with_base (sequence_of p) s.receive) s)
   pub gives : (s : State) → Good s → Good (with_waiting (drop 1 s.waiting) s)
 
 -- laws that hold together
@@ -79,21 +78,21 @@ module _ (P Q : State → Type 0) (to : (s : State) → Q s → P s) (from : (s 
 -- What every move of a poll keeps, these steps keep. A report is asked for however many wait; a delivery, a skip and a first base
 -- at any base.
 module _ (P : Option ℕ → State → List Mark → Type 0) (Good : State → Type 0) (law : RefreshLaw P) (collects : CollectLaw P) (polls : PollLaw P)
-    (to : (s : State) (log : List Mark) → Good s → P none s log) (from : (s : State) (log : List Mark) → P none s log → Good s) where
+    (to : (s : State) (log : List Mark) → Good s → P None s log) (from : (s : State) (log : List Mark) → P None s log → Good s) where
   pub state_law_of : ((s : State) (i : ℕ) (m : Member) (e : Event) → InFront s i m e → eqb e.kind 0 ≡ false → Good s → Good (reported i m e s))
       → ((s : State) (base : ℕ) (p : Packet) → Good s → Good (deliver_packet base p s))
-      → ((s : State) (base : ℕ) (p : Packet) → nearest s.receive.pending ≡ some p → Good s → Good (with_receive (skip_to base (sequence_of p) s.receive) s))
-      → ((s : State) (p : Packet) → nearest s.receive.pending ≡ some p → Good s → Good (with_receive (with_base (sequence_of p) s.receive) s))
+      → ((s : State) (base : ℕ) (p : Packet) → nearest s.receive.pending ≡ Some p → Good s → Good (with_receive (skip_to base (sequence_of p) s.receive) s))
+      → ((s : State) (p : Packet) → nearest s.receive.pending ≡ Some p → Good s → Good (with_receive (with_base (sequence_of p) s.receive) s))
       → StateLaw Good
   state_law_of reports delivers skips bases =
       record {
-        admits = λ r h. from _ _ (admits_all P law none r (to _ _ h));
-        settles = λ s h. from _ [] (settles P law none [] s s.making.mode s.members (to s [] h));
-        requalifies = λ s h. from _ [] (requalifies P law none [] s s.making.mode s.members (to s [] h));
+        admits = λ r h. from _ _ (admits_all P law None r (to _ _ h));
+        settles = λ s h. from _ [] (settles P law None [] s s.making.mode s.members (to s [] h));
+        requalifies = λ s h. from _ [] (requalifies P law None [] s s.making.mode s.members (to s [] h));
         continues = λ s b h. from _ [] (collects.continues s b (to s [] h));
         turns = λ s i m at h. from _ [] (collects.turns s i m at (to s [] h));
-        takes = λ s i m e at f d h. from _ _ (retains P law collects none [] s i m e record { stands = at; first = f } d (to s [] h));
-        reports = λ s i m e at f d h. from _ [] (breaks P law none [] s i _ (to _ [] (reports s i m e record { stands = at; first = f } d h)));
+        takes = λ s i m e at f d h. from _ _ (retains P law collects None [] s i m e record { stands = at; first = f } d (to s [] h));
+        reports = λ s i m e at f d h. from _ [] (breaks P law None [] s i _ (to _ [] (reports s i m e record { stands = at; first = f } d h)));
         delivers = λ s base p g h. delivers s base p h;
         skips = skips;
         bases = bases;
@@ -119,7 +118,7 @@ module _ (Good : State → Type 0) (law : StateLaw Good) where
   unfolding collect_member_event
   collect_member_has i id e r f g = if_elim Has _ _ _ (λ k. f k) (λ k. g k)
 
-  take_front_has : (i : ℕ) (m : Member) (r : Run) → at_place i r.state.members ≡ some m → Has r → Has (take_front i m r).run
+  take_front_has : (i : ℕ) (m : Member) (r : Run) → at_place i r.state.members ≡ Some m → Has r → Has (take_front i m r).run
   unfolding take_front
   take_front_has i m r at h =
       let turned = law.turns r.state i m at h in
@@ -189,7 +188,7 @@ module _ (Good : State → Type 0) (law : StateLaw Good) where
       (λ p g.
       deliver_has _ _
       (if_some_elim Has _ _ _ (λ n k. h)
-      (λ k. if_some_elim Has (some (sequence_of p)) _ _ (λ n e. subst (λ (x : ℕ). Good (with_receive (with_base x r.state.receive) r.state)) (some_inj e) (law.bases _ p g h)) (λ e. h))))
+      (λ k. if_some_elim Has (Some (sequence_of p)) _ _ (λ n e. subst (λ (x : ℕ). Good (with_receive (with_base x r.state.receive) r.state)) (some_inj e) (law.bases _ p g h)) (λ e. h))))
       (λ g. h))
 
   pub poll_event_has : (time : ℕ) (r : Run) → Has r → Has (poll_event time r).run

@@ -1,8 +1,7 @@
 -- Which members there are, over every call: only an addition and a removal change the list of ids, so ids stay unique and members
 -- stay at most 64: the rule `id_twice` of validity is kept.
-use Rattle.std.specs.Prelude.{◌≡◌, refl, Bool, true, false, ◌||◌, List, [], ◌∷◌, ◌++◌, ℕ, zero, suc, ◌≤◌, eqb, length}
+use Rattle.std.specs.Prelude.{◌≡◌, refl, Bool, true, false, ◌||◌, List, [], ◌∷◌, ◌++◌, ℕ, zero, suc, ◌≤◌, eqb, length, Some}
 use Rattle.std.proofs.Common.{sym, ap, ap₂, ◌∙◌, arith, eqb-true, eq-eqb, ne_eqb, length-append}
-use Rattle.std.proofs.Math.Option.{some}
 use Rattle.std.proofs.lemmas.Bool.{eqb-false}
 use Rattle.srt_group_model.specs.Tools.{any, place_of, at_place, change, each, without_place}
 use Rattle.srt_group_model.specs.Laws.Reason.{when_true, when_false, if_given, by_test, not_both, or_left, or_right, some_inj, none_some, none_of, all_at}
@@ -85,7 +84,7 @@ among_any id [] = refl
 among_any id (m ∷ ms) = ap (λ (b : Bool). has_id id m || b) (among_any id ms)
 
 -- ids are unique, so that the member at a place is the one that is found by its id
-pub find_at : (i : ℕ) (m : Member) (ms : List Member) → one_twice (ids ms) ≡ false → at_place i ms ≡ some m → find (id_of m) ms ≡ some i
+pub find_at : (i : ℕ) (m : Member) (ms : List Member) → one_twice (ids ms) ≡ false → at_place i ms ≡ Some m → find (id_of m) ms ≡ Some i
 unfolding one_twice each at_place place_of any
 find_at i m [] once at = none_some at
 find_at zero m (x ∷ xs) once at = when_true _ _ _ (eq-eqb (id_of x) (id_of m) (ap id_of (some_inj at)))

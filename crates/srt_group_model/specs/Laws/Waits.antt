@@ -1,7 +1,6 @@
 -- How many events wait: a visit adds one at most, and the refresh none.
-use Rattle.std.specs.Prelude.{◌≡◌, refl, true, false, not, List, [], ◌∷◌, ℕ, ◌+◌, ◌≤◌, ◌<◌, length}
+use Rattle.std.specs.Prelude.{◌≡◌, refl, true, false, not, List, [], ◌∷◌, ℕ, ◌+◌, ◌≤◌, ◌<◌, length, Option}
 use Rattle.std.proofs.Common.{ap, arith, length-append}
-use Rattle.std.proofs.Math.Option.{Option}
 use Rattle.std.proofs.lemmas.Bool.{not-false}
 use Rattle.srt_group_model.specs.Tools.{is_empty}
 use Rattle.srt_group_model.specs.Laws.Reason.{if_elim, if_some_elim, not_both}

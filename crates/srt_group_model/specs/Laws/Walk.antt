@@ -1,8 +1,7 @@
 -- Two narrower laws as instances of the one over every call: what the moves of receiving keep (Moves), every call keeps, and what the
 -- moves of the queues keep (Queues), every poll keeps.
-use Rattle.std.specs.Prelude.{refl, List, [], ℕ}
+use Rattle.std.specs.Prelude.{refl, List, [], ℕ, None, Option}
 use Rattle.std.proofs.Common.{subst}
-use Rattle.std.proofs.Math.Option.{Option, none}
 use Rattle.srt_group_model.specs.Tools.{change}
 use Rattle.srt_group_model.specs.State.{Member, Receive, State, on_leg, on_account}
 use Rattle.srt_group_model.specs.Accounts.{reserve}
@@ -117,8 +116,8 @@ module _ (J : List Member → List Mark → Type 0) (law : QueueLaw J) where
       }
 
   pub poll_event_kept : (time : ℕ) (r : Run) → J r.state.members r.log → J (poll_event time r).run.state.members (poll_event time r).run.log
-  poll_event_kept time r h = polls_event KeptBy queue_refreshes queue_collects queue_polls none time r h
+  poll_event_kept time r h = polls_event KeptBy queue_refreshes queue_collects queue_polls None time r h
 
   pub poll_data_kept : (time max_events : ℕ) (r : Run) → J r.state.members r.log
       → J (poll_data_bounded time max_events r).run.state.members (poll_data_bounded time max_events r).run.log
-  poll_data_kept time max_events r h = polls_data KeptBy queue_refreshes queue_collects queue_polls none time max_events r h
+  poll_data_kept time max_events r h = polls_data KeptBy queue_refreshes queue_collects queue_polls None time max_events r h

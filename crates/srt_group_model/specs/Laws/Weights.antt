@@ -1,10 +1,9 @@
 -- What packets weigh together, for any weight: how a sum moves where a packet is put in, taken out or becomes the group's. And members of
 -- unique ids of which one is changed or taken out.
-use Rattle.std.specs.Prelude.{◌≡◌, Bool, true, false, not, ℕ, zero, suc, ◌+◌, ◌≤◌, ◌<◌, eqb, drop}
+use Rattle.std.specs.Prelude.{◌≡◌, Bool, true, false, not, ℕ, zero, suc, ◌+◌, ◌≤◌, ◌<◌, eqb, drop, Option, Some}
 use Rattle.std.proofs.Math.Path.{refl, ap}
 use Rattle.std.proofs.Common.{sym, subst, ◌∙◌}
 use mathlib.Core.List.{List, [], ◌∷◌, ◌++◌}
-use Rattle.std.proofs.Math.Option.{Option, some}
 use native.Mathlib.Omega.{arith}
 use borrow.Author.Tests.{eqb-true, eqb-false, eq-eqb, ne_eqb}
 use Rattle.srt_group_model.specs.Tools.{if_true◌then◌else◌, any, such_that, at_place, change, each, without_place, counted, total, All}
@@ -90,14 +89,14 @@ each_alone (p ∷ ps) a =
           (λ q low k f. rw (ne_eqb (sequence_of p) (sequence_of q) (λ e. omega (arith, low))) (omega (arith, k f))) ps above (each_alone ps (ascends_rest p ps a)),
     )
 
-pub farthest_of : (P : Packet → Type 0) (base : ℕ) (ps : List Packet) (p : Packet) → All P ps → farthest base ps ≡ some p → P p
+pub farthest_of : (P : Packet → Type 0) (base : ℕ) (ps : List Packet) (p : Packet) → All P ps → farthest base ps ≡ Some p → P p
 unfolding farthest farther
 farthest_of P base [] p h = λ e. none_some e
 farthest_of P base (q ∷ qs) p h =
-    if_some_elim (λ (o : Option Packet). o ≡ some p → P p) _ _ _
+    if_some_elim (λ (o : Option Packet). o ≡ Some p → P p) _ _ _
     (λ r g e.
     if_elim (λ (x : Packet). x ≡ p → P p) _ _ _ (λ t k. subst P k h.0)
-    (λ t k. farthest_of P base qs p h.1 (g ∙ ap {B = Option Packet} (λ z. some z) k)) (some_inj e))
+    (λ t k. farthest_of P base qs p h.1 (g ∙ ap {B = Option Packet} (λ z. Some z) k)) (some_inj e))
     (λ g e. subst P (some_inj e) h.0)
 
 -- ---- who holds them
@@ -163,7 +162,7 @@ module _ (weight : Data → ℕ) where
   abbrev pub in_queue : Event → ℕ
   in_queue = counted is_data (λ e. weight e.content)
 
-  pub front_weighs : (q : List Event) (e : Event) → front q ≡ some e → queued_weight weight q ≡ in_queue e + queued_weight weight (drop 1 q)
+  pub front_weighs : (q : List Event) (e : Event) → front q ≡ Some e → queued_weight weight q ≡ in_queue e + queued_weight weight (drop 1 q)
   unfolding total at_place
   front_weighs [] e f = none_some f
   front_weighs (x ∷ q) e f = ap (λ (y : Event). in_queue y + queued_weight weight q) (some_inj f)
@@ -175,7 +174,7 @@ unfolding any each
 other_ids n [] h = tt
 other_ids n (m ∷ ms) h = (eqb-false (id_of m) n (or_left (eqb (id_of m) n) _ h), other_ids n ms (or_right (eqb (id_of m) n) _ h))
 
-pub without_all : (P : Member → Type 0) (i : ℕ) (m : Member) (ms : List Member) → one_twice (ids ms) ≡ false → at_place i ms ≡ some m → All P ms
+pub without_all : (P : Member → Type 0) (i : ℕ) (m : Member) (ms : List Member) → one_twice (ids ms) ≡ false → at_place i ms ≡ Some m → All P ms
     → All (λ (x : Member). P x × (id_of x ≡ id_of m → ⊥)) (without_place i ms)
 unfolding one_twice each at_place without_place
 without_all P i m [] u at h = tt
@@ -187,19 +186,19 @@ without_all P (suc i) m (x ∷ ms) u at h = (
   without_all P i m ms (or_right (is_among (id_of x) (ids ms)) _ u) at h.1,
 )
 
-pub change_all : (Q : Member → Type 0) (f : Member → Member) (i : ℕ) (m : Member) (ms : List Member) → at_place i ms ≡ some m → All Q (without_place i ms) → Q (f m) → All Q (change i f ms)
+pub change_all : (Q : Member → Type 0) (f : Member → Member) (i : ℕ) (m : Member) (ms : List Member) → at_place i ms ≡ Some m → All Q (without_place i ms) → Q (f m) → All Q (change i f ms)
 unfolding at_place change without_place
 change_all Q f i m [] at h k = tt
 change_all Q f zero m (x ∷ ms) at h k = (subst (λ (y : Member). Q (f y)) (sym (some_inj at)) k, h)
 change_all Q f (suc i) m (x ∷ ms) at h k = (h.0, change_all Q f i m ms at h.1 k)
 
-pub ids_at : (i : ℕ) (m : Member) (f : Member → Member) (ms : List Member) → at_place i ms ≡ some m → id_of (f m) ≡ id_of m → ids (change i f ms) ≡ ids ms
+pub ids_at : (i : ℕ) (m : Member) (f : Member → Member) (ms : List Member) → at_place i ms ≡ Some m → id_of (f m) ≡ id_of m → ids (change i f ms) ≡ ids ms
 unfolding at_place change each
 ids_at i m f [] at e = none_some at
 ids_at zero m f (x ∷ ms) at e = ap (λ (n : ℕ). n ∷ ids ms) (subst (λ (y : Member). id_of (f y) ≡ id_of y) (sym (some_inj at)) e)
 ids_at (suc i) m f (x ∷ ms) at e = ap (λ (l : List ℕ). id_of x ∷ l) (ids_at i m f ms at e)
 
-without_still : (n i : ℕ) (m : Member) (ms : List Member) → at_place i ms ≡ some m → eqb (id_of m) n ≡ false → is_among n (ids ms) ≡ true → is_among n (ids (without_place i ms)) ≡ true
+without_still : (n i : ℕ) (m : Member) (ms : List Member) → at_place i ms ≡ Some m → eqb (id_of m) n ≡ false → is_among n (ids ms) ≡ true → is_among n (ids (without_place i ms)) ≡ true
 unfolding any each at_place without_place
 without_still n i m [] at o h = none_some at
 without_still n zero m (x ∷ ms) at o h =
@@ -208,7 +207,7 @@ without_still n (suc i) m (x ∷ ms) at o h =
     or_cases (eqb (id_of x) n) _ h (λ e. or_yes_left (eqb (id_of x) n) _ e)
     (λ e. or_yes_right (eqb (id_of x) n) _ (without_still n i m ms at o e))
 
-placed_after : (i : ℕ) (m : Member) (ms : List Member) (p : Packet) → at_place i ms ≡ some m → Placed (ids ms) p → Placed (ids (without_place i ms)) (own_packet (id_of m) p)
+placed_after : (i : ℕ) (m : Member) (ms : List Member) (p : Packet) → at_place i ms ≡ Some m → Placed (ids ms) p → Placed (ids (without_place i ms)) (own_packet (id_of m) p)
 unfolding own_packet
 placed_after i m ms p at h =
     if_elim (Placed (ids (without_place i ms))) (eqb p.member (id_of m)) _ _ (λ e. refl)
@@ -218,7 +217,7 @@ placed_after i m ms p at h =
     or_yes_right (is_owned p) _
     (without_still p.member i m ms at (ne_eqb (id_of m) p.member (λ g. eqb-false p.member (id_of m) e (sym g))) o)))
 
-pub all_placed_after : (i : ℕ) (m : Member) (ms : List Member) (ps : List Packet) → at_place i ms ≡ some m → All (Placed (ids ms)) ps → All (Placed (ids (without_place i ms))) (each (own_packet (id_of m)) ps)
+pub all_placed_after : (i : ℕ) (m : Member) (ms : List Member) (ps : List Packet) → at_place i ms ≡ Some m → All (Placed (ids ms)) ps → All (Placed (ids (without_place i ms))) (each (own_packet (id_of m)) ps)
 unfolding each
 all_placed_after i m ms [] at h = tt
 all_placed_after i m ms (p ∷ ps) at h = (placed_after i m ms p at h.0, all_placed_after i m ms ps at h.1)

@@ -1,8 +1,8 @@
 -- What is proved of the definitions in specs/DataPoll.antt, with what the proofs need.
-use Rattle.std.specs.Prelude.{◌≡◌, Bool, true, false, List, ℕ, zero, suc, ◌-◌, ◌≤◌, ◌<◌, min, length}
+use Rattle.srt_group_delivery.specs.declared.delivery.GroupEvent.TheVariants.{Event as AnEvent, Packet as APacket}
+use Rattle.std.specs.Prelude.{◌≡◌, Bool, true, false, List, ℕ, zero, suc, ◌-◌, ◌≤◌, ◌<◌, min, length, None, Some}
 use Rattle.std.proofs.Math.Path.{refl}
 use Rattle.std.proofs.Common.{ap, sym, subst, ◌∙◌, arith, eq-eqb, ne_eqb}
-use Rattle.std.proofs.Math.Option.{none}
 use Rattle.srt_group_model.specs.declared.Core.{Core}
 use Rattle.srt_group_model.specs.declared.Packet.{Packet}
 use Rattle.srt_group_model.specs.declared.Waiting.{Waiting}
@@ -18,20 +18,18 @@ use Rattle.srt_group_model.specs.Polls as model_polls
 use Rattle.srt_group_shown.specs.Shown.{Rest, shown}
 use Rattle.srt_group_shown.specs.Tables.{ReceiveTables, receive_tables}
 use Rattle.srt_group_delivery.specs.declared.delivery.Poll.{Poll}
-use Rattle.srt_group_delivery.specs.declared.delivery.Polled.TheVariants.{Nothing, Event as AnEvent, Packet as APacket}
-use Rattle.srt_group_polls.specs.declared.polls.OptionalPacket.TheVariants.{Some, None}
 use Rattle.srt_group_polls.specs.declared.polls.DataPoll.{DataPoll}
 use Rattle.srt_group_polls.specs.declared.polls.Passed.{Passed}
 use Rattle.srt_group_collecting.specs.Leaves.{Usable, under_way}
 use Rattle.srt_group_collecting.specs.Gather.{Shows}
 use Rattle.srt_group_delivery.specs.Poll.{polled_of}
 use Rattle.srt_group_skip.specs.Skip.{PollsFrom}
-use Rattle.srt_group_polls.specs.DataPoll.{option_of, GivesData, PollsData, spent_at, Passes}
+use Rattle.srt_group_polls.specs.DataPoll.{GivesData, PollsData, spent_at, Passes}
 
 -- ---- an event is passed over
 
 module _ (poll : Poll) where
-  pub nothing_passed : poll.gave ≡ Nothing
+  pub nothing_passed : poll.gave ≡ None
       → Passes poll record { event = 0; answer = record { gave = None; continuation = poll.core.visit.continuation; core = poll.core } }
   unfolding pass_events
   nothing_passed is =
@@ -41,10 +39,10 @@ module _ (poll : Poll) where
         later = λ never run rest. not_both never refl;
         ended =
             λ stays run rest same.
-            rw is (ap (λ (n : ℕ). record { gave = none; continuation = is_set n; run = run }) same);
+            rw is (ap (λ (n : ℕ). record { gave = None; continuation = is_set n; run = run }) same);
       }
 
-  pub event_passed : (w : Waiting) → poll.gave ≡ AnEvent w → Passes poll record { event = 1; answer = spent_at poll.core }
+  pub event_passed : (w : Waiting) → poll.gave ≡ Some (AnEvent w) → Passes poll record { event = 1; answer = spent_at poll.core }
   unfolding pass_events
   event_passed w is =
       record {
@@ -54,7 +52,7 @@ module _ (poll : Poll) where
         ended = λ never run rest same. not_both refl never;
       }
 
-  pub packet_passed : (p : Packet) → poll.gave ≡ APacket p
+  pub packet_passed : (p : Packet) → poll.gave ≡ Some (APacket p)
       → Passes poll record { event = 0; answer = record { gave = Some p; continuation = 0; core = poll.core } }
   unfolding pass_events
   packet_passed p is =
@@ -92,7 +90,7 @@ one_poll time (suc n) r h =
     (λ (k : ℕ). pass_events (poll_event time r).gave (poll_event time r).run (poll_until_data time k (poll_event time r).run))
     less
 
-none_left : (time left : ℕ) (r : Run) → left ≤ 0 → poll_until_data time left r ≡ record { gave = none; continuation = true; run = r }
+none_left : (time left : ℕ) (r : Run) → left ≤ 0 → poll_until_data time left r ≡ record { gave = None; continuation = true; run = r }
 unfolding poll_until_data
 none_left time zero r h = refl
 none_left time (suc n) r h = absurd (omega arith)
@@ -128,7 +126,7 @@ module _ (among : Rest → Type 0) (time visits : ℕ) (core : Core) (ms ps ws :
               λ others is_among log budget.
               let e = h.is others is_among log budget ∙ none_left time left (under_way answer.core others (receive_tables ms₁ ps₁ ws₁) (h.marks others log budget) (h.budgets others log budget)) none_more in
               record {
-                gave = ap (λ (q : model_polls.DataPoll). q.gave) e ∙ ap (λ (d : DataPoll). option_of d.gave) (sym h.spent);
+                gave = ap (λ (q : model_polls.DataPoll). q.gave) e ∙ ap (λ (d : DataPoll). d.gave) (sym h.spent);
                 continuation =
                     ap (λ (q : model_polls.DataPoll). q.continuation) e ∙ ap (λ (d : DataPoll). is_set d.continuation) (sym h.spent);
                 state = ap (λ (q : model_polls.DataPoll). q.run.state) e;
@@ -213,7 +211,7 @@ module _ (among : Rest → Type 0) (time visits : ℕ) (core : Core) (ms ps ws :
 
 module _ (time max_events : ℕ) (r : Run) where
   no_event_polls : max_events ≡ 0
-      → poll_data_bounded time max_events r ≡ record { gave = none; continuation = has_pending_data r.state; run = r }
+      → poll_data_bounded time max_events r ≡ record { gave = None; continuation = has_pending_data r.state; run = r }
   unfolding poll_data_bounded if_true◌then◌else◌
   no_event_polls is = rw (eq-eqb max_events 0 is)
 

@@ -1,7 +1,7 @@
 -- One test serves both refreshes of a poll: the visits between them leave a quiet group quiet, or an event waits.
-use Rattle.std.specs.Prelude.{◌≡◌, Bool, false, not, ◌&&◌, ◌||◌, eqb}
+use Rattle.std.specs.Prelude.{◌≡◌, Bool, not, ◌&&◌, ◌||◌}
 use Rattle.std.proofs.Math.Path.{refl, ap}
-use Rattle.std.proofs.Common.{ap₂, sym, subst, ◌∙◌, arith}
+use Rattle.std.proofs.Common.{ap₂, sym, subst, ◌∙◌}
 use Rattle.std.proofs.Math.Bool.{true}
 use mathlib.Core.List.{List, [], ◌∷◌, ◌++◌}
 use Prim.Native.Nat.{ℕ, zero, suc, ◌≤◌}
@@ -21,11 +21,10 @@ use Rattle.srt_group_model.specs.Run.{Run, refresh_pending_states}
 use Rattle.srt_group_model.specs.Collecting.{retain_group_packet, report_event, collect_member_event, Visited, take_front, collect_one_event, collect_until_held}
 use Rattle.srt_group_model.specs.Delivery.{max_visits}
 use Rattle.srt_group_model.specs.Laws.Queues.{pop}
-use Rattle.srt_connection_members.specs.Members.{members_of}
 use Rattle.srt_group_members.specs.Quiet.{is_steady, is_quiet}
 use Rattle.srt_group_members.specs.Laws.Quiet.{refresh_pending_stays}
 use Rattle.srt_group_tables.specs.Waitings.{waiting_at}
-use Rattle.srt_group_shown.specs.Shown.{Rest, blank, remembering, shown}
+use Rattle.srt_group_shown.specs.Shown.{blank, remembering}
 use Rattle.srt_group_shown.specs.Tables.{receive_tables}
 use Rattle.srt_group_collecting.specs.declared.collecting.Gathered.{Gathered}
 use Rattle.srt_group_collecting.specs.Leaves.{sends, under_way}

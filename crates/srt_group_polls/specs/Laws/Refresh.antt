@@ -1,9 +1,8 @@
 -- What is proved of the definitions in specs/Refresh.antt, with what the proofs need.
-use Rattle.std.specs.Prelude.{◌≡◌, refl, Bool, true, ℕ, ◌*◌, ◌≤◌, length}
+use Rattle.std.specs.Prelude.{◌≡◌, refl, Bool, true, ℕ, ◌*◌, ◌≤◌, length, None, Option}
 use Rattle.std.proofs.Math.Path.{ap}
 use Rattle.std.proofs.Common.{sym, subst, ◌∙◌, arith}
 use mathlib.Core.List.{List, []}
-use Rattle.std.proofs.Math.Option.{Option, none}
 use Rattle.srt_group_model.specs.declared.Core.{Core}
 use Rattle.srt_group_model.specs.declared.Counts.{Counts}
 use Rattle.srt_group_model.specs.declared.Sending.{Sending}
@@ -18,7 +17,7 @@ use Rattle.srt_group_model.specs.Laws.Sound.{sound_law}
 use Rattle.srt_connection_queue.specs.Rows.{row_size}
 use Rattle.srt_connection_members.specs.Members.{members_of}
 use Rattle.srt_group_members.specs.declared.admission.Admission.{Admission}
-use Rattle.srt_group_members.specs.Admission.{Admitted, base_in}
+use Rattle.srt_group_members.specs.Admission.{Admitted}
 use Rattle.srt_group_members.specs.Scan.{Became}
 use Rattle.srt_group_members.specs.Quiet.{is_quiet}
 use Rattle.srt_group_members.specs.Laws.Quiet.{refresh_pending_stays, refresh_stays}
@@ -48,7 +47,7 @@ refreshes_among among refreshes =
 
 module _ (core : Core) (ms ms' : List ℕ) (answer : Admission)
     (admitted : Admitted core.counts.members core.peer ms answer ms') where
-  pub admits : (based : Core) → Bases (base_in answer) core based
+  pub admits : (based : Core) → Bases answer.base core based
       → Refreshes every admit_connected_peer_groups core ms (with_peer_group answer.peer based) ms'
   unfolding admit_connected_peer_groups
   admits based bases =
@@ -70,7 +69,7 @@ module _ (core : Core) (ms ms' : List ℕ) (answer : Admission)
       here = ap (λ (n : Counts). members_of n.members ms') bases.counts_same ∙ admitted.became.is
 
       set : (ps ws : List ℕ) (others : Rest) (log : List Mark) (budget : ℕ)
-          → At (set_base (base_after none before) (under_way core others (receive_tables ms ps ws) log budget)) based others
+          → At (set_base (base_after None before) (under_way core others (receive_tables ms ps ws) log budget)) based others
           (receive_tables ms ps ws) budget
       set ps ws others log budget =
           subst
@@ -81,7 +80,7 @@ module _ (core : Core) (ms ms' : List ℕ) (answer : Admission)
       state : (ps ws : List ℕ) (others : Rest) (log : List Mark) (budget : ℕ)
           → with_peer bound
           (with_members (each (admit_peer_group bound) before)
-          (set_base (base_after none before) (under_way core others (receive_tables ms ps ws) log budget)).state)
+          (set_base (base_after None before) (under_way core others (receive_tables ms ps ws) log budget)).state)
           ≡ shown (with_peer_group answer.peer based) others ms' ps ws
       state ps ws others log budget =
           ap (λ (s : State). with_peer bound (with_members (each (admit_peer_group bound) before) s))

@@ -1,11 +1,10 @@
 -- What is proved of the definitions in specs/Straight.antt, over states: to hold a packet and to deliver it at once leaves what is left where it is given straight
 -- (`goes_straight`).
-use Rattle.std.specs.Prelude.{◌≡◌, Bool, true, ◌&&◌, ◌||◌, ℕ, zero, suc, ◌+◌, ◌-◌, ◌%◌, ◌≤◌, ◌<◌, length}
+use Rattle.std.specs.Prelude.{◌≡◌, Bool, true, ◌&&◌, ◌||◌, ℕ, zero, suc, ◌+◌, ◌-◌, ◌%◌, ◌≤◌, ◌<◌, length, Some}
 use Rattle.std.proofs.Math.Path.{refl, ap, ap₂, subst}
 use Rattle.std.proofs.Common.{sym, ◌∙◌, arith}
 use Rattle.std.proofs.Math.Bool.{false, not}
 use mathlib.Core.List.{List, [], ◌∷◌}
-use Rattle.std.proofs.Math.Option.{some}
 use Rattle.std.proofs.Math.Decide.{dec_lt}
 use borrow.Author.Tests.{eq-eqb, eqb-false, le-ltb, lt-ltb}
 use Rattle.std.proofs.Math.Dec.{eqb}
@@ -60,11 +59,11 @@ module _ (p : Packet) where
       if_elim (λ (l : List Packet). is_held (sequence_of p) l ≡ true) _ _ _ (λ e. or_yes_left (has_sequence (sequence_of p) p) _ itself)
       (λ e. or_yes_right (has_sequence (sequence_of p) q) _ (inserted_held qs))
 
-  inserted_found : (ps : List Packet) → is_held (sequence_of p) ps ≡ false → held_at (sequence_of p) (insert p ps) ≡ some p
+  inserted_found : (ps : List Packet) → is_held (sequence_of p) ps ≡ false → held_at (sequence_of p) (insert p ps) ≡ Some p
   unfolding insert any first_such
   inserted_found [] h = when_true _ _ _ itself
   inserted_found (q ∷ qs) h =
-      if_elim (λ (l : List Packet). held_at (sequence_of p) l ≡ some p) _ _ _ (λ e. when_true _ _ _ itself)
+      if_elim (λ (l : List Packet). held_at (sequence_of p) l ≡ Some p) _ _ _ (λ e. when_true _ _ _ itself)
       (λ e. when_false _ _ _ (or_left (has_sequence (sequence_of p) q) _ h) ∙ inserted_found qs (or_right (has_sequence (sequence_of p) q) _ h))
 
   -- of those that pass a test: where it alone passes, and where it alone fails
@@ -149,7 +148,7 @@ abbrev pub packet_of : Member → Event → Packet
 packet_of m e = packet_from (id_of m) e
 
 module _ (time : ℕ) (r : Run) (i : ℕ) (m : Member) (e : Event) (at_base : Straight i (packet_of m e) r.state)
-    (there : at_place i r.state.members ≡ some m) (first : front m.queue ≡ some e) (is_data : e.kind ≡ 0)
+    (there : at_place i r.state.members ≡ Some m) (first : front m.queue ≡ Some e) (is_data : e.kind ≡ 0)
     (unique : one_twice (ids r.state.members) ≡ false) (fit : All PacketFit r.state.receive.pending)
     (small : sequence_of (packet_of m e) ≤ largest_sequence) where
   abbrev p : Packet
@@ -246,7 +245,7 @@ module _ (time : ℕ) (r : Run) (i : ℕ) (m : Member) (e : Event) (at_base : St
   released x = on_leg (release_data_reservation p.content.count) (on_account (release p.content.count) x)
 
   -- by its id the member is found at its place
-  found_there : find (id_of m) holding.members ≡ some i
+  found_there : find (id_of m) holding.members ≡ Some i
   found_there =
       let reserved = on_account (reserve p.content.count) in
       find_at i (reserved (pop m)) holding.members

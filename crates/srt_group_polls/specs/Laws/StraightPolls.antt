@@ -1,10 +1,10 @@
 -- What is proved of the definitions in specs/Straight.antt, over the record and the lent tables: a packet that is given straight is what the definition's poll
 -- gives.
-use Rattle.std.specs.Prelude.{◌≡◌, refl, Bool, true, ◌&&◌, List, [], ◌∷◌, ℕ, suc, ◌+◌, ◌-◌, ◌%◌, ◌≤◌, ◌<◌, eqb, length}
+use Rattle.srt_group_delivery.specs.declared.delivery.GroupEvent.TheVariants.{Packet as APacket}
+use Rattle.std.specs.Prelude.{◌≡◌, refl, Bool, true, ◌&&◌, List, [], ◌∷◌, ℕ, suc, ◌+◌, ◌%◌, ◌≤◌, ◌<◌, eqb, length, None, Option, Some}
 use Rattle.std.proofs.Math.Path.{ap, sym}
 use Rattle.std.proofs.Common.{ap₂, subst, ◌∙◌, add-one, arith, eqb-true}
 use Rattle.std.proofs.Math.Bool.{false}
-use Rattle.std.proofs.Math.Option.{Option, none, some}
 use Rattle.std.proofs.lemmas.Bool.{not-false}
 use Rattle.srt_protocol.specs.Sequence.{sequence_further}
 use Rattle.srt_group_model.specs.declared.Event.{Event}
@@ -17,7 +17,7 @@ use Rattle.srt_group_model.specs.Sound.{Sound}
 use Rattle.srt_group_model.specs.Nearest.{sequence_of, is_held}
 use Rattle.srt_group_model.specs.Run.{Mark}
 use Rattle.srt_group_model.specs.Collecting.{in_turn}
-use Rattle.srt_group_model.specs.Delivery.{packet, advance_legs}
+use Rattle.srt_group_model.specs.Delivery.{advance_legs}
 use Rattle.srt_group_model.specs.Polls.{poll_event}
 use Rattle.srt_group_model.specs.declared.Core.{Core}
 use Rattle.srt_group_model.specs.declared.Counts.{Counts}
@@ -27,13 +27,9 @@ use Rattle.srt_group_model.specs.Laws.Sound.{sound_law}
 use Rattle.srt_group_model.specs.Core.{with_receiving, with_visit}
 use Rattle.srt_group_model.specs.declared.Membership.{Membership}
 use Rattle.srt_group_model.specs.Laws.Flag.{set_some}
-use Rattle.srt_connection_members.specs.declared.Found.{Found}
-use Rattle.srt_connection_members.specs.declared.Found.TheVariants.{At as MemberAt}
-use Rattle.srt_connection_members.specs.Members.{member_at, members_of, found_of, HasRow, Changed, ChangedAll}
+use Rattle.srt_connection_members.specs.Members.{member_at, members_of, HasRow, Changed, ChangedAll}
 use Rattle.srt_connection_members.specs.Laws.Members.{members_place, members_length, found_some, changed_twice}
-use Rattle.srt_connection_queue.specs.Queue.{optional_event, popped as queue_popped}
-use Rattle.srt_connection_queue.specs.declared.queue.OptionalEvent.{OptionalEvent}
-use Rattle.srt_connection_queue.specs.declared.queue.OptionalEvent.TheVariants.{Some as SomeEvent}
+use Rattle.srt_connection_queue.specs.Queue.{popped as queue_popped}
 use Rattle.srt_group_tables.specs.Packets.{packets}
 use Rattle.srt_group_tables.specs.Waitings.{waiting_at}
 use Rattle.srt_group_shown.specs.Shown.{Rest, shown, blank, nothing_sent}
@@ -46,18 +42,16 @@ use Rattle.srt_group_collecting.specs.Laws.Turn.{in_turn_inside}
 use Rattle.srt_group_collecting.specs.Laws.Gather.{tab_spent}
 use Rattle.srt_group_delivery.specs.declared.delivery.Poll.{Poll as PollAnswer}
 use Rattle.srt_group_delivery.specs.Poll.{polled_of}
-use Rattle.srt_group_delivery.specs.declared.delivery.Polled.TheVariants.{Packet as APacket}
 use Rattle.srt_group_delivery.specs.Delivery.{Deliverable}
 use Rattle.srt_group_skip.specs.Skip.{PollsFrom}
 use Rattle.srt_group_polls.specs.declared.straight.Straight.{Straight as Answer}
-use Rattle.srt_group_polls.specs.declared.straight.Straight.TheVariants.{At}
 use Rattle.srt_group_polls.specs.Straight.{given_from, given_straight, Goes, goes, Given}
 use Rattle.srt_group_polls.specs.Refresh.{Known}
 use Rattle.srt_group_polls.specs.Laws.Straight.{PolledSo, goes_straight}
 
 -- ---- over the record and the lent tables
 
-flagged_is : (b : Bool) (n k : ℕ) → flagged b n ≡ some k → n ≡ k
+flagged_is : (b : Bool) (n k : ℕ) → flagged b n ≡ Some k → n ≡ k
 unfolding flagged
 flagged_is true n k e = some_inj e
 flagged_is false n k e = none_some e
@@ -112,8 +106,8 @@ module _ (core : Core) (ms ps ws : List ℕ) (usable : Usable core (receive_tabl
 
 -- ---- the search for it
 
-module _ {found : Found} (core : Core) (ms ps : List ℕ) (i : ℕ) (there : found ≡ MemberAt i)
-    (turn : found ≡ found_of (in_turn core.visit.round (members_of core.counts.members ms))) where
+module _ {found : Option ℕ} (core : Core) (ms ps : List ℕ) (i : ℕ) (there : found ≡ Some i)
+    (turn : found ≡ in_turn core.visit.round (members_of core.counts.members ms)) where
   inside : i < core.counts.members
   inside = in_turn_inside core.counts.members core.visit.round i ms there turn
 
@@ -121,8 +115,8 @@ module _ {found : Found} (core : Core) (ms ps : List ℕ) (i : ℕ) (there : fou
   turn_has_row d = omega (arith, inside, d.members_long, d.members_few)
 
   -- each test of it was passed
-  pub all_passed : {quiet alone held : Bool} {first : OptionalEvent} {membership : Membership} (e : Event) → Known quiet core ms → quiet ≡ true → core.counts.waiting ≤ 0
-      → (core.receiving.based ≡ 0 → ⊥) → first ≡ SomeEvent e → first ≡ optional_event (at_place 0 (member_at ms i).queue) → alone ≡ true
+  pub all_passed : {quiet alone held : Bool} {first : Option Event} {membership : Membership} (e : Event) → Known quiet core ms → quiet ≡ true → core.counts.waiting ≤ 0
+      → (core.receiving.based ≡ 0 → ⊥) → first ≡ Some e → first ≡ at_place 0 (member_at ms i).queue → alone ≡ true
       → alone ≡ (eqb e.kind 0 && (eqb e.content.sequence core.receiving.base && eqb e.content.count 1)) → held ≡ false
       → held ≡ is_held core.receiving.base (packets core.counts.pending ps) → membership ≡ (member_at ms i).membership
       → Goes i record { member = membership.id; owned = 0; content = e.content } core ms ps
@@ -139,7 +133,7 @@ module _ {found : Found} (core : Core) (ms ps : List ℕ) (i : ℕ) (there : fou
             record {
               quiet = known quiet;
               none_waits = not-false _ (tab_spent core.counts.waiting (waiting_at ws) none_waits);
-              based = set_some core.receiving.based core.receiving.base based ∙ ap (λ (n : ℕ). some n) (sym sequence);
+              based = set_some core.receiving.based core.receiving.base based ∙ ap (λ (n : ℕ). Some n) (sym sequence);
               turn = found_some (in_turn core.visit.round (members_of core.counts.members ms)) i (sym there ∙ turn);
               member = member_at ms i;
               there = members_place core.counts.members ms i inside;
@@ -153,9 +147,9 @@ module _ {found : Found} (core : Core) (ms ps : List ℕ) (i : ℕ) (there : fou
             };
       }
     where
-      event_some : (o : Option Event) → SomeEvent e ≡ optional_event o → o ≡ some e
-      event_some none k = cc k
-      event_some (some x) k = cc k
+      event_some : (o : Option Event) → Some e ≡ o → o ≡ Some e
+      event_some None k = cc k
+      event_some (Some x) k = cc k
 
 -- ---- it is given
 
@@ -168,7 +162,7 @@ module _ (core : Core) (ms ms₁ ms₂ ms₃ : List ℕ) (i : ℕ) (p : Packet) 
   pub given_all : {next : ℕ} → next ≡ sequence_further (sequence_of p) p.content.count → Changed i queue_popped ms ms₁
       → Changed i (on_leg (release_data_reservation p.content.count)) ms₁ ms₂
       → ChangedAll core.counts.members (on_leg (advance_receive_sequence next)) ms₂ ms₃
-      → Given i p core ms record { gave = APacket p; core = given_core next } ms₃
+      → Given i p core ms record { gave = Some (APacket p); core = given_core next } ms₃
   unfolding given_straight advance_legs bit
   given_all {next} is_next off_queue off_leg advanced =
       record {
@@ -192,5 +186,5 @@ module _ (core : Core) (ms ms₁ ms₂ ms₃ : List ℕ) (i : ℕ) (p : Packet) 
       round_now : suc i % length (members_of core.counts.members ms) ≡ (i + 1) % core.counts.members
       round_now = ap₂ (λ (a b : ℕ). a % b) (sym (add-one i)) (members_length core.counts.members ms)
 
-pub goes_at : {answer : Answer} (core : Core) (ms ps : List ℕ) (i : ℕ) (p : Packet) → answer ≡ At i p → goes answer core ms ps → Goes i p core ms ps
-goes_at core ms ps i p is = subst (λ (x : Answer). goes x core ms ps) is
+pub goes_at : {answer : Option Answer} (core : Core) (ms ps : List ℕ) (a : Answer) → answer ≡ Some a → goes answer core ms ps → Goes a.index a.packet core ms ps
+goes_at core ms ps a is = subst (λ (x : Option Answer). goes x core ms ps) is

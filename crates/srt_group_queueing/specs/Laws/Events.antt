@@ -1,11 +1,10 @@
 -- An event at the end of a leg's queue is document 01's.
-use Rattle.std.specs.Prelude.{◌≡◌, Bool, false, ◌||◌, ℕ, eqb}
+use Rattle.srt_protocol.specs.Errors.{Outcome}
+use Rattle.std.specs.Prelude.{◌≡◌, Bool, false, ◌||◌, ℕ, eqb, Err, Ok, Some}
 use Rattle.std.proofs.Math.Path.{refl}
 use Rattle.std.proofs.Common.{ap, sym, subst, ◌∙◌, arith}
 use mathlib.Core.List.{List, [], ◌∷◌}
 use Rattle.srt_protocol.specs.declared.error.Error.TheVariants.{QueueFull}
-use Rattle.srt_protocol.specs.declared.error.Outcome.{Outcome}
-use Rattle.srt_protocol.specs.declared.error.Outcome.TheVariants.{Accepted, Refused}
 use Rattle.srt_protocol.specs.Errors.{refuse_if, if_accepted}
 use Rattle.srt_group_model.specs.Tools.{such_that, each}
 use Rattle.srt_group_model.specs.Laws.Reason.{if_elim, by_test, not_both, or_left, or_right}
@@ -20,9 +19,8 @@ use Rattle.srt_group_model.specs.Calls.{breaks_rule, queue_full, enqueue, lifecy
 use Rattle.srt_group_model.specs.Lent.{call_queue_event, step_of}
 use Rattle.srt_group_model.specs.Laws.InHand.{enqueued}
 use Rattle.srt_group_model.specs.declared.Event.{Event}
-use Rattle.srt_connection_members.specs.Members.{member_at, found_of, PushedAt}
+use Rattle.srt_connection_members.specs.Members.{member_at, PushedAt}
 use Rattle.srt_connection_members.specs.Laws.Members.{changed_by}
-use Rattle.srt_connection_members.specs.declared.Found.TheVariants.{At}
 use Rattle.srt_group_shown.specs.Tables.{Parts, Tables, state_of}
 use Rattle.srt_group_shown.specs.Steps.{Unbroken}
 use Rattle.srt_group_queueing.specs.Laws.OneMember.{OneMember, member_checks, Ends, member_refused, member_changed}
@@ -62,18 +60,18 @@ module _ (id kind reason : ℕ) where
 
   -- pushed at the end of the queue that `find` answered
   pub event_pushed : (p : Parts) (t : Tables) (unbroken : Unbroken p t) → event_unfit ≡ false
-      → (i : ℕ) → At i ≡ found_of (find id (state_of p t).members)
+      → (i : ℕ) → Some i ≡ find id (state_of p t).members
       → (event : Event) (o : Outcome) (members' : List ℕ) → event ≡ lifecycle_event kind reason → PushedAt i event t.members o members'
       → Ends event_call p t unbroken o members'
   event_pushed p t unbroken fit i at event o members' made pushed =
       by_test (queue_full m)
       (λ full.
-      let is : o ≡ Refused QueueFull = pushed.outcome ∙ ap (λ (b : Bool). refuse_if b QueueFull Accepted) full in
+      let is : o ≡ Err QueueFull = pushed.outcome ∙ ap (λ (b : Bool). refuse_if b QueueFull (Ok tt)) full in
       subst (λ (x : Outcome). Ends event_call p t unbroken x members') (sym is)
       (member_refused event_call p t unbroken fit i at members' full
       (changed_by i t.members members' (λ x. x) pushed.changed (ap (λ (x : Outcome). if_accepted x (enqueue event m) m) is))))
       (λ room.
-      let is : o ≡ Accepted = pushed.outcome ∙ ap (λ (b : Bool). refuse_if b QueueFull Accepted) room in
+      let is : o ≡ (Ok tt) = pushed.outcome ∙ ap (λ (b : Bool). refuse_if b QueueFull (Ok tt)) room in
       subst (λ (x : Outcome). Ends event_call p t unbroken x members') (sym is)
       (member_changed event_call p t unbroken fit i at members' room
       (changed_by i t.members members' (enqueue (lifecycle_event kind reason)) pushed.changed

@@ -1,12 +1,11 @@
 -- The calls that are lent no store and change one member, proved together.
-use Rattle.std.specs.Prelude.{◌≡◌, refl, Bool, true, false, ℕ}
+use Rattle.srt_protocol.specs.Errors.{Outcome}
+use Rattle.std.specs.Prelude.{◌≡◌, refl, Bool, true, false, ℕ, Err, None, Ok, Some}
 use Rattle.std.proofs.Common.{ap, ◌∙◌}
 use Rattle.std.proofs.Math.Path.{sym, subst}
 use mathlib.Core.List.{List, [], ◌∷◌}
 use Rattle.srt_protocol.specs.declared.error.Error.{Error}
 use Rattle.srt_protocol.specs.declared.error.Error.TheVariants.{OutOfRange, UnknownMember}
-use Rattle.srt_protocol.specs.declared.error.Outcome.{Outcome}
-use Rattle.srt_protocol.specs.declared.error.Outcome.TheVariants.{Accepted, Refused}
 use Rattle.srt_protocol.specs.Errors.{error_number, outcome_number}
 use Rattle.srt_group_model.specs.State.{Member, State, with_members}
 use Rattle.srt_group_model.specs.Members.{find}
@@ -18,8 +17,7 @@ use Rattle.srt_group_model.specs.Laws.Places.{change_nothing}
 use Rattle.srt_group_model.specs.Laws.CellsMoved.{Keeps}
 use Rattle.srt_group_model.specs.Calls.{breaks_rule, is_unknown, of_member, change_member}
 use Rattle.srt_group_model.specs.Lent.{Call, step_of}
-use Rattle.srt_connection_members.specs.Members.{member_at, found_of, Changed}
-use Rattle.srt_connection_members.specs.declared.Found.TheVariants.{At, Nothing}
+use Rattle.srt_connection_members.specs.Members.{member_at, Changed}
 use Rattle.srt_group_shown.specs.Tables.{Parts, Tables, state_of}
 use Rattle.srt_group_shown.specs.Steps.{Unbroken, StepsKeeping}
 use Rattle.srt_group_shown.specs.Laws.Steps.{left_refused, left_accepted}
@@ -81,23 +79,23 @@ module _ {call : Call} (c : OneMember call) (p : Parts) (t : Tables) (unbroken :
         keeps = same_cells before;
       }
 
-  pub unfit_refused : c.unfit ≡ true → Ends (Refused OutOfRange) t.members
+  pub unfit_refused : c.unfit ≡ true → Ends (Err OutOfRange) t.members
   unfit_refused unfit =
-      refused (Refused OutOfRange)
+      refused (Err OutOfRange)
       (λ store output list. starts store output list ∙ guard_stops (2 when c.unfit) 3_on before body unfit)
 
   module _ (fit : c.unfit ≡ false) where
     after_2 : Is (guard 3_on before body)
     after_2 store output list = starts store output list ∙ guard_goes_on (2 when c.unfit) 3_on before body fit
 
-    pub unknown_refused : Nothing ≡ found_of (find c.id before.members) → Ends (Refused UnknownMember) t.members
+    pub unknown_refused : None ≡ find c.id before.members → Ends (Err UnknownMember) t.members
     unknown_refused nowhere =
-        refused (Refused UnknownMember)
+        refused (Err UnknownMember)
         (λ store output list.
         after_2 store output list
         ∙ guard_stops (3 when is_unknown c.id before) own_on before body (is_nowhere c.id p t nowhere))
 
-    module _ (i : ℕ) (at : At i ≡ found_of (find c.id before.members)) where
+    module _ (i : ℕ) (at : Some i ≡ find c.id before.members) where
       after_3 : Is (guard own_on before body)
       after_3 store output list =
           after_2 store output list
@@ -105,7 +103,7 @@ module _ {call : Call} (c : OneMember call) (p : Parts) (t : Tables) (unbroken :
 
       -- the member refuses: a table that shows the same
       pub member_refused : (members' : List ℕ) → c.refuses (member_at t.members i) ≡ true → Changed i (λ m. m) t.members members'
-          → Ends (Refused c.error) members'
+          → Ends (Err c.error) members'
       member_refused members' refuses same =
           let shows_same : state_of p (with_table members' t) ≡ before =
           shown_changed p t i (λ m. m) members' same ∙ ap (λ (ms : List Member). with_members ms before) (change_nothing i before.members)
@@ -126,7 +124,7 @@ module _ {call : Call} (c : OneMember call) (p : Parts) (t : Tables) (unbroken :
           }
 
       pub member_changed : (members' : List ℕ) → c.refuses (member_at t.members i) ≡ false → Changed i c.does t.members members'
-          → Ends Accepted members'
+          → Ends (Ok tt) members'
       unfolding guard
       member_changed members' passes changed =
           let there = change_found c.id p t i at c.does in

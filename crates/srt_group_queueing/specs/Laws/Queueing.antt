@@ -1,15 +1,13 @@
 -- What is proved of the definitions in specs/Queueing.antt, with what the proofs need.
-use Rattle.std.specs.Prelude.{◌≡◌, Bool, true, false, ℕ, ◌+◌, ◌*◌, ◌^◌, ◌≤◌, ◌<◌, eqb}
+use Rattle.srt_protocol.specs.Errors.{Outcome}
+use Rattle.std.specs.Prelude.{◌≡◌, Bool, true, false, ℕ, ◌+◌, ◌*◌, ◌^◌, ◌≤◌, ◌<◌, eqb, Err, None, Ok, Option, Some}
 use Rattle.std.proofs.Math.Path.{refl, sym, ap, subst}
 use Rattle.std.proofs.Common.{◌∙◌, lt-ltb, le-ltb}
 use mathlib.Core.List.{List, [], ◌∷◌}
-use Rattle.std.proofs.Math.Option.{Option, some}
 use native.Mathlib.Omega.{arith}
 use Rattle.std.proofs.Math.ListN.{length}
 use Rattle.srt_protocol.specs.declared.error.Error.{Error}
 use Rattle.srt_protocol.specs.declared.error.Error.TheVariants.{OutOfRange, UnknownMember, PayloadTooLong, NoFreeCell, QueueFull}
-use Rattle.srt_protocol.specs.declared.error.Outcome.{Outcome}
-use Rattle.srt_protocol.specs.declared.error.Outcome.TheVariants.{Accepted, Refused}
 use Rattle.srt_protocol.specs.Errors.{error_number, outcome_number, refuse_if, if_accepted}
 use Rattle.srt_protocol.specs.Cells.{cell_size, cells_of, overwritten, Put}
 use Rattle.srt_protocol.specs.Laws.CellLaws.{overwritten_length, cell_accepted}
@@ -30,13 +28,10 @@ use Rattle.srt_group_model.specs.Calls.{store_unfit, data_unfit, is_unknown, no_
 use Rattle.srt_group_model.specs.Lent.{Call, call_queue_data, stored, delivered_by, written_out, list_rows, with_bytes, step_of}
 use Rattle.srt_group_model.specs.declared.Data.{Data}
 use Rattle.srt_group_model.specs.declared.Event.{Event}
-use Rattle.srt_connection_members.specs.Members.{member_at, found_of, Changed, PushedAt}
+use Rattle.srt_connection_members.specs.Members.{member_at, Changed, PushedAt}
 use Rattle.srt_connection_members.specs.Laws.Members.{changed_by, changed_twice}
-use Rattle.srt_connection_members.specs.declared.Found.TheVariants.{At, Nothing}
 use Rattle.cell_set.specs.Sets.{Taken, CanTake, LowestFree}
 use Rattle.cell_set.specs.Laws.Shows.{shows_taken, lowest_found, none_found}
-use Rattle.cell_set.specs.declared.FreeCell.{FreeCell}
-use Rattle.cell_set.specs.declared.FreeCell.TheVariants.{Cell, Full}
 use Rattle.srt_group_shown.specs.Tables.{Parts, Tables, state_of, Long}
 use Rattle.srt_group_shown.specs.Ready.{Ready, storing, Performs}
 use Rattle.srt_group_shown.specs.Laws.Ready.{one_cell, performs_refused, performs_refused_over, performs_accepted}
@@ -47,8 +42,8 @@ use Rattle.srt_group_shown.specs.Laws.Found.{with_table, long_with, is_nowhere, 
 -- ---- the member at an index, once a cell is found
 
 module _ (index cell : ℕ) (d : Data) (payload members store used : List ℕ) where
-  pub enqueue_refused : {r : Outcome} (e : Error) (members' : List ℕ) (event : Event) → PushedAt index event members r members' → r ≡ Refused e
-      → Enqueues index cell d payload members store used (Refused e) members' store used
+  pub enqueue_refused : {r : Outcome} (e : Error) (members' : List ℕ) (event : Event) → PushedAt index event members r members' → r ≡ Err e
+      → Enqueues index cell d payload members store used (Err e) members' store used
   enqueue_refused e members' event pushed is =
       record {
         outcome = sym is ∙ pushed.outcome;
@@ -62,7 +57,7 @@ module _ (index cell : ℕ) (d : Data) (payload members store used : List ℕ) w
 
   module _ (fits : Enqueueable index cell d (length payload) members (length store) (length used)) where
     accepted_changed : {r : Outcome} (event : Event) (u v : List ℕ) → event ≡ data_event cell (length payload) d
-        → PushedAt index event members r u → r ≡ Accepted → Changed index (on_leg (add_reservation d.count)) u v
+        → PushedAt index event members r u → r ≡ Ok tt → Changed index (on_leg (add_reservation d.count)) u v
         → Changed index (with_data cell (length payload) d) members v
     accepted_changed event u v made pushed is reserved =
         changed_twice index members u v
@@ -72,9 +67,9 @@ module _ (index cell : ℕ) (d : Data) (payload members store used : List ℕ) w
         reserved
 
     pub enqueue_accepted : {r put : Outcome} (event : Event) (u members' store' used' : List ℕ) → event ≡ data_event cell (length payload) d
-        → PushedAt index event members r u → r ≡ Accepted → Changed index (on_leg (add_reservation d.count)) u members'
+        → PushedAt index event members r u → r ≡ Ok tt → Changed index (on_leg (add_reservation d.count)) u members'
         → Put store cell payload put store' → Taken cell used used'
-        → Enqueues index cell d payload members store used Accepted members' store' used'
+        → Enqueues index cell d payload members store used (Ok tt) members' store' used'
     enqueue_accepted {r} {put} event u members' store' used' made pushed is reserved stores takes =
         record {
           outcome = sym is ∙ pushed.outcome;
@@ -88,7 +83,7 @@ module _ (index cell : ℕ) (d : Data) (payload members store used : List ℕ) w
         }
 
     -- the room for the reservation is still there once the event is pushed
-    pub room_left : {r : Outcome} (event : Event) (u : List ℕ) → PushedAt index event members r u → r ≡ Accepted
+    pub room_left : {r : Outcome} (event : Event) (u : List ℕ) → PushedAt index event members r u → r ≡ Ok tt
         → (member_at u index).leg.receiver.reserved + d.count < 2 ^ 64
     room_left event u pushed is =
         subst (λ (m : Member). m.leg.receiver.reserved + d.count < 2 ^ 64)
@@ -139,23 +134,23 @@ module _ (id : ℕ) (d : Data) (payload : List ℕ) (p : Parts) (t : Tables) (st
       guard_goes_on (5 when store_unfit (length store) s) ((6 when is_invalid room s) ∷ 2_on) s body ready.fits
       ∙ guard_goes_on (6 when is_invalid room s) 2_on s body ready.valid
 
-  pub data_refused : data_unfit id d ≡ true → Queues (Refused OutOfRange) t.members store used
+  pub data_refused : data_unfit id d ≡ true → Queues (Err OutOfRange) t.members store used
   data_refused unfit = performs_refused call p t (storing store) used ready (error_number OutOfRange) (starts ∙ guard_stops (2 when data_unfit id d) 3_on s body unfit)
 
   module _ (fit : data_unfit id d ≡ false) where
     after_2 : step ≡ guard 3_on s body
     after_2 = starts ∙ guard_goes_on (2 when data_unfit id d) 3_on s body fit
 
-    pub unknown_refused : Nothing ≡ found_of (find id s.members) → Queues (Refused UnknownMember) t.members store used
+    pub unknown_refused : None ≡ find id s.members → Queues (Err UnknownMember) t.members store used
     unknown_refused nowhere =
         performs_refused call p t (storing store) used ready (error_number UnknownMember)
         (after_2 ∙ guard_stops (3 when is_unknown id s) 4_on s body (is_nowhere id p t nowhere))
 
-    module _ (i : ℕ) (at : At i ≡ found_of (find id s.members)) where
+    module _ (i : ℕ) (at : Some i ≡ find id s.members) where
       after_3 : step ≡ guard 4_on s body
       after_3 = after_2 ∙ guard_goes_on (3 when is_unknown id s) 4_on s body (is_known id p t i at)
 
-      pub long_refused : cell_size < length payload → Queues (Refused PayloadTooLong) t.members store used
+      pub long_refused : cell_size < length payload → Queues (Err PayloadTooLong) t.members store used
       long_refused long =
           performs_refused call p t (storing store) used ready (error_number PayloadTooLong)
           (after_3 ∙ guard_stops (4 when above cell_size (length payload)) 30_on s body (lt-ltb cell_size (length payload) long))
@@ -164,7 +159,7 @@ module _ (id : ℕ) (d : Data) (payload : List ℕ) (p : Parts) (t : Tables) (st
         after_4 : step ≡ guard 30_on s body
         after_4 = after_3 ∙ guard_goes_on (4 when above cell_size (length payload)) 30_on s body (le-ltb cell_size (length payload) short)
 
-        pub full_refused : {r : FreeCell} → LowestFree used room r → r ≡ Full → Queues (Refused NoFreeCell) t.members store used
+        pub full_refused : {r : Option ℕ} → LowestFree used room r → r ≡ None → Queues (Err NoFreeCell) t.members store used
         unfolding if_some◌give◌otherwise◌
         full_refused lowest is =
             performs_refused call p t (storing store) used ready (error_number NoFreeCell)
@@ -173,11 +168,11 @@ module _ (id : ℕ) (d : Data) (payload : List ℕ) (p : Parts) (t : Tables) (st
             (ap (λ (o : Option ℕ). if_some o give (λ c. false) otherwise true)
             (none_found ready.shows lowest is)))
 
-        module _ {r : FreeCell} (cell : ℕ) (lowest : LowestFree used room r) (is : r ≡ Cell cell) where
-          free_there : free_cell room s ≡ some cell
+        module _ {r : Option ℕ} (cell : ℕ) (lowest : LowestFree used room r) (is : r ≡ Some cell) where
+          free_there : free_cell room s ≡ Some cell
           free_there = lowest_found ready.shows lowest is
 
-          can : CanTake used room (Cell cell)
+          can : CanTake used room (Some cell)
           can = subst (CanTake used room) is lowest.free
 
           after_30 : step ≡ guard 31_on s (queue_data_body id cell d payload s)
@@ -226,7 +221,7 @@ module _ (id : ℕ) (d : Data) (payload : List ℕ) (p : Parts) (t : Tables) (st
 
             refused_31 : queue_full (member_at t.members i) ≡ true → Queues o members' store' used'
             refused_31 full =
-                let is : o ≡ Refused QueueFull = done.outcome ∙ ap (λ (b : Bool). refuse_if b QueueFull Accepted) full in
+                let is : o ≡ Err QueueFull = done.outcome ∙ ap (λ (b : Bool). refuse_if b QueueFull (Ok tt)) full in
                 let same : state_of p t' ≡ s =
                 queued_by (λ m. m) (ap (λ (x : Outcome). if_accepted x (with_data cell (length payload) d (member_at t.members i)) (member_at t.members i)) is)
                 ∙ ap (λ (ms : List Member). with_members ms s) (change_nothing i s.members)
@@ -235,9 +230,9 @@ module _ (id : ℕ) (d : Data) (payload : List ℕ) (p : Parts) (t : Tables) (st
                 (after_30 ∙ guard_stops (31 when of_member id queue_full s) [] s (queue_data_body id cell d payload s) (full_is ∙ full)) t' same long_after
                 in
                 subst (λ (x : Outcome). Queues x members' store' used') (sym is)
-                (subst (λ (x : List ℕ). Queues (Refused QueueFull) members' x used')
+                (subst (λ (x : List ℕ). Queues (Err QueueFull) members' x used')
                 (sym (done.stored_there ∙ ap (λ (x : Outcome). if_accepted x (overwritten (cell * cell_size) payload store) store) is))
-                (subst (λ (x : List ℕ). Queues (Refused QueueFull) members' store x) (sym (done.kept QueueFull is)) refused))
+                (subst (λ (x : List ℕ). Queues (Err QueueFull) members' store x) (sym (done.kept QueueFull is)) refused))
 
             body_state : (queue_data_body id cell d payload s).state ≡ with_members (change i (with_data cell (length payload) d) s.members) s
             unfolding queue_data_body
@@ -246,7 +241,7 @@ module _ (id : ℕ) (d : Data) (payload : List ℕ) (p : Parts) (t : Tables) (st
             accepted : queue_full (member_at t.members i) ≡ false → Queues o members' store' used'
             unfolding queue_data_body guard with_bytes stored delivered_by written_out list_rows overwritten
             accepted room_left =
-                let is : o ≡ Accepted = done.outcome ∙ ap (λ (b : Bool). refuse_if b QueueFull Accepted) room_left in
+                let is : o ≡ (Ok tt) = done.outcome ∙ ap (λ (b : Bool). refuse_if b QueueFull (Ok tt)) room_left in
                 let same : state_of p t' ≡ (queue_data_body id cell d payload s).state =
                 queued_by (with_data cell (length payload) d) (ap (λ (x : Outcome). if_accepted x (with_data cell (length payload) d (member_at t.members i)) (member_at t.members i)) is)
                 ∙ sym body_state

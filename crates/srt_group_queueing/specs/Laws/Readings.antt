@@ -1,9 +1,8 @@
 -- A reading of a leg is document 01's.
-use Rattle.std.specs.Prelude.{◌≡◌, Bool, true, false, ◌||◌, List, ◌∷◌, ℕ}
+use Rattle.std.specs.Prelude.{◌≡◌, Bool, true, false, ◌||◌, List, ◌∷◌, ℕ, Err, Ok, Some}
 use Rattle.std.proofs.Math.Path.{refl}
 use Rattle.std.proofs.Common.{ap, sym, ◌∙◌}
 use Rattle.srt_protocol.specs.declared.error.Error.TheVariants.{OutOfTurn}
-use Rattle.srt_protocol.specs.declared.error.Outcome.TheVariants.{Accepted, Refused}
 use Rattle.srt_group_model.specs.State.{Member, State, with_leg, on_leg}
 use Rattle.srt_group_model.specs.Legs.{goes_back, largest_32}
 use Rattle.srt_group_model.specs.Members.{find}
@@ -14,9 +13,8 @@ use Rattle.srt_group_model.specs.Guards.{no_answer, accept, ◌when◌, guard}
 use Rattle.srt_group_model.specs.Calls.{breaks_rule, change_member, reading_out_of_range, read_field, read_leg}
 use Rattle.srt_group_model.specs.Lent.{call_read_leg, step_of}
 use Rattle.srt_group_model.specs.declared.Leg.{Leg}
-use Rattle.srt_connection_members.specs.Members.{member_at, found_of, Changed}
+use Rattle.srt_connection_members.specs.Members.{member_at, Changed}
 use Rattle.srt_connection_members.specs.Laws.Members.{leg_changed, unchanged}
-use Rattle.srt_connection_members.specs.declared.Found.TheVariants.{At}
 use Rattle.srt_group_shown.specs.Tables.{Parts, Tables, state_of}
 use Rattle.srt_group_shown.specs.Steps.{Unbroken}
 use Rattle.srt_group_queueing.specs.Laws.OneMember.{OneMember, member_checks, Ends, member_refused, member_changed}
@@ -50,16 +48,16 @@ module _ (id field n : ℕ) where
 
   -- the leg of the member that `find` answered, and whether the number goes back on it
   module _ (p : Parts) (t : Tables) (unbroken : Unbroken p t) (fit : reading_unfit ≡ false)
-      (i : ℕ) (at : At i ≡ found_of (find id (state_of p t).members)) (leg : Leg) (there : leg ≡ (member_at t.members i).leg) (back : Bool) (tested : back ≡ goes_back field n leg) where
+      (i : ℕ) (at : Some i ≡ find id (state_of p t).members) (leg : Leg) (there : leg ≡ (member_at t.members i).leg) (back : Bool) (tested : back ≡ goes_back field n leg) where
     of_leg : goes_back field n (member_at t.members i).leg ≡ back
     of_leg = ap (goes_back field n) (sym there) ∙ sym tested
 
-    pub reading_refused : back ≡ true → Ends reading_call p t unbroken (Refused OutOfTurn) t.members
+    pub reading_refused : back ≡ true → Ends reading_call p t unbroken (Err OutOfTurn) t.members
     reading_refused is =
         member_refused reading_call p t unbroken fit i at t.members (of_leg ∙ is) (unchanged i t.members)
 
     pub reading_put : back ≡ false → (read : Leg) (members' : List ℕ) → read ≡ read_field field n leg
-        → Changed i (with_leg read) t.members members' → Ends reading_call p t unbroken Accepted members'
+        → Changed i (with_leg read) t.members members' → Ends reading_call p t unbroken (Ok tt) members'
     reading_put is read members' made changed =
         member_changed reading_call p t unbroken fit i at members' (of_leg ∙ is)
         (leg_changed (read_field field n) changed (made ∙ ap (read_field field n) there))

@@ -1,12 +1,11 @@
 -- What is proved of the definitions in specs/Begins.antt, with what the proofs need.
-use Rattle.std.specs.Prelude.{◌≡◌, Bool, true, false, not, ◌&&◌, ◌||◌, List, ℕ, eqb, ltb, length}
+use Rattle.srt_protocol.specs.Errors.{Outcome}
+use Rattle.std.specs.Prelude.{◌≡◌, Bool, true, false, not, ◌&&◌, ◌||◌, List, ℕ, eqb, ltb, length, Err, Ok}
 use Rattle.std.proofs.Math.Path.{sym, ap}
 use Rattle.std.proofs.Common.{subst, ◌∙◌, arith, eqb-true, eq-eqb, ne_eqb, ltb-false, le-ltb}
 use Rattle.std.proofs.lemmas.Bool.{not-false}
 use Rattle.srt_protocol.specs.declared.error.Error.{Error}
 use Rattle.srt_protocol.specs.declared.error.Error.TheVariants.{InsufficientBuffer, InvalidState}
-use Rattle.srt_protocol.specs.declared.error.Outcome.{Outcome}
-use Rattle.srt_protocol.specs.declared.error.Outcome.TheVariants.{Accepted, Refused}
 use Rattle.srt_protocol.specs.Errors.{error_number, outcome_number, refuse_if}
 use Rattle.srt_protocol.specs.Cells.{cell_size, max_cells, cells_of}
 use Rattle.srt_group_model.specs.Tools.{if_true◌then◌else◌}
@@ -37,17 +36,17 @@ are_long t h =
       sources = eqb-true _ _ (not-false _ (or_right (not (eqb (length t.history) max_history)) _ h3));
     }
 
-refused_is : {b : Bool} (e : Error) (other : Outcome) → b ≡ true → ◌≡◌ {A = Outcome} (Refused e) (refuse_if b e other)
+refused_is : {b : Bool} (e : Error) (other : Outcome) → b ≡ true → ◌≡◌ {A = Outcome} (Err e) (refuse_if b e other)
 refused_is e other fails = sym (ap (λ (x : Bool). refuse_if x e other) fails)
 
 passed_is : {b : Bool} (e : Error) (other : Outcome) → b ≡ false → other ≡ refuse_if b e other
 passed_is e other passes = sym (ap (λ (x : Bool). refuse_if x e other) passes)
 
-pub never_accepted : {B : Type 0} {e : Error} → ◌≡◌ {A = Outcome} (Refused e) Accepted → B
+pub never_accepted : {B : Type 0} {e : Error} → ◌≡◌ {A = Outcome} (Err e) (Ok tt) → B
 never_accepted {B} {e} never = let different : ◌≡◌ {A = ℕ} 0 1 = cc in absurd (omega arith)
 
 module _ (p : Parts) (t : Tables) (store : ℕ) (used : List ℕ) where
-  pub begins_short : are_short t ≡ true → BeginsStored p t store (Refused InsufficientBuffer) used
+  pub begins_short : are_short t ≡ true → BeginsStored p t store (Err InsufficientBuffer) used
   begins_short short = record { is = refused_is _ _ short; ready = λ never. never_accepted never }
 
   -- the store, as the code tests it
@@ -57,7 +56,7 @@ module _ (p : Parts) (t : Tables) (store : ℕ) (used : List ℕ) where
   unfolding store_unfit
   unfit_is is = is
 
-  pub begins_unfit : are_short t ≡ false → store_unfit store (state_of p t) ≡ true → BeginsStored p t store (Refused InsufficientBuffer) used
+  pub begins_unfit : are_short t ≡ false → store_unfit store (state_of p t) ≡ true → BeginsStored p t store (Err InsufficientBuffer) used
   begins_unfit long unfit =
       record { is = refused_is _ _ unfit ∙ passed_is _ _ long; ready = λ never. never_accepted never }
 
@@ -66,14 +65,14 @@ module _ (p : Parts) (t : Tables) (store : ℕ) (used : List ℕ) where
     tested : Tested (cells_of store) (state_of p t) r used
     tested = subst (λ (n : ℕ). Tested n (state_of p t) r used) is_cells found
 
-    pub begins_invalid : r ≡ true → BeginsStored p t store (Refused InvalidState) used
+    pub begins_invalid : r ≡ true → BeginsStored p t store (Err InvalidState) used
     begins_invalid broken =
         record {
           is = refused_is _ _ (sym tested.is ∙ broken) ∙ passed_is _ _ fits ∙ passed_is _ _ long;
           ready = λ never. never_accepted never;
         }
 
-    pub begins_ready : r ≡ false → BeginsStored p t store Accepted used
+    pub begins_ready : r ≡ false → BeginsStored p t store (Ok tt) used
     begins_ready valid =
         record {
           is = passed_is _ _ (sym tested.is ∙ valid) ∙ passed_is _ _ fits ∙ passed_is _ _ long;
@@ -89,7 +88,7 @@ pub some_given : {given : ℕ} → (given ≡ 0 → ⊥) → cells_of given ≡ 
 some_given {given} not_0 = sym (when_false (eqb given 0) max_cells (cells_of given) (ne_eqb given 0 not_0))
 
 module _ (p : Parts) (t : Tables) where
-  pub begun_short : are_short t ≡ true → Refused InsufficientBuffer ≡ begun p t
+  pub begun_short : are_short t ≡ true → Err InsufficientBuffer ≡ begun p t
   begun_short short = refused_is _ _ short
 
   module _ (long : are_short t ≡ false) {cells : ℕ}
@@ -99,18 +98,18 @@ module _ (p : Parts) (t : Tables) where
     unfolding cells_given
     broken_is is = ap (λ (n : ℕ). is_invalid n (state_of p t)) (sym is_cells) ∙ sym found.is ∙ is
 
-    pub begun_invalid : r ≡ true → Refused InvalidState ≡ begun p t
+    pub begun_invalid : r ≡ true → Err InvalidState ≡ begun p t
     begun_invalid broken = refused_is _ _ (broken_is broken) ∙ passed_is _ _ long
 
-    pub begun_on : r ≡ false → Accepted ≡ begun p t
+    pub begun_on : r ≡ false → (Ok tt) ≡ begun p t
     begun_on valid = passed_is _ _ (broken_is valid) ∙ passed_is _ _ long
 
 -- what it then knows
 module _ (p : Parts) (t : Tables) {r : Outcome} (begins : r ≡ begun p t) where
   abbrev after_tables : Outcome
-  after_tables = refuse_if (breaks_rule (state_of p t)) InvalidState Accepted
+  after_tables = refuse_if (breaks_rule (state_of p t)) InvalidState (Ok tt)
 
-  pub begun_which : {B : Type 0} (e : Error) → r ≡ Refused e
+  pub begun_which : {B : Type 0} (e : Error) → r ≡ Err e
       → (are_short t ≡ true → error_number e ≡ 5 → B)
       → (are_short t ≡ false → breaks_rule (state_of p t) ≡ true → error_number e ≡ 6 → B)
       → B
@@ -121,23 +120,23 @@ module _ (p : Parts) (t : Tables) {r : Outcome} (begins : r ≡ begun p t) where
       (λ long.
       let on = is ∙ sym (passed_is InsufficientBuffer after_tables long) in
       by_test (breaks_rule (state_of p t))
-      (λ broken. on_invalid long broken (ap outcome_number (on ∙ sym (refused_is InvalidState Accepted broken))))
-      (λ valid. never_accepted (on ∙ sym (passed_is InvalidState Accepted valid))))
+      (λ broken. on_invalid long broken (ap outcome_number (on ∙ sym (refused_is InvalidState (Ok tt) broken))))
+      (λ valid. never_accepted (on ∙ sym (passed_is InvalidState (Ok tt) valid))))
 
-  pub begun_long : r ≡ Accepted → are_short t ≡ false
+  pub begun_long : r ≡ Ok tt → are_short t ≡ false
   begun_long accepted =
       by_test (are_short t)
       (λ short. never_accepted (refused_is InsufficientBuffer after_tables short ∙ sym begins ∙ accepted)) (λ long. long)
 
-  pub begun_valid : r ≡ Accepted → breaks_rule (state_of p t) ≡ false
+  pub begun_valid : r ≡ Ok tt → breaks_rule (state_of p t) ≡ false
   begun_valid accepted =
       by_test (breaks_rule (state_of p t))
       (λ broken.
       never_accepted
-      (refused_is InvalidState Accepted broken ∙ passed_is InsufficientBuffer after_tables (begun_long accepted) ∙ sym begins ∙ accepted))
+      (refused_is InvalidState (Ok tt) broken ∙ passed_is InsufficientBuffer after_tables (begun_long accepted) ∙ sym begins ∙ accepted))
       (λ valid. valid)
 
-  pub begun_unbroken : r ≡ Accepted → Unbroken p t
+  pub begun_unbroken : r ≡ Ok tt → Unbroken p t
   begun_unbroken accepted = record { long = are_long t (begun_long accepted); valid = begun_valid accepted }
 
 -- ---- what a call that is lent a store and has begun knows
@@ -146,19 +145,19 @@ module _ {p : Parts} {t : Tables} {store : ℕ} {r : Outcome} {used : List ℕ} 
   abbrev after_short : Outcome
   after_short =
       refuse_if (store_unfit store (state_of p t)) InsufficientBuffer
-      (refuse_if (is_invalid (cells_of store) (state_of p t)) InvalidState Accepted)
+      (refuse_if (is_invalid (cells_of store) (state_of p t)) InvalidState (Ok tt))
 
   abbrev after_unfit : Outcome
-  after_unfit = refuse_if (is_invalid (cells_of store) (state_of p t)) InvalidState Accepted
+  after_unfit = refuse_if (is_invalid (cells_of store) (state_of p t)) InvalidState (Ok tt)
 
-  pub not_short : r ≡ Accepted → are_short t ≡ false
+  pub not_short : r ≡ Ok tt → are_short t ≡ false
   not_short accepted =
       by_test (are_short t)
       (λ short. never_accepted (refused_is InsufficientBuffer after_short short ∙ sym begins.is ∙ accepted))
       (λ long. long)
 
   -- refused: by the first of the three that fails
-  pub which_refused : {B : Type 0} (e : Error) → r ≡ Refused e
+  pub which_refused : {B : Type 0} (e : Error) → r ≡ Err e
       → (are_short t ≡ true → error_number e ≡ 5 → B)
       → (are_short t ≡ false → store_unfit store (state_of p t) ≡ true → error_number e ≡ 5 → B)
       → (are_short t ≡ false → store_unfit store (state_of p t) ≡ false → is_invalid (cells_of store) (state_of p t) ≡ true → error_number e ≡ 6 → B)
@@ -176,16 +175,16 @@ module _ {p : Parts} {t : Tables} {store : ℕ} {r : Outcome} {used : List ℕ} 
       on_invalid long fits broken
       (ap outcome_number
       (begun ∙ sym (passed_is InsufficientBuffer after_short long) ∙ sym (passed_is InsufficientBuffer after_unfit fits)
-      ∙ sym (refused_is InvalidState Accepted broken))))
+      ∙ sym (refused_is InvalidState (Ok tt) broken))))
       (λ valid.
       never_accepted
       (begun ∙ sym (passed_is InsufficientBuffer after_short long) ∙ sym (passed_is InsufficientBuffer after_unfit fits)
-      ∙ sym (passed_is InvalidState Accepted valid)))))
+      ∙ sym (passed_is InvalidState (Ok tt) valid)))))
 
 -- ---- a poll
 
 module _ (p : Parts) (t : Tables) (store output : ℕ) (used : List ℕ) where
-  pub begins_no_room : output_unfit output ≡ true → BeginsPoll p t store output (Refused InsufficientBuffer) used
+  pub begins_no_room : output_unfit output ≡ true → BeginsPoll p t store output (Err InsufficientBuffer) used
   begins_no_room unfit =
       record { is = refused_is _ _ unfit; ready = λ never. never_accepted never; room = λ never. never_accepted never }
 
@@ -198,10 +197,10 @@ module _ {p : Parts} {t : Tables} {store output : ℕ} {r : Outcome} {used : Lis
   pub begins_as_stored : output_unfit output ≡ false → BeginsStored p t store r used
   begins_as_stored room = record { is = begins.is ∙ sym (passed_is InsufficientBuffer (begun_stored p t store) room); ready = begins.ready }
 
-  pub has_room : r ≡ Accepted → output_unfit output ≡ false
+  pub has_room : r ≡ Ok tt → output_unfit output ≡ false
   has_room accepted = le-ltb _ _ (begins.room accepted)
 
-  pub which_poll_refused : {B : Type 0} (e : Error) → r ≡ Refused e
+  pub which_poll_refused : {B : Type 0} (e : Error) → r ≡ Err e
       → (output_unfit output ≡ true → error_number e ≡ 5 → B)
       → (output_unfit output ≡ false → BeginsStored p t store r used → B)
       → B

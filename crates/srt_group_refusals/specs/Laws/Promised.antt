@@ -1,12 +1,10 @@
 -- What is proved of the definitions in specs/Promised.antt, with what the proofs need.
-use Rattle.std.specs.Prelude.{◌≡◌, refl, Bool, true, false, ◌||◌, List, [], ◌∷◌, ℕ, ◌≤◌, ◌<◌}
+use Rattle.srt_protocol.specs.Errors.{Outcome}
+use Rattle.std.specs.Prelude.{◌≡◌, refl, Bool, true, false, ◌||◌, List, ◌∷◌, ℕ, ◌≤◌, ◌<◌, Err, None, Ok}
 use Rattle.std.proofs.Math.Path.{sym, subst}
 use Rattle.std.proofs.Common.{ap, ◌∙◌, lt-ltb, le-ltb}
-use Rattle.std.proofs.Math.Option.{none}
 use Rattle.std.proofs.Math.ListN.{length}
 use Rattle.srt_protocol.specs.declared.error.Error.{Error}
-use Rattle.srt_protocol.specs.declared.error.Outcome.{Outcome}
-use Rattle.srt_protocol.specs.declared.error.Outcome.TheVariants.{Accepted, Refused}
 use Rattle.srt_protocol.specs.Errors.{error_number}
 use Rattle.srt_protocol.specs.Cells.{cells_of, overwritten}
 use Rattle.srt_group_model.specs.State.{State}
@@ -25,7 +23,7 @@ use Rattle.srt_group_shown.specs.Ready.{Performs}
 use Rattle.srt_group_shown.specs.Steps.{Steps}
 use Rattle.srt_group_shown.specs.Laws.Steps.{left_bytes}
 use Rattle.srt_group_refusals.specs.Begins.{are_short, begun, BeginsStored}
-use Rattle.srt_group_refusals.specs.Laws.Begins.{begun_which, begun_long, begun_valid, not_short, which_refused}
+use Rattle.srt_group_refusals.specs.Laws.Begins.{begun_which, begun_long, not_short, which_refused}
 use Rattle.srt_group_refusals.specs.Promised.{asking, showing, answering, Promised, Answers, nothing_lent, PromisedRow}
 
 module _ (call : Call) (p : Parts) (t : Tables) (bytes : Lent) where
@@ -66,14 +64,14 @@ module _ (call : Call) (p : Parts) (t : Tables) (bytes : Lent) where
 
   module _ {r : Outcome} (begins : r ≡ begun p t) where
     pub promised_refused_6 : (cs : List Check) (body : Step) → step ≡ guard ((6 when breaks_rule s) ∷ cs) s body
-        → (e : Error) → r ≡ Refused e → Promised call p t bytes (refused_with (error_number e))
+        → (e : Error) → r ≡ Err e → Promised call p t bytes (refused_with (error_number e))
     promised_refused_6 cs body is e refused =
         begun_which p t begins e refused
         (λ short five. promised_short (refused_with (error_number e)) short (ap refused_with five))
         (λ long broken six. refused_by long 6 (is ∙ guard_stops (6 when breaks_rule s) cs s body broken) six)
 
     -- what follows 5 and 6 is the definition's step
-    pub promised_steps : r ≡ Accepted → {number : ℕ} {given : Answer} {p' : Parts} {t' : Tables} → delivered_by given ≡ none
+    pub promised_steps : r ≡ Ok tt → {number : ℕ} {given : Answer} {p' : Parts} {t' : Tables} → delivered_by given ≡ None
         → Steps call p t number given p' t' → Promised call p t bytes (showing p' t' bytes number given 0)
     unfolding showing do_call perform with_bytes
     promised_steps accepted {number} {given} {p'} {t'} no_packet steps =
@@ -94,7 +92,7 @@ module _ (call : Call) (p : Parts) (t : Tables) (bytes : Lent) where
         → step
         ≡ guard
         ((5 when store_unfit (length bytes.store) s) ∷ (6 when is_invalid (cells_of (length bytes.store)) s) ∷ cs) s body
-        → (e : Error) → r ≡ Refused e → Promised call p t bytes (refused_with (error_number e))
+        → (e : Error) → r ≡ Err e → Promised call p t bytes (refused_with (error_number e))
     promised_refused cs body is e refused =
         which_refused begins e refused
         (λ short five. promised_short (refused_with (error_number e)) short (ap refused_with five))
@@ -105,7 +103,7 @@ module _ (call : Call) (p : Parts) (t : Tables) (bytes : Lent) where
         ∙ guard_stops (6 when is_invalid (cells_of (length bytes.store)) s) cs s body broken)
         six)
 
-    pub promised_performed : (takes call).list ≡ false → r ≡ Accepted
+    pub promised_performed : (takes call).list ≡ false → r ≡ Ok tt
         → {number : ℕ} {given : Answer} {p' : Parts} {t' : Tables} {bytes' : Lent} {used' : List ℕ}
         → Performs call p t bytes number given p' t' bytes' used' → Promised call p t bytes (showing p' t' bytes' number given 0)
     unfolding showing

@@ -1,36 +1,35 @@
 -- The calls with their refusals: how each is refused at its start, and what it promises after that.
-use Rattle.std.specs.Prelude.{◌≡◌, Bool, List, ℕ, ◌≤◌, length}
+use Rattle.srt_protocol.specs.Errors.{Outcome}
+use Rattle.std.specs.Prelude.{◌≡◌, Bool, List, ℕ, ◌≤◌, length, Err, Ok}
 use Rattle.std.proofs.Math.Path.{refl, ap}
 use Rattle.std.proofs.Math.Bool.{true, false}
 use Rattle.std.proofs.Common.{arith}
 use Rattle.srt_protocol.specs.declared.error.Error.{Error}
-use Rattle.srt_protocol.specs.declared.error.Outcome.{Outcome}
-use Rattle.srt_protocol.specs.declared.error.Outcome.TheVariants.{Accepted, Refused}
 use Rattle.srt_protocol.specs.Errors.{error_number, outcome_number}
 use Rattle.srt_group_model.specs.Guards.{Answer, no_answer}
 use Rattle.srt_group_model.specs.Calls.{remove_body, remove_member_connection}
 use Rattle.srt_group_model.specs.Lent.{call_remove_member_connection, step_of}
 use Rattle.srt_connection_queue.specs.Rows.{row_size}
 use Rattle.srt_group_traces.specs.Statement.{do_call}
-use Rattle.srt_group_traces.specs.Port.{Shown, Does, Promise}
+use Rattle.srt_group_traces.specs.Port.{Shown, Promise}
 use Rattle.srt_group_shown.specs.Tables.{Parts, parts, Tables, tables, state_of}
 use Rattle.srt_group_refusals.specs.Begins.{are_short, begun}
 use Rattle.srt_group_refusals.specs.Laws.Begins.{begun_unbroken}
-use Rattle.srt_group_refusals.specs.Promised.{nothing_lent, asking, showing, answered, Promised, PromisedRow}
+use Rattle.srt_group_refusals.specs.Promised.{nothing_lent, asking, showing, answered, PromisedRow}
 use Rattle.srt_group_refusals.specs.Laws.Promised.{promised_refused_6, promised_steps, over_row, without_row}
 use Rattle.srt_group_removal.specs.declared.connection.Removal.{Removal}
 use Rattle.srt_group_removal.specs.Connection.{given_back, StepsRemoval, answer_dropped, PromisedDropping}
 use Rattle.srt_group_removal.specs.Laws.Connection.{none_delivered}
 
 module _ (id : ℕ) (p : Parts) (t : Tables) (row : List ℕ) (long : row_size ≤ length row) {r : Outcome} (begins : r ≡ begun p t) where
-  pub removal_refused : (e : Error) → r ≡ Refused e
+  pub removal_refused : (e : Error) → r ≡ Err e
       → PromisedRow (call_remove_member_connection id) p t row (showing p t nothing_lent (error_number e) no_answer 0)
   unfolding step_of remove_member_connection
   removal_refused e refused =
       over_row (call_remove_member_connection id) p t row long
       (promised_refused_6 (call_remove_member_connection id) p t nothing_lent begins _ (remove_body id (state_of p t)) refl e refused)
 
-  pub removal_promised : r ≡ Accepted → (answer : Removal) (ms' ps' row' : List ℕ)
+  pub removal_promised : r ≡ Ok tt → (answer : Removal) (ms' ps' row' : List ℕ)
       → StepsRemoval id p.core t.members t.pending answer ms' ps' row'
       → PromisedRow (call_remove_member_connection id) p t row
       (showing (parts p.identity answer.core p.sending p.ring) (tables ms' ps' t.waiting t.history t.sources) nothing_lent
@@ -52,9 +51,9 @@ module _ (id : ℕ) (p : Parts) (t : Tables) where
   dropped : (short : Bool) (p' : Parts) (t' : Tables) (o : Outcome) (given : Answer) → Holds short p' t' o given
       → Holds short p' t' o (answer_dropped id nothing_lent (state_of p t))
   unfolding do_call showing
-  dropped short p' t' (Refused e) given holds = holds
-  dropped true p' t' Accepted given holds = absurd (omega (arith, ap (λ (x : Shown). x.code) holds))
-  dropped false p' t' Accepted given does =
+  dropped short p' t' (Err e) given holds = holds
+  dropped true p' t' (Ok tt) given holds = absurd (omega (arith, ap (λ (x : Shown). x.code) holds))
+  dropped false p' t' (Ok tt) given does =
       record { code = does.code; answer = refl; state = does.state; lent = does.lent; rows = does.rows }
 
   pub leg_dropped : (row row' : List ℕ) (p' : Parts) (t' : Tables) (o : Outcome) → row_size ≤ length row

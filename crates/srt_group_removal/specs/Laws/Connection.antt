@@ -1,12 +1,10 @@
 -- What is proved of the definitions in specs/Connection.antt, with what the proofs need.
-use Rattle.std.specs.Prelude.{◌≡◌, refl, true, false, ℕ, ◌*◌, ◌≤◌, ◌<◌, eqb, length}
+use Rattle.srt_protocol.specs.Errors.{Outcome}
+use Rattle.std.specs.Prelude.{◌≡◌, refl, false, ℕ, ◌≤◌, ◌<◌, eqb, length, Err, None, Ok, Some}
 use Rattle.std.proofs.Math.Path.{ap}
-use Rattle.std.proofs.Common.{ap₂, sym, subst, ◌∙◌, arith, lt-ltb, le-ltb}
+use Rattle.std.proofs.Common.{sym, subst, ◌∙◌, arith, lt-ltb, le-ltb}
 use mathlib.Core.List.{List, [], ◌∷◌}
-use Rattle.std.proofs.Math.Option.{none}
 use Rattle.srt_protocol.specs.declared.error.Error.TheVariants.{OutOfRange, UnknownMember}
-use Rattle.srt_protocol.specs.declared.error.Outcome.{Outcome}
-use Rattle.srt_protocol.specs.declared.error.Outcome.TheVariants.{Accepted, Refused}
 use Rattle.srt_protocol.specs.Errors.{outcome_number}
 use Rattle.srt_protocol.specs.Cells.{max_cells}
 use Rattle.srt_group_model.specs.declared.Core.{Core}
@@ -19,23 +17,20 @@ use Rattle.srt_group_model.specs.Legs.{largest_32}
 use Rattle.srt_group_model.specs.Members.{find}
 use Rattle.srt_group_model.specs.Cells.{used_cells}
 use Rattle.srt_group_model.specs.Validity.{above, max_members}
-use Rattle.srt_group_model.specs.Guards.{Answer, leg_back, Step, refuse, accept, Check, ◌when◌, guard}
+use Rattle.srt_group_model.specs.Guards.{leg_back, accept, Check, ◌when◌, guard}
 use Rattle.srt_group_model.specs.Calls.{cells_given, breaks_rule, is_unknown, remove_body, remove_member_connection}
 use Rattle.srt_group_model.specs.Lent.{call_remove_member_connection, delivered_by, step_of}
 use Rattle.srt_group_model.specs.Sound.{Sound}
 use Rattle.srt_group_model.specs.Laws.Refusals.{guard_stops, guard_goes_on}
 use Rattle.srt_group_model.specs.Laws.Valid.{valid_of, counted_of}
 use Rattle.srt_group_model.specs.Laws.Sound.{sound_of_valid}
-use Rattle.srt_connection_queue.specs.Rows.{row_size}
 use Rattle.srt_connection_queue.specs.Queue.{cleared}
-use Rattle.srt_connection_members.specs.Members.{member_at, members_of, found_of, Changed}
+use Rattle.srt_connection_members.specs.Members.{members_of, Changed}
 use Rattle.srt_connection_members.specs.Laws.Members.{members_length}
-use Rattle.srt_connection_members.specs.declared.Found.TheVariants.{At, Nothing}
 use Rattle.srt_group_tables.specs.declared.history.HistoryRing.{HistoryRing}
-use Rattle.cell_set.specs.Shows.{Shows}
-use Rattle.srt_group_shown.specs.Tables.{Parts, parts, Tables, tables, rest_of, state_of, Long}
+use Rattle.srt_group_shown.specs.Tables.{Parts, parts, Tables, tables, rest_of, state_of}
 use Rattle.srt_group_shown.specs.Ready.{Ready, storing, Performs}
-use Rattle.srt_group_shown.specs.Steps.{Unbroken, Steps}
+use Rattle.srt_group_shown.specs.Steps.{Unbroken}
 use Rattle.srt_group_shown.specs.Laws.Steps.{rows_unbroken, unbroken_of, left_refused, left_accepted, performs_steps}
 use Rattle.srt_group_shown.specs.Laws.Found.{is_nowhere, is_known}
 use Rattle.srt_group_collecting.specs.Follows.{Follows}
@@ -89,15 +84,15 @@ gives_back leg row mid row' put clears =
 leg_there : {leg : Leg} {row row' : List ℕ} → GivesBack leg row row' → leg ≡ leg_in row'
 leg_there gives = ap (λ (m : Member). m.leg) (sym gives.here)
 
-pub row_given : {leg : Leg} {row row' : List ℕ} → GivesBack leg row row' → RowAfter Accepted row row'
+pub row_given : {leg : Leg} {row row' : List ℕ} → GivesBack leg row row' → RowAfter (Ok tt) row row'
 row_given {leg} {row} {row'} gives = subst (λ (l : Leg). GivesBack l row row') (leg_there gives) gives
 
 -- ---- the call after 5 and 6
 
-pub none_delivered : (o : Outcome) (row : List ℕ) → delivered_by (given_back o row) ≡ none
+pub none_delivered : (o : Outcome) (row : List ℕ) → delivered_by (given_back o row) ≡ None
 unfolding delivered_by
-none_delivered Accepted row = refl
-none_delivered (Refused e) row = refl
+none_delivered (Ok tt) row = refl
+none_delivered (Err e) row = refl
 
 module _ (id : ℕ) (core : Core) (ms ps : List ℕ) where
   abbrev call_state : Identity → Sending → HistoryRing → (ws hs ss : List ℕ) → State
@@ -116,7 +111,7 @@ module _ (id : ℕ) (core : Core) (ms ps : List ℕ) where
   starts store output list s valid = guard_goes_on (6 when breaks_rule s) (2_on s) s (remove_body id s) valid
 
   pub unfit_removal : (row : List ℕ) → largest_32 < id
-      → StepsRemoval id core ms ps record { core = core; outcome = Refused OutOfRange } ms ps row
+      → StepsRemoval id core ms ps record { core = core; outcome = Err OutOfRange } ms ps row
   unfit_removal row large =
       record {
         over =
@@ -140,8 +135,8 @@ module _ (id : ℕ) (core : Core) (ms ps : List ℕ) where
         starts store output list s valid
         ∙ guard_goes_on (2 when above largest_32 id) (3_on s) s (remove_body id s) (le-ltb largest_32 id fit)
 
-    pub unknown_removal : (row : List ℕ) → Nothing ≡ found_of (find id (members_of core.counts.members ms))
-        → StepsRemoval id core ms ps record { core = core; outcome = Refused UnknownMember } ms ps row
+    pub unknown_removal : (row : List ℕ) → None ≡ find id (members_of core.counts.members ms)
+        → StepsRemoval id core ms ps record { core = core; outcome = Err UnknownMember } ms ps row
     unknown_removal row nowhere =
         record {
           over =
@@ -159,9 +154,9 @@ module _ (id : ℕ) (core : Core) (ms ps : List ℕ) where
               };
         }
 
-    pub named_removed : (i : ℕ) (removed : Removed) (ms' ps' row row' : List ℕ) → At i ≡ found_of (find id (members_of core.counts.members ms))
+    pub named_removed : (i : ℕ) (removed : Removed) (ms' ps' row row' : List ℕ) → Some i ≡ find id (members_of core.counts.members ms)
         → Removes i core ms ps removed ms' ps' → GivesBack removed.leg row row'
-        → StepsRemoval id core ms ps record { core = removed.core; outcome = Accepted } ms' ps' row'
+        → StepsRemoval id core ms ps record { core = removed.core; outcome = Ok tt } ms' ps' row'
     unfolding guard
     named_removed i removed ms' ps' row row' at removes gives =
         record {

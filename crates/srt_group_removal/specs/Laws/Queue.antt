@@ -1,7 +1,6 @@
 -- The cells of a member's queue are freed event by event: what the loop's proof needs.
-use Rattle.std.specs.Prelude.{◌≡◌, List, [], ◌∷◌, ◌++◌, ℕ, suc, ◌+◌, ◌≤◌, ◌<◌, length}
+use Rattle.std.specs.Prelude.{◌≡◌, List, [], ◌∷◌, ℕ, ◌+◌, ◌≤◌, ◌<◌, length, Some}
 use Rattle.std.proofs.Common.{ap, sym, subst, ◌∙◌, add-one, arith, eq-eqb, ne_eqb}
-use Rattle.std.proofs.Math.Option.{Option, some}
 use Rattle.srt_group_model.specs.Tools.{if_true◌then◌else◌, at_place}
 use Rattle.srt_group_model.specs.State.{Member}
 use Rattle.srt_group_model.specs.Cells.{queue_cells}
@@ -35,7 +34,7 @@ module _ (m : Member) (used : List ℕ) where
   freeing_start long = record { passed = omega arith; freed = none_freed used long }
 
   pub freeing_on : (at : ℕ) (here : List ℕ) (e : Event) (next : List ℕ) → FreedTo m used at here → at < length m.queue
-      → at_place at m.queue ≡ some e → Freed (event_cells e) here next → FreedTo m used (at + 1) next
+      → at_place at m.queue ≡ Some e → Freed (event_cells e) here next → FreedTo m used (at + 1) next
   freeing_on at here e next so_far more there one =
       record {
         passed = omega arith;

@@ -1,5 +1,5 @@
 -- What is proved of the definitions in specs/Removal.antt, with what the proofs need.
-use Rattle.std.specs.Prelude.{◌≡◌, refl, true, List, [], eqb, length}
+use Rattle.std.specs.Prelude.{◌≡◌, refl, true, List, [], eqb, length, Some}
 use Rattle.std.proofs.Math.Path.{ap, ap₂, sym}
 use Rattle.std.proofs.Common.{subst, ◌∙◌, arith}
 use Prim.Native.Nat.{ℕ, suc, ◌-◌, ◌≤◌, ◌<◌, min}
@@ -25,10 +25,9 @@ use Rattle.srt_group_model.specs.Laws.Accounts.{few_fits, few_together}
 use Rattle.srt_group_model.specs.Guards.{accept, leg_back}
 use Rattle.srt_group_model.specs.Calls.{remove_body}
 use Rattle.srt_group_model.specs.Laws.Sound.{small_packets}
-use Rattle.srt_connection_members.specs.Members.{members_size, member_at, members_of, found_of, Removed as RowRemoved}
+use Rattle.srt_connection_members.specs.Members.{members_size, member_at, members_of, Removed as RowRemoved}
 use Rattle.srt_connection_members.specs.Laws.Members.{members_length, members_place, found_some, found_below}
 use Rattle.srt_connection_queue.specs.Laws.Tab.{all_tab}
-use Rattle.srt_connection_members.specs.declared.Found.TheVariants.{At}
 use Rattle.srt_group_tables.specs.Packets.{pending_size, packet_at, packets, Holds}
 use Rattle.srt_group_shown.specs.Shown.{Rest, shown, blank, nothing_sent}
 use Rattle.cell_set.specs.Sets.{Freed}
@@ -185,7 +184,7 @@ module _ (i : ℕ) (core : Core) (ms ps : List ℕ) (may : Removable i core ms p
 
 -- what is left of the call `remove_member_connection` once its member is found
 pub removed_as_called : (id i : ℕ) (core : Core) (ms ps : List ℕ) (answer : Removed) (ms' ps' : List ℕ)
-    → At i ≡ found_of (find id (members_of core.counts.members ms)) → Removes i core ms ps answer ms' ps'
+    → Some i ≡ find id (members_of core.counts.members ms) → Removes i core ms ps answer ms' ps'
     → (others : Rest) (ws : List ℕ)
     → remove_body id (shown core others ms ps ws) ≡ accept (shown answer.core others ms' ps' ws) (leg_back answer.leg)
 unfolding remove_body if_some◌give◌otherwise◌

@@ -1,10 +1,9 @@
 -- What is proved of the definitions in specs/Retire.antt, with what the proofs need.
-use Rattle.std.specs.Prelude.{◌≡◌, refl, Bool, true, false, ◌&&◌, ◌||◌, ◌⊎◌, leb, length, drop}
+use Rattle.std.specs.Prelude.{◌≡◌, refl, Bool, true, false, ◌&&◌, ◌||◌, leb, length, drop, None, Option, Some}
 use Rattle.std.proofs.Math.Path.{ap, ap₂, sym, subst}
 use Rattle.std.proofs.Common.{◌∙◌, ⊎_elim, inl}
 use Rattle.std.proofs.Math.Bool.{not}
 use mathlib.Core.List.{List, [], ◌∷◌}
-use Rattle.std.proofs.Math.Option.{Option, none, some}
 use Rattle.std.proofs.Math.Logic.{inr}
 use Prim.Native.Nat.{ℕ, zero, suc, ◌+◌, ◌-◌, ◌≤◌, ◌<◌}
 use Rattle.std.proofs.Math.Decide.{dec_lt}
@@ -33,8 +32,6 @@ use Rattle.srt_group_model.specs.Laws.Ascending.{Above, ascends_rest, ascends_ab
 use Rattle.srt_connection_queue.specs.Laws.Tab.{tab_place, all_tab}
 use Rattle.srt_group_tables.specs.Laws.PacketLaws.{ascends_up}
 use Rattle.srt_group_tables.specs.Packets.{packet_at, packets, Holds, FoundPacket}
-use Rattle.srt_group_tables.specs.declared.pending.Found.{Found}
-use Rattle.srt_group_tables.specs.declared.pending.Found.TheVariants.{At, Nothing}
 use Rattle.srt_group_shown.specs.Shown.{Rest, shown, blank, nothing_sent}
 use Rattle.cell_set.specs.Sets.{Freed}
 use Rattle.cell_set.specs.Bits.{set_size}
@@ -43,7 +40,7 @@ use Rattle.srt_group_removal.specs.Retire.{Low, Held, holding, Retires, Retired,
 
 -- ---- the packet at a place, in an ascending list, is the only one with its sequence
 
-above_at : (n at : ℕ) (l : List Packet) (p : Packet) → Above n l → at_place at l ≡ some p → n < sequence_of p
+above_at : (n at : ℕ) (l : List Packet) (p : Packet) → Above n l → at_place at l ≡ Some p → n < sequence_of p
 unfolding at_place
 above_at n at [] p h e = none_some e
 above_at n zero (q ∷ qs) p h e = subst (λ (x : Packet). n < sequence_of x) (some_inj e) h.0
@@ -55,7 +52,7 @@ without_above n [] h = refl
 without_above n (q ∷ qs) h =
     rw (ne_eqb (sequence_of q) n (λ e. omega (arith, h.0))) (ap (λ (l : List Packet). q ∷ l) (without_above n qs h.1))
 
-pub removed_by_sequence : (at : ℕ) (l : List Packet) (p : Packet) → ascends l ≡ true → at_place at l ≡ some p
+pub removed_by_sequence : (at : ℕ) (l : List Packet) (p : Packet) → ascends l ≡ true → at_place at l ≡ Some p
     → removed at l ≡ such_that (λ q. not (has_sequence (sequence_of p) q)) l
 unfolding removed at_place such_that if_true◌then◌else◌
 removed_by_sequence at [] p a e = none_some e
@@ -73,7 +70,7 @@ unfolding such_that if_true◌then◌else◌
 none_above n [] h = refl
 none_above n (q ∷ qs) h = rw (ne_eqb (sequence_of q) n (λ e. omega (arith, h.0))) (none_above n qs h.1)
 
-alone_by_sequence : (at : ℕ) (l : List Packet) (p : Packet) → ascends l ≡ true → at_place at l ≡ some p
+alone_by_sequence : (at : ℕ) (l : List Packet) (p : Packet) → ascends l ≡ true → at_place at l ≡ Some p
     → such_that (has_sequence (sequence_of p)) l ≡ p ∷ []
 unfolding at_place such_that if_true◌then◌else◌
 alone_by_sequence at [] p a e = none_some e
@@ -181,24 +178,24 @@ within_limit (suc left) limit base s h = go (farthest base (such_that is_owned s
     go : (o : Option Packet)
         → (if_some o give (λ p. let later = bound_group_owned_pending left limit base (retire p s) in if_true leb s.own.reserved limit then s else later) otherwise s)
         ≡ s
-    go none = refl
-    go (some p) = rw (le-leb s.own.reserved limit h)
+    go None = refl
+    go (Some p) = rw (le-leb s.own.reserved limit h)
 
-none_owned : (left limit base : ℕ) (s : State) → farthest base (such_that is_owned s.receive.pending) ≡ none
+none_owned : (left limit base : ℕ) (s : State) → farthest base (such_that is_owned s.receive.pending) ≡ None
     → bound_group_owned_pending left limit base s ≡ s
 unfolding bound_group_owned_pending if_some◌give◌otherwise◌
 none_owned zero limit base s e = refl
 none_owned (suc left) limit base s e = rw e
 
 one_retired : (left limit base : ℕ) (s : State) (p : Packet) → limit < s.own.reserved
-    → farthest base (such_that is_owned s.receive.pending) ≡ some p
+    → farthest base (such_that is_owned s.receive.pending) ≡ Some p
     → bound_group_owned_pending (suc left) limit base s ≡ bound_group_owned_pending left limit base (retire p s)
 unfolding bound_group_owned_pending if_some◌give◌otherwise◌ if_true◌then◌else◌
 one_retired left limit base s p h e = rw (e, lt-leb s.own.reserved limit h)
 
 module _ (limit base : ℕ) (core : Core) (ps : List ℕ) (here : Core) (ps₁ : List ℕ) (so_far : Bounding limit base core ps here ps₁) where
   bounding_on : (at : ℕ) (next : Core) (ps₂ : List ℕ) → limit < here.own.reserved
-      → farthest base (such_that is_owned (packets here.counts.pending ps₁)) ≡ some (packet_at ps₁ at)
+      → farthest base (such_that is_owned (packets here.counts.pending ps₁)) ≡ Some (packet_at ps₁ at)
       → Retired (packet_at ps₁ at) here ps₁ next ps₂ → Bounding limit base core ps next ps₂
   bounding_on at next ps₂ over far one =
       record {
@@ -226,21 +223,21 @@ module _ (limit base : ℕ) (core : Core) (ps : List ℕ) (here : Core) (ps₁ :
   bounded_within : here.own.reserved ≤ limit → Retires (bound_group_owned_pending core.counts.pending limit base) core ps here ps₁
   bounded_within h = bounded (λ others ms ws. within_limit here.counts.pending limit base (shown here others ms ps₁ ws) h)
 
-  bounded_none : farthest base (such_that is_owned (packets here.counts.pending ps₁)) ≡ none
+  bounded_none : farthest base (such_that is_owned (packets here.counts.pending ps₁)) ≡ None
       → Retires (bound_group_owned_pending core.counts.pending limit base) core ps here ps₁
   bounded_none none_left = bounded (λ others ms ws. none_owned here.counts.pending limit base (shown here others ms ps₁ ws) none_left)
 
 -- ---- the farthest packet, by its place
 
 module _ (P : Packet → Type 0) where
-  all_farthest : (base : ℕ) (l : List Packet) (q : Packet) → All P l → farthest base l ≡ some q → P q
+  all_farthest : (base : ℕ) (l : List Packet) (q : Packet) → All P l → farthest base l ≡ Some q → P q
   unfolding farthest farther if_some◌give◌otherwise◌
   all_farthest base [] q h e = none_some e
   all_farthest base (p ∷ ps) q h e = go (farthest base ps) (λ r is. all_farthest base ps r h.1 is) e
     where
-      go : (o : Option Packet) → ((r : Packet) → o ≡ some r → P r) → (if_some o give (λ r. some (farther base p r)) otherwise some p) ≡ some q → P q
-      go none later is = subst P (some_inj is) h.0
-      go (some r) later is =
+      go : (o : Option Packet) → ((r : Packet) → o ≡ Some r → P r) → (if_some o give (λ r. Some (farther base p r)) otherwise Some p) ≡ Some q → P q
+      go None later is = subst P (some_inj is) h.0
+      go (Some r) later is =
           subst P (some_inj is)
           (if_elim P (ltb (sequence_distance base (sequence_of r)) (sequence_distance base (sequence_of p))) p r (λ t. h.0) (λ t. later r refl))
 
@@ -279,7 +276,7 @@ drop_removed (suc at) (x ∷ l) = drop_removed at l
 -- one that is farther than every other of the group's own
 farthest_there : (base n : ℕ) (f : ℕ → Packet) (at : ℕ) → at < n → is_owned (f at) ≡ true
     → ((k : ℕ) → k < n → (k ≡ at → ⊥) → is_owned (f k) ≡ true → sequence_distance base (sequence_of (f k)) < sequence_distance base (sequence_of (f at)))
-    → farthest base (such_that is_owned (tab n f)) ≡ some (f at)
+    → farthest base (such_that is_owned (tab n f)) ≡ Some (f at)
 unfolding tab such_that farthest farther if_some◌give◌otherwise◌ if_true◌then◌else◌
 farthest_there base zero f at inside mine others = absurd (omega arith)
 farthest_there base (suc n) f zero inside mine others =
@@ -288,12 +285,12 @@ farthest_there base (suc n) f zero inside mine others =
     nearer : All (λ (x : Packet). sequence_distance base (sequence_of x) < sequence_distance base (sequence_of (f 0))) (such_that is_owned (tab n (λ i. f (suc i))))
     nearer = all_owned _ n (λ i. f (suc i)) (λ k below owned. others (suc k) (omega arith) (λ e. omega arith) owned)
 
-    go : (o : Option Packet) → ((q : Packet) → o ≡ some q → sequence_distance base (sequence_of q) < sequence_distance base (sequence_of (f 0)))
-        → (if_some o give (λ q. some (farther base (f 0) q)) otherwise some (f 0)) ≡ some (f 0)
-    go none less = refl
-    go (some q) less = rw (lt-ltb (sequence_distance base (sequence_of q)) (sequence_distance base (sequence_of (f 0))) (less q refl))
+    go : (o : Option Packet) → ((q : Packet) → o ≡ Some q → sequence_distance base (sequence_of q) < sequence_distance base (sequence_of (f 0)))
+        → (if_some o give (λ q. Some (farther base (f 0) q)) otherwise Some (f 0)) ≡ Some (f 0)
+    go None less = refl
+    go (Some q) less = rw (lt-ltb (sequence_distance base (sequence_of q)) (sequence_distance base (sequence_of (f 0))) (less q refl))
 farthest_there base (suc n) f (suc at) inside mine others =
-    let later : farthest base (such_that is_owned (tab n (λ i. f (suc i)))) ≡ some (f (suc at)) =
+    let later : farthest base (such_that is_owned (tab n (λ i. f (suc i)))) ≡ Some (f (suc at)) =
     farthest_there base n (λ i. f (suc i)) at (omega arith) mine (λ k below other. others (suc k) (omega arith) (λ e. other (omega arith)))
     in
     by_test (is_owned (f 0))
@@ -306,7 +303,7 @@ farthest_there base (suc n) f (suc at) inside mine others =
     ))
     (λ e. rw (e, later))
 
-none_owned_left : (base : ℕ) (l : List Packet) → All (λ (p : Packet). is_owned p ≡ false) l → farthest base (such_that is_owned l) ≡ none
+none_owned_left : (base : ℕ) (l : List Packet) → All (λ (p : Packet). is_owned p ≡ false) l → farthest base (such_that is_owned l) ≡ None
 unfolding such_that farthest if_true◌then◌else◌
 none_owned_left base [] h = refl
 none_owned_left base (p ∷ ps) h = rw h.0 (none_owned_left base ps h.1)
@@ -509,13 +506,13 @@ module _ (core : Core) (ps : List ℕ) (others : Rest) (ms ws : List ℕ) where
   unfolding retirement_base flagged if_some◌give◌otherwise◌
   based_there e = rw (other_set core.receiving.based e)
 
-  module _ {r : Found} (unset : core.receiving.based ≡ 0)
+  module _ {r : Option ℕ} (unset : core.receiving.based ≡ 0)
       (near : FoundPacket ps core.counts.pending r (nearest (packets core.counts.pending ps))) where
-    pub based_nowhere : r ≡ Nothing → 0 ≡ retirement_base (shown core others ms ps ws)
+    pub based_nowhere : r ≡ None → 0 ≡ retirement_base (shown core others ms ps ws)
     unfolding retirement_base flagged if_some◌give◌otherwise◌
     based_nowhere e = rw (unset, sym near.is, e)
 
-    pub based_nearest : {n : ℕ} (at : ℕ) → r ≡ At at → n ≡ sequence_of (packet_at ps at) → n ≡ retirement_base (shown core others ms ps ws)
+    pub based_nearest : {n : ℕ} (at : ℕ) → r ≡ Some at → n ≡ sequence_of (packet_at ps at) → n ≡ retirement_base (shown core others ms ps ws)
     unfolding retirement_base flagged if_some◌give◌otherwise◌
     based_nearest at e is = rw (unset, sym near.is, e) is
 

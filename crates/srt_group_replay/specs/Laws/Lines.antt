@@ -1,9 +1,8 @@
 -- What is proved of the definitions in specs/Lines.antt, with what the proofs need.
-use Rattle.std.specs.Prelude.{◌≡◌, false, ℕ, zero, suc, ◌-◌, ◌≤◌, ◌<◌, length}
+use Rattle.std.specs.Prelude.{◌≡◌, false, ℕ, zero, suc, ◌-◌, ◌≤◌, ◌<◌, length, Err, None, Ok, Option, Result, Some}
 use Rattle.std.proofs.Math.Path.{refl, ap, ap₂, sym, subst}
 use Rattle.std.proofs.Common.{◌∙◌, arith}
 use mathlib.Core.List.{List, []}
-use Rattle.std.proofs.Math.Option.{Option, none, some}
 use borrow.Author.Tests.{eq-eqb, ne_eqb}
 use Rattle.std.proofs.Math.Dec.{eqb}
 use Rattle.srt_protocol.specs.Errors.{error_number}
@@ -23,8 +22,6 @@ use Rattle.srt_group_shown.specs.Ready.{Ready}
 use Rattle.srt_group_shown.specs.Laws.Ready.{ready_new}
 use Rattle.srt_group.specs.Made.{parts_of, PromisedNew}
 use Rattle.srt_group.specs.declared.Group.{Group}
-use Rattle.srt_group.specs.declared.NewGroup.{NewGroup}
-use Rattle.srt_group.specs.declared.NewGroup.TheVariants.{Made, Refused}
 use Rattle.srt_protocol.specs.declared.error.Error.{Error}
 use Rattle.srt_group_listing.specs.declared.Printed.{Printed}
 use Rattle.srt_group_listing.specs.declared.Told as told
@@ -49,7 +46,7 @@ no_verb line s (suc (suc (suc (suc (suc (suc (suc (suc zero)))))))) beyond = abs
 no_verb line s (suc (suc (suc (suc (suc (suc (suc (suc (suc zero))))))))) beyond = absurd (omega arith)
 no_verb line s (suc (suc (suc (suc (suc (suc (suc (suc (suc (suc n)))))))))) beyond = refl
 
-without_group : (line : Line) (k : ℕ) → k < 8 → tell (suc (suc k)) line none ≡ record { group = none; line = refused_line (column 0 line) 6 }
+without_group : (line : Line) (k : ℕ) → k < 8 → tell (suc (suc k)) line None ≡ record { group = None; line = refused_line (column 0 line) 6 }
 unfolding tell verbs at_place if_some◌give◌otherwise◌ tell_verb
 without_group line zero few = refl
 without_group line (suc zero) few = refl
@@ -64,11 +61,11 @@ without_group line (suc (suc (suc (suc (suc (suc (suc (suc k)))))))) few = absur
 -- ---- whether a group was made
 
 module _ (g : Group) (t : Tables) (made : ℕ) where
-  standing_made : (made ≡ 0 → ⊥) → standing made g t ≡ some (state_of (parts_of g) t)
-  standing_made some_made = when_false (eqb made 0) none (some (state_of (parts_of g) t)) (ne_eqb made 0 some_made)
+  standing_made : (made ≡ 0 → ⊥) → standing made g t ≡ Some (state_of (parts_of g) t)
+  standing_made some_made = when_false (eqb made 0) None (Some (state_of (parts_of g) t)) (ne_eqb made 0 some_made)
 
-  standing_none : made ≡ 0 → standing made g t ≡ none
-  standing_none is = when_true (eqb made 0) none (some (state_of (parts_of g) t)) (eq-eqb made 0 is)
+  standing_none : made ≡ 0 → standing made g t ≡ None
+  standing_none is = when_true (eqb made 0) None (Some (state_of (parts_of g) t)) (eq-eqb made 0 is)
 
 -- ---- verb 1
 
@@ -80,9 +77,9 @@ module _ (line : Line) where
   unfolding store_unfit new
   new_fits = refl
 
-  module _ (made : ℕ) (g : Group) (used : List ℕ) {r : NewGroup} (promised : PromisedNew making_of r) where
+  module _ (made : ℕ) (g : Group) (used : List ℕ) {r : Result Group Error} (promised : PromisedNew making_of r) where
     -- made: a fresh group stands
-    pub tells_made : (fresh : Group) → r ≡ Made fresh → {used' : List ℕ} → ShowsCells used' [] → {out : Printed} → numbers_of out ≡ refused_line 1 0
+    pub tells_made : (fresh : Group) → r ≡ Ok fresh → {used' : List ℕ} → ShowsCells used' [] → {out : Printed} → numbers_of out ≡ refused_line 1 0
         → TellsNew line made g used (record { made = 1; group = fresh; line = out }) used'
     unfolding tell tell_new
     tells_made fresh is {used'} clean {out} says =
@@ -91,7 +88,7 @@ module _ (line : Line) where
               λ t lent stands. (
                 when_true (eqb (new_code making_of) 0) _ _ (eq-eqb (new_code making_of) 0 (accepted t lent))
                     ∙ ap₂ (λ (x : Option State) (l : List ℕ). record { group = x; line = l })
-                    (ap (λ (x : State). some x) (sym (shows t lent)) ∙ sym (standing_made fresh t 1 (λ e. omega arith))) (sym says),
+                    (ap (λ (x : State). Some x) (sym (shows t lent)) ∙ sym (standing_made fresh t 1 (λ e. omega arith))) (sym says),
                 record {
                   long = stands.long;
                   store = stands.store;
@@ -105,7 +102,7 @@ module _ (line : Line) where
               );
         }
       where
-        here : PromisedNew making_of (Made fresh)
+        here : PromisedNew making_of (Ok fresh)
         here = subst (PromisedNew making_of) is promised
 
         accepted : (t : Tables) (lent : Lent) → new_code making_of ≡ 0
@@ -117,7 +114,7 @@ module _ (line : Line) where
             ∙ when_true (eqb (new_code making_of) 0) (new making_of) (new making_of) (eq-eqb (new_code making_of) 0 (accepted t lent))
 
     -- refused: what stood in its place stays
-    pub tells_refused : (e : Error) → r ≡ Refused e → {n : ℕ} → n ≡ error_number e → {out : Printed} → numbers_of out ≡ refused_line 1 n
+    pub tells_refused : (e : Error) → r ≡ Err e → {n : ℕ} → n ≡ error_number e → {out : Printed} → numbers_of out ≡ refused_line 1 n
         → TellsNew line made g used (record { made = made; group = g; line = out }) used
     unfolding tell tell_new
     tells_refused e is {n} number {out} says =

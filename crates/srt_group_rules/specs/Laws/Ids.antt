@@ -1,5 +1,5 @@
 -- What is proved of the definitions in specs/Ids.antt, with what the proofs need.
-use Rattle.std.specs.Prelude.{◌≡◌, Bool, true, false, List, eqb, length, set, replicate}
+use Rattle.std.specs.Prelude.{◌≡◌, Bool, true, false, List, eqb, length, set, replicate, Some}
 use Rattle.std.proofs.Math.Path.{refl, ap, sym}
 use Rattle.std.proofs.Common.{◌∙◌, length-set, get_or-set_same, get_or-set_other}
 use Prim.Native.Nat.{ℕ, zero, suc, ◌+◌, ◌-◌, ◌*◌, ◌%◌, ◌≤◌, ◌<◌}
@@ -14,8 +14,7 @@ use Rattle.srt_group_model.specs.Members.{id_of, has_id, find}
 use Rattle.srt_group_model.specs.Cells.{is_among}
 use Rattle.srt_group_model.specs.Validity.{one_twice}
 use Rattle.srt_connection_queue.specs.Rows.{row_size}
-use Rattle.srt_connection_members.specs.Members.{member_at, members_of, found_of}
-use Rattle.srt_connection_members.specs.declared.Found.TheVariants.{At}
+use Rattle.srt_connection_members.specs.Members.{member_at, members_of}
 use Rattle.srt_connection_members.specs.Laws.Members.{id_word, found}
 use Rattle.word_rows.specs.Tab.{tab}
 use Rattle.srt_group_tables.specs.Laws.PacketLaws.{each_tab}
@@ -172,7 +171,7 @@ module _ (t : List ℕ) (index : ℕ) (table : List ℕ) (here : TakenBefore t i
 
 -- a member with the id is the one that a search finds, where no id stands twice
 pub found_there : (n id : ℕ) (t : List ℕ) → one_twice (each id_of (members_of n t)) ≡ false → (i : ℕ) → i < n → get_or t (i * row_size) 0 ≡ id
-    → At i ≡ found_of (find id (members_of n t))
+    → Some i ≡ find id (members_of n t)
 found_there n id t once i below is =
     sym
     (found n id t i below is

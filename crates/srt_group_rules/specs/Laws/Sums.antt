@@ -1,6 +1,6 @@
 -- The rule "a reserved sum unequal to its packets' counts", as one walk over the packets finds it: the counts of each packet
 -- are added to the sum of its place, that of its member or the group's own.
-use Rattle.std.specs.Prelude.{◌≡◌, Bool, ◌&&◌, List, [], ◌∷◌, ◌++◌, ◌⊎◌, ℕ, zero, suc, ◌+◌, ◌-◌, ◌*◌, ◌^◌, ◌≤◌, ◌<◌, length, set, replicate}
+use Rattle.std.specs.Prelude.{◌≡◌, Bool, ◌&&◌, List, [], ◌∷◌, ◌++◌, ◌⊎◌, ℕ, zero, suc, ◌+◌, ◌*◌, ◌^◌, ◌≤◌, ◌<◌, length, set, replicate, None, Option, Some}
 use Rattle.std.proofs.Math.Path.{refl, ap, ap₂, sym}
 use Rattle.std.proofs.Common.{subst, ◌∙◌, ⊎_elim, add-one, arith, eq-eqb, ne_eqb, eqb-true, length-set, get_or-set_same, get_or-set_other}
 use Rattle.std.proofs.Math.Bool.{true, false, not, ◌||◌}
@@ -21,10 +21,8 @@ use Rattle.srt_group_model.specs.Validity.{max_pending, max_members, any_above, 
 use Rattle.srt_group_model.specs.declared.Event.{Event}
 use Rattle.srt_group_model.specs.declared.Packet.{Packet}
 use Rattle.srt_connection_queue.specs.declared.rows.Ring.{Ring}
-use Rattle.srt_connection_members.specs.declared.Found.{Found}
-use Rattle.srt_connection_members.specs.declared.Found.TheVariants.{At, Nothing}
 use Rattle.srt_connection_queue.specs.Rows.{receiver_part, part, ring_of, member_of}
-use Rattle.srt_connection_members.specs.Members.{member_at, members_of, found_of}
+use Rattle.srt_connection_members.specs.Members.{member_at, members_of}
 use Rattle.srt_connection_members.specs.Laws.Members.{found_below, found_id, found_none}
 use Rattle.srt_group_tables.specs.Packets.{packet_at, packets}
 use Rattle.word_rows.specs.Tab.{tab}
@@ -135,18 +133,18 @@ module _ (row : List ℕ) (ring : Ring) where
 
 -- ---- the packets, added up front to back: the accounts of the members, and the group's own behind them
 
-pub place_own : (ms : List Member) (p : Packet) → is_owned p ≡ true → account_place ms p ≡ At own_place
+pub place_own : (ms : List Member) (p : Packet) → is_owned p ≡ true → account_place ms p ≡ Some own_place
 unfolding account_place if_true◌then◌else◌
 place_own ms p mine = rw mine
 
-pub place_held : (ms : List Member) (p : Packet) → is_owned p ≡ false → account_place ms p ≡ found_of (find p.member ms)
+pub place_held : (ms : List Member) (p : Packet) → is_owned p ≡ false → account_place ms p ≡ find p.member ms
 unfolding account_place if_true◌then◌else◌
 place_held ms p other = rw other
 
-same_place : (i j : ℕ) → ◌≡◌ {A = Found} (At i) (At j) → i ≡ j
+same_place : (i j : ℕ) → ◌≡◌ {A = (Option ℕ)} (Some i) (Some j) → i ≡ j
 same_place i j e = cc
 
-never_nothing : {C : Type 0} (i : ℕ) → ◌≡◌ {A = Found} Nothing (At i) → C
+never_nothing : {C : Type 0} (i : ℕ) → ◌≡◌ {A = (Option ℕ)} None (Some i) → C
 never_nothing i e = let different : ◌≡◌ {A = ℕ} 0 1 = cc in absurd (omega arith)
 
 -- a packet with a place: the account there is the one that it is added to, and no other is
@@ -206,7 +204,7 @@ module _ (t : List ℕ) (count : ℕ) (few : count ≤ max_members) (once : one_
             by_order (no l) (yes higher) = ids_apart.apart place i higher inside (sym same)
             by_order (no l) (no h) = differ (omega arith)
 
-  placed : (p : Packet) (place : ℕ) → At place ≡ account_place (members_of count t) p → Placed t count p place
+  placed : (p : Packet) (place : ℕ) → Some place ≡ account_place (members_of count t) p → Placed t count p place
   placed p place found =
       by_test (is_owned p)
       (λ mine.
@@ -216,7 +214,7 @@ module _ (t : List ℕ) (count : ℕ) (few : count ≤ max_members) (once : one_
       let is = found ∙ place_held (members_of count t) p other in
       placed_held p other place (found_below count p.member place t is) (found_id count p.member place t is))
 
-  pub placed_somewhere : (p : Packet) (place : ℕ) → At place ≡ account_place (members_of count t) p → is_unreserved (members_of count t) p ≡ false
+  pub placed_somewhere : (p : Packet) (place : ℕ) → Some place ≡ account_place (members_of count t) p → is_unreserved (members_of count t) p ≡ false
   placed_somewhere p place found = (placed p place found).reserved
 
 pub adding_start : (t : List ℕ) (count : ℕ) (pending : List ℕ) → count ≤ max_members → Adding t count pending 0 (replicate 65 no_packets)
@@ -271,7 +269,7 @@ module _ (t : List ℕ) (count : ℕ) (pending : List ℕ) (at : ℕ) (accounts 
           subst (λ (k : ℕ). Few k (account_of test (packets at pending))) (tab_length at (packet_at pending))
           (few_account test (packets at pending) (all_of_tab Small at (packet_at pending) (λ k below. packet_small _ (good k below))))
 
-  module _ (found : Found) (p : Packet) (place : ℕ) (is : found ≡ At place) (found_is : found ≡ account_place (members_of count t) p)
+  module _ (found : Option ℕ) (p : Packet) (place : ℕ) (is : found ≡ Some place) (found_is : found ≡ account_place (members_of count t) p)
       (read : p ≡ packet_at pending at) where
     there : Placed t count p place
     there = placed t count few once p place (sym is ∙ found_is)
@@ -314,7 +312,7 @@ module _ (t : List ℕ) (count : ℕ) (pending : List ℕ) (at : ℕ) (accounts 
 
 -- a packet with no place is in no account, and one with a place is in one
 module _ (ms : List Member) (p : Packet) where
-  pub placed_nowhere : account_place ms p ≡ Nothing → is_unreserved ms p ≡ true
+  pub placed_nowhere : account_place ms p ≡ None → is_unreserved ms p ≡ true
   unfolding is_unreserved
   placed_nowhere nothing =
       by_test (is_owned p) (λ mine. never_nothing own_place (sym nothing ∙ place_own ms p mine))

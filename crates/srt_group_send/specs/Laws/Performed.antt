@@ -1,18 +1,21 @@
 -- `send` is document 01's: its codes before anything is done, and what is left by the flow that was made.
-use Rattle.std.specs.Prelude.{◌≡◌, Bool, ◌||◌, ℕ, ◌*◌, ◌≤◌, ◌<◌, eqb}
+use Rattle.srt_protocol.specs.Errors.{Outcome}
+use Rattle.std.specs.Prelude.{◌≡◌, Bool, ◌||◌, ℕ, ◌*◌, ◌≤◌, ◌<◌, eqb, None, Option, Some, Err, Ok, Result, is_ok}
 use Rattle.std.proofs.Math.Path.{refl, ap, sym, subst}
-use Rattle.std.proofs.Common.{ap₂, ◌∙◌, arith, eqb-true, eq-eqb, ne_eqb, lt-ltb, le-ltb}
+use Rattle.std.proofs.Common.{ap₂, ◌∙◌, arith, ne_eqb, lt-ltb, le-ltb}
+use Rattle.std.proofs.lemmas.Result.{IfOk-at_ok}
 use Rattle.std.proofs.Math.Bool.{true, false, ◌&&◌}
 use mathlib.Core.List.{List, [], ◌∷◌, ◌++◌, append_assoc}
-use Rattle.std.proofs.Math.Option.{Option, none, some}
 use Rattle.std.proofs.Math.ListN.{length}
 use Rattle.srt_protocol.specs.Cells.{cell_size, cells_of, max_cells, overwritten}
-use Rattle.srt_protocol.specs.declared.error.Outcome.{Outcome}
-use Rattle.srt_protocol.specs.Errors.{if_accepted}
+use Rattle.srt_protocol.specs.declared.error.Error.{Error}
+use Rattle.srt_protocol.specs.declared.error.Error.TheVariants.{PayloadTooLong, NoFreeCell}
+use Rattle.srt_protocol.specs.Errors.{if_accepted, error_number}
+use Rattle.srt_protocol.specs.Laws.Errors.{refused_not_0}
 use Rattle.srt_protocol.specs.Cells.{Put}
 use Rattle.srt_protocol.specs.Laws.CellLaws.{cell_accepted}
 use Rattle.srt_group_model.specs.Tools.{if_true◌then◌else◌, if_some◌give◌otherwise◌}
-use Rattle.srt_group_model.specs.Laws.Reason.{when_true, when_false, by_test, each_to_map}
+use Rattle.srt_group_model.specs.Laws.Reason.{when_true, when_false, each_to_map}
 use Rattle.srt_group_model.specs.State.{State, is_backup}
 use Rattle.srt_group_model.specs.Legs.{largest_64}
 use Rattle.srt_group_model.specs.Cells.{queued_cells, used_cells, free_cell}
@@ -40,16 +43,15 @@ use Rattle.cell_set.specs.Sets.{ShowsCells, CanTake, LowestFree}
 use Rattle.cell_set.specs.Shows.{Shows}
 use Rattle.cell_set.specs.Laws.Shows.{lowest_found, none_found}
 use Rattle.cell_set.specs.Laws.Sets.{beyond}
-use Rattle.cell_set.specs.declared.FreeCell.{FreeCell}
-use Rattle.cell_set.specs.declared.FreeCell.TheVariants.{Cell, Full}
 use Rattle.srt_group_shown.specs.Tables.{Parts, parts, Tables, tables, state_of, Long}
-use Rattle.srt_group_shown.specs.Ready.{Ready, sending_into, Performs}
+use Rattle.srt_group_shown.specs.Ready.{Ready, sending_into}
 use Rattle.srt_group_shown.specs.Laws.Ready.{one_cell, performs_refused, performs_accepted}
 use Rattle.srt_group_shown.specs.Laws.Steps.{rows_there}
 use Rattle.srt_group_carrier.specs.Freeing.{SendFollows}
 use Rattle.srt_group_carrier.specs.Lendable.{BackupTables, backup_tables, Lendable}
+use Rattle.srt_group_send.specs.Answers.{send_number, send_answer}
 use Rattle.srt_group_send.specs.declared.sending.GroupSend.{GroupSend}
-use Rattle.srt_group_send.specs.Sends.{FitShown, FlowMade, sent_answer, Storable, Sends}
+use Rattle.srt_group_send.specs.Sends.{FitShown, FlowMade, Storable, Sends}
 
 -- ---- the cells
 
@@ -77,6 +79,12 @@ shows_sent {s} {t} {used} {used'} cell shows free left follows =
 
     held : pending_cells s.receive.pending ≡ pending_cells t.receive.pending
     held = ap pending_cells (sym left.pending)
+
+-- ---- an answer
+
+by_answer : {B : Type 0} (r : Result ℕ Error) → ((n : ℕ) → r ≡ Ok n → B) → ((e : Error) → r ≡ Err e → B) → B
+by_answer (Ok n) sent refused = sent n refl
+by_answer (Err e) sent refused = refused e refl
 
 -- ---- what the parts may rely on
 
@@ -145,36 +153,33 @@ module _ (time : ℕ) (payload : List ℕ) (p : Parts) (t : Tables) (store list 
       ∙ guard_goes_on (2 when above largest_64 time) 4_on s body (le-ltb largest_64 time small)
 
   -- refused: what is left is what was there
-  refused_with : (code : ℕ) → eqb code 0 ≡ false → step ≡ refuse code s
-      → Sends time payload p t (sending_into store list) record { code = code; legs = 0; rows = 0; core = p.core; sending = p.sending; ring = p.ring } t
+  refused_with : (e : Error) → step ≡ refuse (error_number e) s
+      → Sends time payload p t (sending_into store list) record { answer = Err e; rows = 0; core = p.core; sending = p.sending; ring = p.ring } t
       (sending_into store list) used
   unfolding perform with_bytes
-  refused_with code above_0 is =
+  refused_with e is =
       record {
-        performs =
-            subst (λ (a : Answer). Performs call p t (sending_into store list) code a p t (sending_into store list) used)
-            (sym (when_false (eqb code 0) (shown (number 0)) no_answer above_0))
-            (performs_refused call p t (sending_into store list) used ready code is);
+        performs = performs_refused call p t (sending_into store list) used ready (error_number e) is;
         rows = sym (ap (λ (x : Step). length x.sends) is);
       }
 
   pub long_refused : cell_size < length payload
-      → Sends time payload p t (sending_into store list) record { code = 4; legs = 0; rows = 0; core = p.core; sending = p.sending; ring = p.ring } t
+      → Sends time payload p t (sending_into store list) record { answer = Err PayloadTooLong; rows = 0; core = p.core; sending = p.sending; ring = p.ring } t
       (sending_into store list) used
   long_refused long =
-      refused_with 4 refl
+      refused_with PayloadTooLong
       (starts ∙ guard_stops (4 when above cell_size (length payload)) 30_on s body (lt-ltb cell_size (length payload) long))
 
   module _ (short : length payload ≤ cell_size) where
     after_4 : step ≡ guard 30_on s body
     after_4 = starts ∙ guard_goes_on (4 when above cell_size (length payload)) 30_on s body (le-ltb cell_size (length payload) short)
 
-    pub full_refused : {r : FreeCell} → is_backup p.core.mode ≡ true → LowestFree used room r → r ≡ Full
-        → Sends time payload p t (sending_into store list) record { code = 30; legs = 0; rows = 0; core = p.core; sending = p.sending; ring = p.ring } t
+    pub full_refused : {r : Option ℕ} → is_backup p.core.mode ≡ true → LowestFree used room r → r ≡ None
+        → Sends time payload p t (sending_into store list) record { answer = Err NoFreeCell; rows = 0; core = p.core; sending = p.sending; ring = p.ring } t
         (sending_into store list) used
     unfolding if_some◌give◌otherwise◌
     full_refused in_backup lowest is =
-        refused_with 30 refl
+        refused_with NoFreeCell
         (after_4
         ∙ guard_stops (30 when (is_backup p.core.mode && no_free_cell room s)) [] s body
         (ap₂ ◌&&◌ in_backup
@@ -188,11 +193,11 @@ module _ (time : ℕ) (payload : List ℕ) (p : Parts) (t : Tables) (store list 
         ∙ guard_goes_on (30 when (is_backup p.core.mode && no_free_cell room s)) [] s body
         (ap (λ (b : Bool). b && no_free_cell room s) in_broadcast)
 
-    pub cell_taken : {r : FreeCell} (cell : ℕ) → is_backup p.core.mode ≡ true → LowestFree used room r → r ≡ Cell cell
+    pub cell_taken : {r : Option ℕ} (cell : ℕ) → is_backup p.core.mode ≡ true → LowestFree used room r → r ≡ Some cell
         → step ≡ send_body cell time payload s
     unfolding guard if_some◌give◌otherwise◌
     cell_taken cell in_backup lowest is =
-        let there : free_cell room s ≡ some cell = lowest_found ready.shows lowest is in
+        let there : free_cell room s ≡ Some cell = lowest_found ready.shows lowest is in
         after_4
         ∙ guard_goes_on (30 when (is_backup p.core.mode && no_free_cell room s)) [] s body
         (ap₂ ◌&&◌ in_backup (ap (λ (o : Option ℕ). if_some o give (λ c. false) otherwise true) there))
@@ -229,13 +234,13 @@ module _ (time : ℕ) (payload : List ℕ) (p : Parts) (t : Tables) (store list 
     step_with code given o log =
         record { state = state_of p' t'; code = code; answer = given; put = o; sends = made.sends; log = log }
 
-    performed : (given : Answer) (o : Option PutStep) (log : List Mark) → step ≡ step_with answer.code given o log
-        → sent_answer answer ≡ given → delivered_by given ≡ none → store' ≡ stored o store → SentSo
+    performed : (given : Answer) (o : Option PutStep) (log : List Mark) → step ≡ step_with (send_number answer.answer) given o log
+        → send_answer answer.answer ≡ given → delivered_by given ≡ None → store' ≡ stored o store → SentSo
     unfolding step_with step_of perform with_bytes written_out
     performed given o log step_is answers none_delivered bytes =
         record {
           performs =
-              performs_accepted call p t (sending_into store list) used ready (step_with answer.code given o log) p' t'
+              performs_accepted call p t (sending_into store list) used ready (step_with (send_number answer.answer) given o log) p' t'
               (sending_into store' end.list) end.used step_is refl answers refl
               (λ i.
               record {
@@ -256,7 +261,7 @@ module _ (time : ℕ) (payload : List ℕ) (p : Parts) (t : Tables) (store list 
     run = refresh_states (start s)
 
     -- what is left by the flow: of a send that succeeded, and of one that did not
-    left_is : step ≡ left_by_send c payload run record { state = state_of p' t'; sends = made.sends; code = answer.code }
+    left_is : step ≡ left_by_send c payload run record { state = state_of p' t'; sends = made.sends; code = send_number answer.answer }
     unfolding send_body run
     left_is =
         is ∙ ap (left_by_send c payload (refresh_states (start s))) (same_flow ∙ made.flow p.identity t.pending t.waiting payload refl)
@@ -266,40 +271,43 @@ module _ (time : ℕ) (payload : List ℕ) (p : Parts) (t : Tables) (store list 
       unfolding run
       run_mode = ap is_backup (refresh_mode (start s)) ∙ mode
 
-      pub sent_performed : eqb answer.code 0 ≡ true → store' ≡ (if_true b then overwritten (c * cell_size) payload store else store) → SentSo
+      pub sent_performed : (legs : ℕ) → answer.answer ≡ Ok legs → store' ≡ (if_true b then overwritten (c * cell_size) payload store else store) → SentSo
       unfolding step_with left_by_send stored delivered_by if_true◌then◌else◌
-      sent_performed sent bytes =
-          performed (shown (number (if_true b then 1 else length made.sends))) (if_true b then some record { cell = c; payload = payload } else none)
+      sent_performed legs sent bytes =
+          performed (shown (number (if_true b then 1 else length made.sends))) (if_true b then Some record { cell = c; payload = payload } else None)
           (if_true b then put c payload ∷ run.log else run.log)
           (left_is
-          ∙ when_true (eqb answer.code 0) _ _ sent
+          ∙ when_true (eqb (send_number answer.answer) 0) _ _ (ap (λ (a : Result ℕ Error). eqb (send_number a) 0) sent)
           ∙ (λ i.
           record {
             state = state_of p' t';
             code = zero_back i;
             answer = shown (number (if_true run_mode i then 1 else length made.sends));
-            put = if_true run_mode i then some record { cell = c; payload = payload } else none;
+            put = if_true run_mode i then Some record { cell = c; payload = payload } else None;
             sends = made.sends;
             log = if_true run_mode i then put c payload ∷ run.log else run.log;
           }))
-          (when_true (eqb answer.code 0) (shown (number answer.legs)) no_answer sent
+          (ap send_answer sent
           ∙ ap (λ (k : ℕ). shown (number k))
-          (made.legs ∙ when_true (eqb answer.code 0) (if_true is_backup p.core.mode then 1 else length made.sends) 0 sent
+          (IfOk-at_ok (λ n. n ≡ (if_true is_backup p.core.mode then 1 else length made.sends)) sent made.legs
           ∙ ap (λ (x : Bool). if_true x then 1 else length made.sends) mode))
           refl (bytes ∙ stored_if b)
         where
-          zero_back : 0 ≡ answer.code
-          zero_back = sym (eqb-true answer.code 0 sent)
+          zero_back : 0 ≡ send_number answer.answer
+          zero_back = sym (ap send_number sent)
 
-          stored_if : (x : Bool) → (if_true x then overwritten (c * cell_size) payload store else store) ≡ stored (if_true x then some record { cell = c; payload = payload } else none) store
+          stored_if : (x : Bool) → (if_true x then overwritten (c * cell_size) payload store else store) ≡ stored (if_true x then Some record { cell = c; payload = payload } else None) store
           stored_if true = refl
           stored_if false = refl
 
-      pub refused_performed : eqb answer.code 0 ≡ false → store' ≡ store → SentSo
+      pub refused_performed : (e : Error) → answer.answer ≡ Err e → store' ≡ store → SentSo
       unfolding step_with left_by_send stored delivered_by
-      refused_performed refused bytes =
-          performed no_answer none run.log (left_is ∙ when_false (eqb answer.code 0) _ _ refused)
-          (when_false (eqb answer.code 0) (shown (number answer.legs)) no_answer refused) refl bytes
+      refused_performed e refused bytes =
+          performed no_answer None run.log
+          (left_is
+          ∙ when_false (eqb (send_number answer.answer) 0) _ _
+          (ap (λ (a : Result ℕ Error). eqb (send_number a) 0) refused ∙ ne_eqb (error_number e) 0 (refused_not_0 e)))
+          (ap send_answer refused) refl bytes
 
   -- ---- in each mode
 
@@ -321,13 +329,13 @@ module _ (time : ℕ) (payload : List ℕ) (p : Parts) (t : Tables) (store list 
       let is = no_cell_taken short in_broadcast in
       let same = any_cell (taken_cell room s) max_cells in_broadcast in
       let free = beyond used max_cells ready.shows.cells.long (omega arith) in
-      by_test (eqb answer.code 0)
-      (λ sent. sent_performed (taken_cell room s) max_cells answer end store is made same free refl false in_broadcast sent refl)
-      (λ refused. refused_performed (taken_cell room s) max_cells answer end store is made same free refl false in_broadcast refused refl)
+      by_answer answer.answer
+      (λ n sent. sent_performed (taken_cell room s) max_cells answer end store is made same free refl false in_broadcast n sent refl)
+      (λ e refused. refused_performed (taken_cell room s) max_cells answer end store is made same free refl false in_broadcast e refused refl)
 
-  module _ {r : FreeCell} (cell : ℕ) (in_backup : is_backup p.core.mode ≡ true) (short : length payload ≤ cell_size) (lowest : LowestFree used room r)
-      (found : r ≡ Cell cell) where
-    can : CanTake used room (Cell cell)
+  module _ {r : Option ℕ} (cell : ℕ) (in_backup : is_backup p.core.mode ≡ true) (short : length payload ≤ cell_size) (lowest : LowestFree used room r)
+      (found : r ≡ Some cell) where
+    can : CanTake used room (Some cell)
     can = subst (CanTake used room) found lowest.free
 
     pub cell_there : cell < room
@@ -338,30 +346,30 @@ module _ (time : ℕ) (payload : List ℕ) (p : Parts) (t : Tables) (store list 
 
     pub backup_performed : {answer : GroupSend} {end : BackupTables} {store' : List ℕ}
         → FlowMade cell time (length payload) p.core p.sending p.ring (lent_tables ready list list_long) answer end
-        → store' ≡ (if_true eqb answer.code 0 then overwritten (cell * cell_size) payload store else store) → length store' ≡ length store
+        → store' ≡ (if_true is_ok answer.answer then overwritten (cell * cell_size) payload store else store) → length store' ≡ length store
         → Sends time payload p t (sending_into store list) answer (tables end.members t.pending t.waiting end.history end.sources)
         (sending_into store' end.list) end.used
     unfolding if_true◌then◌else◌
     backup_performed {answer} {end} {store'} made bytes size =
         let is = cell_taken short cell in_backup lowest found in
-        by_test (eqb answer.code 0)
-        (λ sent.
-        sent_performed cell cell answer end store' is made refl can.1 size true in_backup sent
-        (bytes ∙ when_true (eqb answer.code 0) (overwritten (cell * cell_size) payload store) store sent))
-        (λ refused.
-        refused_performed cell cell answer end store' is made refl can.1 size true in_backup refused
-        (bytes ∙ when_false (eqb answer.code 0) (overwritten (cell * cell_size) payload store) store refused))
+        by_answer answer.answer
+        (λ n sent.
+        sent_performed cell cell answer end store' is made refl can.1 size true in_backup n sent
+        (bytes ∙ when_true (is_ok answer.answer) (overwritten (cell * cell_size) payload store) store (ap is_ok sent)))
+        (λ e refused.
+        refused_performed cell cell answer end store' is made refl can.1 size true in_backup e refused
+        (bytes ∙ when_false (is_ok answer.answer) (overwritten (cell * cell_size) payload store) store (ap is_ok refused)))
 
 -- ---- the payload in its cell
 
-module _ (cell code : ℕ) (payload store : List ℕ) where
-  pub stored_sent : {r : Outcome} {store' : List ℕ} → Storable cell (length payload) (length store) → code ≡ 0 → Put store cell payload r store'
-      → store' ≡ (if_true eqb code 0 then overwritten (cell * cell_size) payload store else store)
+module _ (cell : ℕ) (payload store : List ℕ) (answer : Result ℕ Error) where
+  pub stored_sent : {r : Outcome} {store' : List ℕ} → Storable cell (length payload) (length store) → is_ok answer ≡ true → Put store cell payload r store'
+      → store' ≡ (if_true is_ok answer then overwritten (cell * cell_size) payload store else store)
   stored_sent storable is stores =
       stores.stored
       ∙ ap (λ (o : Outcome). if_accepted o (overwritten (cell * cell_size) payload store) store)
       (stores.outcome ∙ cell_accepted (length store) cell (length payload) storable.one_cell storable.there storable.short)
-      ∙ sym (when_true (eqb code 0) (overwritten (cell * cell_size) payload store) store (eq-eqb code 0 is))
+      ∙ sym (when_true (is_ok answer) (overwritten (cell * cell_size) payload store) store is)
 
-  pub not_stored : (code ≡ 0 → ⊥) → store ≡ (if_true eqb code 0 then overwritten (cell * cell_size) payload store else store)
-  not_stored other = sym (when_false (eqb code 0) (overwritten (cell * cell_size) payload store) store (ne_eqb code 0 other))
+  pub not_stored : is_ok answer ≡ false → store ≡ (if_true is_ok answer then overwritten (cell * cell_size) payload store else store)
+  not_stored other = sym (when_false (is_ok answer) (overwritten (cell * cell_size) payload store) store other)

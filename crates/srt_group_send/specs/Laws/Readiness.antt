@@ -1,9 +1,8 @@
 -- The readiness tests are document 01's.
-use Rattle.std.specs.Prelude.{◌≡◌, Bool, true, false, ℕ, zero, suc, ◌-◌, ◌≤◌, length, drop}
+use Rattle.std.specs.Prelude.{◌≡◌, Bool, true, false, ℕ, zero, suc, ◌-◌, ◌≤◌, length, drop, None, Option, Some}
 use Rattle.std.proofs.Math.Path.{refl, ap, sym, subst}
 use Rattle.std.proofs.Common.{◌∙◌, arith, le-ltb}
 use mathlib.Core.List.{List, [], ◌∷◌, ◌++◌, append_assoc}
-use Rattle.std.proofs.Math.Option.{Option, none, some}
 use Rattle.word_rows.specs.Laws.Tab.{tab_length}
 use Rattle.srt_group_model.specs.Tools.{any, such_that, each, change}
 use Rattle.srt_group_model.specs.Laws.Reason.{if_elim, if_some_elim, when_true, when_false}
@@ -193,7 +192,7 @@ module _ (core : Core) (x : Sending) (r : HistoryRing) (members history used : L
 
     left_trimmed : (u : State) (log : List Mark) → u ≡ before_trim
         → Left
-        record { state = trim_by_carrier u; code = 0; answer = shown (truth (backup_send_ready time (trim_by_carrier u))); put = none; sends = []; log = log }
+        record { state = trim_by_carrier u; code = 0; answer = shown (truth (backup_send_ready time (trim_by_carrier u))); put = None; sends = []; log = log }
         0 (shown (truth answer.ready)) after_trim
     left_trimmed u log is =
         record {
@@ -214,7 +213,7 @@ module _ (core : Core) (x : Sending) (r : HistoryRing) (members history used : L
         (tested.follows (arrays history sources) refl))
 
   pub backup_can_send : {b : Bool} {answer : Readiness} {used' : List ℕ} → b ≡ is_backup core.mode → b ≡ true
-      → TrimmedReady none after x r mid history used answer used' → Tests call_can_send core x r members history used answer mid used'
+      → TrimmedReady None after x r mid history used answer used' → Tests call_can_send core x r members history used answer mid used'
   unfolding step_of can_send_call can_send_body guard run
   backup_can_send {answer = answer} InMode in_backup tested =
       record {
@@ -227,17 +226,17 @@ module _ (core : Core) (x : Sending) (r : HistoryRing) (members history used : L
                   left_by_step
                   (guard_goes_on (6 when breaks_rule z) [] z (can_send_body z) unbroken.valid
                   ∙ when_true (is_backup core.mode) _ _ (sym InMode ∙ in_backup))
-                  (left_trimmed none mid tested identity pending waiting sources (run identity pending waiting sources).state _ (refreshed identity pending waiting sources));
+                  (left_trimmed None mid tested identity pending waiting sources (run identity pending waiting sources).state _ (refreshed identity pending waiting sources));
               long = long_refreshed identity pending waiting sources mid refl unbroken;
             };
         shows =
             λ identity pending waiting sources shows.
-            shows_after none mid tested identity pending waiting sources (shows_refreshed identity pending waiting sources shows);
+            shows_after None mid tested identity pending waiting sources (shows_refreshed identity pending waiting sources shows);
       }
 
   -- Broadcast
   pub broadcast_can_send : {b ready : Bool} → b ≡ is_backup core.mode → b ≡ false
-      → ready ≡ any (sends_now none) (members_of after.counts.members mid)
+      → ready ≡ any (sends_now None) (members_of after.counts.members mid)
       → Tests call_can_send core x r members history used record { ready = ready; core = after; sending = x; ring = r } mid used
   unfolding step_of can_send_call can_send_body guard run
   broadcast_can_send {b} {ready} tested in_broadcast is =
@@ -255,7 +254,7 @@ module _ (core : Core) (x : Sending) (r : HistoryRing) (members history used : L
                     code = refl;
                     answer =
                         ap (λ (q : Bool). shown (truth q))
-                        (ap (λ (t : State). any (sends_now none) t.members) (refreshed identity pending waiting sources) ∙ sym is);
+                        (ap (λ (t : State). any (sends_now None) t.members) (refreshed identity pending waiting sources) ∙ sym is);
                     state = refreshed identity pending waiting sources;
                     put = refl;
                     sends = refl;
@@ -273,7 +272,7 @@ module _ (core : Core) (x : Sending) (r : HistoryRing) (members history used : L
         ∙ guard_goes_on (2 when above largest_64 time) [] z (can_send_with_pacing_body time z) (le-ltb largest_64 time small)
 
     pub broadcast_with_pacing : {b ready : Bool} → b ≡ is_backup core.mode → b ≡ false
-        → ready ≡ any (sends_now (some time)) (members_of after.counts.members mid)
+        → ready ≡ any (sends_now (Some time)) (members_of after.counts.members mid)
         → Tests (call_can_send_with_pacing time) core x r members history used record { ready = ready; core = after; sending = x; ring = r } mid used
     unfolding step_of can_send_with_pacing_body run
     broadcast_with_pacing {b} {ready} tested in_broadcast is =
@@ -289,7 +288,7 @@ module _ (core : Core) (x : Sending) (r : HistoryRing) (members history used : L
                       code = refl;
                       answer =
                           ap (λ (q : Bool). shown (truth q))
-                          (ap (λ (t : State). any (sends_now (some time)) t.members) (refreshed identity pending waiting sources) ∙ sym is);
+                          (ap (λ (t : State). any (sends_now (Some time)) t.members) (refreshed identity pending waiting sources) ∙ sym is);
                       state = refreshed identity pending waiting sources;
                       put = refl;
                       sends = refl;
@@ -301,7 +300,7 @@ module _ (core : Core) (x : Sending) (r : HistoryRing) (members history used : L
 
     pub backup_with_pacing : {b : Bool} {answer : Readiness} {used' members' : List ℕ} → b ≡ is_backup core.mode → b ≡ true
         → Became after.counts.members (promote_if_none core.mode (demote_stale_backup_carrier time (members_of after.counts.members mid))) mid members'
-        → TrimmedReady (some time) after x r members' history used answer used'
+        → TrimmedReady (Some time) after x r members' history used answer used'
         → Tests (call_can_send_with_pacing time) core x r members history used answer members' used'
     unfolding step_of can_send_with_pacing_body run
     backup_with_pacing {members' = members'} InMode in_backup readied tested =
@@ -314,7 +313,7 @@ module _ (core : Core) (x : Sending) (r : HistoryRing) (members history used : L
                 step =
                     λ store output list.
                     left_by_step (checked z unbroken.valid ∙ when_true (is_backup core.mode) _ _ (sym InMode ∙ in_backup))
-                    (left_trimmed (some time) members' tested identity pending waiting sources
+                    (left_trimmed (Some time) members' tested identity pending waiting sources
                     (with_members (promote_if_none core.mode (demote_stale_backup_carrier time t.members)) t) _
                     (ap (λ (u : State). with_members (promote_if_none core.mode (demote_stale_backup_carrier time u.members)) u)
                     (refreshed identity pending waiting sources)
@@ -326,7 +325,7 @@ module _ (core : Core) (x : Sending) (r : HistoryRing) (members history used : L
               };
           shows =
               λ identity pending waiting sources shows.
-              shows_after (some time) members' tested identity pending waiting sources
+              shows_after (Some time) members' tested identity pending waiting sources
               (shows_queues (state_of (parts identity after x r) (tables mid pending waiting history sources)) (members_of after.counts.members members')
               (sym (ap queued_cells readied.is ∙ readied_cells core.mode time (members_of after.counts.members mid)))
               (shows_refreshed identity pending waiting sources shows));

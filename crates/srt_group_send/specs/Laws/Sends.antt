@@ -1,18 +1,20 @@
 -- What is proved of the definitions in specs/Sends.antt, with what the proofs need.
-use Rattle.std.specs.Prelude.{◌≡◌, refl, Bool, List, []}
+use Rattle.std.specs.Prelude.{◌≡◌, refl, Bool, List, [], Ok, Err, Result, IfOk}
+use Rattle.std.specs.Result.{result_and}
 use Rattle.std.proofs.Math.Path.{ap, sym}
 use Rattle.std.proofs.Common.{ap₂, subst, ◌∙◌, arith}
 use Rattle.std.proofs.Math.Bool.{true, false}
 use Prim.Native.Nat.{ℕ, ◌≤◌}
-use Rattle.std.proofs.Math.Dec.{eqb}
 use Rattle.std.proofs.Math.ListN.{length}
-use Rattle.srt_protocol.specs.Errors.{outcome_number}
+use Rattle.srt_protocol.specs.declared.error.Error.{Error}
+use Rattle.srt_protocol.specs.declared.error.Error.TheVariants.{PayloadAboveLimit}
+use Rattle.srt_protocol.specs.Errors.{Outcome, outcome_number}
 use Rattle.srt_group_model.specs.Tools.{if_true◌then◌else◌}
 use Rattle.srt_group_model.specs.Laws.Reason.{when_true, when_false}
 use Rattle.srt_group_model.specs.State.{Send, State, is_backup, with_send, with_members, with_sending}
-use Rattle.srt_group_model.specs.Run.{Run, start, refresh_states}
-use Rattle.srt_group_model.specs.Sending.{max_sent, list_size, Sent, Flow, ends_with, above_limit, send_broadcast}
-use Rattle.srt_group_model.specs.Backup.{max_history, send_backup}
+use Rattle.srt_group_model.specs.Run.{start, refresh_states}
+use Rattle.srt_group_model.specs.Sending.{Flow, ends_with, above_limit, send_broadcast}
+use Rattle.srt_group_model.specs.Backup.{send_backup}
 use Rattle.srt_group_model.specs.Calls.{send_flow}
 use Rattle.srt_group_model.specs.Validity.{max_members}
 use Rattle.srt_group_model.specs.Sound.{Fit}
@@ -25,21 +27,19 @@ use Rattle.srt_group_model.specs.declared.Identity.{Identity}
 use Rattle.srt_group_model.specs.declared.Sending.{Sending}
 use Rattle.srt_connection_members.specs.Members.{members_of}
 use Rattle.srt_group_tables.specs.declared.history.HistoryRing.{HistoryRing}
-use Rattle.srt_group_tables.specs.Ring.{Long, entries_of, send_of}
-use Rattle.srt_group_sending.specs.SentList.{send_tables, sent_rows, Wrote}
+use Rattle.srt_group_tables.specs.Ring.{entries_of, send_of}
+use Rattle.srt_group_sending.specs.SentList.{send_tables, sent_rows}
 use Rattle.srt_group_sending.specs.Laws.SentList.{wrote_nothing}
 use Rattle.srt_group_sending.specs.Broadcast.{SentBroadcast}
 use Rattle.srt_group_sending.specs.declared.broadcast.BroadcastSend.{BroadcastSend}
-use Rattle.srt_group_collecting.specs.Leaves.{sends, At}
+use Rattle.srt_group_collecting.specs.Leaves.{sends}
 use Rattle.srt_group_polls.specs.Refresh.{Refreshes}
 use Rattle.srt_group_shown.specs.Shown.{rest}
-use Rattle.srt_group_shown.specs.Tables.{receive_tables}
 use Rattle.srt_group_carrier.specs.declared.recording.BackupSend.{BackupSend}
-use Rattle.srt_group_carrier.specs.Freeing.{SendFollows}
 use Rattle.srt_group_carrier.specs.Lendable.{BackupTables, backup_tables, arrays_in, Lendable, NumbersFit}
 use Rattle.srt_group_carrier.specs.Flows.{InMode, BackupFlows}
 use Rattle.srt_group_carrier.specs.Laws.Freeing.{trim_same, trim_sends}
-use Rattle.srt_group_send.specs.declared.sending.GroupSend.{GroupSend}
+use Rattle.srt_group_send.specs.Answers.{send_number}
 use Rattle.srt_group_send.specs.Sends.{by_mode, sending_state, FitShown, FlowMade}
 
 -- ---- the send of the mode
@@ -88,6 +88,17 @@ module _ (mode time size cell n : ℕ) (x : Sending) (r : HistoryRing) (before :
       made y s =
           record { state = with_send y (with_members (members_of n members) s); sends = sent_rows sent.sent list; code = outcome_number sent.outcome }
 
+-- ---- the answer
+
+-- an outcome with the count of legs has the outcome's number
+number_on : (o : Outcome) (legs : ℕ) → send_number (result_and o (Ok legs)) ≡ outcome_number o
+number_on (Ok tt) legs = refl
+number_on (Err e) legs = refl
+
+legs_on : (o : Outcome) {n m : ℕ} → n ≡ m → IfOk (result_and o (Ok n)) (λ k. k ≡ m)
+legs_on (Ok tt) same = same
+legs_on (Err e) same = tt
+
 -- ---- after the refresh
 
 pub few_refreshed : {x : Sending} {core after : Core} {ms ms' : List ℕ} → Refreshes (sends x) refresh_states core ms after ms'
@@ -129,7 +140,7 @@ module _ (core : Core) (x : Sending) (r : HistoryRing) (before : BackupTables) (
         ap₂ (λ (k : ℕ) (s : State). above_limit k s.members) long (refreshed identity pending waiting) ∙ sym tested ∙ is
 
     pub limit_made : b ≡ true → Lendable core.counts.members r before
-        → FlowMade cell time size core x r before record { code = 23; legs = 0; rows = 0; core = after; sending = x; ring = r } mid
+        → FlowMade cell time size core x r before record { answer = Err PayloadAboveLimit; rows = 0; core = after; sending = x; ring = r } mid
     unfolding send_flow
     limit_made is lent =
         record {
@@ -138,20 +149,20 @@ module _ (core : Core) (x : Sending) (r : HistoryRing) (before : BackupTables) (
           few = omega arith;
           sends = [];
           written = wrote_nothing 0 before.list;
-          legs = sym (when_false (eqb 23 0) (if_true is_backup core.mode then 1 else 0) 0 refl);
+          legs = tt;
           follows = trim_sends cell (trim_same (entries_of r (arrays_in before)) before.used lent.used_long);
           flow =
               λ identity pending waiting payload long.
               when_true _ _ _ (above true is identity pending waiting payload long) ∙ ap (ends_with 23) (refreshed identity pending waiting);
         }
 
-    pub mode_made : {sent : BackupSend} {end : BackupTables} (code legs : ℕ) → b ≡ false
+    pub mode_made : {sent : BackupSend} {end : BackupTables} {answer : Result ℕ Error} → b ≡ false
         → BackupFlows (InMode core.mode) (by_mode core.mode time size cell) cell after.counts.members x r 0 mid sent end
-        → code ≡ outcome_number sent.outcome → legs ≡ (if_true eqb code 0 then (if_true is_backup core.mode then 1 else sent.sent) else 0)
+        → answer ≡ result_and sent.outcome (Ok (if_true is_backup core.mode then 1 else sent.sent))
         → FlowMade cell time size core x r before
-        record { code = code; legs = legs; rows = sent.sent; core = after; sending = sent.sending; ring = sent.ring } end
+        record { answer = answer; rows = sent.sent; core = after; sending = sent.sending; ring = sent.ring } end
     unfolding send_flow
-    mode_made {sent} {end} code legs is flows is_code is_legs =
+    mode_made {sent} {end} {answer} is flows answers =
         record {
           members_long = flows.members_long ∙ refreshes.members_long;
           arrays_long = flows.arrays_long;
@@ -160,7 +171,8 @@ module _ (core : Core) (x : Sending) (r : HistoryRing) (before : BackupTables) (
           written = flows.written;
           legs =
               let filled : sent.sent ≡ length flows.sends = omega (arith, flows.written.count) in
-              is_legs ∙ ap (λ (k : ℕ). if_true eqb code 0 then (if_true is_backup core.mode then 1 else k) else 0) filled;
+              subst (λ (a : Result ℕ Error). IfOk a (λ n. n ≡ (if_true is_backup core.mode then 1 else length flows.sends))) (sym answers)
+              (legs_on sent.outcome (ap (λ (k : ℕ). if_true is_backup core.mode then 1 else k) filled));
           follows = flows.follows;
           flow =
               λ identity pending waiting payload long.
@@ -171,7 +183,7 @@ module _ (core : Core) (x : Sending) (r : HistoryRing) (before : BackupTables) (
               ∙ flows.flow run.state (refresh_mode (start (sending_state core x r before identity pending waiting)))
               (ap (λ (s : State). s.members) same) (ap (λ (s : State). s.send) same)
               ∙ ap (made (outcome_number sent.outcome)) same
-              ∙ ap (λ (k : ℕ). made k (sending_state after x r mid identity pending waiting)) (sym is_code);
+              ∙ ap (λ (k : ℕ). made k (sending_state after x r mid identity pending waiting)) (sym (ap send_number answers ∙ number_on sent.outcome _));
         }
       where
         made : ℕ → State → Flow

@@ -1,11 +1,10 @@
 -- What is proved of the public readiness tests: 5 and 6, and then what follows them.
-use Rattle.std.specs.Prelude.{◌≡◌, List, ℕ}
+use Rattle.srt_protocol.specs.Errors.{Outcome}
+use Rattle.std.specs.Prelude.{◌≡◌, List, ℕ, Err, Ok}
 use Rattle.std.proofs.Math.Path.{refl}
 use Rattle.std.proofs.Common.{arith}
 use Rattle.word_rows.specs.Laws.Tab.{tab_length}
 use Rattle.srt_protocol.specs.declared.error.Error.{Error}
-use Rattle.srt_protocol.specs.declared.error.Outcome.{Outcome}
-use Rattle.srt_protocol.specs.declared.error.Outcome.TheVariants.{Accepted, Refused}
 use Rattle.srt_protocol.specs.Errors.{error_number}
 use Rattle.srt_group_model.specs.Guards.{no_answer, shown, truth}
 use Rattle.srt_group_model.specs.Calls.{cells_given, can_send_call, can_send_with_pacing_call}
@@ -53,17 +52,17 @@ module _ (identity : Identity) (core : Core) (x : Sending) (r : HistoryRing) (me
   abbrev t : Tables
   t = tables members pending waiting history sources
 
-  pub can_send_refused : (e : Error) → o ≡ Refused e
+  pub can_send_refused : (e : Error) → o ≡ Err e
       → Promised call_can_send p t nothing_lent (showing p t nothing_lent (error_number e) no_answer 0)
   unfolding step_of can_send_call
   can_send_refused e refused = promised_refused_6 call_can_send p t nothing_lent begins _ _ refl e refused
 
-  pub with_pacing_refused : (time : ℕ) (e : Error) → o ≡ Refused e
+  pub with_pacing_refused : (time : ℕ) (e : Error) → o ≡ Err e
       → Promised (call_can_send_with_pacing time) p t nothing_lent (showing p t nothing_lent (error_number e) no_answer 0)
   unfolding step_of can_send_with_pacing_call
   with_pacing_refused time e refused = promised_refused_6 (call_can_send_with_pacing time) p t nothing_lent begins _ _ refl e refused
 
-  module _ (accepted : o ≡ Accepted) where
+  module _ (accepted : o ≡ Ok tt) where
     pub can_test : {used : ℕ} → used ≡ set_size → Testable core x r members history used
     can_test used_long = testable_unbroken (begun_unbroken p t begins accepted) used_long
 

@@ -1,9 +1,8 @@
 -- What is proved of the definitions in specs/BackupReadiness.antt, with what the proofs need.
-use Rattle.std.specs.Prelude.{◌≡◌, Bool, ◌&&◌, List, ℕ, ◌+◌, ◌%◌, ◌≤◌, ◌<◌, eqb, get_or}
+use Rattle.std.specs.Prelude.{◌≡◌, Bool, ◌&&◌, List, ℕ, ◌+◌, ◌%◌, ◌≤◌, ◌<◌, eqb, get_or, None, Option, Some}
 use Rattle.std.proofs.Math.Path.{refl, ap, sym}
 use Rattle.std.proofs.Common.{◌∙◌, arith}
 use Rattle.std.proofs.Math.Bool.{true, false, not}
-use Rattle.std.proofs.Math.Option.{Option, none, some}
 use Rattle.std.proofs.Math.Decide.{dec_lt}
 use borrow.Author.Tests.{eq-eqb, ne_eqb, lt-ltb, le-ltb}
 use Rattle.word_rows.specs.Laws.Tab.{tab_length}
@@ -17,18 +16,14 @@ use Rattle.srt_group_model.specs.declared.Entry.{Entry}
 use Rattle.srt_group_model.specs.declared.Leg.{Leg}
 use Rattle.srt_group_model.specs.declared.Membership.{Membership}
 use Rattle.srt_group_model.specs.declared.Sending.{Sending}
-use Rattle.srt_connection.specs.Answers.{sequence_of}
 use Rattle.srt_connection_queue.specs.Laws.Tab.{tab_place, tab_past}
-use Rattle.srt_connection_members.specs.Members.{member_at, members_of, found_of}
+use Rattle.srt_connection_members.specs.Members.{member_at, members_of}
 use Rattle.srt_connection_members.specs.Laws.Members.{members_place, found_some, found_none}
-use Rattle.srt_connection.specs.declared.legs.OptionalSequence.{OptionalSequence}
-use Rattle.srt_connection.specs.declared.legs.OptionalSequence.TheVariants.{Some, None}
-use Rattle.srt_connection_members.specs.declared.Found.TheVariants.{At, Nothing}
 use Rattle.srt_group_members.specs.Laws.Scan.{sequence_some, sequence_none, found_row}
 use Rattle.srt_group_members.specs.Laws.Rank.{promotion_below}
 use Rattle.srt_group_tables.specs.Ring.{Arrays, word_sequence, entry_at, entries_of, send_of}
 use Rattle.srt_group_tables.specs.declared.history.HistoryRing.{HistoryRing}
-use Rattle.srt_group_sending.specs.BackupReadiness.{is_other_carrier, send_number, front_sequence, replay_length, replay_sequence, gap_allows, sequence_in, stands_at, could_take_over, MemberReady, BackupReady}
+use Rattle.srt_group_sending.specs.BackupReadiness.{is_other_carrier, send_number, front_sequence, replay_length, replay_sequence, gap_allows, stands_at, could_take_over, MemberReady, BackupReady}
 
 -- ---- the parts
 
@@ -45,36 +40,36 @@ pub takes_over_is : (id : ℕ) (x : Sending) (h : List Entry) → is_other_carri
 unfolding is_other_carrier takes_over
 takes_over_is id x h = refl
 
-pub number_there : (x : Sending) → (x.numbered ≡ 0 → ⊥) → Some x.next ≡ sequence_of (send_number x)
+pub number_there : (x : Sending) → (x.numbered ≡ 0 → ⊥) → Some x.next ≡ send_number x
 number_there x h = sym (rw (set_some x.numbered x.next h))
 
-pub number_missing : (x : Sending) → x.numbered ≡ 0 → None ≡ sequence_of (send_number x)
+pub number_missing : (x : Sending) → x.numbered ≡ 0 → None ≡ send_number x
 number_missing x h = sym (rw (unset_none x.numbered x.next h))
 
 module _ (r : HistoryRing) (history : List ℕ) where
-  pub front_missing : r.length ≡ 0 → None ≡ sequence_of (front_sequence r history)
+  pub front_missing : r.length ≡ 0 → None ≡ front_sequence r history
   unfolding front_sequence if_true◌then◌else◌
   front_missing e = sym (rw (eq-eqb r.length 0 e))
 
   pub front_there : {sequence : ℕ} → (r.length ≡ 0 → ⊥)
-      → sequence ≡ word_sequence (get_or history ((r.start + 0) % max_history) 0) → Some sequence ≡ sequence_of (front_sequence r history)
+      → sequence ≡ word_sequence (get_or history ((r.start + 0) % max_history) 0) → Some sequence ≡ front_sequence r history
   unfolding front_sequence if_true◌then◌else◌
   front_there h is = ap (λ (n : ℕ). Some n) is ∙ sym (rw (ne_eqb r.length 0 h))
 
   module _ (x : Sending) {takes : Bool} where
-    pub no_replay : {number : OptionalSequence} → takes ≡ false → number ≡ sequence_of (send_number x)
-        → number ≡ sequence_of (replay_sequence takes x r history)
+    pub no_replay : {number : Option ℕ} → takes ≡ false → number ≡ send_number x
+        → number ≡ replay_sequence takes x r history
     unfolding replay_sequence if_true◌then◌else◌ or_else
     no_replay e is = is ∙ sym (rw e)
 
-    pub nothing_to_replay : {front number : OptionalSequence} → takes ≡ true → front ≡ sequence_of (front_sequence r history)
-        → front ≡ None → number ≡ sequence_of (send_number x) → number ≡ sequence_of (replay_sequence takes x r history)
+    pub nothing_to_replay : {front number : Option ℕ} → takes ≡ true → front ≡ front_sequence r history
+        → front ≡ None → number ≡ send_number x → number ≡ replay_sequence takes x r history
     unfolding replay_sequence if_true◌then◌else◌ or_else
     nothing_to_replay e is_front missing is =
         is ∙ sym (rw (e, sequence_none (front_sequence r history) (sym missing ∙ is_front)))
 
-    pub replay_from : {front : OptionalSequence} (n : ℕ) → takes ≡ true → front ≡ sequence_of (front_sequence r history)
-        → front ≡ Some n → Some n ≡ sequence_of (replay_sequence takes x r history)
+    pub replay_from : {front : Option ℕ} (n : ℕ) → takes ≡ true → front ≡ front_sequence r history
+        → front ≡ Some n → Some n ≡ replay_sequence takes x r history
     unfolding replay_sequence if_true◌then◌else◌ or_else
     replay_from n e is_front there = sym (rw (e, sequence_some (front_sequence r history) n (sym there ∙ is_front)))
 
@@ -95,17 +90,17 @@ module _ {takes : Bool} (replay gap : ℕ) where
       twice true = refl
       twice false = refl
 
-module _ (l : Leg) (sequence : OptionalSequence) where
-  pub stands_anywhere : sequence ≡ None → true ≡ stands_at (sequence_in sequence) l
+module _ (l : Leg) (sequence : Option ℕ) where
+  pub stands_anywhere : sequence ≡ None → true ≡ stands_at sequence l
   unfolding stands_at if_some◌give◌otherwise◌
   stands_anywhere e = sym (rw e)
 
-  pub stands_there : (n : ℕ) → sequence ≡ Some n → l.sender.next ≡ n → true ≡ stands_at (sequence_in sequence) l
+  pub stands_there : (n : ℕ) → sequence ≡ Some n → l.sender.next ≡ n → true ≡ stands_at sequence l
   unfolding stands_at if_some◌give◌otherwise◌
   stands_there n e h = sym (rw (e, eq-eqb l.sender.next n h))
 
   pub stands_elsewhere : (n : ℕ) → sequence ≡ Some n → (l.sender.next ≡ n → ⊥)
-      → eqb l.sender.flight 0 ≡ stands_at (sequence_in sequence) l
+      → eqb l.sender.flight 0 ≡ stands_at sequence l
   unfolding stands_at if_some◌give◌otherwise◌
   stands_elsewhere n e h = sym (rw (e, ne_eqb l.sender.next n h))
 
@@ -131,32 +126,26 @@ module _ (id : ℕ) (x : Sending) (r : HistoryRing) (history : List ℕ) (l : Le
     unfolding could_take_over
     window_refuses h = sym (rw (← is_takes, ← is_replay, ← is_allows, e, ← is_window, le-ltb replay window h))
 
-    pub stands_decides : {sequence : OptionalSequence} {stands : Bool} → replay < window
-        → sequence ≡ sequence_of (replay_sequence takes x r history) → stands ≡ stands_at (sequence_in sequence) l
+    pub stands_decides : {sequence : Option ℕ} {stands : Bool} → replay < window
+        → sequence ≡ replay_sequence takes x r history → stands ≡ stands_at sequence l
         → stands ≡ could_take_over id x r history l
     unfolding could_take_over
     stands_decides {sequence} {stands} h is_sequence is_stands =
         sym (rw (← is_takes, ← is_replay, ← is_allows, e, ← is_window, lt-ltb replay window h) (sym (is_stands ∙ as_option)))
       where
-        back : (o : Option ℕ) → sequence_in (sequence_of o) ≡ o
-        back none = refl
-        back (some n) = refl
-
-        as_option : stands_at (sequence_in sequence) l ≡ stands_at (replay_sequence takes x r history) l
-        as_option =
-            ap (λ (o : Option ℕ). stands_at o l)
-            (ap sequence_in is_sequence ∙ back (replay_sequence takes x r history))
+        as_option : stands_at sequence l ≡ stands_at (replay_sequence takes x r history) l
+        as_option = ap (λ (o : Option ℕ). stands_at o l) is_sequence
 
 -- ---- one member
 
 front_is : (r : HistoryRing) (a : Arrays)
-    → (if_some at_place 0 (entries_of r a) give (λ e. some e.sequence) otherwise none) ≡ front_sequence r a.history
+    → (if_some at_place 0 (entries_of r a) give (λ e. Some e.sequence) otherwise None) ≡ front_sequence r a.history
 unfolding front_sequence if_true◌then◌else◌ if_some◌give◌otherwise◌
 front_is r a = by (dec_lt 0 r.length)
   where
     by : Dec (0 < r.length)
-        → (if_some at_place 0 (entries_of r a) give (λ e. some e.sequence) otherwise none)
-        ≡ (if_true eqb r.length 0 then none else some (word_sequence (get_or a.history ((r.start + 0) % max_history) 0)))
+        → (if_some at_place 0 (entries_of r a) give (λ e. Some e.sequence) otherwise None)
+        ≡ (if_true eqb r.length 0 then None else Some (word_sequence (get_or a.history ((r.start + 0) % max_history) 0)))
     by (yes h) = rw (tab_place r.length (entry_at r a) 0 h, ne_eqb r.length 0 (λ e. omega arith))
     by (no h) = rw (tab_past r.length (entry_at r a) 0 (omega arith), eq-eqb r.length 0 (omega arith))
 
@@ -196,19 +185,19 @@ module _ (time : Option ℕ) (x : Sending) (r : HistoryRing) (history : List ℕ
 -- ---- the group
 
 module _ (n : ℕ) (time : Option ℕ) (x : Sending) (r : HistoryRing) (history t : List ℕ) where
-  pub no_active_not_ready : Nothing ≡ found_of (first_active (members_of n t)) → BackupReady n time x r history t false
+  pub no_active_not_ready : None ≡ first_active (members_of n t) → BackupReady n time x r history t false
   unfolding backup_send_ready if_some◌give◌otherwise◌
   no_active_not_ready e =
       record {
         is = λ s a q members send. sym (rw (members, found_none (place_of is_active (members_of n t)) e));
       }
 
-  module _ (i : ℕ) {leg : Leg} {can : Bool} (first : At i ≡ found_of (first_active (members_of n t)))
+  module _ (i : ℕ) {leg : Leg} {can : Bool} (first : Some i ≡ first_active (members_of n t))
       (is_leg : leg ≡ (member_at t i).leg) (is_can : can ≡ can_send leg) where
-    first_found : place_of is_active (members_of n t) ≡ some i
+    first_found : place_of is_active (members_of n t) ≡ Some i
     first_found = found_some (place_of is_active (members_of n t)) i first
 
-    first_there : at_place i (members_of n t) ≡ some (member_at t i)
+    first_there : at_place i (members_of n t) ≡ Some (member_at t i)
     first_there = members_place n t i (found_row is_active n t i first)
 
     can_is : can_send (member_at t i).leg ≡ can
@@ -222,7 +211,7 @@ module _ (n : ℕ) (time : Option ℕ) (x : Sending) (r : HistoryRing) (history 
           is = λ s a q members send. ready.is a q ∙ sym (rw (members, send, first_found, first_there, can_is, e));
         }
 
-    pub nobody_to_promote : can ≡ false → Nothing ≡ found_of (promotion (members_of n t)) → BackupReady n time x r history t false
+    pub nobody_to_promote : can ≡ false → None ≡ promotion (members_of n t) → BackupReady n time x r history t false
     unfolding backup_send_ready if_some◌give◌otherwise◌ if_true◌then◌else◌
     nobody_to_promote e nobody =
         record {
@@ -231,7 +220,7 @@ module _ (n : ℕ) (time : Option ℕ) (x : Sending) (r : HistoryRing) (history 
               sym (rw (members, first_found, first_there, can_is, e, found_none (promotion (members_of n t)) nobody));
         }
 
-    pub promoted_decides : {answer : Bool} (j : ℕ) → can ≡ false → At j ≡ found_of (promotion (members_of n t))
+    pub promoted_decides : {answer : Bool} (j : ℕ) → can ≡ false → Some j ≡ promotion (members_of n t)
         → MemberReady time x r history (member_at t j) answer → BackupReady n time x r history t answer
     unfolding backup_send_ready if_some◌give◌otherwise◌ if_true◌then◌else◌
     promoted_decides j e promoted ready =

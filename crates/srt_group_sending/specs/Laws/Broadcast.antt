@@ -1,10 +1,9 @@
 -- What is proved of the definitions in specs/Broadcast.antt, with what the proofs need.
-use Rattle.std.specs.Prelude.{◌≡◌, Bool, ◌&&◌, ◌||◌, eqb}
+use Rattle.std.specs.Prelude.{◌≡◌, Bool, ◌&&◌, ◌||◌, eqb, Err, None, Ok, Option, Some}
 use Rattle.std.proofs.Math.Path.{refl, ap, sym}
 use Rattle.std.proofs.Common.{subst, ◌∙◌, add-one}
 use Rattle.std.proofs.Math.Bool.{true, false, not}
 use mathlib.Core.List.{List, [], ◌∷◌, ◌++◌}
-use Rattle.std.proofs.Math.Option.{Option, none, some}
 use Prim.Native.Nat.{ℕ, suc, ◌+◌, ◌*◌, ◌≤◌, ◌<◌}
 use native.Mathlib.Omega.{arith}
 use Rattle.std.proofs.Math.Dec.{ltb}
@@ -12,7 +11,6 @@ use Rattle.std.proofs.Math.ListN.{length}
 use Rattle.word_rows.specs.Tab.{tab}
 use Rattle.word_rows.specs.Laws.Tab.{tab_push}
 use Rattle.srt_protocol.specs.Sequence.{sequence_further}
-use Rattle.srt_protocol.specs.declared.error.Outcome.TheVariants.{Accepted, Refused}
 use Rattle.srt_protocol.specs.declared.error.Error.TheVariants.{NoActiveMember, SequenceMismatch, AllBroadcastFailed}
 use Rattle.srt_group_tables.specs.Laws.PacketLaws.{each_append}
 use Rattle.srt_group_model.specs.Tools.{if_true◌then◌else◌, if_some◌give◌otherwise◌, is_set, flagged, is_empty, any, such_that, place_of, at_place, each}
@@ -26,12 +24,9 @@ use Rattle.srt_group_model.specs.declared.Leg.{Leg}
 use Rattle.srt_group_model.specs.declared.Membership.{Membership}
 use Rattle.srt_group_model.specs.declared.Sender.{Sender}
 use Rattle.srt_group_model.specs.declared.Sending.{Sending}
-use Rattle.srt_connection.specs.Answers.{result_of}
 use Rattle.srt_connection.specs.Laws.Answers.{result_ok, result_err}
-use Rattle.srt_connection_members.specs.Members.{member_at, members_of, found_of, Changed}
+use Rattle.srt_connection_members.specs.Members.{member_at, members_of, Changed}
 use Rattle.srt_connection_members.specs.Laws.Members.{members_place, found_some, found_none, changed_by, unchanged, Changing, changing_start, changing_on, changing_done}
-use Rattle.srt_connection.specs.declared.legs.LegResult.TheVariants.{Ok, Err}
-use Rattle.srt_connection_members.specs.declared.Found.TheVariants.{At, Nothing}
 use Rattle.srt_group_members.specs.Laws.Scan.{found_row, any_at, any_nowhere}
 use Rattle.srt_group_sending.specs.SentList.{sent_row, sent_rows, send_tables, Wrote}
 use Rattle.srt_group_sending.specs.Laws.SentList.{wrote_nothing, wrote_length, wrote_then, wrote_rows}
@@ -64,29 +59,29 @@ module _ (i : ℕ) (t u : List ℕ) {leg : Leg} {full : Bool} (is_leg : leg ≡ 
 -- ---- the first of those that pass a test
 
 module _ {A : Type 0} (test : A → Bool) where
-  pub such_that_none : (l : List A) → place_of test l ≡ none → such_that test l ≡ []
+  pub such_that_none : (l : List A) → place_of test l ≡ None → such_that test l ≡ []
   unfolding such_that place_of if_true◌then◌else◌ if_some◌give◌otherwise◌
   such_that_none [] e = refl
   such_that_none (x ∷ xs) e = go (test x) (place_of test xs) (such_that_none xs) e
     where
-      go : (b : Bool) (o : Option ℕ) → (o ≡ none → such_that test xs ≡ [])
-          → (if_true b then some 0 else (if_some o give (λ k. some (suc k)) otherwise none)) ≡ none
+      go : (b : Bool) (o : Option ℕ) → (o ≡ None → such_that test xs ≡ [])
+          → (if_true b then Some 0 else (if_some o give (λ k. Some (suc k)) otherwise None)) ≡ None
           → (if_true b then x ∷ such_that test xs else such_that test xs) ≡ []
       go true o h e = cc e
-      go false none h e = h refl
-      go false (some j) h e = cc e
+      go false None h e = h refl
+      go false (Some j) h e = cc e
 
-  pub such_that_first : (l : List A) (i : ℕ) → place_of test l ≡ some i → at_place 0 (such_that test l) ≡ at_place i l
+  pub such_that_first : (l : List A) (i : ℕ) → place_of test l ≡ Some i → at_place 0 (such_that test l) ≡ at_place i l
   unfolding such_that place_of at_place if_true◌then◌else◌ if_some◌give◌otherwise◌
   such_that_first [] i e = refl
   such_that_first (x ∷ xs) i e = go (test x) (place_of test xs) (such_that_first xs) i e
     where
-      go : (b : Bool) (o : Option ℕ) → ((j : ℕ) → o ≡ some j → at_place 0 (such_that test xs) ≡ at_place j xs) → (i : ℕ)
-          → (if_true b then some 0 else (if_some o give (λ k. some (suc k)) otherwise none)) ≡ some i
+      go : (b : Bool) (o : Option ℕ) → ((j : ℕ) → o ≡ Some j → at_place 0 (such_that test xs) ≡ at_place j xs) → (i : ℕ)
+          → (if_true b then Some 0 else (if_some o give (λ k. Some (suc k)) otherwise None)) ≡ Some i
           → at_place 0 (if_true b then x ∷ such_that test xs else such_that test xs) ≡ at_place i (x ∷ xs)
       go true o h i e = let first : 0 ≡ i = cc in rw (← first)
-      go false none h i e = cc e
-      go false (some j) h i e = let later : suc j ≡ i = cc in rw (← later) (h j refl)
+      go false None h i e = cc e
+      go false (Some j) h i e = let later : suc j ≡ i = cc in rw (← later) (h j refl)
 
   pub such_that_append : (l k : List A) → such_that test (l ++ k) ≡ such_that test l ++ such_that test k
   unfolding such_that if_true◌then◌else◌
@@ -114,28 +109,28 @@ unfolding each
 each_length f [] = refl
 each_length f (x ∷ xs) = ap suc (each_length f xs)
 
-empty_placed : {A : Type 0} (l : List A) (a : A) → at_place 0 l ≡ some a → is_empty l ≡ false
+empty_placed : {A : Type 0} (l : List A) (a : A) → at_place 0 l ≡ Some a → is_empty l ≡ false
 unfolding at_place is_empty
 empty_placed [] a e = cc e
 empty_placed (x ∷ xs) a e = refl
 
 module _ (n : ℕ) (t : List ℕ) where
-  none_active : Nothing ≡ found_of (first_active (members_of n t)) → such_that is_active (members_of n t) ≡ []
+  none_active : None ≡ first_active (members_of n t) → such_that is_active (members_of n t) ≡ []
   none_active e = such_that_none is_active (members_of n t) (found_none (place_of is_active (members_of n t)) e)
 
-  first_is : (i : ℕ) → At i ≡ found_of (first_active (members_of n t))
-      → at_place 0 (such_that is_active (members_of n t)) ≡ some (member_at t i)
+  first_is : (i : ℕ) → Some i ≡ first_active (members_of n t)
+      → at_place 0 (such_that is_active (members_of n t)) ≡ Some (member_at t i)
   first_is i e =
       such_that_first is_active (members_of n t) i (found_some (place_of is_active (members_of n t)) i e)
       ∙ members_place n t i (found_row is_active n t i e)
 
   -- ---- before anything is sent
 
-  pub limit_of_none : (size : ℕ) → Nothing ≡ found_of (first_active (members_of n t)) → false ≡ above_limit size (members_of n t)
+  pub limit_of_none : (size : ℕ) → None ≡ first_active (members_of n t) → false ≡ above_limit size (members_of n t)
   unfolding above_limit at_place if_some◌give◌otherwise◌
   limit_of_none size e = sym (rw (none_active e))
 
-  pub limit_of_first : (size i : ℕ) {leg : Leg} → At i ≡ found_of (first_active (members_of n t)) → leg ≡ (member_at t i).leg
+  pub limit_of_first : (size i : ℕ) {leg : Leg} → Some i ≡ first_active (members_of n t) → leg ≡ (member_at t i).leg
       → ltb leg.link.limit size ≡ above_limit size (members_of n t)
   unfolding above_limit if_some◌give◌otherwise◌
   limit_of_first size i e is_leg =
@@ -150,7 +145,7 @@ module _ (x : Sending) (m : Member) where
   unfolding number_for_send if_true◌then◌else◌
   leg_number h is = ap (λ (y : Sender). y.next) is ∙ sym (rw (zero_unset x.numbered h))
 
-pub number_of_first : (x : Send) (ms : List Member) (m : Member) → at_place 0 ms ≡ some m
+pub number_of_first : (x : Send) (ms : List Member) (m : Member) → at_place 0 ms ≡ Some m
     → sequence_for_send x ms ≡ number_for_send x.numbers m
 unfolding sequence_for_send number_for_send if_true◌then◌else◌ if_some◌give◌otherwise◌ flagged
 number_of_first x ms m e = go (is_set x.numbers.numbered)
@@ -187,11 +182,11 @@ mismatch_of_any sequence (m ∷ ms) = go (is_active m) (mismatch_of_any sequence
     go false e = e
 
 module _ (sequence n : ℕ) (t : List ℕ) where
-  pub mismatch_at : (i : ℕ) → At i ≡ found_of (place_of (is_mismatched sequence) (members_of n t))
+  pub mismatch_at : (i : ℕ) → Some i ≡ place_of (is_mismatched sequence) (members_of n t)
       → true ≡ sequence_mismatch sequence (such_that is_active (members_of n t))
   mismatch_at i e = any_at (is_mismatched sequence) (members_of n t) i e ∙ sym (mismatch_of_any sequence (members_of n t))
 
-  pub mismatch_nowhere : Nothing ≡ found_of (place_of (is_mismatched sequence) (members_of n t))
+  pub mismatch_nowhere : None ≡ place_of (is_mismatched sequence) (members_of n t)
       → false ≡ sequence_mismatch sequence (such_that is_active (members_of n t))
   mismatch_nowhere e = any_nowhere (is_mismatched sequence) (members_of n t) e ∙ sym (mismatch_of_any sequence (members_of n t))
 
@@ -231,22 +226,22 @@ module _ (time size sequence : ℕ) where
     unfolding attempt_send if_true◌then◌else◌
     attempt_inactive e = rw e
 
-    takes_failed : is_active m ≡ true → send_shared_with_sequence time size sequence m.leg ≡ none
+    takes_failed : is_active m ≡ true → send_shared_with_sequence time size sequence m.leg ≡ None
         → takes_send time size sequence m ≡ false
     unfolding takes_send if_some◌give◌otherwise◌
     takes_failed e f = rw (e, f)
 
-    attempt_failed : is_active m ≡ true → send_shared_with_sequence time size sequence m.leg ≡ none
+    attempt_failed : is_active m ≡ true → send_shared_with_sequence time size sequence m.leg ≡ None
         → attempt_send time size sequence m ≡ mark_send_failure m
     unfolding attempt_send if_true◌then◌else◌ if_some◌give◌otherwise◌
     attempt_failed e f = rw (e, f)
 
-    takes_sent : (l : Leg) → is_active m ≡ true → send_shared_with_sequence time size sequence m.leg ≡ some l
+    takes_sent : (l : Leg) → is_active m ≡ true → send_shared_with_sequence time size sequence m.leg ≡ Some l
         → takes_send time size sequence m ≡ true
     unfolding takes_send if_some◌give◌otherwise◌
     takes_sent l e f = rw (e, f)
 
-    attempt_sent : (l : Leg) → is_active m ≡ true → send_shared_with_sequence time size sequence m.leg ≡ some l
+    attempt_sent : (l : Leg) → is_active m ≡ true → send_shared_with_sequence time size sequence m.leg ≡ Some l
         → attempt_send time size sequence m ≡ with_leg l m
     unfolding attempt_send if_true◌then◌else◌ if_some◌give◌otherwise◌
     attempt_sent l e f = rw (e, f)
@@ -267,7 +262,7 @@ module _ (i time size sequence sent : ℕ) (t a : List ℕ) {active : Bool} (is 
       }
 
   module _ {leg : Leg} (e : active ≡ true) (is_leg : leg ≡ (member_at t i).leg) where
-    pub attempt_marked : {u : List ℕ} → Err ≡ result_of (send_shared_with_sequence time size sequence leg)
+    pub attempt_marked : {u : List ℕ} → None ≡ send_shared_with_sequence time size sequence leg
         → Changed i mark_send_failure t u → AttemptedAt i time size sequence sent (send_tables t a) sent (send_tables u a)
     attempt_marked {u} failed c =
         record {
@@ -277,12 +272,12 @@ module _ (i time size sequence sent : ℕ) (t a : List ℕ) {active : Bool} (is 
           wrote = wrote_none (takes_failed time size sequence (member_at t i) (sym is ∙ e) fails);
         }
       where
-        fails : send_shared_with_sequence time size sequence (member_at t i).leg ≡ none
+        fails : send_shared_with_sequence time size sequence (member_at t i).leg ≡ None
         fails =
             ap (send_shared_with_sequence time size sequence) (sym is_leg)
             ∙ result_err (send_shared_with_sequence time size sequence leg) failed
 
-    pub attempt_noted : {u b : List ℕ} {x : Membership} (l : Leg) → Ok l ≡ result_of (send_shared_with_sequence time size sequence leg)
+    pub attempt_noted : {u b : List ℕ} {x : Membership} (l : Leg) → Some l ≡ send_shared_with_sequence time size sequence leg
         → x ≡ (member_at t i).membership → Changed i (with_leg l) t u
         → Wrote sent (sent_row x.id sequence own_payload time time ∷ []) a (sent + 1) b
         → AttemptedAt i time size sequence sent (send_tables t a) (sent + 1) (send_tables u b)
@@ -294,7 +289,7 @@ module _ (i time size sequence sent : ℕ) (t a : List ℕ) {active : Bool} (is 
           wrote = subst (λ (xs : List Sent). Wrote sent xs a (sent + 1) b) rows w;
         }
       where
-        goes : send_shared_with_sequence time size sequence (member_at t i).leg ≡ some l
+        goes : send_shared_with_sequence time size sequence (member_at t i).leg ≡ Some l
         goes =
             ap (send_shared_with_sequence time size sequence) (sym is_leg)
             ∙ result_ok (send_shared_with_sequence time size sequence leg) l succeeded
@@ -400,11 +395,11 @@ module _ (n : ℕ) (x : Sending) (t : List ℕ) (s : State) (members : s.members
   left_as : (z y : Sending) (l k : List Member) → z ≡ y → l ≡ k → left_by_send z l s ≡ left_by_send y k s
   left_as z y l k q e = λ j. left_by_send (q j) (e j) s
 
-  no_active_in : Nothing ≡ found_of (first_active (members_of n t)) → such_that is_active s.members ≡ []
+  no_active_in : None ≡ first_active (members_of n t) → such_that is_active s.members ≡ []
   no_active_in e = ap (such_that is_active) members ∙ none_active n t e
 
-  module _ (i : ℕ) (first : At i ≡ found_of (first_active (members_of n t))) where
-    first_in : at_place 0 (such_that is_active s.members) ≡ some (member_at t i)
+  module _ (i : ℕ) (first : Some i ≡ first_active (members_of n t)) where
+    first_in : at_place 0 (such_that is_active s.members) ≡ Some (member_at t i)
     first_in = ap (λ (l : List Member). at_place 0 (such_that is_active l)) members ∙ first_is n t i first
 
     active_in : is_empty (such_that is_active s.members) ≡ false
@@ -431,8 +426,8 @@ abbrev answered : (s : State) → List Sent → ℕ → Flow
 answered s xs code = record { state = s; sends = xs; code = code }
 
 module _ (n time size : ℕ) (x : Sending) (t a : List ℕ) where
-  pub none_active_left : Nothing ≡ found_of (first_active (members_of n t))
-      → SentBroadcast n time size x (send_tables t a) record { outcome = Refused NoActiveMember; sending = x; sent = 0 } (send_tables t a)
+  pub none_active_left : None ≡ first_active (members_of n t)
+      → SentBroadcast n time size x (send_tables t a) record { outcome = Err NoActiveMember; sending = x; sent = 0 } (send_tables t a)
   unfolding send_broadcast is_empty if_true◌then◌else◌ tab
   none_active_left e =
       record {
@@ -445,11 +440,11 @@ module _ (n time size : ℕ) (x : Sending) (t a : List ℕ) where
             (ap (λ (y : State). answered y [] 24) (unmoved n x t s members numbers));
       }
 
-  module _ (i : ℕ) {sequence : ℕ} {mismatch : Bool} (first : At i ≡ found_of (first_active (members_of n t)))
+  module _ (i : ℕ) {sequence : ℕ} {mismatch : Bool} (first : Some i ≡ first_active (members_of n t))
       (is_sequence : sequence ≡ number_for_send x (member_at t i))
       (is_mismatch : mismatch ≡ sequence_mismatch sequence (such_that is_active (members_of n t))) where
     pub mismatch_left : mismatch ≡ true
-        → SentBroadcast n time size x (send_tables t a) record { outcome = Refused SequenceMismatch; sending = x; sent = 0 } (send_tables t a)
+        → SentBroadcast n time size x (send_tables t a) record { outcome = Err SequenceMismatch; sending = x; sent = 0 } (send_tables t a)
     unfolding send_broadcast if_true◌then◌else◌ tab
     mismatch_left e =
         record {
@@ -480,7 +475,7 @@ module _ (n time size : ℕ) (x : Sending) (t a : List ℕ) where
       members_are s members = ap (each (attempt_send time size sequence)) members ∙ sym tried.members
 
       pub all_failed : sent ≡ 0
-          → SentBroadcast n time size x (send_tables t a) record { outcome = Refused AllBroadcastFailed; sending = x; sent = sent } (send_tables u b)
+          → SentBroadcast n time size x (send_tables t a) record { outcome = Err AllBroadcastFailed; sending = x; sent = sent } (send_tables u b)
       unfolding send_broadcast if_true◌then◌else◌
       all_failed zero_sent =
           record {
@@ -508,7 +503,7 @@ module _ (n time size : ℕ) (x : Sending) (t a : List ℕ) where
           no_rows = sym (nothing_shown b) ∙ ap (λ (k : ℕ). sent_rows k b) (sym zero_sent)
 
       pub sent_by_some : {y : Sending} → (sent ≡ 0 → ⊥) → y ≡ with_number (sequence_further sequence 1) x
-          → SentBroadcast n time size x (send_tables t a) record { outcome = Accepted; sending = y; sent = sent } (send_tables u b)
+          → SentBroadcast n time size x (send_tables t a) record { outcome = (Ok tt); sending = y; sent = sent } (send_tables u b)
       unfolding send_broadcast if_true◌then◌else◌
       sent_by_some {y} some_sent is_number =
           record {

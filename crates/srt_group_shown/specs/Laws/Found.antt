@@ -1,8 +1,7 @@
 -- The member that `find` answers: what 3, a test of it and a change of it are, and what a changed row shows.
-use Rattle.std.specs.Prelude.{◌≡◌, refl, Bool, true, false, not, ◌||◌, List, [], ◌∷◌, ℕ, zero, suc, ◌*◌, ◌≤◌, ◌<◌, length}
+use Rattle.std.specs.Prelude.{◌≡◌, refl, Bool, true, false, not, ◌||◌, List, [], ◌∷◌, ℕ, zero, suc, ◌*◌, ◌≤◌, ◌<◌, length, None, Option, Some}
 use Rattle.std.proofs.Math.Path.{ap}
 use Rattle.std.proofs.Common.{sym, ◌∙◌, arith}
-use Rattle.std.proofs.Math.Option.{Option, none, some}
 use Rattle.srt_group_model.specs.Tools.{if_some◌give◌otherwise◌, any, place_of, at_place, change}
 use Rattle.srt_group_model.specs.Laws.Reason.{if_elim, if_some_elim, none_some, or_yes_right}
 use Rattle.srt_group_model.specs.State.{Member, State, with_members}
@@ -14,9 +13,8 @@ use Rattle.srt_group_model.specs.Laws.CellsKept.{occurs_append, uses_used}
 use Rattle.srt_group_model.specs.Laws.CellsMoved.{Keeps}
 use Rattle.srt_group_model.specs.Calls.{is_unknown, of_member, change_member}
 use Rattle.srt_connection_queue.specs.Rows.{row_size}
-use Rattle.srt_connection_members.specs.Members.{members_of, member_at, HasRow, found_of, Changed}
+use Rattle.srt_connection_members.specs.Members.{members_of, member_at, HasRow, Changed}
 use Rattle.srt_connection_members.specs.Laws.Members.{members_place, found_some, found_none, found_below}
-use Rattle.srt_connection_members.specs.declared.Found.TheVariants.{At, Nothing}
 use Rattle.srt_group_shown.specs.Tables.{Parts, Tables, state_of, Long}
 use Rattle.srt_group_shown.specs.Ready.{Ready}
 use Rattle.srt_group_shown.specs.Laws.Steps.{rows_there}
@@ -40,39 +38,39 @@ long_with long members' same =
 
 -- ---- the member that `find` answers
 
-found_any : (test : Member → Bool) (ms : List Member) (i : ℕ) → place_of test ms ≡ some i → any test ms ≡ true
+found_any : (test : Member → Bool) (ms : List Member) (i : ℕ) → place_of test ms ≡ Some i → any test ms ≡ true
 unfolding any place_of
 found_any test [] i = λ e. none_some e
 found_any test (m ∷ ms) i =
-    if_elim (λ (o : Option ℕ). o ≡ some i → any test (m ∷ ms) ≡ true) _ _ _ (λ t e. ap (λ (b : Bool). b || any test ms) t)
+    if_elim (λ (o : Option ℕ). o ≡ Some i → any test (m ∷ ms) ≡ true) _ _ _ (λ t e. ap (λ (b : Bool). b || any test ms) t)
     (λ t.
-    if_some_elim (λ (o : Option ℕ). o ≡ some i → any test (m ∷ ms) ≡ true) _ _ _
+    if_some_elim (λ (o : Option ℕ). o ≡ Some i → any test (m ∷ ms) ≡ true) _ _ _
     (λ k f e. or_yes_right (test m) (any test ms) (found_any test ms k f)) (λ f e. none_some e))
 
-nowhere_any : (test : Member → Bool) (ms : List Member) → place_of test ms ≡ none → any test ms ≡ false
+nowhere_any : (test : Member → Bool) (ms : List Member) → place_of test ms ≡ None → any test ms ≡ false
 unfolding any place_of
 nowhere_any test [] = λ e. refl
 nowhere_any test (m ∷ ms) =
-    if_elim (λ (o : Option ℕ). o ≡ none → any test (m ∷ ms) ≡ false) _ _ _ (λ t e. none_some (sym e))
+    if_elim (λ (o : Option ℕ). o ≡ None → any test (m ∷ ms) ≡ false) _ _ _ (λ t e. none_some (sym e))
     (λ t.
-    if_some_elim (λ (o : Option ℕ). o ≡ none → any test (m ∷ ms) ≡ false) _ _ _ (λ k f e. none_some (sym e))
+    if_some_elim (λ (o : Option ℕ). o ≡ None → any test (m ∷ ms) ≡ false) _ _ _ (λ k f e. none_some (sym e))
     (λ f e. ap (λ (b : Bool). b || any test ms) t ∙ nowhere_any test ms f))
 
 module _ (id : ℕ) (p : Parts) (t : Tables) where
   abbrev s : State
   s = state_of p t
 
-  pub is_nowhere : Nothing ≡ found_of (find id s.members) → is_unknown id s ≡ true
+  pub is_nowhere : None ≡ find id s.members → is_unknown id s ≡ true
   is_nowhere nowhere = ap not (nowhere_any (has_id id) s.members (found_none (find id s.members) nowhere))
 
-  module _ (i : ℕ) (at : At i ≡ found_of (find id s.members)) where
-    pub found_there : find id s.members ≡ some i
+  module _ (i : ℕ) (at : Some i ≡ find id s.members) where
+    pub found_there : find id s.members ≡ Some i
     found_there = found_some (find id s.members) i at
 
     pub below : i < p.core.counts.members
     below = found_below p.core.counts.members id i t.members at
 
-    pub place : at_place i s.members ≡ some (member_at t.members i)
+    pub place : at_place i s.members ≡ Some (member_at t.members i)
     place = members_place p.core.counts.members t.members i below
 
     pub is_known : is_unknown id s ≡ false
@@ -83,7 +81,7 @@ module _ (id : ℕ) (p : Parts) (t : Tables) where
     of_found test =
         ap (λ (o : Option Member). if_some o give test otherwise false)
         (first_such_is_found (has_id id) s.members
-        ∙ ap (λ (o : Option ℕ). if_some o give (λ k. at_place k s.members) otherwise none) found_there
+        ∙ ap (λ (o : Option ℕ). if_some o give (λ k. at_place k s.members) otherwise None) found_there
         ∙ place)
 
     pub change_found : (f : Member → Member) → change_member id f s ≡ with_members (change i f s.members) s
@@ -92,11 +90,11 @@ module _ (id : ℕ) (p : Parts) (t : Tables) where
         ap (λ (x : Option ℕ). if_some x give (λ k. with_members (change k f s.members) s) otherwise s) found_there
 
 pub found_row : {p : Parts} {t : Tables} {store : ℕ} {used : List ℕ} → Ready p t store used → (id i : ℕ)
-    → At i ≡ found_of (find id (state_of p t).members) → HasRow i t.members
+    → Some i ≡ find id (state_of p t).members → HasRow i t.members
 found_row {p} {t} ready id i at = omega (arith, rows_there ready, below id p t i at)
 
 pub row_there : (count id i : ℕ) (members : List ℕ) → count * row_size ≤ length members
-    → At i ≡ found_of (find id (members_of count members)) → HasRow i members
+    → Some i ≡ find id (members_of count members) → HasRow i members
 row_there count id i members rows at = omega (arith, rows, found_below count id i members at)
 
 -- the state that is shown once a row is changed

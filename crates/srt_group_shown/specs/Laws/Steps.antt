@@ -1,10 +1,9 @@
 -- What is proved of the definitions in specs/Steps.antt, with what the proofs need.
-use Rattle.std.specs.Prelude.{◌≡◌, refl, Bool, ◌&&◌, ℕ, ◌*◌, ◌≤◌, ltb, length}
+use Rattle.std.specs.Prelude.{◌≡◌, refl, Bool, ◌&&◌, ℕ, ◌*◌, ◌≤◌, ltb, length, None, Option}
 use Rattle.std.proofs.Math.Path.{ap, subst}
 use Rattle.std.proofs.Common.{sym, ◌∙◌, arith}
 use Rattle.std.proofs.Math.Bool.{true, false, not}
 use mathlib.Core.List.{List, []}
-use Rattle.std.proofs.Math.Option.{Option, none}
 use borrow.Author.Tests.{eqb-true, not-false}
 use Rattle.std.proofs.Math.Dec.{eqb}
 use Rattle.srt_protocol.specs.Cells.{cell_size, cells_of, max_cells, overwritten}
@@ -66,7 +65,7 @@ module _ {p : Parts} {t : Tables} {store : ℕ} {used : List ℕ} (ready : Ready
 -- ---- what a step leaves
 
 -- an answer without a packet
-pub nothing_delivered : delivered_by no_answer ≡ none
+pub nothing_delivered : delivered_by no_answer ≡ None
 unfolding delivered_by
 nothing_delivered = refl
 
@@ -83,7 +82,7 @@ left_accepted s given is same =
     left_by (accept s given) is record { code = refl; answer = refl; state = same; put = refl; sends = refl }
 
 module _ (bytes : Lent) (x : Step) {number : ℕ} {given : Answer} {s : State} (left : Left x number given s)
-    (no_packet : delivered_by given ≡ none) where
+    (no_packet : delivered_by given ≡ None) where
   -- no byte changes
   pub left_bytes : bytes ≡ (with_bytes bytes x).lent
   unfolding with_bytes stored written_out list_rows overwritten
@@ -98,7 +97,7 @@ module _ (bytes : Lent) (x : Step) {number : ℕ} {given : Answer} {s : State} (
 -- ---- a state that is ready
 
 module _ {call : Call} {p : Parts} {t : Tables} {store used : List ℕ} (ready : Ready p t (length store) used) {number : ℕ} {given : Answer}
-    {p' : Parts} {t' : Tables} (no_packet : delivered_by given ≡ none) where
+    {p' : Parts} {t' : Tables} (no_packet : delivered_by given ≡ None) where
   -- the cells that are in use afterwards are shown
   pub performs_steps : (used' : List ℕ) → Steps call p t number given p' t' → Shows used' (state_of p' t')
       → Performs call p t (storing store) number given p' t' (storing store) used'

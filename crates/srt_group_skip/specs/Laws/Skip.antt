@@ -1,9 +1,8 @@
 -- What is proved of the definitions in specs/Skip.antt, with what the proofs need.
-use Rattle.std.specs.Prelude.{◌≡◌, refl, Bool, true, false, List, [], ◌∷◌, ℕ, ◌≤◌, ◌<◌, length}
+use Rattle.std.specs.Prelude.{◌≡◌, refl, Bool, true, false, List, [], ◌∷◌, ℕ, ◌≤◌, ◌<◌, length, None, Option, Some}
 use Rattle.std.proofs.Math.Path.{ap, sym}
 use Rattle.std.proofs.Common.{subst, ◌∙◌, arith}
 use Rattle.std.proofs.Math.Bool.{not}
-use Rattle.std.proofs.Math.Option.{Option, none, some}
 use Rattle.srt_protocol.specs.Sequence.{sequence_distance}
 use Rattle.word_rows.specs.Laws.Tab.{tab_length}
 use Rattle.srt_group_model.specs.declared.Core.{Core}
@@ -24,8 +23,6 @@ use Rattle.srt_group_model.specs.Laws.Sound.{sound_law}
 use Rattle.srt_group_model.specs.Validity.{max_waiting}
 use Rattle.srt_group_tables.specs.Packets.{packet_at, packets, packet_found, FoundPacket}
 use Rattle.srt_group_tables.specs.Waitings.{waiting_at}
-use Rattle.srt_group_tables.specs.declared.pending.Found.{Found}
-use Rattle.srt_group_tables.specs.declared.pending.Found.TheVariants.{At as PendingAt, Nothing as NothingPending}
 use Rattle.srt_group_shown.specs.Shown.{Rest, shown, blank}
 use Rattle.srt_group_shown.specs.Tables.{ReceiveTables, receive_tables}
 use Rattle.srt_group_collecting.specs.declared.collecting.Emptied.{Emptied}
@@ -99,7 +96,7 @@ polls_as f g core ms ps ws answer ms' ps' ws' is =
 
 -- ---- the nearest packet
 
-module _ (r : Run) (p : Packet) (near : nearest r.state.receive.pending ≡ some p) where
+module _ (r : Run) (p : Packet) (near : nearest r.state.receive.pending ≡ Some p) where
   nearest_skipped_to : (tested : State) (time base : ℕ) → skip_nearest tested time base r
       ≡ deliver (sequence_of p)
       (marking (gap_skipped tested time (sequence_distance base (sequence_of p)))
@@ -107,13 +104,13 @@ module _ (r : Run) (p : Packet) (near : nearest r.state.receive.pending ≡ some
   unfolding if_some◌give◌otherwise◌
   nearest_skipped_to tested time base = rw near
 
-  nearest_delivered : deliver_nearest r ≡ deliver (sequence_of p) (set_base (some (sequence_of p)) r)
+  nearest_delivered : deliver_nearest r ≡ deliver (sequence_of p) (set_base (Some (sequence_of p)) r)
   unfolding if_some◌give◌otherwise◌
   nearest_delivered = rw near
 
-module _ (core : Core) (ms ps ws : List ℕ) {r : Found} (near : FoundPacket ps core.counts.pending r (nearest (packets core.counts.pending ps))) where
-  module _ (e : r ≡ NothingPending) where
-    none_near : nearest (packets core.counts.pending ps) ≡ none
+module _ (core : Core) (ms ps ws : List ℕ) {r : Option ℕ} (near : FoundPacket ps core.counts.pending r (nearest (packets core.counts.pending ps))) where
+  module _ (e : r ≡ None) where
+    none_near : nearest (packets core.counts.pending ps) ≡ None
     none_near = sym near.is ∙ ap (packet_found ps) e
 
     pub none_to_skip_to : (tested : State) (time base : ℕ) → Polls (skip_nearest tested time base) core (receive_tables ms ps ws) (nothing_given core) (receive_tables ms ps ws)
@@ -125,9 +122,9 @@ module _ (core : Core) (ms ps ws : List ℕ) {r : Found} (near : FoundPacket ps 
     unfolding if_some◌give◌otherwise◌
     none_to_deliver = gives_nothing deliver_nearest core ms ps ws (λ others log budget. rw none_near)
 
-  module _ (i : ℕ) (e : r ≡ PendingAt i) {p : Packet} (is : p ≡ packet_at ps i) (after : Core) (answer : Poll) (ms' ps' : List ℕ) where
-    near_is : nearest (packets core.counts.pending ps) ≡ some p
-    near_is = sym near.is ∙ ap (packet_found ps) e ∙ ap (λ (q : Packet). some q) (sym is)
+  module _ (i : ℕ) (e : r ≡ Some i) {p : Packet} (is : p ≡ packet_at ps i) (after : Core) (answer : Poll) (ms' ps' : List ℕ) where
+    near_is : nearest (packets core.counts.pending ps) ≡ Some p
+    near_is = sym near.is ∙ ap (packet_found ps) e ∙ ap (λ (q : Packet). Some q) (sym is)
 
     pub skipped_to : (tested : State) (time base : ℕ) → Skips base (sequence_of p) core after
         → Polls (deliver (sequence_of p)) after (receive_tables ms ps ws) answer (receive_tables ms' ps' ws)
@@ -149,24 +146,24 @@ module _ (core : Core) (ms ps ws : List ℕ) {r : Found} (near : FoundPacket ps 
             record { state = s; log = gap_skipped tested time (sequence_distance base (sequence_of p)) ∷ log; budget = budget })
             ((skip.leaves (receive_tables ms ps ws)).state others)
 
-    delivered_based : Bases (some (sequence_of p)) core after → Polls (deliver (sequence_of p)) after (receive_tables ms ps ws) answer (receive_tables ms' ps' ws)
+    delivered_based : Bases (Some (sequence_of p)) core after → Polls (deliver (sequence_of p)) after (receive_tables ms ps ws) answer (receive_tables ms' ps' ws)
         → Polls deliver_nearest core (receive_tables ms ps ws) answer (receive_tables ms' ps' ws)
     delivered_based bases =
         polls_on deliver_nearest (deliver (sequence_of p)) core after ms ps ws answer ms' ps' ws
         (ap (λ (n : Counts). n.members) bases.counts_same) (ap (λ (n : Counts). n.waiting) bases.counts_same)
-        (λ others log budget. (set_base (some (sequence_of p)) (under_way core others (receive_tables ms ps ws) log budget)).log) goes_on
+        (λ others log budget. (set_base (Some (sequence_of p)) (under_way core others (receive_tables ms ps ws) log budget)).log) goes_on
       where
         goes_on : (others : Rest) (log : List Mark) (budget : ℕ)
             → deliver_nearest (under_way core others (receive_tables ms ps ws) log budget)
             ≡ deliver (sequence_of p)
-            (under_way after others (receive_tables ms ps ws) (set_base (some (sequence_of p)) (under_way core others (receive_tables ms ps ws) log budget)).log budget)
+            (under_way after others (receive_tables ms ps ws) (set_base (Some (sequence_of p)) (under_way core others (receive_tables ms ps ws) log budget)).log budget)
         goes_on others log budget =
-            let based = set_base (some (sequence_of p)) (under_way core others (receive_tables ms ps ws) log budget) in
+            let based = set_base (Some (sequence_of p)) (under_way core others (receive_tables ms ps ws) log budget) in
             let at = bases.run others (receive_tables ms ps ws) log budget in
             nearest_delivered (under_way core others (receive_tables ms ps ws) log budget) p near_is
             ∙ ap (deliver (sequence_of p)) (run_is based (shown after others ms ps ws) budget at.state at.budget)
 
-    pub delivered_first : Bases (flagged true (sequence_of p)) core after → Polls (deliver (sequence_of p)) after (receive_tables ms ps ws) answer (receive_tables ms' ps' ws)
+    pub delivered_first : Bases (Some (sequence_of p)) core after → Polls (deliver (sequence_of p)) after (receive_tables ms ps ws) answer (receive_tables ms' ps' ws)
         → Polls deliver_nearest core (receive_tables ms ps ws) answer (receive_tables ms' ps' ws)
     unfolding flagged
     delivered_first bases = delivered_based bases

@@ -1,8 +1,7 @@
 -- The set of used cells follows the steps of a skip, and a waiting event that is given: none of them frees a cell by itself.
-use Rattle.std.specs.Prelude.{◌≡◌, refl, ℕ, length}
+use Rattle.std.specs.Prelude.{◌≡◌, refl, ℕ, length, Option}
 use Rattle.std.proofs.Common.{ap, arith}
 use mathlib.Core.List.{List, []}
-use Rattle.std.proofs.Math.Option.{Option}
 use Rattle.srt_group_model.specs.declared.Core.{Core}
 use Rattle.srt_group_model.specs.Tools.{at_place}
 use Rattle.srt_group_model.specs.Laws.Reason.{if_some_elim}

@@ -1,7 +1,6 @@
 -- What each part of the pass over the named cells does to the words of the set, and what the whole of it says of the state that is shown.
-use Rattle.std.specs.Prelude.{◌≡◌, refl, Bool, true, false, not, ◌||◌, List, [], ◌∷◌, ◌++◌, ℕ, zero, suc, ◌+◌, ◌%◌, ◌≤◌, ◌<◌, leb, length}
+use Rattle.std.specs.Prelude.{◌≡◌, refl, Bool, true, false, not, ◌||◌, List, [], ◌∷◌, ◌++◌, ℕ, zero, suc, ◌+◌, ◌%◌, ◌≤◌, ◌<◌, leb, length, Option, Some}
 use Rattle.std.proofs.Common.{sym, ap, ap₂, subst, ◌∙◌, append_assoc, append-nil, arith, eq-eqb, ne_eqb}
-use Rattle.std.proofs.Math.Option.{Option, some}
 use Rattle.srt_group_model.specs.Tools.{if_true◌then◌else◌, if_some◌give◌otherwise◌, any, such_that, at_place, each}
 use Rattle.srt_group_model.specs.Laws.Reason.{by_test, not_both, or_left, or_right}
 use Rattle.srt_group_model.specs.State.{Member}
@@ -111,7 +110,7 @@ pending_are n pending = rows_joined n (λ (p : Packet). p.content.cell) (packet_
 
 -- ---- what is read at a place names what stands there
 
-pub event_names : (q : List Event) (index : ℕ) (e : Event) → at_place index q ≡ some e → event_cells e ≡ queue_names q index
+pub event_names : (q : List Event) (index : ℕ) (e : Event) → at_place index q ≡ Some e → event_cells e ≡ queue_names q index
 unfolding if_some◌give◌otherwise◌
 event_names q index e there = ap (λ (o : Option Event). if_some o give event_cells otherwise []) (sym there)
 
@@ -136,14 +135,14 @@ module _ (cells : ℕ) (before : List ℕ) (e : Event) where
 
 -- the event that is read stands at that place of the queue
 pub event_read : (row : List ℕ) (ring : Ring) (index : ℕ) (e : Event) → ring ≡ ring_of (part row receiver_part) → index < length (member_of row).queue
-    → e ≡ event_in row ((ring.start + index % max_queued) % max_queued) → at_place index (member_of row).queue ≡ some e
+    → e ≡ event_in row ((ring.start + index % max_queued) % max_queued) → at_place index (member_of row).queue ≡ Some e
 unfolding member_of member_parts queue_of event_in
 event_read row ring index e is below read =
     let event : ℕ → Event = λ j. event_of (part row (first_event_part + ((ring_of (part row receiver_part)).start + j) % max_queued)) in
     let count = (ring_of (part row receiver_part)).length in
     tab_place count event index (omega (arith, tab_length count event))
-    ∙ ap (λ (x : Ring). some (event_of (part row (first_event_part + (x.start + index) % max_queued)))) (sym is)
-    ∙ ap (λ (n : ℕ). some (event_of (part row n))) (omega arith) ∙ ap (λ (x : Event). some x) (sym read)
+    ∙ ap (λ (x : Ring). Some (event_of (part row (first_event_part + (x.start + index) % max_queued)))) (sym is)
+    ∙ ap (λ (n : ℕ). Some (event_of (part row n))) (omega arith) ∙ ap (λ (x : Event). Some x) (sym read)
 
 -- ---- the whole pass
 

@@ -1,5 +1,5 @@
 -- What one pass over a table finds, from what it finds row by row.
-use Rattle.std.specs.Prelude.{◌≡◌, Bool, true, false, ◌||◌, ℕ, zero, suc, ◌+◌, ◌-◌, ◌*◌, ◌≤◌, ◌<◌, eqb, ltb, length, take, drop}
+use Rattle.std.specs.Prelude.{◌≡◌, Bool, true, false, ◌||◌, ℕ, zero, suc, ◌+◌, ◌-◌, ◌*◌, ◌≤◌, ◌<◌, eqb, ltb, length, take, drop, None, Option, Some}
 use Rattle.std.proofs.Math.Path.{refl, ap}
 use Rattle.std.proofs.Common.{sym, subst, ◌∙◌, add-one}
 use Rattle.std.proofs.Math.Bool.{not}
@@ -29,8 +29,6 @@ use Rattle.word_rows.specs.Tab.{tab}
 use Rattle.cell_set.specs.Marks.{Marking, Marks}
 use Rattle.srt_connection_queue.specs.declared.rows.Ring.{Ring}
 use Rattle.srt_connection_queue.specs.Rows.{row_size, receiver_part, part, ring_of, member_of}
-use Rattle.srt_connection_members.specs.declared.Found.{Found}
-use Rattle.srt_connection_members.specs.declared.Found.TheVariants.{At, Nothing}
 use Rattle.srt_connection_members.specs.Members.{member_at, members_of}
 use Rattle.srt_connection_members.specs.Laws.Members.{lent_member}
 use Rattle.srt_group_tables.specs.Packets.{packet_at, packets}
@@ -332,7 +330,7 @@ module _ (held : Account) (m : Member) where
 -- ---- a held packet
 
 module _ (cells : ℕ) (ms : List Member) (lowest : ℕ) (p : Packet) (before : List ℕ) (b : Bool) (b_is : b ≡ packet_breaks_rule p) where
-  pub place_broken : (b || ltb p.content.sequence lowest) ≡ true → PlacesPacket cells ms lowest p before Nothing before
+  pub place_broken : (b || ltb p.content.sequence lowest) ≡ true → PlacesPacket cells ms lowest p before None before
   place_broken found =
       record {
         passes =
@@ -344,20 +342,20 @@ module _ (cells : ℕ) (ms : List Member) (lowest : ℕ) (p : Packet) (before : 
       }
 
   module _ (m : Bool) (after : List ℕ) (marks : Marks cells (p.content.cell ∷ []) before m after) where
-    pub place_refused : not m ≡ true → PlacesPacket cells ms lowest p before Nothing after
+    pub place_refused : not m ≡ true → PlacesPacket cells ms lowest p before None after
     place_refused refused = record { passes = passes_refused m marks refused; place = λ e. not_both refl e }
 
 -- the packet breaks no rule, and its cell is marked: it has the place of its account, if there is one
 pub place_found : (cells : ℕ) (t : List ℕ) (count : ℕ) → count ≤ max_members → one_twice (each id_of (members_of count t)) ≡ false → (lowest : ℕ) (p : Packet)
     (before : List ℕ) (b : Bool) → b ≡ packet_breaks_rule p → (b || ltb p.content.sequence lowest) ≡ false → (m : Bool) (after : List ℕ)
-    → Marks cells (p.content.cell ∷ []) before m after → not m ≡ false → (r : Found) → r ≡ account_place (members_of count t) p
+    → Marks cells (p.content.cell ∷ []) before m after → not m ≡ false → (r : Option ℕ) → r ≡ account_place (members_of count t) p
     → PlacesPacket cells (members_of count t) lowest p before r after
-place_found cells t count few once lowest p before b b_is fine m after marks taken Nothing is =
+place_found cells t count few once lowest p before b b_is fine m after marks taken None is =
     record {
       passes = passes_broken (λ good. not_both (placed_nowhere (members_of count t) p (sym is)) good.reserved);
       place = λ e. not_both refl e;
     }
-place_found cells t count few once lowest p before b b_is fine m after marks taken (At i) is =
+place_found cells t count few once lowest p before b b_is fine m after marks taken (Some i) is =
     record {
       passes =
           passes_marked m marks
@@ -371,8 +369,8 @@ place_found cells t count few once lowest p before b b_is fine m after marks tak
     }
 
 -- a packet that has a place is good, and the place is that of its account
-module _ {cells : ℕ} {ms : List Member} {lowest : ℕ} {p : Packet} {before : List ℕ} {r : Found} {after : List ℕ}
-    (places : PlacesPacket cells ms lowest p before r after) {place : ℕ} (is : r ≡ At place) where
+module _ {cells : ℕ} {ms : List Member} {lowest : ℕ} {p : Packet} {before : List ℕ} {r : Option ℕ} {after : List ℕ}
+    (places : PlacesPacket cells ms lowest p before r after) {place : ℕ} (is : r ≡ Some place) where
   pub placed_is : r ≡ account_place ms p
   placed_is = places.place (ap is_nothing is)
 
@@ -442,7 +440,7 @@ member_step {cells} {here} {after} {r} t accounts i passes =
     subst (λ (m : Member). Passes cells (MemberGood (account_at accounts i) m) (queue_cells m) here r after) (lent_member t i) passes
 
 module _ (t : List ℕ) (count : ℕ) (pending : List ℕ) (n : ℕ) where
-  pub packet_step : {cells lowest : ℕ} (at : ℕ) {p : Packet} {here after : List ℕ} {r : Found} → p ≡ packet_at pending at → lowest ≡ lowest_at (packet_at pending) at
+  pub packet_step : {cells lowest : ℕ} (at : ℕ) {p : Packet} {here after : List ℕ} {r : Option ℕ} → p ≡ packet_at pending at → lowest ≡ lowest_at (packet_at pending) at
       → PlacesPacket cells (members_of count t) lowest p here r after
       → Passes cells (packet_good t count pending at) (packet_names pending at) here (is_nothing r) after
   packet_step {cells} {lowest} at {p} {here} {after} {r} read low places =
@@ -470,9 +468,9 @@ module _ (t : List ℕ) (count : ℕ) (pending : List ℕ) (n : ℕ) where
 
     module _ {cells : ℕ} {before : List ℕ} {at : ℕ} {here : List ℕ}
         (sofar : PassedTo cells (packet_good t count pending) (packet_names pending) n before at here) where
-      pub rows_packet_stopped : {after : List ℕ} {r : Found} → at < n
+      pub rows_packet_stopped : {after : List ℕ} {r : Option ℕ} → at < n
           → Passes cells (packet_good t count pending at) (packet_names pending at) here (is_nothing r) after
-          → r ≡ Nothing → Passes cells rows_good row_cells before true after
+          → r ≡ None → Passes cells rows_good row_cells before true after
       rows_packet_stopped more step nothing =
           first_stops (passing_stopped sofar more step (pending_are n pending) (ap is_nothing nothing)) rows_packets (queued_cells (members_of count t))
 

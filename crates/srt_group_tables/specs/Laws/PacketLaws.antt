@@ -1,8 +1,7 @@
 -- Laws of the pending packets: a search that halves, a packet put into its place and one taken out, the nearest, and
 -- packets that become the group's own.
-use Rattle.std.specs.Prelude.{◌≡◌, refl, Bool, true, false, ◌||◌, List, [], ◌∷◌, ◌++◌, ℕ, zero, suc, ◌+◌, ◌*◌, ◌-◌, ◌%◌, ◌≤◌, ◌<◌, length, drop, get_or, set, ltb, leb, eqb}
+use Rattle.std.specs.Prelude.{◌≡◌, refl, Bool, true, false, ◌||◌, List, [], ◌∷◌, ◌++◌, ℕ, zero, suc, ◌+◌, ◌*◌, ◌-◌, ◌%◌, ◌≤◌, ◌<◌, length, drop, get_or, set, ltb, leb, eqb, None, Option, Some}
 use Rattle.std.proofs.Common.{ap, sym, subst, ◌∙◌, ⊎_elim, eq-or-lt_of_le, add-one, arith, length-set}
-use Rattle.std.proofs.Math.Option.{none, some}
 use Rattle.std.proofs.Math.Decide.{dec_lt, ℕ_discrete}
 use Rattle.std.proofs.Math.ListN.{drop_of_length-le}
 use borrow.Author.Tests.{lt-ltb, le-ltb, le-leb, lt-leb, eq-eqb, ne_eqb, ltb-true}
@@ -18,9 +17,7 @@ use Rattle.srt_group_model.specs.Sound.{pending_cells}
 use Rattle.srt_group_model.specs.Nearest.{sequence_of, has_sequence, is_held, insert, lowest, nearest}
 use Rattle.srt_group_model.specs.Removal.{own_packet, by_group}
 use Rattle.srt_group_model.specs.Validity.{max_pending, ascends}
-use Rattle.srt_group_tables.specs.declared.pending.Found.{Found}
-use Rattle.srt_group_tables.specs.declared.pending.Found.TheVariants.{At, Nothing}
-use Rattle.srt_group_tables.specs.Packets.{index_size, pending_size, packet_row_size, index_rows, start_of, round, slot_of, row_words, MovedUp, MovedDown, packet_at, packets, Placed, Holds, WithRoom, Without, found, place_found, in_use}
+use Rattle.srt_group_tables.specs.Packets.{index_size, pending_size, packet_row_size, index_rows, start_of, round, slot_of, row_words, MovedUp, MovedDown, packet_at, packets, Placed, Holds, WithRoom, Without, place_found, in_use}
 use Rattle.srt_group_tables.specs.Laws.PacketIndex.{cell_of, round_there, round_elsewhere, index_lent, index_back, back_length, restarted, restarted_length, moved_shown, restarted_shown, put_in, put_length, put_there, put_elsewhere, member_word, same_member, owned_same_cell, owned_other_cell}
 
 pub drop_zero : (l : List Packet) → drop 0 l ≡ l
@@ -145,7 +142,7 @@ module _ (words : List ℕ) (count sequence : ℕ) (up : ascends (packets count 
 -- ---- whether a sequence is held, by what stands at its place
 
 place_there : (n : ℕ) (f : ℕ → Packet) (sequence place : ℕ) → place < n → ((k : ℕ) → k < place → sequence_of (f k) < sequence)
-    → sequence_of (f place) ≡ sequence → place_of (has_sequence sequence) (tab n f) ≡ some place
+    → sequence_of (f place) ≡ sequence → place_of (has_sequence sequence) (tab n f) ≡ Some place
 unfolding place_of tab if_true◌then◌else◌ if_some◌give◌otherwise◌
 place_there zero f sequence place inside below is = absurd (omega arith)
 place_there (suc n) f sequence zero inside below is = rw (eq-eqb (sequence_of (f 0)) sequence is)
@@ -156,7 +153,7 @@ place_there (suc n) f sequence (suc place) inside below is =
     )
 
 place_nowhere : (n : ℕ) (f : ℕ → Packet) (sequence : ℕ) → ((k : ℕ) → k < n → sequence_of (f k) ≡ sequence → ⊥)
-    → place_of (has_sequence sequence) (tab n f) ≡ none
+    → place_of (has_sequence sequence) (tab n f) ≡ None
 unfolding place_of tab if_true◌then◌else◌ if_some◌give◌otherwise◌
 place_nowhere zero f sequence never = refl
 place_nowhere (suc n) f sequence never =
@@ -166,19 +163,17 @@ place_nowhere (suc n) f sequence never =
     )
 
 module _ (words : List ℕ) (count sequence place : ℕ) (at : Placed words count sequence place) where
-  pub find_there : place < count → sequence_of (packet_at words place) ≡ sequence → place_found sequence (packets count words) ≡ At place
+  pub find_there : place < count → sequence_of (packet_at words place) ≡ sequence → place_found sequence (packets count words) ≡ Some place
   find_there inside is =
-      ap found
       (place_there count (packet_at words) sequence place inside at.below is)
 
-  pub find_past : count ≤ place → place_found sequence (packets count words) ≡ Nothing
+  pub find_past : count ≤ place → place_found sequence (packets count words) ≡ None
   find_past past =
-      ap found
       (place_nowhere count (packet_at words) sequence (λ k inside is. omega (arith, at.below k (omega arith))))
 
   pub find_other : ascends (packets count words) ≡ true → place < count → (sequence_of (packet_at words place) ≡ sequence → ⊥)
-      → place_found sequence (packets count words) ≡ Nothing
-  find_other up inside other = ap found (place_nowhere count (packet_at words) sequence never)
+      → place_found sequence (packets count words) ≡ None
+  find_other up inside other = (place_nowhere count (packet_at words) sequence never)
     where
       never : (k : ℕ) → k < count → sequence_of (packet_at words k) ≡ sequence → ⊥
       never k inside_k is = go (dec_lt k place) (dec_lt place k)
@@ -497,7 +492,7 @@ ascends_rest zero f up = refl
 ascends_rest (suc n) f up = rest_ascends f n up
 
 -- the first of ascending packets is the lowest
-lowest_first : (n : ℕ) (f : ℕ → Packet) → ascends (tab (suc n) f) ≡ true → lowest (tab (suc n) f) ≡ some (f 0)
+lowest_first : (n : ℕ) (f : ℕ → Packet) → ascends (tab (suc n) f) ≡ true → lowest (tab (suc n) f) ≡ Some (f 0)
 unfolding lowest tab if_true◌then◌else◌ if_some◌give◌otherwise◌
 lowest_first zero f up = refl
 lowest_first (suc n) f up =
@@ -507,7 +502,7 @@ lowest_first (suc n) f up =
     )
 
 lowest_from : (n : ℕ) (f : ℕ → Packet) (place : ℕ) → ascends (tab n f) ≡ true → place < n
-    → lowest (drop place (tab n f)) ≡ some (f place)
+    → lowest (drop place (tab n f)) ≡ Some (f place)
 unfolding tab
 lowest_from zero f place up inside = absurd (omega arith)
 lowest_from (suc n) f zero up inside = lowest_first n f up
@@ -534,7 +529,7 @@ such_that_from (suc n) f sequence (suc place) below above =
 -- `from` is half the space above the first packet's sequence, and `place` the place of `from`
 module _ (words : List ℕ) (count from place : ℕ) (some_held : 0 < count) (up : ascends (packets count words) ≡ true)
     (half_above : from ≡ sequence_of (packet_at words 0) + half) (at : Placed words count from place) where
-  lowest_is : lowest (packets count words) ≡ some (packet_at words 0)
+  lowest_is : lowest (packets count words) ≡ Some (packet_at words 0)
   lowest_is = ap lowest (sym (drop_zero (packets count words))) ∙ lowest_from count (packet_at words) 0 up some_held
 
   far : such_that (λ p. leb (sequence_of (packet_at words 0) + half) (sequence_of p)) (packets count words)
@@ -543,21 +538,21 @@ module _ (words : List ℕ) (count from place : ℕ) (some_held : 0 < count) (up
       ap (λ (n : ℕ). such_that (λ p. leb n (sequence_of p)) (packets count words)) (sym half_above)
       ∙ such_that_from count (packet_at words) from place (λ k lower inside. at.below k lower) at.above
 
-  pub nearest_wraps : place < count → nearest (packets count words) ≡ some (packet_at words place)
+  pub nearest_wraps : place < count → nearest (packets count words) ≡ Some (packet_at words place)
   unfolding nearest or_else if_some◌give◌otherwise◌
   nearest_wraps inside = rw (lowest_is, far, lowest_from count (packet_at words) place up inside)
 
-  pub nearest_lowest : count ≤ place → nearest (packets count words) ≡ some (packet_at words 0)
+  pub nearest_lowest : count ≤ place → nearest (packets count words) ≡ Some (packet_at words 0)
   unfolding nearest or_else if_some◌give◌otherwise◌ lowest
   nearest_lowest past =
       rw (lowest_is, far, drop_of_length-le (packets count words) {i = place} (omega (arith, tab_length count (packet_at words))))
 
-pub nearest_none : (words : List ℕ) (count : ℕ) → count ≡ 0 → nearest (packets count words) ≡ none
+pub nearest_none : (words : List ℕ) (count : ℕ) → count ≡ 0 → nearest (packets count words) ≡ None
 unfolding nearest lowest if_some◌give◌otherwise◌
 nearest_none words count nothing = ap nearest (tab_none count (packet_at words) nothing)
 
 -- a place that was found is in use
-pub at_in_use : (count : ℕ) (best : Found) (place : ℕ) → in_use count best → best ≡ At place → place < count
+pub at_in_use : (count : ℕ) (best : Option ℕ) (place : ℕ) → in_use count best → best ≡ Some place → place < count
 at_in_use count best place used is = subst (in_use count) is used
 
 -- ---- packets that become the group's own: those before `at` have. A packet from there on may have too, if it shares its row

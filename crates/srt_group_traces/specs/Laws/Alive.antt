@@ -1,8 +1,7 @@
 -- What is alive, through a call: what is known of each queued and held packet, by its leg, its data and the marks so far, where each
 -- mark keeps it; a payload is put only into a cell that nothing alive has. An instance of the model's law of calls.
-use Rattle.std.specs.Prelude.{◌≡◌, refl, true, false, List, [], ◌∷◌, ℕ, ◌≤◌, eqb, length}
+use Rattle.std.specs.Prelude.{◌≡◌, refl, true, false, List, [], ◌∷◌, ℕ, ◌≤◌, eqb, length, None, Option, Some}
 use Rattle.std.proofs.Common.{sym, subst}
-use Rattle.std.proofs.Math.Option.{Option, none, some}
 use Rattle.srt_protocol.specs.Cells.{cell_size}
 use Rattle.srt_group_model.specs.Tools.{All}
 use Rattle.srt_group_model.specs.State.{Member, State}
@@ -89,8 +88,8 @@ module _ (k : Calling) (Q : List Mark → ℕ → Data → Type 0) (X : List Mar
   module _ (law : LiveLaw) where
     -- the cell in hand is the one that was taken
     abbrev Taken : Option ℕ → Type 0
-    Taken none = Unit {0}
-    Taken (some cell) = (cell ≡ taken_cell k.cells k.from) × (no_free_cell k.cells k.from ≡ false)
+    Taken None = Unit {0}
+    Taken (Some cell) = (cell ≡ taken_cell k.cells k.from) × (no_free_cell k.cells k.from ≡ false)
 
     abbrev pub Lives : Option ℕ → State → List Mark → Type 0
     Lives hand s m = Taken hand × LiveAt (Q m) s × X m

@@ -3,11 +3,10 @@
 -- given, its length is that of the payload given, its cell the one that the call took; and the payload that the premise
 -- `AllNear` reads for it, last put into that cell, is the payload given. No premise on the store is needed for that: a payload
 -- is put only into a cell that no queued and no held packet has. With one store, all that is delivered was so given, byte for byte.
-use Rattle.std.specs.Prelude.{◌≡◌, true, ℕ, length}
+use Rattle.std.specs.Prelude.{◌≡◌, true, ℕ, length, None, Option, Some}
 use Rattle.std.proofs.Math.Path.{refl, subst}
 use Rattle.std.proofs.Common.{sym, ap, ◌∙◌}
 use mathlib.Core.List.{List, [], ◌∷◌, ◌++◌, append_assoc, append-nil}
-use Rattle.std.proofs.Math.Option.{Option, none, some}
 use Rattle.srt_protocol.specs.Cells.{cells_of}
 use Rattle.srt_group_model.specs.Tools.{All}
 use Rattle.srt_group_model.specs.State.{State, Making}
@@ -248,9 +247,9 @@ module _ (g : Making) (calls : List Asked) where
   -- one call, by the packet that it gave
   call_gives : (when : When) (s : State) (log m : List Mark) (o : Option Packet) → Shape when o s m → AllIn g calls (m ++ log) → All (GivenToQueue g calls) (given_as_queued (m ++ log) o)
   unfolding given_as_queued last_put
-  call_gives when s _ m none shape h = tt
-  call_gives when s log m (some p) shape h =
-      subst (λ (z : List Mark). All (GivenToQueue g calls) (given_as_queued (z ++ log) (some p))) (sym shape.is)
+  call_gives when s _ m None shape h = tt
+  call_gives when s log m (Some p) shape h =
+      subst (λ (z : List Mark). All (GivenToQueue g calls) (given_as_queued (z ++ log) (Some p))) (sym shape.is)
       (given_to_queue g calls (last_put (shape.before ++ log)) p.member p.content (subst (λ (z : List Mark). AllIn g calls (z ++ log)) shape.is h).0, tt)
 
   calls_give : (log : List Mark) (s : State) (more : List Asked) → AllIn g calls (log_after more s ++ log) → All (GivenToQueue g calls) (delivered_as_queued log more s)

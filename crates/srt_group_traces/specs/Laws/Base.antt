@@ -1,8 +1,7 @@
 -- Base arithmetic: the base is its first value and as far on as was delivered and skipped, modulo 2^31; the skipped total is
 -- the sum of the distances, up to its ceiling. It needs no premise on when the base was set.
-use Rattle.std.specs.Prelude.{◌≡◌, refl, ◌⊎◌, List, [], ◌∷◌, ◌++◌, ℕ, ◌+◌, ◌%◌, ◌<◌, min}
+use Rattle.std.specs.Prelude.{◌≡◌, refl, ◌⊎◌, List, [], ◌∷◌, ◌++◌, ℕ, ◌+◌, ◌%◌, ◌<◌, min, None, Option, Some}
 use Rattle.std.proofs.Common.{sym, ap, ◌∙◌, subst, inl, inr, append-nil, add-zero, add_assoc, mod-eq_of_lt, mod-lt, arith}
-use Rattle.std.proofs.Math.Option.{Option, none, some}
 use Rattle.std.proofs.Math.Nat.{mod-add-mod}
 use Rattle.srt_protocol.specs.Circle.{further}
 use Rattle.srt_protocol.specs.Laws.Circle.{further_distance, distance_further}
@@ -51,22 +50,22 @@ further_to a b fits = further_distance half a b half_above_zero ∙ mod-eq_of_lt
 -- ---- where the base stands: unset, with nothing moved, or as far on from its first value as the place says
 
 abbrev pub Stands : (first base : Option ℕ) (place : ℕ) → Type 0
-Stands none base place = (base ≡ none) × (place ≡ 0)
-Stands (some first) base place = Fits first × (base ≡ some (sequence_further first place))
+Stands None base place = (base ≡ None) × (place ≡ 0)
+Stands (Some first) base place = Fits first × (base ≡ Some (sequence_further first place))
 
-stands_set : (first base : Option ℕ) (place b : ℕ) → base ≡ none → Fits b → Stands first base place
-    → Stands (or_else first (some b)) (some b) place
+stands_set : (first base : Option ℕ) (place b : ℕ) → base ≡ None → Fits b → Stands first base place
+    → Stands (or_else first (Some b)) (Some b) place
 unfolding or_else
-stands_set none base place b e fits h =
-    (fits, ap {B = Option ℕ} some (sym (ap (sequence_further b) h.1 ∙ further_none b fits)))
-stands_set (some first) base place b e fits h = none_some (sym e ∙ h.1)
+stands_set None base place b e fits h =
+    (fits, ap {B = Option ℕ} Some (sym (ap (sequence_further b) h.1 ∙ further_none b fits)))
+stands_set (Some first) base place b e fits h = none_some (sym e ∙ h.1)
 
-stands_moved : (first base : Option ℕ) (place b n c : ℕ) → base ≡ some b → c ≡ sequence_further b n → Stands first base place
-    → Stands first (some c) (place + n)
-stands_moved none base place b n c e is h = none_some (sym h.0 ∙ e)
-stands_moved (some first) base place b n c e is h = (
+stands_moved : (first base : Option ℕ) (place b n c : ℕ) → base ≡ Some b → c ≡ sequence_further b n → Stands first base place
+    → Stands first (Some c) (place + n)
+stands_moved None base place b n c e is h = none_some (sym h.0 ∙ e)
+stands_moved (Some first) base place b n c e is h = (
   h.0,
-  ap {B = Option ℕ} some (is ∙ ap (λ (x : ℕ). sequence_further x n) (some_inj (sym e ∙ h.1)) ∙ further_twice first place n),
+  ap {B = Option ℕ} Some (is ∙ ap (λ (x : ℕ). sequence_further x n) (some_inj (sym e ∙ h.1)) ∙ further_twice first place n),
 )
 
 -- ---- the invariant
@@ -79,7 +78,7 @@ pub record Sums (x : Receive) (log : List Mark) : Type 0 where
   pub skipped : x.numbers.skipped ≡ min (total_skipped log) largest_64
   pub held : All (OfContent SequenceFits) x.pending
 
-nearest_fits : (x : Receive) (log : List Mark) (p : Packet) → nearest x.pending ≡ some p → Sums x log → Fits (sequence_of p)
+nearest_fits : (x : Receive) (log : List Mark) (p : Packet) → nearest x.pending ≡ Some p → Sums x log → Fits (sequence_of p)
 nearest_fits x log p near h =
     each_at (OfContent SequenceFits) (nearest x.pending) p near (nearest_all (OfContent SequenceFits) x.pending h.held)
 
@@ -123,7 +122,7 @@ sums_law =
                       λ x log base p tested time e near h.
                       record {
                         stands =
-                            subst (Stands (first_base log) (some (sequence_of p)))
+                            subst (Stands (first_base log) (Some (sequence_of p)))
                             (add_assoc (total_delivered log) (total_skipped log) (sequence_distance base (sequence_of p)))
                             (stands_moved (first_base log) (next_receive_sequence x) (place_after log) base
                             (sequence_distance base (sequence_of p)) (sequence_of p) e
@@ -135,7 +134,7 @@ sums_law =
                       λ x log base p e there h.
                       record {
                         stands =
-                            subst (Stands (first_base log) (some (sequence_further base p.content.count))) (omega arith)
+                            subst (Stands (first_base log) (Some (sequence_further base p.content.count))) (omega arith)
                             (stands_moved (first_base log) (next_receive_sequence x) (place_after log) base p.content.count
                             (sequence_further base p.content.count) e refl
                             h.stands);
@@ -213,8 +212,8 @@ given_count when r = go (delivered_by r.answer)
   where
     go : (o : Option Packet) → Shape when o r.state r.log
         → total_delivered r.log ≡ counts_of (if_some o give (λ p. delivery_of p r.lent.output ∷ []) otherwise [])
-    go none h = sym (ap total_delivered (append-nil r.log)) ∙ quiet_delivers_nothing r.log [] h
-    go (some p) h =
+    go None h = sym (ap total_delivered (append-nil r.log)) ∙ quiet_delivers_nothing r.log [] h
+    go (Some p) h =
         ap total_delivered h.is
         ∙ ap (λ (n : ℕ). n + p.content.count)
         (sym (ap total_delivered (append-nil h.before)) ∙ (before_delivery when p r.state h.before [] h.how).1)
@@ -239,29 +238,29 @@ place_is g calls below = omega (arith, delivered_counts calls (new g), (sums_aft
 
 -- ---- the first claim
 
-stands_where : (o b : Option ℕ) (place base : ℕ) → b ≡ some base → Stands o b place
-    → (first : ℕ) × (o ≡ some first) × (base ≡ sequence_further first place)
-stands_where none b place base e h = none_some (sym h.0 ∙ e)
-stands_where (some first) b place base e h = (first, refl, some_inj (sym e ∙ h.1))
+stands_where : (o b : Option ℕ) (place base : ℕ) → b ≡ Some base → Stands o b place
+    → (first : ℕ) × (o ≡ Some first) × (base ≡ sequence_further first place)
+stands_where None b place base e h = none_some (sym h.0 ∙ e)
+stands_where (Some first) b place base e h = (first, refl, some_inj (sym e ∙ h.1))
 
-pub sums_first : (x : Receive) (log : List Mark) (base : ℕ) → next_receive_sequence x ≡ some base → Sums x log
-    → (first : ℕ) × (first_base log ≡ some first) × (base ≡ sequence_further first (place_after log))
+pub sums_first : (x : Receive) (log : List Mark) (base : ℕ) → next_receive_sequence x ≡ Some base → Sums x log
+    → (first : ℕ) × (first_base log ≡ Some first) × (base ≡ sequence_further first (place_after log))
 sums_first x log base e h = stands_where (first_base log) (next_receive_sequence x) (place_after log) base e h.stands
 
 -- Where the base is set, it has a first value, from which it went as far as was delivered and skipped.
 pub based_has_first : (g : Making) (calls : List Asked) (base : ℕ)
-    → next_receive_sequence (state_after calls (new g)).receive ≡ some base
-    → (first : ℕ) × (first_base (log_after calls (new g)) ≡ some first)
+    → next_receive_sequence (state_after calls (new g)).receive ≡ Some base
+    → (first : ℕ) × (first_base (log_after calls (new g)) ≡ Some first)
     × (base ≡ sequence_further first (place_after (log_after calls (new g))))
 based_has_first g calls base e =
     sums_first (state_after calls (new g)).receive (log_after calls (new g)) base e (sums_after g calls)
 
 pub base_claim : (g : Making) (calls : List Asked) (base : ℕ)
-    → next_receive_sequence (state_after calls (new g)).receive ≡ some base
-    → (first : ℕ) × (first_base (log_after calls (new g)) ≡ some first)
+    → next_receive_sequence (state_after calls (new g)).receive ≡ Some base
+    → (first : ℕ) × (first_base (log_after calls (new g)) ≡ Some first)
     × (skipped_in (state_after calls (new g)) < largest_64 → sequence_distance first base ≡ place_of_base g calls % (half + half))
 base_claim g calls base e =
-    let w : (first : ℕ) × (first_base (log_after calls (new g)) ≡ some first)
+    let w : (first : ℕ) × (first_base (log_after calls (new g)) ≡ Some first)
     × (base ≡ sequence_further first (place_after (log_after calls (new g)))) =
     based_has_first g calls base e
     in (

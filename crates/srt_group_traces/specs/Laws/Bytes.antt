@@ -1,12 +1,11 @@
 -- Byte for byte. Where each accepted call that is lent a store is lent the one that the last such call left, and nobody else
 -- writes it, every queued and held payload stands in its cell as it was queued: a payload is put only into a cell that no
 -- queued and no held packet has. So the payload that a poll copies to byte 12 of the output is the payload as it was queued.
-use Rattle.std.specs.Prelude.{◌≡◌, Bool, ◌&&◌, ◌⊎◌, ℕ, ◌+◌, ◌*◌, ◌≤◌, ◌<◌, eqb, take, drop}
+use Rattle.std.specs.Prelude.{◌≡◌, Bool, ◌&&◌, ◌⊎◌, ℕ, ◌+◌, ◌*◌, ◌≤◌, ◌<◌, eqb, take, drop, None, Option, Some}
 use Rattle.std.proofs.Math.Path.{refl, sym, ap, subst}
 use Rattle.std.proofs.Common.{◌∙◌, inl, inr, arith, length-take, length-drop}
 use Rattle.std.proofs.Math.Bool.{true, false}
 use mathlib.Core.List.{List, [], ◌∷◌, ◌++◌, append_assoc}
-use Rattle.std.proofs.Math.Option.{Option, none, some}
 use Rattle.std.proofs.Math.Decide.{dec_lt}
 use Rattle.std.proofs.Math.ListN.{length}
 use Rattle.srt_protocol.specs.Cells.{cell_size, head_size, cells_of, overwritten, cell_bytes}
@@ -198,13 +197,13 @@ module _ (bytes : List ℕ) where
   abbrev pub PutsAsMarked : Step → Type 0
   PutsAsMarked x = stored x.put bytes ≡ stored_by x.log bytes
 
-  puts_nothing : (store output list : ℕ) (c : Call) (s : State) → ((payload : List ℕ) → TakesCell c payload → ⊥) → (step_of store output list c s).put ≡ none → PutsAsMarked (step_of store output list c s)
+  puts_nothing : (store output list : ℕ) (c : Call) (s : State) → ((payload : List ℕ) → TakesCell c payload → ⊥) → (step_of store output list c s).put ≡ None → PutsAsMarked (step_of store output list c s)
   unfolding stored
   puts_nothing store output list c s none_taken e =
       ap (λ (o : Option Put). stored o bytes) e ∙ sym (unput (step_of store output list c s).log bytes (unput_marks store output list c s none_taken))
 
   sent_as_marked : (backup : Bool) (cell : ℕ) (payload : List ℕ) (m : List Mark) → All (Only ⊥ (Unit {0})) m
-      → stored (if_true backup then some record { cell = cell; payload = payload } else none) bytes ≡ stored_by (if_true backup then put cell payload ∷ m else m) bytes
+      → stored (if_true backup then Some record { cell = cell; payload = payload } else None) bytes ≡ stored_by (if_true backup then put cell payload ∷ m else m) bytes
   unfolding if_true◌then◌else◌ stored stored_by
   sent_as_marked true cell payload m h = ap (overwritten (cell * cell_size) payload) (sym (unput m bytes h))
   sent_as_marked false cell payload m h = sym (unput m bytes h)
@@ -212,11 +211,11 @@ module _ (bytes : List ℕ) where
   pub marked_by : {c : Call} (store output list : ℕ) (s : State) → Kind c → PutsAsMarked (step_of store output list c s)
   unfolding step_of takes_store is_poll poll_event_call event_poll_body poll_data_call data_poll_body send send_body left_by_send queue_data queue_data_body stored stored_by
   marked_by store output list s (event_poll time) =
-      puts_nothing store output list (call_poll_event time) s (λ payload takes. not_both {t = true} refl (takes_cell_lent takes).1) (guard_elim (λ (x : Step). x.put ≡ none) _ s _ (λ code. refl) refl)
+      puts_nothing store output list (call_poll_event time) s (λ payload takes. not_both {t = true} refl (takes_cell_lent takes).1) (guard_elim (λ (x : Step). x.put ≡ None) _ s _ (λ code. refl) refl)
   marked_by store output list s (data_poll time max_events) =
-      puts_nothing store output list (call_poll_data_bounded time max_events) s (λ payload takes. not_both {t = true} refl (takes_cell_lent takes).1) (guard_elim (λ (x : Step). x.put ≡ none) _ s _ (λ code. refl) refl)
+      puts_nothing store output list (call_poll_data_bounded time max_events) s (λ payload takes. not_both {t = true} refl (takes_cell_lent takes).1) (guard_elim (λ (x : Step). x.put ≡ None) _ s _ (λ code. refl) refl)
   marked_by store output list s (sending time payload) =
-      let fresh = refreshes (λ hand t m. All (Only ⊥ (Unit {0})) m) (only_refreshes ⊥ (Unit {0})) none (start s) tt in
+      let fresh = refreshes (λ hand t m. All (Only ⊥ (Unit {0})) m) (only_refreshes ⊥ (Unit {0})) None (start s) tt in
       guard_elim PutsAsMarked _ s _ (λ code. refl)
       (if_elim PutsAsMarked _ _ _ (λ e. sent_as_marked (is_backup (refresh_states (start s)).state.making.mode) _ payload (refresh_states (start s)).log fresh)
       (λ e. sym (unput (refresh_states (start s)).log bytes fresh)))
@@ -226,12 +225,12 @@ module _ (bytes : List ℕ) where
 
 -- ---- what is refused puts and gives nothing
 
-pub refused_puts_nothing : (s : State) (x : Step) → Ends s x → eqb x.code 0 ≡ false → x.put ≡ none
+pub refused_puts_nothing : (s : State) (x : Step) → Ends s x → eqb x.code 0 ≡ false → x.put ≡ None
 refused_puts_nothing s x (untouched code e) refused = ap (λ (y : Step). y.put) e
 refused_puts_nothing s x (accepted e) refused = not_both (ap (λ (n : ℕ). eqb n 0) e ∙ eqb_yes 0) refused
 refused_puts_nothing s x (midway e a p) refused = p
 
-pub giving_is_accepted : (s : State) (x : Step) (p : Packet) → Ends s x → delivered_by x.answer ≡ some p → x.code ≡ 0
+pub giving_is_accepted : (s : State) (x : Step) (p : Packet) → Ends s x → delivered_by x.answer ≡ Some p → x.code ≡ 0
 unfolding delivered_by
 giving_is_accepted s x p (untouched code e) gives = none_some (sym (ap (λ (y : Step). delivered_by y.answer) e) ∙ gives)
 giving_is_accepted s x p (accepted e) gives = e
@@ -239,20 +238,20 @@ giving_is_accepted s x p (midway e a q) gives = none_some (sym (ap delivered_by 
 
 -- ---- only a poll delivers, into an output that has room
 
-pub only_polls_deliver : (call : Asked) (s : State) (p : Packet) → delivered_by (do_call call s).answer ≡ some p
+pub only_polls_deliver : (call : Asked) (s : State) (p : Packet) → delivered_by (do_call call s).answer ≡ Some p
     → is_poll call.call ≡ true
 unfolding do_call perform with_bytes
 only_polls_deliver call s p e =
     by_test (is_poll call.call) (λ t. t) (λ t. none_some (sym (others_give_none _ _ _ call.call s t) ∙ e))
 
-output_has_room : (store output list : ℕ) (c : Call) (s : State) (p : Packet) → Polls c → delivered_by (step_of store output list c s).answer ≡ some p → head_size + cell_size ≤ output
+output_has_room : (store output list : ℕ) (c : Call) (s : State) (p : Packet) → Polls c → delivered_by (step_of store output list c s).answer ≡ Some p → head_size + cell_size ≤ output
 unfolding step_of poll_event_call poll_data_call delivered_by
 output_has_room store output list c s p (polls_events time is) gives =
-    guard_passed (λ (x : Step). delivered_by x.answer ≡ some p → head_size + cell_size ≤ output) _ s _ (λ code e. none_some e)
+    guard_passed (λ (x : Step). delivered_by x.answer ≡ Some p → head_size + cell_size ≤ output) _ s _ (λ code e. none_some e)
     (λ g e. ge_of output (head_size + cell_size) (or_right (store_unfit store s) (output_unfit output) g.0))
     (ap (λ (x : Call). delivered_by (step_of store output list x s).answer) (sym is) ∙ gives)
 output_has_room store output list c s p (polls_packets time max_events is) gives =
-    guard_passed (λ (x : Step). delivered_by x.answer ≡ some p → head_size + cell_size ≤ output) _ s _ (λ code e. none_some e)
+    guard_passed (λ (x : Step). delivered_by x.answer ≡ Some p → head_size + cell_size ≤ output) _ s _ (λ code e. none_some e)
     (λ g e. ge_of output (head_size + cell_size) (or_right (store_unfit store s) (output_unfit output) g.0))
     (ap (λ (x : Call). delivered_by (step_of store output list x s).answer) (sym is) ∙ gives)
 
@@ -287,10 +286,10 @@ gives_as_queued : (call : Asked) (s : State) (store : List ℕ) (log : List Mark
     → delivered_by (do_call call s).answer ≡ o → Shape (when_of call.call s) o (do_call call s).state (do_call call s).log
     → given_by (do_call call s) ≡ given_as_queued ((do_call call s).log ++ log) (delivered_by (do_call call s).answer)
 unfolding given_by do_call perform with_bytes written_out given_as_queued if_some◌give◌otherwise◌ last_put
-gives_as_queued call s store log lends sound none is shape =
+gives_as_queued call s store log lends sound None is shape =
     ap (λ (o : Option Packet). if_some o give (λ p. delivery_of p (written_out o call.lent.store call.lent.output) ∷ []) otherwise []) is
     ∙ sym (ap (given_as_queued ((step call s).log ++ log)) is)
-gives_as_queued call s store log lends sound (some p) is shape =
+gives_as_queued call s store log lends sound (Some p) is shape =
     ap (λ (o : Option Packet). if_some o give (λ p. delivery_of p (written_out o call.lent.store call.lent.output) ∷ []) otherwise []) is
     ∙ ap (λ (payload : List ℕ). record { sequence = p.content.sequence; count = p.content.count; payload = payload } ∷ []) bytes
     ∙ sym (ap (given_as_queued ((step call s).log ++ log)) is)

@@ -1,11 +1,10 @@
 -- What each move of receiving keeps, every call keeps, refused or not, and so every list of calls: an instance of the model's law of
 -- calls.
-use Rattle.std.specs.Prelude.{◌≡◌, Bool, not, ◌&&◌, ℕ, ◌+◌, ◌<◌, eqb}
+use Rattle.std.specs.Prelude.{◌≡◌, Bool, not, ◌&&◌, ℕ, ◌+◌, ◌<◌, eqb, None, Option, Some}
 use Rattle.std.proofs.Common.{sym, arith}
 use Rattle.std.proofs.Math.Path.{subst}
 use Rattle.std.proofs.Math.Bool.{true, false}
 use mathlib.Core.List.{List, [], ◌∷◌, ◌++◌, append_assoc}
-use Rattle.std.proofs.Math.Option.{Option, none, some}
 use Rattle.srt_protocol.specs.Sequence.{half}
 use Rattle.srt_group_model.specs.Tools.{flagged, change, each, without_place, All, at_place}
 use Rattle.srt_group_model.specs.State.{Member, State, Receive, next_receive_sequence, with_base}
@@ -65,7 +64,7 @@ module _ (P : Data → Type 0) (F : ℕ → Type 0) (I : Receive → List Mark �
   changed_sides i f ms k h =
       all_sides (SideOk P F) (change i f ms) (all_change (λ (m : Member). SideOk P F (side m)) i f ms k (all_members (SideOk P F) ms h))
 
-  side_at : (s : State) (i : ℕ) (m : Member) → at_place i s.members ≡ some m → SidesOk s.members → SideOk P F (side m)
+  side_at : (s : State) (i : ℕ) (m : Member) → at_place i s.members ≡ Some m → SidesOk s.members → SideOk P F (side m)
   side_at s i m at h =
       each_at (λ (m : Member). SideOk P F (side m)) (at_place i s.members) m at
       (each_at_place (λ (m : Member). SideOk P F (side m)) i s.members (all_members (SideOk P F) s.members h))
@@ -93,7 +92,7 @@ module _ (P : Data → Type 0) (F : ℕ → Type 0) (I : Receive → List Mark �
           firsts l.receiver.first
           (sequence_fits_of l.receiver.first (and_with_true (is_too_large l.receiver.first) h))
 
-  sets_base_ok : (s : State) (log : List Mark) (b : ℕ) → next_receive_sequence s.receive ≡ none → BaseSource s b → SidesOk s.members → I s.receive log
+  sets_base_ok : (s : State) (log : List Mark) (b : ℕ) → next_receive_sequence s.receive ≡ None → BaseSource s b → SidesOk s.members → I s.receive log
       → I (with_base b s.receive) (base_set b ∷ log)
   sets_base_ok s log b unset (first_of i m at a e) ok h =
       law.calling.polling.on_base_set s.receive log b unset (each_at F (peer_initial_sequence m.leg) b e (side_at s i m at ok).1) h

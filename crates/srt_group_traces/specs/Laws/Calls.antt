@@ -1,8 +1,7 @@
 -- The calls by what they are lent, and what a call leaves besides its state and its marks: the packet that it gives, the payload that
 -- it puts. The definitions are in specs/Statement.antt.
-use Rattle.std.specs.Prelude.{◌≡◌, refl, true, false, List, ℕ, length}
+use Rattle.std.specs.Prelude.{◌≡◌, refl, true, false, List, ℕ, length, None}
 use Rattle.std.proofs.Common.{sym, ap, ◌∙◌}
-use Rattle.std.proofs.Math.Option.{none}
 use Rattle.srt_group_model.specs.State.{State}
 use Rattle.srt_group_model.specs.Guards.{Step, Check, guard, accept, no_answer}
 use Rattle.srt_group_model.specs.Calls.{add_body, add_member, mark_member_broken, remove_body, remove_member_connection, refresh_member_states, disconnect, left_by_send, send_body, send, can_send_body, can_send_call, can_send_with_pacing_body, can_send_with_pacing_call, read_leg, queue_data_body, queue_data, queue_event}
@@ -23,8 +22,8 @@ step asked s =
 -- ---- the calls that are lent no store put nothing and give no packet
 
 pub record Silent (step : Step) : Type 0 where
-  pub no_packet : delivered_by step.answer ≡ none
-  pub no_put : step.put ≡ none
+  pub no_packet : delivered_by step.answer ≡ None
+  pub no_put : step.put ≡ None
 
 silent_guard : (checks : List Check) (s : State) (body : Step) → Silent body → Silent (guard checks s body)
 unfolding delivered_by
@@ -98,7 +97,7 @@ pub same_whatever_lent : (store output list store' output' list' : ℕ) (c : Cal
     → step_of store output list c s ≡ step_of store' output' list' c s
 same_whatever_lent store output list store' output' list' c s e = (unlent c e).is store output list s ∙ sym ((unlent c e).is store' output' list' s)
 
-pub unlent_puts_nothing : (store output list : ℕ) (c : Call) (s : State) → takes_store c ≡ false → (step_of store output list c s).put ≡ none
+pub unlent_puts_nothing : (store output list : ℕ) (c : Call) (s : State) → takes_store c ≡ false → (step_of store output list c s).put ≡ None
 unlent_puts_nothing store output list c s e = ap (λ (x : Step). x.put) ((unlent c e).is store output list s) ∙ ((unlent c e).silent s).no_put
 
 -- ---- only a poll delivers, and a call that polls or takes a cell is lent a store
@@ -124,15 +123,15 @@ unfolding takes_store is_poll
 takes_cell_lent (queues_it id d is) = (ap takes_store is, ap is_poll is)
 takes_cell_lent (sends_it time is) = (ap takes_store is, ap is_poll is)
 
-gives_none_by : {c : Call} (store output list : ℕ) (s : State) → Kind c → is_poll c ≡ false → delivered_by (step_of store output list c s).answer ≡ none
+gives_none_by : {c : Call} (store output list : ℕ) (s : State) → Kind c → is_poll c ≡ false → delivered_by (step_of store output list c s).answer ≡ None
 unfolding is_poll step_of send send_body left_by_send queue_data queue_data_body delivered_by
 gives_none_by store output list s (event_poll time) e = not_both {t = true} refl e
 gives_none_by store output list s (data_poll time max_events) e = not_both {t = true} refl e
 gives_none_by store output list s (sending time payload) e =
-    guard_elim (λ (x : Step). delivered_by x.answer ≡ none) _ s _ (λ code. refl) (if_elim (λ (x : Step). delivered_by x.answer ≡ none) _ _ _ (λ e. refl) (λ e. refl))
-gives_none_by store output list s (queueing_data id d payload) e = guard_elim (λ (x : Step). delivered_by x.answer ≡ none) _ s _ (λ code. refl) refl
+    guard_elim (λ (x : Step). delivered_by x.answer ≡ None) _ s _ (λ code. refl) (if_elim (λ (x : Step). delivered_by x.answer ≡ None) _ _ _ (λ e. refl) (λ e. refl))
+gives_none_by store output list s (queueing_data id d payload) e = guard_elim (λ (x : Step). delivered_by x.answer ≡ None) _ s _ (λ code. refl) refl
 gives_none_by store output list s (lent_no_store c lent poll h) e =
     ap (λ (x : Step). delivered_by x.answer) (h.is store output list s) ∙ (h.silent s).no_packet
 
-pub others_give_none : (store output list : ℕ) (c : Call) (s : State) → is_poll c ≡ false → delivered_by (step_of store output list c s).answer ≡ none
+pub others_give_none : (store output list : ℕ) (c : Call) (s : State) → is_poll c ≡ false → delivered_by (step_of store output list c s).answer ≡ None
 others_give_none store output list c s = gives_none_by store output list s (kind_of c)

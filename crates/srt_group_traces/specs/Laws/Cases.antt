@@ -1,10 +1,9 @@
 -- What proofs need besides the model's Reason: a fact of what an option holds, what tests say of numbers, and facts of each
 -- element of a list through the model's list functions.
-use Rattle.std.specs.Prelude.{◌≡◌, refl, Bool, false, not, ◌&&◌, ◌||◌, T, leb, ltb, eqb, drop}
+use Rattle.std.specs.Prelude.{◌≡◌, refl, Bool, false, not, ◌&&◌, ◌||◌, T, leb, ltb, eqb, drop, None, Option, Some}
 use Rattle.std.proofs.Common.{sym, subst, leb→le, nltb→le, eqb→eq, le→leb}
 use Rattle.std.proofs.Math.Bool.{true}
 use mathlib.Core.List.{List, [], ◌∷◌}
-use Rattle.std.proofs.Math.Option.{Option, none, some}
 use Prim.Native.Nat.{ℕ, zero, suc, ◌≤◌, ◌<◌}
 use Rattle.std.proofs.Math.Dec.{nleb→lt, eqb_refl}
 use Rattle.srt_group_model.specs.Tools.{All, or_else, such_that, first_such, at_place, change, without_place}
@@ -12,22 +11,22 @@ use Rattle.srt_group_model.specs.Laws.Reason.{if_elim, not_both, some_inj, EachT
 
 -- ---- a choice and an option
 
-pub by_option : {A B : Type 0} (o : Option A) → (o ≡ none → B) → ((a : A) → o ≡ some a → B) → B
-by_option none f g = f refl
-by_option (some a) f g = g a refl
+pub by_option : {A B : Type 0} (o : Option A) → (o ≡ None → B) → ((a : A) → o ≡ Some a → B) → B
+by_option None f g = f refl
+by_option (Some a) f g = g a refl
 
 -- a fact of what an option holds
 abbrev pub Each : {A : Type 0} → (A → Type 0) → Option A → Type 0
-Each P none = Unit {0}
-Each P (some a) = P a
+Each P None = Unit {0}
+Each P (Some a) = P a
 
-pub each_at : {A : Type 0} (P : A → Type 0) (o : Option A) (a : A) → o ≡ some a → Each P o → P a
+pub each_at : {A : Type 0} (P : A → Type 0) (o : Option A) (a : A) → o ≡ Some a → Each P o → P a
 each_at P o a e h = subst (Each P) e h
 
 pub each_or_else : {A : Type 0} (P : A → Type 0) (a b : Option A) → Each P a → Each P b → Each P (or_else a b)
 unfolding or_else
-each_or_else P none b h k = k
-each_or_else P (some a) b h k = h
+each_or_else P None b h k = k
+each_or_else P (Some a) b h k = h
 
 -- ---- tests and what they say
 
@@ -130,7 +129,7 @@ module _ {A : Type 0} where
   all_change P (suc i) f (x ∷ xs) k h = (h.0, all_change P i f xs k h.1)
 
   -- at the place where a stands
-  pub all_change_at : (P : A → Type 0) (i : ℕ) (f : A → A) (l : List A) (a : A) → at_place i l ≡ some a → (P a → P (f a)) → All P l → All P (change i f l)
+  pub all_change_at : (P : A → Type 0) (i : ℕ) (f : A → A) (l : List A) (a : A) → at_place i l ≡ Some a → (P a → P (f a)) → All P l → All P (change i f l)
   unfolding change at_place
   all_change_at P i f [] a at k h = tt
   all_change_at P zero f (x ∷ xs) a at k h = (subst (λ (y : A). P (f y)) (sym (some_inj at)) (k (subst P (some_inj at) h.0)), h.1)

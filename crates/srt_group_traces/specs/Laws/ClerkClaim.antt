@@ -1,11 +1,10 @@
 -- The delivered list, each payload as it was queued, is the clerk's: after each call he stands at the base's place, the packets
 -- before him are the schedule's from there on, and where a call delivers, what he gives is what was delivered. That there are
 -- packets whose counts add up to each rise of the skipped count is part of it: else he would have no answer.
-use Rattle.std.specs.Prelude.{◌≡◌, true, false, ℕ, ◌+◌, ◌-◌, ◌≤◌, ◌<◌}
+use Rattle.std.specs.Prelude.{◌≡◌, true, false, ℕ, ◌+◌, ◌-◌, ◌≤◌, ◌<◌, None, Option, Some}
 use Rattle.std.proofs.Math.Path.{sym, ap}
 use Rattle.std.proofs.Common.{◌∙◌, subst, arith}
 use mathlib.Core.List.{List, [], ◌∷◌, ◌++◌, append_assoc, append-nil}
-use Rattle.std.proofs.Math.Option.{Option, none, some}
 use Rattle.srt_group_model.specs.Legs.{largest_64}
 use Rattle.srt_group_model.specs.Tools.{if_true◌then◌else◌, if_some◌give◌otherwise◌}
 use Rattle.srt_group_model.specs.State.{State, Making}
@@ -25,8 +24,8 @@ use Rattle.srt_group_traces.specs.Laws.Follows.{AtPlaces, FromSchedule, Follows,
 
 -- with the payload last put into the packet's cell
 unfoldable pub given_as_queued : List Mark → Option Packet → List Delivery
-given_as_queued log none = []
-given_as_queued log (some p) =
+given_as_queued log None = []
+given_as_queued log (Some p) =
     record { sequence = p.content.sequence; count = p.content.count; payload = last_put log p.content.cell } ∷ []
 
 -- `log` are the marks before these calls
@@ -47,19 +46,19 @@ pub skipped_rises : (m log : List Mark) → total_skipped log ≤ total_skipped 
 skipped_rises m log = omega (arith, total_skipped_append m log)
 
 give_next_some : (o : Option (List Delivery)) (x : Delivery) (xs ys left : List Delivery) (go_on : List Delivery → Option Went)
-    → o ≡ some (x ∷ xs) → go_on xs ≡ some record { gave = ys; left = left }
-    → give_next o go_on ≡ some record { gave = x ∷ ys; left = left }
+    → o ≡ Some (x ∷ xs) → go_on xs ≡ Some record { gave = ys; left = left }
+    → give_next o go_on ≡ Some record { gave = x ∷ ys; left = left }
 unfolding give_next if_some◌give◌otherwise◌
 give_next_some o x xs ys left go_on e f =
     ap (λ (z : Option (List Delivery)). give_next z go_on) e
-    ∙ ap (λ (z : Option Went). if_some z give (λ (w : Went). some record { gave = x ∷ w.gave; left = w.left }) otherwise none) f
+    ∙ ap (λ (z : Option Went). if_some z give (λ (w : Went). Some record { gave = x ∷ w.gave; left = w.left }) otherwise None) f
 
 -- ---- one call
 
 module _ (schedule : List Delivery) (first : ℕ) (runs : Consecutive first schedule) where
   -- The clerk has `ahead` before him; m are the marks of the call, log those before it; told and ys are of the calls after it.
   module _ (when : When) (s : State) (log : List Mark) (ahead : List Delivery)
-      (here : pass_to schedule (place_after log) ≡ some ahead)
+      (here : pass_to schedule (place_after log) ≡ Some ahead)
       (after : State) (m : List Mark)
       (follows : Follows schedule first runs s.receive log)
       (follows_after : Follows schedule first runs after.receive (m ++ log))
@@ -74,11 +73,11 @@ module _ (schedule : List Delivery) (first : ℕ) (runs : Consecutive first sche
     -- what he does from then on, wherever he then stands
     abbrev GoesOn : Type 0
     GoesOn =
-        (rest : List Delivery) → pass_to schedule (place_after (m ++ log)) ≡ some rest
-        → clerk rest after.receive.numbers.skipped told ≡ some record { gave = ys; left = left }
+        (rest : List Delivery) → pass_to schedule (place_after (m ++ log)) ≡ Some rest
+        → clerk rest after.receive.numbers.skipped told ≡ Some record { gave = ys; left = left }
 
     -- a call that delivers nothing leaves him there
-    stays : Quiet m → GoesOn → clerk ahead after.receive.numbers.skipped told ≡ some record { gave = ys; left = left }
+    stays : Quiet m → GoesOn → clerk ahead after.receive.numbers.skipped told ≡ Some record { gave = ys; left = left }
     stays quiet go_on = go_on ahead (ap (pass_to schedule) same_place ∙ here)
       where
         same_place : place_after (m ++ log) ≡ place_after log
@@ -87,7 +86,7 @@ module _ (schedule : List Delivery) (first : ℕ) (runs : Consecutive first sche
     -- a call that delivers: he passes the rise, gives the next and goes past it
     gives : (p : Packet) → Given when p after m → GoesOn
         → give_next (pass_to ahead (after.receive.numbers.skipped - s.receive.numbers.skipped)) (λ xs. clerk xs after.receive.numbers.skipped told)
-        ≡ some record { gave = with_payload p.content (last_put (m ++ log) p.content.cell) ∷ ys; left = left }
+        ≡ Some record { gave = with_payload p.content (last_put (m ++ log) p.content.cell) ∷ ys; left = left }
     unfolding total_delivered total_skipped last_put
     gives p given go_on =
         give_next_some (pass_to ahead (after.receive.numbers.skipped - s.receive.numbers.skipped)) at.scheduled
@@ -100,7 +99,7 @@ module _ (schedule : List Delivery) (first : ℕ) (runs : Consecutive first sche
         ∙ pass_to_further schedule (place_after (given.before ++ log)) at.scheduled.count (at.scheduled ∷ at.rest) at.here
         ∙ pass_to_next at.scheduled at.rest
         (sequence_at_place first 0 schedule (place_after (given.before ++ log)) at.scheduled at.rest runs at.here).1))
-        ∙ ap (λ (x : Delivery). some record { gave = x ∷ ys; left = left }) (sym same)
+        ∙ ap (λ (x : Delivery). Some record { gave = x ∷ ys; left = left }) (sym same)
       where
         at : AtPlace schedule (last_put (given.before ++ log)) (place_after (given.before ++ log)) p.content
         at = (subst (λ (z : List Mark). AtPlaces schedule (z ++ log)) given.is (follows_after.1 from).at_places).0
@@ -142,22 +141,22 @@ module _ (schedule : List Delivery) (first : ℕ) (runs : Consecutive first sche
     clerk_of_call : (o : Option Packet) → Shape when o after m → GoesOn
         → clerk ahead s.receive.numbers.skipped
         (record { skipped = after.receive.numbers.skipped; delivered = if_some o give (λ p. true) otherwise false } ∷ told)
-        ≡ some record { gave = given_as_queued (m ++ log) o ++ ys; left = left }
+        ≡ Some record { gave = given_as_queued (m ++ log) o ++ ys; left = left }
     unfolding clerk given_as_queued if_true◌then◌else◌ if_some◌give◌otherwise◌
-    clerk_of_call none h go_on = stays h go_on
-    clerk_of_call (some p) h go_on = gives p h go_on
+    clerk_of_call None h go_on = stays h go_on
+    clerk_of_call (Some p) h go_on = gives p h go_on
 
   -- ---- every list of calls, from any place where he stands
 
   pub clerk_of_calls : (calls : List Asked) (s : State) (log : List Mark) (ahead : List Delivery)
-      → pass_to schedule (place_after log) ≡ some ahead
+      → pass_to schedule (place_after log) ≡ Some ahead
       → Following schedule first runs s log → FromSchedule schedule first (log_after calls s ++ log)
       → total_skipped (log_after calls s ++ log) < largest_64
-      → (left : List Delivery) → pass_to schedule (place_after (log_after calls s ++ log)) ≡ some left
-      → clerk ahead s.receive.numbers.skipped (told_by calls s) ≡ some record { gave = delivered_as_queued log calls s; left = left }
+      → (left : List Delivery) → pass_to schedule (place_after (log_after calls s ++ log)) ≡ Some left
+      → clerk ahead s.receive.numbers.skipped (told_by calls s) ≡ Some record { gave = delivered_as_queued log calls s; left = left }
   unfolding log_after told_by delivered_as_queued clerk
   clerk_of_calls [] s log ahead here k from below left there =
-      ap (λ (l : List Delivery). some record { gave = []; left = l }) (some_inj (sym here ∙ there))
+      ap (λ (l : List Delivery). Some record { gave = []; left = l }) (some_inj (sym here ∙ there))
   clerk_of_calls (call ∷ more) s log ahead here k from below left there =
       clerk_of_call (when_of call.call s) s log ahead here (do_call call s).state (do_call call s).log k.kept
       k_after.kept
@@ -176,19 +175,19 @@ module _ (schedule : List Delivery) (first : ℕ) (runs : Consecutive first sche
       below_after : total_skipped (log_after more (do_call call s).state ++ ((do_call call s).log ++ log)) < largest_64
       below_after = rw append_assoc at below
 
-      there_after : pass_to schedule (place_after (log_after more (do_call call s).state ++ ((do_call call s).log ++ log))) ≡ some left
+      there_after : pass_to schedule (place_after (log_after more (do_call call s).state ++ ((do_call call s).log ++ log))) ≡ Some left
       there_after = rw append_assoc at there
 
   pub clerk_as_queued : (g : Making) (calls : List Asked) → SetBefore first (log_after calls (new g)) → AllNear schedule (log_after calls (new g))
       → skipped_in (state_after calls (new g)) < largest_64
-      → (left : List Delivery) × (pass_to schedule (place_of_base g calls) ≡ some left)
-      × (clerk schedule 0 (told_by calls (new g)) ≡ some record { gave = delivered_as_queued [] calls (new g); left = left })
+      → (left : List Delivery) × (pass_to schedule (place_of_base g calls) ≡ Some left)
+      × (clerk schedule 0 (told_by calls (new g)) ≡ Some record { gave = delivered_as_queued [] calls (new g); left = left })
   unfolding total_delivered total_skipped new
   clerk_as_queued g calls set_before near below =
       let from : FromSchedule schedule first (log_after calls (new g) ++ []) =
       rw append-nil (from_schedule_of schedule first (log_after calls (new g)) set_before near)
       in
-      let end : (left : List Delivery) × (pass_to schedule (place_after (log_after calls (new g) ++ [])) ≡ some left) =
+      let end : (left : List Delivery) × (pass_to schedule (place_after (log_after calls (new g) ++ [])) ≡ Some left) =
       ((calls_following schedule first runs calls (new g) [] (new_following schedule first runs g)).kept.1 from).here
       in (
         end.0,

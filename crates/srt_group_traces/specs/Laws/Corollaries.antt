@@ -1,11 +1,10 @@
 -- What follows for a customer: every packet delivered stands at a place of its own in the schedule, after the end of the run
 -- delivered before it, so none is delivered twice and all are in the schedule's order; where nothing is skipped, the delivered
 -- list is a prefix of the schedule; and a call that delivers nothing leaves the base where it is.
-use Rattle.std.specs.Prelude.{◌≡◌, refl, true, ℕ, ◌+◌, ◌-◌, ◌≤◌, min}
+use Rattle.std.specs.Prelude.{◌≡◌, refl, true, ℕ, ◌+◌, ◌-◌, ◌≤◌, min, None, Option, Some}
 use Rattle.std.proofs.Common.{sym, ap, ◌∙◌, ⊎_elim}
 use Rattle.std.proofs.Math.Path.{subst}
 use mathlib.Core.List.{List, [], ◌∷◌, ◌++◌}
-use Rattle.std.proofs.Math.Option.{Option, none, some}
 use native.Mathlib.Omega.{arith}
 use Rattle.srt_protocol.specs.Sequence.{sequence_further}
 use Rattle.srt_group_model.specs.Legs.{largest_64}
@@ -33,38 +32,38 @@ use Rattle.srt_group_model.specs.Calls.{new}
 abbrev pub InOrder : List Delivery → ℕ → List Delivery → Type 0
 InOrder schedule place [] = Unit {0}
 InOrder schedule place (x ∷ xs) =
-    (at : ℕ) × (place ≤ at) × ((rest : List Delivery) × (pass_to schedule at ≡ some (x ∷ rest))) × InOrder schedule
+    (at : ℕ) × (place ≤ at) × ((rest : List Delivery) × (pass_to schedule at ≡ Some (x ∷ rest))) × InOrder schedule
     (at + x.count) xs
 
 module _ (schedule : List Delivery) (first : ℕ) (runs : Consecutive first schedule) where
   give_next_in_order : (place rise : ℕ) (passed : Option (List Delivery)) (go_on : List Delivery → Option Went) (w : Went)
-      → ((ahead : List Delivery) → passed ≡ some ahead → pass_to schedule (place + rise) ≡ some ahead)
-      → ((at : ℕ) (xs : List Delivery) (v : Went) → pass_to schedule at ≡ some xs → go_on xs ≡ some v → InOrder schedule at v.gave)
-      → give_next passed go_on ≡ some w → InOrder schedule place w.gave
+      → ((ahead : List Delivery) → passed ≡ Some ahead → pass_to schedule (place + rise) ≡ Some ahead)
+      → ((at : ℕ) (xs : List Delivery) (v : Went) → pass_to schedule at ≡ Some xs → go_on xs ≡ Some v → InOrder schedule at v.gave)
+      → give_next passed go_on ≡ Some w → InOrder schedule place w.gave
   unfolding give_next if_some◌give◌otherwise◌
-  give_next_in_order place rise none go_on w here order e = none_some e
-  give_next_in_order place rise (some []) go_on w here order e = none_some e
-  give_next_in_order place rise (some (x ∷ xs)) go_on w here order e =
+  give_next_in_order place rise None go_on w here order e = none_some e
+  give_next_in_order place rise (Some []) go_on w here order e = none_some e
+  give_next_in_order place rise (Some (x ∷ xs)) go_on w here order e =
       by_option (go_on xs) (λ n. none_some (sym (ap cons_to n) ∙ e))
       (λ v n.
       subst (λ (z : Went). InOrder schedule place z.gave) (some_inj (sym (ap cons_to n) ∙ e))
       (place + rise, omega arith, (xs, here (x ∷ xs) refl), order (place + rise + x.count) xs v past n))
     where
       cons_to : Option Went → Option Went
-      cons_to o = if_some o give (λ (v : Went). some record { gave = x ∷ v.gave; left = v.left }) otherwise none
+      cons_to o = if_some o give (λ (v : Went). Some record { gave = x ∷ v.gave; left = v.left }) otherwise None
 
-      past : pass_to schedule (place + rise + x.count) ≡ some xs
+      past : pass_to schedule (place + rise + x.count) ≡ Some xs
       past =
           pass_to_further schedule (place + rise) x.count (x ∷ xs) (here (x ∷ xs) refl)
           ∙ pass_to_next x xs (sequence_at_place first 0 schedule (place + rise) x xs runs (here (x ∷ xs) refl)).1
 
   clerk_in_order : (place : ℕ) (ahead : List Delivery) (known : ℕ) (told : List Told) (w : Went)
-      → pass_to schedule place ≡ some ahead
-      → clerk ahead known told ≡ some w → InOrder schedule place w.gave
+      → pass_to schedule place ≡ Some ahead
+      → clerk ahead known told ≡ Some w → InOrder schedule place w.gave
   unfolding clerk
   clerk_in_order place ahead known [] w here e = subst (λ (z : Went). InOrder schedule place z.gave) (some_inj e) tt
   clerk_in_order place ahead known (told ∷ more) w here e =
-      if_elim (λ (o : Option Went). o ≡ some w → InOrder schedule place w.gave) told.delivered _ _
+      if_elim (λ (o : Option Went). o ≡ Some w → InOrder schedule place w.gave) told.delivered _ _
       (λ d f.
       give_next_in_order place (told.skipped - known) (pass_to ahead (told.skipped - known))
       (λ xs. clerk xs told.skipped more) w
@@ -88,39 +87,39 @@ module _ (schedule : List Delivery) (first : ℕ) (runs : Consecutive first sche
 -- ---- the base moves only by delivery and skip
 
 -- once set, the first value stays
-pub first_base_stays : (m log : List Mark) (first : ℕ) → first_base log ≡ some first → first_base (m ++ log) ≡ some first
+pub first_base_stays : (m log : List Mark) (first : ℕ) → first_base log ≡ Some first → first_base (m ++ log) ≡ Some first
 unfolding first_base or_else
 first_base_stays [] log first e = e
 first_base_stays (put cell payload ∷ m) log first e = first_base_stays m log first e
-first_base_stays (base_set base ∷ m) log first e = ap (λ (o : Option ℕ). or_else o (some base)) (first_base_stays m log first e)
+first_base_stays (base_set base ∷ m) log first e = ap (λ (o : Option ℕ). or_else o (Some base)) (first_base_stays m log first e)
 first_base_stays (collected p ∷ m) log first e = first_base_stays m log first e
 first_base_stays (gap_skipped tested time distance ∷ m) log first e = first_base_stays m log first e
 first_base_stays (delivered p ∷ m) log first e = first_base_stays m log first e
 
 -- Where the base is not set, it has no first value, and nothing was delivered or skipped.
-pub unbased_is_still : (g : Making) (calls : List Asked) → next_receive_sequence (state_after calls (new g)).receive ≡ none
-    → (first_base (log_after calls (new g)) ≡ none) × (place_of_base g calls ≡ 0)
+pub unbased_is_still : (g : Making) (calls : List Asked) → next_receive_sequence (state_after calls (new g)).receive ≡ None
+    → (first_base (log_after calls (new g)) ≡ None) × (place_of_base g calls ≡ 0)
 unbased_is_still g calls e = go (first_base (log_after calls (new g))) refl (sums_after g calls).stands
   where
     go : (o : Option ℕ) → first_base (log_after calls (new g)) ≡ o
         → Stands o (next_receive_sequence (state_after calls (new g)).receive) (place_after (log_after calls (new g)))
-        → (first_base (log_after calls (new g)) ≡ none) × (place_of_base g calls ≡ 0)
-    go none f h = (f, omega (arith, h.1, delivered_counts calls (new g), (sums_after g calls).skipped))
-    go (some first) f h = none_some (sym e ∙ h.1)
+        → (first_base (log_after calls (new g)) ≡ None) × (place_of_base g calls ≡ 0)
+    go None f h = (f, omega (arith, h.1, delivered_counts calls (new g), (sums_after g calls).skipped))
+    go (Some first) f h = none_some (sym e ∙ h.1)
 
 -- A call that delivers nothing leaves the base, once it is set: x and y are the receiving sides before and after it, m its marks.
 pub quiet_leaves_base : (x y : Receive) (m log : List Mark) (base : ℕ) → Sums x log → Sums y (m ++ log) → Quiet m
-    → next_receive_sequence x ≡ some base
-    → next_receive_sequence y ≡ some base
+    → next_receive_sequence x ≡ Some base
+    → next_receive_sequence y ≡ Some base
 quiet_leaves_base x y m log base h k quiet e =
-    let w : (first : ℕ) × (first_base log ≡ some first) × (base ≡ sequence_further first (place_after log)) =
+    let w : (first : ℕ) × (first_base log ≡ Some first) × (base ≡ sequence_further first (place_after log)) =
     sums_first x log base e h
     in
-    let v : Stands (some w.0) (next_receive_sequence y) (place_after (m ++ log)) =
+    let v : Stands (Some w.0) (next_receive_sequence y) (place_after (m ++ log)) =
     subst (λ (o : Option ℕ). Stands o (next_receive_sequence y) (place_after (m ++ log))) (first_base_stays m log w.0 w.1)
     k.stands
     in
-    v.1 ∙ ap (λ (n : ℕ). some (sequence_further w.0 n)) same_place ∙ ap {B = Option ℕ} some (sym w.2)
+    v.1 ∙ ap (λ (n : ℕ). Some (sequence_further w.0 n)) same_place ∙ ap {B = Option ℕ} Some (sym w.2)
   where
     same_place : place_after (m ++ log) ≡ place_after log
     same_place = omega (arith, quiet_delivers_nothing m log quiet, quiet_skips_nothing m log quiet)
@@ -168,11 +167,11 @@ rise_is_right_skip g calls call risen =
         risen
         (quiet_leaves_count s.receive (do_call call s).state.receive (do_call call s).log log before.kept after.kept e)
 
-    go : (o : Option Packet) → ((p : Packet) → o ≡ some p → is_poll call.call ≡ true)
+    go : (o : Option Packet) → ((p : Packet) → o ≡ Some p → is_poll call.call ≡ true)
         → Shape (when_of call.call s) o (do_call call s).state (do_call call s).log
         → Raised s call.call o (do_call call s).state
-    go none polls quiet = absurd (same_count (quiet_skips_nothing (do_call call s).log log quiet))
-    go (some p) polls given =
+    go None polls quiet = absurd (same_count (quiet_skips_nothing (do_call call s).log log quiet))
+    go (Some p) polls given =
         ⊎_elim (λ (quiet : Quiet given.before). absurd (same_count (delivered_skips_nothing given quiet)))
         (λ (skip : Skip (when_of call.call s) p (do_call call s).state given.before).
         record {

@@ -1,8 +1,7 @@
 -- The premises are met, and the theorem is applied: a list of calls over a schedule of four runs, with two legs, one gap, a
 -- reading, sends, an event, a broken mark, a removal and refused calls.
-use Rattle.std.specs.Prelude.{◌≡◌, refl, Bool, true, false, List, [], ◌∷◌, ℕ, suc, ◌+◌, ◌%◌, ◌<◌, take, replicate}
+use Rattle.std.specs.Prelude.{◌≡◌, refl, Bool, true, false, List, [], ◌∷◌, ℕ, suc, ◌+◌, ◌%◌, ◌<◌, take, replicate, Some}
 use Rattle.std.proofs.Common.{sym, ap, ◌∙◌, arith, lit<, lit≤}
-use Rattle.std.proofs.Math.Option.{some}
 use Rattle.srt_protocol.specs.Cells.{overwritten, output_size, cell_size}
 use Rattle.srt_protocol.specs.Sequence.{half, sequence_distance}
 use Rattle.srt_group_model.specs.State.{State, next_receive_sequence, Making}
@@ -111,7 +110,7 @@ codes = refl
 
 -- ---- the premises are met
 
-each_based : EachCollected (λ log p. first_base log ≡ some 100) (log_after calls (new group))
+each_based : EachCollected (λ log p. first_base log ≡ Some 100) (log_after calls (new group))
 unfolding definitions group store_0 store_1 store_2 store_3 output sends calls do_call log_after first_base
 each_based = (refl, (refl, (refl, tt)))
 
@@ -222,13 +221,13 @@ fair = record { store = store_0; set_before = set_before; near = near; below = l
 
 -- ---- so the delivered list is the clerk's, and here it is
 
-pub by_clerk : (left : List Delivery) × (pass_to schedule (place_of_base group calls) ≡ some left)
-    × (clerk schedule 0 (told_by calls (new group)) ≡ some record { gave = deliveries calls (new group); left = left })
+pub by_clerk : (left : List Delivery) × (pass_to schedule (place_of_base group calls) ≡ Some left)
+    × (clerk schedule 0 (told_by calls (new group)) ≡ Some record { gave = deliveries calls (new group); left = left })
 by_clerk = history_theorem.schedule schedule 100 runs group calls fair
 
 pub clerk_list : clerk schedule 0 (told_by calls (new group))
-    ≡ some record { gave = planned 100 1 (64 ∷ []) ∷ planned 101 2 (65 ∷ 66 ∷ []) ∷ planned 104 1 (68 ∷ []) ∷ []; left = by_clerk.0 }
-clerk_list = by_clerk.2 ∙ ap (λ (l : List Delivery). some record { gave = l; left = by_clerk.0 }) delivered_list
+    ≡ Some record { gave = planned 100 1 (64 ∷ []) ∷ planned 101 2 (65 ∷ 66 ∷ []) ∷ planned 104 1 (68 ∷ []) ∷ []; left = by_clerk.0 }
+clerk_list = by_clerk.2 ∙ ap (λ (l : List Delivery). Some record { gave = l; left = by_clerk.0 }) delivered_list
 
 -- ---- the log, newest first, each mark as its kind and numbers: 0 a payload put into a cell, 1 the base set, 2 a packet collected and
 -- 4 delivered (leg, sequence, count), 3 a skip (time, distance)
@@ -251,7 +250,7 @@ marks = refl
 -- ---- the marks, added up: three packets collected, 1 + 2 + 1 delivered, one skipped
 
 pub log_adds_up :
-    (first_base (log_after calls (new group)) ≡ some 100)
+    (first_base (log_after calls (new group)) ≡ Some 100)
     × (packets_collected (log_after calls (new group)) ≡ 3)
     × (total_delivered (log_after calls (new group)) ≡ 4)
     × (total_skipped (log_after calls (new group)) ≡ 1)
@@ -260,11 +259,11 @@ log_adds_up = (refl, refl, refl, refl)
 
 -- ---- the base stands at 105, five from its first value
 
-pub based : next_receive_sequence (state_after calls (new group)).receive ≡ some 105
+pub based : next_receive_sequence (state_after calls (new group)).receive ≡ Some 105
 unfolding definitions group store_0 store_1 store_2 store_3 output sends calls do_call state_after
 based = refl
 
-pub by_base : (first : ℕ) × (first_base (log_after calls (new group)) ≡ some first)
+pub by_base : (first : ℕ) × (first_base (log_after calls (new group)) ≡ Some first)
     × (skipped_in (state_after calls (new group)) < largest_64 → sequence_distance first 105 ≡ place_of_base group calls % (half + half))
 by_base = history_theorem.base group calls 105 based
 

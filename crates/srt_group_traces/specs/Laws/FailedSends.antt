@@ -1,12 +1,11 @@
 -- A send that is not accepted names no cell that was not named before, whatever store it was lent: where it ends with 22 to 29 the history
 -- has lost entries and gained none, and the queues and the held packets are as they were. So only accepted calls need be lent
 -- stores of one length for the state to stay valid.
-use Rattle.std.specs.Prelude.{◌≡◌, ℕ, leb, length}
+use Rattle.std.specs.Prelude.{◌≡◌, ℕ, leb, length, None, Option}
 use Rattle.std.proofs.Math.Path.{refl, subst}
 use Rattle.std.proofs.Common.{sym}
 use Rattle.std.proofs.Math.Bool.{false}
 use mathlib.Core.List.{List, [], ◌∷◌, ◌++◌}
-use Rattle.std.proofs.Math.Option.{Option, none}
 use Rattle.std.proofs.Math.Dec.{eqb}
 use Rattle.srt_protocol.specs.Cells.{cells_of}
 use Rattle.srt_group_model.specs.Tools.{All, each}
@@ -60,7 +59,7 @@ set_base_send base r =
 
 refresh_send : (s : State) → (refresh_states (start s)).state.send ≡ s.send
 unfolding refresh_states refresh_pending_states admit_connected_peer_groups
-refresh_send s = set_base_send (base_after none s.members) (start s)
+refresh_send s = set_base_send (base_after None s.members) (start s)
 
 -- ---- the history of a send that fails, over a store of c cells
 

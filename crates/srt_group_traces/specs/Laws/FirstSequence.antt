@@ -1,11 +1,10 @@
 -- While no data is queued and every addition names one first sequence or none, the base is set to that sequence or not at all; and an
 -- accepted addition of a connected leg that names it leaves the base set.
-use Rattle.std.specs.Prelude.{◌≡◌, ◌⊎◌, Bool, not, ◌&&◌, ℕ}
+use Rattle.std.specs.Prelude.{◌≡◌, ◌⊎◌, Bool, not, ◌&&◌, ℕ, None, Option, Some}
 use Rattle.std.proofs.Math.Path.{refl, sym, ap}
 use Rattle.std.proofs.Common.{◌∙◌, subst, inl, inr, arith}
 use Rattle.std.proofs.Math.Bool.{true, false}
 use mathlib.Core.List.{List, [], ◌∷◌}
-use Rattle.std.proofs.Math.Option.{Option, none, some}
 use Rattle.std.proofs.Math.Dec.{eqb}
 use Rattle.srt_group_model.specs.Tools.{if_true◌then◌else◌, if_some◌give◌otherwise◌, flagged, or_else, each, such_that, first_such, first_given, All}
 use Rattle.srt_group_model.specs.State.{Member, State, next_receive_sequence, Making, is_backup, broken_state, with_receive, with_base}
@@ -48,21 +47,21 @@ module _ (first : ℕ) where
   abbrev QuietStart : Option ℕ → State → List Mark → Type 0
   QuietStart hand s log = All Idle s.members × (s.receive.pending ≡ []) × Each (λ (b : ℕ). b ≡ first) (next_receive_sequence s.receive)
 
-  none_nearest : (p : Packet) (ps : List Packet) → ps ≡ [] → nearest ps ≡ some p → ⊥
+  none_nearest : (p : Packet) (ps : List Packet) → ps ≡ [] → nearest ps ≡ Some p → ⊥
   unfolding nearest lowest if_some◌give◌otherwise◌
   none_nearest p ps e h = none_some (sym (ap nearest e) ∙ h)
 
-  none_held : (base : ℕ) (p : Packet) (ps : List Packet) → ps ≡ [] → held_at base ps ≡ some p → ⊥
+  none_held : (base : ℕ) (p : Packet) (ps : List Packet) → ps ≡ [] → held_at base ps ≡ Some p → ⊥
   unfolding first_such
   none_held base p ps e h = none_some (sym (ap (held_at base) e) ∙ h)
 
-  flagged_is : (t : Bool) (n b : ℕ) → flagged t n ≡ some b → n ≡ b
+  flagged_is : (t : Bool) (n b : ℕ) → flagged t n ≡ Some b → n ≡ b
   unfolding flagged
   flagged_is true n b e = some_inj e
   flagged_is false n b e = none_some e
 
   -- what a member brings is the sequence that it names
-  brought : (n b : ℕ) → Named n → flagged (not (eqb n no_sequence)) n ≡ some b → b ≡ first
+  brought : (n b : ℕ) → Named n → flagged (not (eqb n no_sequence)) n ≡ Some b → b ≡ first
   unfolding flagged
   brought n b (inl e) h = sym (flagged_is (not (eqb n no_sequence)) n b h) ∙ e
   brought n b (inr e) h = none_some (sym (ap (λ (k : ℕ). flagged (not (eqb k no_sequence)) k) e) ∙ h)
@@ -138,33 +137,33 @@ module _ (first : ℕ) where
 
   -- ---- a list of calls
 
-  pub calls_quiet : (calls : List Asked) (s : State) → All (λ (asked : Asked). AddsNamed asked.call) calls → All QueuesNone calls → QuietStart none s []
-      → QuietStart none (state_after calls s) []
+  pub calls_quiet : (calls : List Asked) (s : State) → All (λ (asked : Asked). AddsNamed asked.call) calls → All QueuesNone calls → QuietStart None s []
+      → QuietStart None (state_after calls s) []
   unfolding state_after do_call
   calls_quiet [] s named no_data h = h
   calls_quiet (asked ∷ calls) s named no_data h =
       calls_quiet calls (do_call asked s).state named.1 no_data.1
       (call_keeps QuietStart asked.call asked.lent s (quiet_law _ named.0 no_data.0) h)
 
-  new_quiet : (g : Making) → QuietStart none (new g) []
+  new_quiet : (g : Making) → QuietStart None (new g) []
   unfolding new flagged
   new_quiet g = (tt, refl, tt)
 
   pub base_is_first : (g : Making) (calls : List Asked) (base : ℕ) → All (λ (asked : Asked). AddsNamed asked.call) calls → All QueuesNone calls
-      → next_receive_sequence (state_after calls (new g)).receive ≡ some base
+      → next_receive_sequence (state_after calls (new g)).receive ≡ Some base
       → base ≡ first
   base_is_first g calls base named no_data e = each_at (λ (b : ℕ). b ≡ first) _ base e (calls_quiet calls (new g) named no_data (new_quiet g)).2
 
 -- ---- an accepted addition of a connected leg
 
 abbrev IsSet : State → Type 0
-IsSet s = next_receive_sequence s.receive ≡ none → ⊥
+IsSet s = next_receive_sequence s.receive ≡ None → ⊥
 
 based_is_set : (b : ℕ) (s : State) → IsSet (with_receive (with_base b s.receive) s)
 unfolding flagged
 based_is_set b s e = none_some (sym e)
 
-sets_base_to : (base : Option ℕ) (r : Run) (b : ℕ) → base ≡ some b → IsSet (set_base base r).state
+sets_base_to : (base : Option ℕ) (r : Run) (b : ℕ) → base ≡ Some b → IsSet (set_base base r).state
 unfolding set_base
 sets_base_to base r b e =
     if_some_elim (λ (x : Run). IsSet x.state) (next_receive_sequence r.state.receive) _ _ (λ old f unset. none_some (sym unset ∙ f))
@@ -180,20 +179,20 @@ joins_whole mode l ms =
 
 -- what a new connected member brings
 new_brings : (id weight : ℕ) (l : Leg) (s : State) → is_connected l ≡ true → eqb l.receiver.first no_sequence ≡ false
-    → base_after none (new_member id weight (handed l) s ∷ []) ≡ some l.receiver.first
+    → base_after None (new_member id weight (handed l) s ∷ []) ≡ Some l.receiver.first
 unfolding new_member arrives sequence_brought base_after or_else first_given flagged if_true◌then◌else◌
 new_brings id weight l s connects named =
     let here : arrives (new_member id weight (handed l) s) ≡ true =
     λ i. not (joins_whole s.making.mode (handed l) s.members i) && connects i
     in
     (λ i.
-    or_else (if_true here i then flagged (not (named i)) l.receiver.first else none) none)
+    or_else (if_true here i then flagged (not (named i)) l.receiver.first else None) None)
 
 body_sets_base : (id weight : ℕ) (l : Leg) (s : State) → is_connected l ≡ true → eqb l.receiver.first no_sequence ≡ false → IsSet (add_body id weight l s).state
 unfolding add_body
 body_sets_base id weight l s connects named =
-    let set : IsSet (set_base (base_after none (new_member id weight (handed l) s ∷ [])) (start s)).state =
-    sets_base_to (base_after none (new_member id weight (handed l) s ∷ [])) (start s) l.receiver.first (new_brings id weight l s connects named)
+    let set : IsSet (set_base (base_after None (new_member id weight (handed l) s ∷ [])) (start s)).state =
+    sets_base_to (base_after None (new_member id weight (handed l) s ∷ [])) (start s) l.receiver.first (new_brings id weight l s connects named)
     in
     if_elim (λ (x : Step). IsSet x.state) _ _ _
     (λ e. if_some_elim (λ (x : Step). IsSet x.state) _ _ _ (λ ms f. set) (λ f. set)) (λ e. set)

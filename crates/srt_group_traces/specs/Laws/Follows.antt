@@ -1,9 +1,8 @@
 -- Packets of one schedule, each less than 2^30 from the base on either side when it is collected, are delivered as they stand at
 -- the base's place. The premises (`SetBefore` and `AllNear` of Statement) and what follows (AtPlaces) are about the marks.
-use Rattle.std.specs.Prelude.{◌≡◌, refl, true, false, List, [], ◌∷◌, ◌++◌, ℕ, ◌+◌, ◌-◌, ◌≤◌, ◌<◌}
+use Rattle.std.specs.Prelude.{◌≡◌, refl, true, false, List, [], ◌∷◌, ◌++◌, ℕ, ◌+◌, ◌-◌, ◌≤◌, ◌<◌, Option, Some}
 use Rattle.std.proofs.Common.{sym, ◌∙◌, arith}
 use Rattle.std.proofs.Math.Path.{ap, subst}
-use Rattle.std.proofs.Math.Option.{Option, some}
 use Rattle.std.proofs.Math.Decide.{dec_lt}
 use Rattle.srt_protocol.specs.Laws.Circle.{distance_places, before_places, distance_self}
 use Rattle.srt_protocol.specs.Sequence.{half, sequence_distance, sequence_before, sequence_further}
@@ -33,7 +32,7 @@ module _ (schedule : List Delivery) where
   pub record AtPlace (payloads : ℕ → List ℕ) (place : ℕ) (d : Data) : Type 0 where
     pub scheduled : Delivery
     pub rest : List Delivery
-    pub here : pass_to schedule place ≡ some (scheduled ∷ rest)
+    pub here : pass_to schedule place ≡ Some (scheduled ∷ rest)
     pub sequence : d.sequence ≡ scheduled.sequence
     pub count : d.count ≡ scheduled.count
     pub payload : payloads d.cell ≡ scheduled.payload
@@ -61,16 +60,16 @@ module _ (schedule : List Delivery) where
   -- the two premises, mark by mark
   abbrev pub FromSchedule : ℕ → List Mark → Type 0
   FromSchedule first log =
-      EachCollected (λ log p. first_base log ≡ some first) log
+      EachCollected (λ log p. first_base log ≡ Some first) log
       × EachCollected (λ log p. Near schedule (place_after log) (with_payload p.content (last_put log p.content.cell))) log
 
   pub from_schedule_of : (first : ℕ) (log : List Mark) → SetBefore first log → AllNear schedule log → FromSchedule first log
   from_schedule_of first log set_before near = (each_collected_of _ log set_before, each_collected_of _ log near)
 
   pub record Followed (first : ℕ) (x : Receive) (log : List Mark) : Type 0 where
-    pub based : All (λ (p : Packet). first_base log ≡ some first) x.pending
+    pub based : All (λ (p : Packet). first_base log ≡ Some first) x.pending
     pub held : All (OfContent (Ahead (last_put log) (place_after log))) x.pending
-    pub here : (rest : List Delivery) × (pass_to schedule (place_after log) ≡ some rest)
+    pub here : (rest : List Delivery) × (pass_to schedule (place_after log) ≡ Some rest)
     pub at_places : AtPlaces log
 
   module _ (first : ℕ) (runs : Consecutive first schedule) where
@@ -79,7 +78,7 @@ module _ (schedule : List Delivery) where
     Follows x log = Sums x log × (FromSchedule first log → Followed first x log)
 
     -- the base's number is that of its place
-    base_at : (o b : Option ℕ) (place base : ℕ) → o ≡ some first → Stands o b place → b ≡ some base → base ≡ sequence_further first place
+    base_at : (o b : Option ℕ) (place base : ℕ) → o ≡ Some first → Stands o b place → b ≡ Some base → base ≡ sequence_further first place
     base_at o b place base is h e = some_inj (sym e ∙ (subst (λ (z : Option ℕ). Stands z b place) is h).1)
 
     sequence_of_place : (payloads : ℕ → List ℕ) (place : ℕ) (d : Data) → AtPlace payloads place d
@@ -111,7 +110,7 @@ module _ (schedule : List Delivery) where
         ∙ before_places half first at place half_above_zero l u
 
     -- so one that is retained is not before the base
-    not_discarded_not_before : (p : Packet) (x : Receive) (base : ℕ) → next_receive_sequence x ≡ some base
+    not_discarded_not_before : (p : Packet) (x : Receive) (base : ℕ) → next_receive_sequence x ≡ Some base
         → is_discarded p x ≡ false
         → sequence_before (sequence_of p) base ≡ false
     unfolding is_discarded is_late if_some◌give◌otherwise◌
@@ -123,12 +122,12 @@ module _ (schedule : List Delivery) where
     AheadNow log p = Ahead (last_put log) (place_after log) p.content
 
     abbrev BasedNow : List Mark → Packet → Type 0
-    BasedNow log p = first_base log ≡ some first
+    BasedNow log p = first_base log ≡ Some first
 
     -- a base that is set keeps its first value
     still_based : (base : ℕ) (log : List Mark) (ps : List Packet) → All (BasedNow log) ps → All (BasedNow (base_set base ∷ log)) ps
     unfolding first_base or_else
-    still_based base log ps h = all_map (BasedNow log) (BasedNow (base_set base ∷ log)) (λ p e. ap (λ (o : Option ℕ). or_else o (some base)) e) ps h
+    still_based base log ps h = all_map (BasedNow log) (BasedNow (base_set base ∷ log)) (λ p e. ap (λ (o : Option ℕ). or_else o (Some base)) e) ps h
 
     follow_retained : (x : Receive) (log : List Mark) (p : Packet) → is_discarded p x ≡ false → Follows x log
         → FromSchedule first (collected p ∷ log)
@@ -143,7 +142,7 @@ module _ (schedule : List Delivery) where
           at_places = k.at_places;
         }
       where
-        based : next_receive_sequence x ≡ some (sequence_further first (place_after log))
+        based : next_receive_sequence x ≡ Some (sequence_further first (place_after log))
         based = (subst (λ (o : Option ℕ). Stands o (next_receive_sequence x) (place_after log)) from.0.0 h.0.stands).1
 
         ahead : Dec (from.1.0.place < place_after log) → AheadNow log p
@@ -155,8 +154,8 @@ module _ (schedule : List Delivery) where
         ahead (no l) = record { place = from.1.0.place; at = near_at (last_put log) (place_after log) p.content from.1.0; ahead = from.1.0.not_far_ahead; from = omega arith }
 
     follow_skipped : (x : Receive) (log : List Mark) (base : ℕ) (n : Packet) (tested : State) (time : ℕ)
-        → next_receive_sequence x ≡ some base
-        → nearest x.pending ≡ some n → Follows x log → FromSchedule first log
+        → next_receive_sequence x ≡ Some base
+        → nearest x.pending ≡ Some n → Follows x log → FromSchedule first log
         → Followed first (skip_to base (sequence_of n) x) (gap_skipped tested time (sequence_distance base (sequence_of n)) ∷ log)
     unfolding first_base total_delivered total_skipped last_put skip_to
     follow_skipped x log base n tested time e near h from =
@@ -187,7 +186,7 @@ module _ (schedule : List Delivery) where
         k : Followed first x log
         k = h.1 from
 
-        first_is : first_base log ≡ some first
+        first_is : first_base log ≡ Some first
         first_is = each_at (BasedNow log) (nearest x.pending) n near (nearest_all (BasedNow log) x.pending k.based)
 
         stands : base ≡ sequence_further first (place_after log)
@@ -219,8 +218,8 @@ module _ (schedule : List Delivery) where
         there : total_delivered log + (total_skipped log + sequence_distance base (sequence_of n)) ≡ an.place
         there = omega (arith, distance_of (last_put log) (place_after log) base n.content an stands, an.from)
 
-    follow_delivered : (x : Receive) (log : List Mark) (base : ℕ) (p : Packet) → next_receive_sequence x ≡ some base
-        → held_at base x.pending ≡ some p
+    follow_delivered : (x : Receive) (log : List Mark) (base : ℕ) (p : Packet) → next_receive_sequence x ≡ Some base
+        → held_at base x.pending ≡ Some p
         → Follows x log → FromSchedule first log → Followed first (pass_run base p x) (delivered p ∷ log)
     unfolding first_base total_delivered total_skipped last_put pass_run
     follow_delivered x log base p e found h from =
@@ -249,7 +248,7 @@ module _ (schedule : List Delivery) where
         k : Followed first x log
         k = h.1 from
 
-        first_is : first_base log ≡ some first
+        first_is : first_base log ≡ Some first
         first_is = each_at (BasedNow log) (held_at base x.pending) p found (held_at_all (BasedNow log) base x.pending k.based)
 
         stands : base ≡ sequence_further first (place_after log)
@@ -278,7 +277,7 @@ module _ (schedule : List Delivery) where
             (sequence_at_place first 0 schedule delivered_ahead.place delivered_ahead.at.scheduled
             delivered_ahead.at.rest runs delivered_ahead.at.here).1
 
-        there : pass_to schedule (total_delivered log + p.content.count + total_skipped log) ≡ some delivered_ahead.at.rest
+        there : pass_to schedule (total_delivered log + p.content.count + total_skipped log) ≡ Some delivered_ahead.at.rest
         there =
             ap (pass_to schedule) (omega (arith, at_base, delivered_ahead.at.count))
             ∙ pass_to_further schedule delivered_ahead.place delivered_ahead.at.scheduled.count

@@ -1,8 +1,7 @@
 -- Two gateways over one schedule. Once both stand at one place of it, counted unreduced, they deliver the same packets, one list a
 -- prefix of the other, each up to its next skip: with no skip the clerk gives what stands before him, from the front.
-use Rattle.std.specs.Prelude.{◌≡◌, refl, ◌⊎◌, List, [], ◌∷◌, ◌++◌, ℕ, ◌-◌, ◌<◌}
+use Rattle.std.specs.Prelude.{◌≡◌, refl, ◌⊎◌, List, [], ◌∷◌, ◌++◌, ℕ, ◌-◌, ◌<◌, None, Option, Some}
 use Rattle.std.proofs.Common.{sym, ap, ◌∙◌, subst, inl, inr, ⊎_elim, append_assoc, append-nil, arith}
-use Rattle.std.proofs.Math.Option.{Option, none, some}
 use Rattle.srt_group_model.specs.Legs.{largest_64}
 use Rattle.srt_group_model.specs.Tools.{if_some◌give◌otherwise◌}
 use Rattle.srt_group_model.specs.State.{State}
@@ -47,7 +46,7 @@ NoSkip known [] = Unit {0}
 NoSkip known (told ∷ more) = (told.skipped ≡ known) × NoSkip known more
 
 give_next_front : (ahead : List Delivery) (go_on : List Delivery → Option Went) (w : Went)
-    → ((xs : List Delivery) (v : Went) → go_on xs ≡ some v → Prefix v.gave xs) → give_next (some ahead) go_on ≡ some w → Prefix w.gave ahead
+    → ((xs : List Delivery) (v : Went) → go_on xs ≡ Some v → Prefix v.gave xs) → give_next (Some ahead) go_on ≡ Some w → Prefix w.gave ahead
 unfolding give_next if_some◌give◌otherwise◌
 give_next_front [] go_on w front e = none_some e
 give_next_front (x ∷ xs) go_on w front e =
@@ -60,15 +59,15 @@ give_next_front (x ∷ xs) go_on w front e =
     ))
   where
     cons_to : Option Went → Option Went
-    cons_to o = if_some o give (λ (v : Went). some record { gave = x ∷ v.gave; left = v.left }) otherwise none
+    cons_to o = if_some o give (λ (v : Went). Some record { gave = x ∷ v.gave; left = v.left }) otherwise None
 
 -- he gives what stands before him, from the front
 pub clerk_front : (ahead : List Delivery) (known : ℕ) (told : List Told) (w : Went) → NoSkip known told
-    → clerk ahead known told ≡ some w → Prefix w.gave ahead
+    → clerk ahead known told ≡ Some w → Prefix w.gave ahead
 unfolding clerk
 clerk_front ahead known [] w h e = (ahead, ap (λ (z : Went). z.gave ++ ahead) (sym (some_inj e)))
 clerk_front ahead known (told ∷ more) w h e =
-    if_elim (λ (o : Option Went). o ≡ some w → Prefix w.gave ahead) told.delivered _ _
+    if_elim (λ (o : Option Went). o ≡ Some w → Prefix w.gave ahead) told.delivered _ _
     (λ d f.
     give_next_front ahead (λ xs. clerk xs told.skipped more) w (λ xs v n. clerk_front xs told.skipped more v still n)
     (ap (λ (o : Option (List Delivery)). give_next o (λ xs. clerk xs told.skipped more))
@@ -137,7 +136,7 @@ module _ (schedule : List Delivery) (first : ℕ) where
   module _ (runs : Consecutive first schedule) where
     -- it stands at the front of the schedule from its place on
     gateway_front : (w : Gateway schedule first)
-        → (ahead : List Delivery) × (pass_to schedule (stands_at schedule first w) ≡ some ahead) × Prefix (delivers schedule first w) ahead
+        → (ahead : List Delivery) × (pass_to schedule (stands_at schedule first w) ≡ Some ahead) × Prefix (delivers schedule first w) ahead
     gateway_front w = (
       (k.kept.1 from_before).here.0,
       ap (pass_to schedule) same_place ∙ (k.kept.1 from_before).here.1,
@@ -192,7 +191,7 @@ module _ (schedule : List Delivery) (first : ℕ) where
             subst (Following schedule first runs reached) (append-nil log)
             (calls_following schedule first runs w.before (new w.making) [] (new_following schedule first runs w.making))
 
-        end : (left : List Delivery) × (pass_to schedule (place_after (log_after on reached ++ log)) ≡ some left)
+        end : (left : List Delivery) × (pass_to schedule (place_after (log_after on reached ++ log)) ≡ Some left)
         end = ((calls_following schedule first runs on reached log k).kept.1 from_on).here
 
         same_place : stands_at schedule first w ≡ place_after log

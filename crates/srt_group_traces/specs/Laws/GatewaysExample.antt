@@ -1,8 +1,7 @@
 -- Two gateways over the schedule of Example, and the fourth claim applied. Gateway a is the list of Example, after its first
 -- delivery; gateway b is a Backup group of one leg, with other calls, a send whose payload takes a cell, and no gap. Both stand
 -- at place 1. Up to its next skip a delivers one run, b three: one list is a prefix of the other.
-use Rattle.std.specs.Prelude.{◌≡◌, refl, ◌⊎◌, List, [], ◌∷◌, ◌++◌, ℕ, replicate, take, drop}
-use Rattle.std.proofs.Math.Option.{some}
+use Rattle.std.specs.Prelude.{◌≡◌, refl, ◌⊎◌, List, [], ◌∷◌, ◌++◌, ℕ, replicate, take, drop, Some}
 use Rattle.std.proofs.Common.{lit<}
 use Rattle.srt_protocol.specs.Cells.{overwritten, cell_size}
 use Rattle.srt_group_model.specs.Laws.State.{backup_mode, ordinary}
@@ -57,7 +56,7 @@ after_b =
     ∷ over cells_3 (call_queue_data 3 (content 103 1 0) (67 ∷ [])) ∷ over cells_4 (call_queue_data 3 (content 104 1 0) (68 ∷ []))
     ∷ over cells_5 (call_poll_data 0) ∷ over cells_5 (call_poll_data 0) ∷ over cells_5 (call_poll_data 0) ∷ []
 
-each_based_b : EachCollected (λ log p. first_base log ≡ some 100) (log_after (before_b ++ after_b) (new backup_group))
+each_based_b : EachCollected (λ log p. first_base log ≡ Some 100) (log_after (before_b ++ after_b) (new backup_group))
 unfolding definitions backup_group cells_0 cells_1 cells_2 cells_3 cells_4 cells_5 output sends before_b after_b do_call log_after first_base
 each_based_b = (refl, (refl, (refl, (refl, tt))))
 

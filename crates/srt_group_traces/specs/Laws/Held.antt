@@ -1,9 +1,8 @@
 -- Facts of the held packets: what an insertion, a search, the nearest and a run leave of them. Why the nearest is the right
 -- packet is the model's NearestLaw.
-use Rattle.std.specs.Prelude.{◌≡◌, refl, true, false, not, ℕ, ◌+◌, ◌≤◌, eqb}
+use Rattle.std.specs.Prelude.{◌≡◌, refl, true, false, not, ℕ, ◌+◌, ◌≤◌, eqb, None, Option, Some}
 use Rattle.std.proofs.Common.{sym, ap, ◌∙◌, arith}
 use mathlib.Core.List.{List, [], ◌∷◌}
-use Rattle.std.proofs.Math.Option.{Option, none, some}
 use Rattle.std.proofs.Math.Dec.{leb}
 use Rattle.srt_protocol.specs.Sequence.{half, sequence_distance}
 use Rattle.srt_group_model.specs.Tools.{if_true◌then◌else◌, such_that, first_such, All}
@@ -33,7 +32,7 @@ module _ (Q : Packet → Type 0) where
   unfolding nearest
   nearest_all ps h =
       if_some_elim (Each Q) (lowest ps) _ _ (λ low e.
-      each_or_else Q (lowest (such_that (λ p. leb (sequence_of low + half) (sequence_of p)) ps)) (some low)
+      each_or_else Q (lowest (such_that (λ p. leb (sequence_of low + half) (sequence_of p)) ps)) (Some low)
       (lowest_all _ (all_such_that Q _ ps h)) (each_at Q (lowest ps) low e (lowest_all ps h)))
       (λ e. tt)
 
@@ -55,24 +54,24 @@ held_at_sequence sequence ps = go (held_at sequence ps) (first_such_passes (has_
   where
     go : (o : Option Packet) → Each (λ (p : Packet). has_sequence sequence p ≡ true) o
         → Each (λ (p : Packet). sequence_of p ≡ sequence) o
-    go none h = tt
-    go (some p) h = eq_of (sequence_of p) sequence h
+    go None h = tt
+    go (Some p) h = eq_of (sequence_of p) sequence h
 
 -- ---- the nearest is the packet that is held at its sequence
 
-lowest_is_held : (ps : List Packet) → Each (λ (n : Packet). held_at (sequence_of n) ps ≡ some n) (lowest ps)
+lowest_is_held : (ps : List Packet) → Each (λ (n : Packet). held_at (sequence_of n) ps ≡ Some n) (lowest ps)
 unfolding lowest first_such
 lowest_is_held [] = tt
 lowest_is_held (p ∷ ps) =
-    if_some_elim (Each (λ (n : Packet). held_at (sequence_of n) (p ∷ ps) ≡ some n)) (lowest ps) _ _
+    if_some_elim (Each (λ (n : Packet). held_at (sequence_of n) (p ∷ ps) ≡ Some n)) (lowest ps) _ _
     (λ q e.
-    if_elim (λ (n : Packet). held_at (sequence_of n) (p ∷ ps) ≡ some n) (leb (sequence_of p) (sequence_of q)) _ _ (λ low. here)
+    if_elim (λ (n : Packet). held_at (sequence_of n) (p ∷ ps) ≡ Some n) (leb (sequence_of p) (sequence_of q)) _ _ (λ low. here)
     (λ low.
     when_false (eqb (sequence_of p) (sequence_of q)) _ _ (other q low)
-    ∙ each_at (λ (n : Packet). held_at (sequence_of n) ps ≡ some n) (lowest ps) q e (lowest_is_held ps)))
+    ∙ each_at (λ (n : Packet). held_at (sequence_of n) ps ≡ Some n) (lowest ps) q e (lowest_is_held ps)))
     (λ e. here)
   where
-    here : held_at (sequence_of p) (p ∷ ps) ≡ some p
+    here : held_at (sequence_of p) (p ∷ ps) ≡ Some p
     here = when_true (eqb (sequence_of p) (sequence_of p)) _ _ (eqb_yes (sequence_of p))
 
     other : (q : Packet) → leb (sequence_of p) (sequence_of q) ≡ false → eqb (sequence_of p) (sequence_of q) ≡ false
@@ -88,7 +87,7 @@ held_in_part bound sequence [] h = refl
 held_in_part bound sequence (p ∷ ps) h =
     if_elim (λ (l : List Packet). held_at sequence l ≡ held_at sequence (p ∷ ps)) (leb bound (sequence_of p)) _ _
     (λ e.
-    ap (λ (o : Option Packet). if_true eqb (sequence_of p) sequence then some p else o) (held_in_part bound sequence ps h))
+    ap (λ (o : Option Packet). if_true eqb (sequence_of p) sequence then Some p else o) (held_in_part bound sequence ps h))
     (λ e. held_in_part bound sequence ps h ∙ sym (when_false (eqb (sequence_of p) sequence) _ _ (other e)))
   where
     other : leb bound (sequence_of p) ≡ false → eqb (sequence_of p) sequence ≡ false
@@ -96,20 +95,20 @@ held_in_part bound sequence (p ∷ ps) h =
         by_test (eqb (sequence_of p) sequence)
         (λ e. absurd (omega (arith, gt_of bound (sequence_of p) low, eq_of (sequence_of p) sequence e))) (λ e. e)
 
-pub nearest_is_held : (ps : List Packet) (n : Packet) → nearest ps ≡ some n → held_at (sequence_of n) ps ≡ some n
+pub nearest_is_held : (ps : List Packet) (n : Packet) → nearest ps ≡ Some n → held_at (sequence_of n) ps ≡ Some n
 unfolding nearest
 nearest_is_held ps n near =
-    each_at (λ (q : Packet). held_at (sequence_of q) ps ≡ some q) (nearest ps) n near
-    (if_some_elim (Each (λ (q : Packet). held_at (sequence_of q) ps ≡ some q)) (lowest ps) _ _
+    each_at (λ (q : Packet). held_at (sequence_of q) ps ≡ Some q) (nearest ps) n near
+    (if_some_elim (Each (λ (q : Packet). held_at (sequence_of q) ps ≡ Some q)) (lowest ps) _ _
     (λ low e.
-    each_or_else (λ (q : Packet). held_at (sequence_of q) ps ≡ some q)
-    (lowest (such_that (λ p. leb (sequence_of low + half) (sequence_of p)) ps)) (some low)
+    each_or_else (λ (q : Packet). held_at (sequence_of q) ps ≡ Some q)
+    (lowest (such_that (λ p. leb (sequence_of low + half) (sequence_of p)) ps)) (Some low)
     (above (sequence_of low + half))
-    (each_at (λ (q : Packet). held_at (sequence_of q) ps ≡ some q) (lowest ps) low e (lowest_is_held ps)))
+    (each_at (λ (q : Packet). held_at (sequence_of q) ps ≡ Some q) (lowest ps) low e (lowest_is_held ps)))
     (λ e. tt))
   where
     above : (bound : ℕ)
-        → Each (λ (q : Packet). held_at (sequence_of q) ps ≡ some q) (lowest (such_that (λ p. leb bound (sequence_of p)) ps))
+        → Each (λ (q : Packet). held_at (sequence_of q) ps ≡ Some q) (lowest (such_that (λ p. leb bound (sequence_of p)) ps))
     above bound =
         each_both (lowest (such_that (λ p. leb bound (sequence_of p)) ps))
         (lowest_is_held (such_that (λ p. leb bound (sequence_of p)) ps))
@@ -119,8 +118,8 @@ nearest_is_held ps n near =
         (all_pass (λ p. leb bound (sequence_of p)) ps)))
       where
         each_both : (o : Option Packet)
-            → Each (λ (q : Packet). held_at (sequence_of q) (such_that (λ p. leb bound (sequence_of p)) ps) ≡ some q) o
+            → Each (λ (q : Packet). held_at (sequence_of q) (such_that (λ p. leb bound (sequence_of p)) ps) ≡ Some q) o
             → Each (λ (q : Packet). bound ≤ sequence_of q) o
-            → Each (λ (q : Packet). held_at (sequence_of q) ps ≡ some q) o
-        each_both none h k = tt
-        each_both (some q) h k = sym (held_in_part bound (sequence_of q) ps k) ∙ h
+            → Each (λ (q : Packet). held_at (sequence_of q) ps ≡ Some q) o
+        each_both None h k = tt
+        each_both (Some q) h k = sym (held_in_part bound (sequence_of q) ps k) ∙ h

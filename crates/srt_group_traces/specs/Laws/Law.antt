@@ -2,8 +2,7 @@
 -- packet is delivered, held packets are given to the group or retired, a payload is put into a free cell. A law says that an
 -- invariant of the receiving side and the marks survives each of them. CallWalk proves that it then survives every call and every
 -- list of calls: base arithmetic and the schedule are two such invariants.
-use Rattle.std.specs.Prelude.{◌≡◌, true, false, not, List, ◌∷◌, ℕ, eqb}
-use Rattle.std.proofs.Math.Option.{none, some}
+use Rattle.std.specs.Prelude.{◌≡◌, true, false, not, List, ◌∷◌, ℕ, eqb, None, Some}
 use Rattle.srt_protocol.specs.Sequence.{sequence_distance}
 use Rattle.srt_group_model.specs.Tools.{flagged, All}
 use Rattle.srt_group_model.specs.State.{Member, State, Receive, next_receive_sequence, with_base, with_pending}
@@ -64,18 +63,18 @@ module _ (P : Data → Type 0) (F : ℕ → Type 0) where
     pub record Law : Type 1 where
       pub collecting : CollectLaw
       -- a connected leg's first sequence sets the base
-      pub on_base_set : (x : Receive) (log : List Mark) (base : ℕ) → next_receive_sequence x ≡ none → F base → I x log
+      pub on_base_set : (x : Receive) (log : List Mark) (base : ℕ) → next_receive_sequence x ≡ None → F base → I x log
           → I (with_base base x) (base_set base ∷ log)
       -- the nearest packet sets it
-      pub on_nearest_sets : (x : Receive) (log : List Mark) (p : Packet) → next_receive_sequence x ≡ none
-          → nearest x.pending ≡ some p → I x log
+      pub on_nearest_sets : (x : Receive) (log : List Mark) (p : Packet) → next_receive_sequence x ≡ None
+          → nearest x.pending ≡ Some p → I x log
           → I (with_base (sequence_of p) x) (base_set (sequence_of p) ∷ log)
       pub on_skipped : (x : Receive) (log : List Mark) (base : ℕ) (p : Packet) (tested : State) (time : ℕ)
-          → next_receive_sequence x ≡ some base → nearest x.pending ≡ some p
+          → next_receive_sequence x ≡ Some base → nearest x.pending ≡ Some p
           → I x log
           → I (skip_to base (sequence_of p) x) (gap_skipped tested time (sequence_distance base (sequence_of p)) ∷ log)
-      pub on_delivered : (x : Receive) (log : List Mark) (base : ℕ) (p : Packet) → next_receive_sequence x ≡ some base
-          → held_at base x.pending ≡ some p
+      pub on_delivered : (x : Receive) (log : List Mark) (base : ℕ) (p : Packet) → next_receive_sequence x ≡ Some base
+          → held_at base x.pending ≡ Some p
           → I x log → I (pass_run base p x) (delivered p ∷ log)
 
     -- with a removal: held packets become the group's own, or are retired

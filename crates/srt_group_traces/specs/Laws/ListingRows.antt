@@ -1,11 +1,10 @@
 -- A group's rows and its calls, row by row: the row of a call prints what the call gives, the others are refused. From that: the clerk is
 -- told the same by the printed lines as by the calls, the packets printed are those delivered, and the store is one.
-use Rattle.std.specs.Prelude.{◌≡◌, refl, Bool, ◌&&◌, ℕ, ◌-◌, ◌≤◌, eqb, length}
+use Rattle.std.specs.Prelude.{◌≡◌, refl, Bool, ◌&&◌, ℕ, ◌-◌, ◌≤◌, eqb, length, None, Option, Some}
 use Rattle.std.proofs.Math.Path.{sym, ap, subst}
 use Rattle.std.proofs.Common.{◌∙◌, inl, inr, ⊎_elim, arith}
 use Rattle.std.proofs.Math.Bool.{true, false, not}
 use mathlib.Core.List.{List, [], ◌∷◌, ◌++◌}
-use Rattle.std.proofs.Math.Option.{Option, none, some}
 use Rattle.srt_group_model.specs.Tools.{if_true◌then◌else◌, if_some◌give◌otherwise◌, each, All}
 use Rattle.srt_group_model.specs.State.{State}
 use Rattle.srt_group_model.specs.Run.{Mark}
@@ -66,16 +65,16 @@ unpolled_skips_nothing asked s e =
 
 -- the columns of a packet, or of none
 abbrev sequence_in : Option Packet → ℕ
-sequence_in none = 0
-sequence_in (some p) = p.content.sequence
+sequence_in None = 0
+sequence_in (Some p) = p.content.sequence
 
 abbrev count_in : Option Packet → ℕ
-count_in none = 0
-count_in (some p) = p.content.count
+count_in None = 0
+count_in (Some p) = p.content.count
 
 -- a row that tells the clerk nothing: its call gave no packet and left the skipped count; or the row of an accepted poll
 data Says (asked : Asked) (s : State) (row : Row) : Type 0 where
-  nothing_told : is_accepted 5 row ≡ false → delivered_by (do_call asked s).answer ≡ none → skipped_in (do_call asked s).state ≡ skipped_in s → Says asked s row
+  nothing_told : is_accepted 5 row ≡ false → delivered_by (do_call asked s).answer ≡ None → skipped_in (do_call asked s).state ≡ skipped_in s → Says asked s row
   poll_told : (o : Option Packet) → delivered_by (do_call asked s).answer ≡ o → is_accepted 5 row ≡ true → column 3 row.output ≡ sequence_in o
       → column 4 row.output ≡ count_in o
       → column 5 row.output ≡ skipped_in (do_call asked s).state
@@ -110,7 +109,7 @@ module _ (verb : ℕ) (store : List ℕ) (call : Call) (s : State) where
   accepted_as n line = λ i. eqb (printed_verb i) n && eqb (printed_code i) 0
 
 -- a refused call gives no packet, and leaves the skipped count
-refused_gives_none : (asked : Asked) (s : State) → ((do_call asked s).code ≡ 0 → ⊥) → delivered_by (do_call asked s).answer ≡ none
+refused_gives_none : (asked : Asked) (s : State) → ((do_call asked s).code ≡ 0 → ⊥) → delivered_by (do_call asked s).answer ≡ None
 unfolding do_call perform with_bytes
 refused_gives_none asked s refused =
     by_option (delivered_by (step asked s).answer) (λ e. e)
@@ -129,18 +128,18 @@ poll_columns : (verb : ℕ) (store : List ℕ) (call : Call) (s : State) (line :
     → (do_call (asking store call) s).code ≡ 0 → (do_call (asking store call) s).answer ≡ data_polled o more
     → Says (asking store call) s (row_of verb store call s line)
 unfolding printed_by delivered_by columns if_true◌then◌else◌
-poll_columns verb store call s line none more accepted zero_code answer =
+poll_columns verb store call s line None more accepted zero_code answer =
     let r = do_call (asking store call) s in
-    let out : printed_by verb r ≡ verb ∷ 0 ∷ columns (data_polled none more) r.state =
+    let out : printed_by verb r ≡ verb ∷ 0 ∷ columns (data_polled None more) r.state =
     when_true (eqb r.code 0) _ _ (ap (λ (n : ℕ). eqb n 0) zero_code) ∙ ap (λ (a : Answer). verb ∷ 0 ∷ columns a r.state) answer in
-    poll_told none (ap delivered_by answer) accepted (ap (column 3) out) (ap (column 4) out) (ap (column 5) out)
-poll_columns verb store call s line (some p) more accepted zero_code answer =
+    poll_told None (ap delivered_by answer) accepted (ap (column 3) out) (ap (column 4) out) (ap (column 5) out)
+poll_columns verb store call s line (Some p) more accepted zero_code answer =
     let r = do_call (asking store call) s in
-    let out : printed_by verb r ≡ verb ∷ 0 ∷ columns (data_polled (some p) more) r.state =
+    let out : printed_by verb r ≡ verb ∷ 0 ∷ columns (data_polled (Some p) more) r.state =
     when_true (eqb r.code 0) _ _ (ap (λ (n : ℕ). eqb n 0) zero_code) ∙ ap (λ (a : Answer). verb ∷ 0 ∷ columns a r.state) answer in
-    poll_told (some p) (ap delivered_by answer) accepted (ap (column 3) out) (ap (column 4) out) (ap (column 5) out)
+    poll_told (Some p) (ap delivered_by answer) accepted (ap (column 3) out) (ap (column 4) out) (ap (column 5) out)
 
-says_by : (line : Line) (store : List ℕ) (call : Call) (s : State) → call_of line ≡ some call → (poll zero_code : Bool) → is_poll call ≡ poll
+says_by : (line : Line) (store : List ℕ) (call : Call) (s : State) → call_of line ≡ Some call → (poll zero_code : Bool) → is_poll call ≡ poll
     → eqb (do_call (asking store call) s).code 0 ≡ zero_code
     → Says (asking store call) s (row_of (column 0 line) store call s line)
 unfolding do_call perform with_bytes
@@ -161,7 +160,7 @@ says_by line store call s is true true poll code =
     poll_columns (column 0 line) store call s line answered.0 answered.1
     (accepted_as (column 0 line) store call s 5 line ∙ λ i. (sym (polls_by_verb line call is) ∙ poll) i && code i) accepted answered.2
 
-says : (line : Line) (store : List ℕ) (call : Call) (s : State) → call_of line ≡ some call → Says (asking store call) s (row_of (column 0 line) store call s line)
+says : (line : Line) (store : List ℕ) (call : Call) (s : State) → call_of line ≡ Some call → Says (asking store call) s (row_of (column 0 line) store call s line)
 says line store call s is = says_by line store call s is (is_poll call) _ refl refl
 
 -- ---- rows and calls, one by one
@@ -172,7 +171,7 @@ pub data Runs : List ℕ → State → List Row → List Asked → Type 0 where
   passes : {store : List ℕ} {s : State} {rows : List Row} {calls : List Asked} (row : Row) → eqb (column 1 row.output) 0 ≡ false
       → Runs store s rows calls
       → Runs store s (row ∷ rows) calls
-  goes_on : {store : List ℕ} {s : State} {rows : List Row} {calls : List Asked} (line : Line) (call : Call) → call_of line ≡ some call
+  goes_on : {store : List ℕ} {s : State} {rows : List Row} {calls : List Asked} (line : Line) (call : Call) → call_of line ≡ Some call
       → Runs (do_call (asking store call) s).lent.store (do_call (asking store call) s).state rows calls
       → Runs store s (row_of (column 0 line) store call s line ∷ rows) (asking store call ∷ calls)
 
@@ -197,28 +196,28 @@ abbrev rows_after : Line → List Line → ToldLine → List Row
 rows_after line lines told = record { input = line; output = told.line } ∷ rows_from told.group lines
 
 module _ (line : Line) (lines : List Line) (store : List ℕ) (s : State) where
-  run_passed : call_of line ≡ none → OneGroup (rows_after line lines (tell (column 0 line) line (some s)))
-      → (OneGroup (rows_from (some s) lines) → Runs store s (rows_from (some s) lines) (calls_from store s lines))
-      → Runs store s (rows_after line lines (tell (column 0 line) line (some s))) (calls_after store s lines (call_of line))
+  run_passed : call_of line ≡ None → OneGroup (rows_after line lines (tell (column 0 line) line (Some s)))
+      → (OneGroup (rows_from (Some s) lines) → Runs store s (rows_from (Some s) lines) (calls_from store s lines))
+      → Runs store s (rows_after line lines (tell (column 0 line) line (Some s))) (calls_after store s lines (call_of line))
   unfolding if_some◌give◌otherwise◌
   run_passed e one again =
-      let told : ToldLine = tell (column 0 line) line (some s) in
+      let told : ToldLine = tell (column 0 line) line (Some s) in
       let stays : Passes s told = no_call_passes line s e one.0 in
       subst (λ (o : Option Call). Runs store s (rows_after line lines told) (calls_after store s lines o)) (sym e)
       (passes _ stays.refused
       (subst (λ (g : Option State). Runs store s (rows_from g lines) (calls_from store s lines)) (sym stays.group)
       (again (subst (λ (g : Option State). OneGroup (rows_from g lines)) stays.group one.1))))
 
-  run_called : (call : Call) → length store ≡ store_length → call_of line ≡ some call → OneGroup (rows_after line lines (tell (column 0 line) line (some s)))
-      → (OneGroup (rows_from (some (do_call (asking store call) s).state) lines)
-      → Runs (do_call (asking store call) s).lent.store (do_call (asking store call) s).state (rows_from (some (do_call (asking store call) s).state) lines)
+  run_called : (call : Call) → length store ≡ store_length → call_of line ≡ Some call → OneGroup (rows_after line lines (tell (column 0 line) line (Some s)))
+      → (OneGroup (rows_from (Some (do_call (asking store call) s).state) lines)
+      → Runs (do_call (asking store call) s).lent.store (do_call (asking store call) s).state (rows_from (Some (do_call (asking store call) s).state) lines)
       (calls_from (do_call (asking store call) s).lent.store (do_call (asking store call) s).state lines))
-      → Runs store s (rows_after line lines (tell (column 0 line) line (some s))) (calls_after store s lines (call_of line))
+      → Runs store s (rows_after line lines (tell (column 0 line) line (Some s))) (calls_after store s lines (call_of line))
   unfolding if_some◌give◌otherwise◌
   run_called call long e one again =
       let is = line_is_call line call store s long e in
-      subst (λ (o : Option Call). Runs store s (rows_after line lines (tell (column 0 line) line (some s))) (calls_after store s lines o)) (sym e)
-      (subst (λ (told : ToldLine). Runs store s (rows_after line lines told) (calls_after store s lines (some call))) (sym is)
+      subst (λ (o : Option Call). Runs store s (rows_after line lines (tell (column 0 line) line (Some s))) (calls_after store s lines o)) (sym e)
+      (subst (λ (told : ToldLine). Runs store s (rows_after line lines told) (calls_after store s lines (Some call))) (sym is)
       (goes_on line call e (again (subst (λ (told : ToldLine). OneGroup (rows_after line lines told)) is one).1)))
 
 lent_store : (store : List ℕ) → (lending store).store ≡ store
@@ -228,8 +227,8 @@ lent_store store = refl
 pub store_stays_long : (store : List ℕ) (call : Call) (s : State) → length store ≡ store_length → length (do_call (asking store call) s).lent.store ≡ store_length
 store_stays_long store call s long = store_as_long (asking store call) s ∙ ap length (lent_store store) ∙ long
 
-pub runs : (lines : List Line) (store : List ℕ) (s : State) → length store ≡ store_length → OneGroup (rows_from (some s) lines)
-    → Runs store s (rows_from (some s) lines) (calls_from store s lines)
+pub runs : (lines : List Line) (store : List ℕ) (s : State) → length store ≡ store_length → OneGroup (rows_from (Some s) lines)
+    → Runs store s (rows_from (Some s) lines) (calls_from store s lines)
 unfolding beside replay_from calls_from
 runs [] store s long one = ends
 runs (line ∷ lines) store s long one =
@@ -319,7 +318,7 @@ module _ (asked : Asked) (s : State) (row : Row) (rows : List Row) (calls : List
   abbrev after : State
   after = (do_call asked s).state
 
-  reads_nothing : is_accepted 5 row ≡ false → delivered_by (do_call asked s).answer ≡ none → skipped_in after ≡ skipped_in s
+  reads_nothing : is_accepted 5 row ≡ false → delivered_by (do_call asked s).answer ≡ None → skipped_in after ≡ skipped_in s
       → (Counted (deliveries calls after) → Reads after rows calls)
       → Counted (deliveries (asked ∷ calls) s)
       → Reads s (row ∷ rows) (asked ∷ calls)
@@ -362,7 +361,7 @@ module _ (asked : Asked) (s : State) (row : Row) (rows : List Row) (calls : List
         last = ap (last_told (skipped_in s)) told ∙ h.last;
       }
 
-  prints_none : is_accepted 5 row ≡ true → delivered_by (do_call asked s).answer ≡ none → column 4 row.output ≡ 0
+  prints_none : is_accepted 5 row ≡ true → delivered_by (do_call asked s).answer ≡ None → column 4 row.output ≡ 0
       → (prints_packet row ≡ (told_after asked s).delivered) × (packets_of (row ∷ rows) ≡ each heading (given_by (do_call asked s)) ++ packets_of rows)
   unfolding given_by each if_some◌give◌otherwise◌
   prints_none e none_given no_count =
@@ -373,7 +372,7 @@ module _ (asked : Asked) (s : State) (row : Row) (rows : List Row) (calls : List
             (ap (λ (o : Option Packet). each heading (if_some o give (λ p. delivery_of p (do_call asked s).lent.output ∷ []) otherwise []) ++ packets_of rows) none_given),
       )
 
-  prints_one : (p : Packet) → is_accepted 5 row ≡ true → delivered_by (do_call asked s).answer ≡ some p → column 3 row.output ≡ p.content.sequence
+  prints_one : (p : Packet) → is_accepted 5 row ≡ true → delivered_by (do_call asked s).answer ≡ Some p → column 3 row.output ≡ p.content.sequence
       → column 4 row.output ≡ p.content.count
       → Counted (deliveries (asked ∷ calls) s)
       → (prints_packet row ≡ (told_after asked s).delivered) × (packets_of (row ∷ rows) ≡ each heading (given_by (do_call asked s)) ++ packets_of rows)
@@ -391,9 +390,9 @@ module _ (asked : Asked) (s : State) (row : Row) (rows : List Row) (calls : List
   reads_call : Says asked s row → (Counted (deliveries calls after) → Reads after rows calls) → Counted (deliveries (asked ∷ calls) s)
       → Reads s (row ∷ rows) (asked ∷ calls)
   reads_call (nothing_told e none_given same) again counted = reads_nothing e none_given same again counted
-  reads_call (poll_told none given e sequence count skipped) again counted =
+  reads_call (poll_told None given e sequence count skipped) again counted =
       let p = prints_none e given count in reads_poll e skipped p.0 p.1 again counted
-  reads_call (poll_told (some x) given e sequence count skipped) again counted =
+  reads_call (poll_told (Some x) given e sequence count skipped) again counted =
       let p = prints_one x e given sequence count counted in reads_poll e skipped p.0 p.1 again counted
 
 pub runs_read : {store : List ℕ} {s : State} {rows : List Row} {calls : List Asked} → Runs store s rows calls → Counted (deliveries calls s) → Reads s rows calls

@@ -1,10 +1,9 @@
 -- Demand 3 on a listing: the proof of specs/Listings.antt's record. A group's rows in a listing are what its lines replay from a new
 -- group; their calls and they go hand in hand (ListingRows); and demand 3 holds of the calls.
-use Rattle.std.specs.Prelude.{◌≡◌, refl, ◌⊎◌, true, false, ◌&&◌, ℕ, zero, suc, ◌+◌, eqb, length}
+use Rattle.std.specs.Prelude.{◌≡◌, refl, ◌⊎◌, true, false, ◌&&◌, ℕ, zero, suc, ◌+◌, eqb, length, None, Option, Some}
 use Rattle.std.proofs.Common.{sym, ◌∙◌, inl, inr, ⊎_elim, arith}
 use Rattle.std.proofs.Math.Path.{ap, subst}
 use mathlib.Core.List.{List, [], ◌∷◌, ◌++◌, append_assoc}
-use Rattle.std.proofs.Math.Option.{Option, none, some}
 use Rattle.std.proofs.lemmas.List.{length-replicate}
 use Rattle.srt_protocol.specs.Sequence.{half}
 use Rattle.srt_group_model.specs.Tools.{if_some◌give◌otherwise◌, at_place, each, total, All}
@@ -70,7 +69,7 @@ row_told line told = record { input = line; output = told.line }
 
 -- what is told of a line, if it prints an accepted verb 1
 abbrev Makes : Line → ToldLine → Type 0
-Makes line told = is_accepted 1 (row_told line told) ≡ true → told.group ≡ some (new (making_by line))
+Makes line told = is_accepted 1 (row_told line told) ≡ true → told.group ≡ Some (new (making_by line))
 
 new_makes : (line : Line) (s : Option State) → Makes line (tell_new line s)
 unfolding tell_new
@@ -83,8 +82,8 @@ printed_first verb step = if_elim (λ (out : List ℕ). column 0 out ≡ verb) (
 
 other_makes : (line : Line) (verb : ℕ) (f : Line → State → Step) (s : Option State) → column 0 line ≡ suc (suc verb) → Makes line (tell_verb f line s)
 unfolding tell_verb
-other_makes line verb f none e h = not_both (and_right (eqb (column 0 line) 1) _ h) refl
-other_makes line verb f (some s) e h =
+other_makes line verb f None e h = not_both (and_right (eqb (column 0 line) 1) _ h) refl
+other_makes line verb f (Some s) e h =
     let first = column 0 (printed (column 0 line) (f line s)) in
     let is_one : first ≡ 1 = eq_of first 1 (and_left (eqb first 1) _ h) in
     absurd (omega (arith, e, printed_first (column 0 line) (f line s), is_one))
@@ -104,25 +103,25 @@ blank_long = length-replicate {A = ℕ} store_length 0
 
 -- the rows that follow a row which makes a group are replayed from it
 from_new : (lines : List Line) (s : Option State) (making : Row) (rows after : List Row) → making ∷ (rows ++ after) ≡ rows_from s lines → is_accepted 1 making ≡ true
-    → rows ≡ rows_from (some (new (making_by making.input))) (inputs rows)
+    → rows ≡ rows_from (Some (new (making_by making.input))) (inputs rows)
 unfolding beside replay_from
 from_new [] s making rows after e made = absurd (cons_none making (rows ++ after) (sym e))
 from_new (line ∷ lines) s making rows after e made =
     let told : ToldLine = tell (column 0 line) line s in
     let same : row_told line told ≡ making = cc in
     let more : rows_from told.group lines ≡ rows ++ after = cc in
-    let group : told.group ≡ some (new (making_by line)) =
+    let group : told.group ≡ Some (new (making_by line)) =
     makes_by line s (column 0 line) refl (ap (is_accepted 1) same ∙ made) in
     let here : rows ≡ rows_from told.group (inputs rows) = (cut_rows lines told.group rows after more).front in
     here
-    ∙ ap (λ (g : Option State). rows_from g (inputs rows)) (group ∙ ap (λ (r : Row). some (new (making_by r.input))) same)
+    ∙ ap (λ (g : Option State). rows_from g (inputs rows)) (group ∙ ap (λ (r : Row). Some (new (making_by r.input))) same)
 
 module _ {listing : List Line} (part : Part listing) where
-  rows_replayed : part.rows ≡ rows_from (some (new (making_of part))) (inputs part.rows)
+  rows_replayed : part.rows ≡ rows_from (Some (new (making_of part))) (inputs part.rows)
   unfolding replay
   rows_replayed =
-      let c : RowsCut none part.before (part.making ∷ (part.rows ++ part.after)) =
-      cut_rows listing none part.before (part.making ∷ (part.rows ++ part.after)) part.is in
+      let c : RowsCut None part.before (part.making ∷ (part.rows ++ part.after)) =
+      cut_rows listing None part.before (part.making ∷ (part.rows ++ part.after)) part.is in
       from_new c.lines c.group part.making part.rows part.after c.back part.made
 
   part_runs : Runs blank_store (new (making_of part)) part.rows (calls_of part)
@@ -162,8 +161,8 @@ module _ (schedule : List Delivery) (first : ℕ) (runs_on : Consecutive first s
   by_clerk fair =
       let g : Making = making_of part in
       let calls : List Asked = calls_of part in
-      let claim : (left : List Delivery) × (pass_to schedule (place_of_base g calls) ≡ some left)
-      × (clerk schedule 0 (told_by calls (new g)) ≡ some record { gave = deliveries calls (new g); left = left }) =
+      let claim : (left : List Delivery) × (pass_to schedule (place_of_base g calls) ≡ Some left)
+      × (clerk schedule 0 (told_by calls (new g)) ≡ Some record { gave = deliveries calls (new g); left = left }) =
       schedule_claim schedule first runs_on g calls (fair_calls fair)
       in
       let reads : Reads (new g) part.rows calls =
@@ -190,7 +189,7 @@ no_rows ends = refl
 addition_sets : {store : List ℕ} {s : State} (addition : Row) {calls : List Asked} → Runs store s (addition ∷ []) calls → is_accepted 2 addition ≡ true
     → column 3 addition.input ≡ connected
     → eqb (column 5 addition.input) no_sequence ≡ false
-    → next_receive_sequence (state_after calls s).receive ≡ none
+    → next_receive_sequence (state_after calls s).receive ≡ None
     → ⊥
 unfolding state_after do_call
 addition_sets _ (passes row refused more) added connects named unset = not_both (and_right (eqb (column 0 row.output) 2) _ added) refused
@@ -198,7 +197,7 @@ addition_sets _ (goes_on {store = store} {s = s} line call is more) added connec
     let both : (eqb (column 0 line) 2 && eqb (do_call (asking store call) s).code 0) ≡ true = sym (accepted_as (column 0 line) store call s 2 line) ∙ added in
     let adds : call ≡ call_add_member (column 1 line) (column 2 line) (leg_of_line line) [] =
     some_inj (sym is ∙ addition_of_verb line (eq_of (column 0 line) 2 (and_left (eqb (column 0 line) 2) _ both))) in
-    subst (λ (c : Call). (perform c (lending store) s).code ≡ 0 → next_receive_sequence (perform c (lending store) s).state.receive ≡ none → ⊥) (sym adds)
+    subst (λ (c : Call). (perform c (lending store) s).code ≡ 0 → next_receive_sequence (perform c (lending store) s).state.receive ≡ None → ⊥) (sym adds)
     (addition_sets_base (lending store) (column 1 line) (column 2 line) (leg_of_line line) [] s (ap (λ (n : ℕ). eqb n 1) connects) named)
     (eq_of (do_call (asking store call) s).code 0 (and_right (eqb (column 0 line) 2) _ both)) (ap (λ (t : State). next_receive_sequence t.receive) (sym (no_rows more)) ∙ unset)
 
@@ -237,7 +236,7 @@ module _ (schedule : List Delivery) (first : ℕ) (runs_on : Consecutive first s
       by_test (eqb (column 5 h.addition.input) no_sequence)
       (λ e. absurd (omega (arith, h.fits, h.starts, eq_of (column 5 h.addition.input) no_sequence e))) (λ e. e)
 
-  set : next_receive_sequence (state_after cut.front (new (making_of part))).receive ≡ some first
+  set : next_receive_sequence (state_after cut.front (new (making_of part))).receive ≡ Some first
   set =
       by_option (next_receive_sequence (state_after cut.front (new (making_of part))).receive)
       (λ e.
@@ -245,7 +244,7 @@ module _ (schedule : List Delivery) (first : ℕ) (runs_on : Consecutive first s
       (addition_sets h.addition last_cut.second_part h.added h.connects is_sequence
       (ap (λ (t : State). next_receive_sequence t.receive)
       (sym (ap (λ (cs : List Asked). state_after cs (new (making_of part))) last_cut.is ∙ state_after_both last_cut.front last_cut.back (new (making_of part)))) ∙ e)))
-      (λ base e. e ∙ ap {B = Option ℕ} some (base_is_first first (making_of part) cut.front base named no_data e))
+      (λ base e. e ∙ ap {B = Option ℕ} Some (base_is_first first (making_of part) cut.front base named no_data e))
 
   pub short_is_fair : FairPart schedule first part
   short_is_fair =
@@ -269,8 +268,8 @@ module _ (schedule : List Delivery) (first : ℕ) (runs_on : Consecutive first s
 module _ (line : Line) (lines : List Line) (store : List ℕ) (s : State) where
   abbrev LeftBy : Option Call → Type 0
   LeftBy o =
-      group_after (tell (column 0 line) line (some s)).group lines
-      ≡ some
+      group_after (tell (column 0 line) line (Some s)).group lines
+      ≡ Some
       (state_after
       (if_some o
       give
@@ -278,23 +277,23 @@ module _ (line : Line) (lines : List Line) (store : List ℕ) (s : State) where
       otherwise calls_from store s lines)
       s)
 
-  left_passed : call_of line ≡ none → is_accepted 1 (row_told line (tell (column 0 line) line (some s))) ≡ false
-      → group_after (some s) lines ≡ some (state_after (calls_from store s lines) s)
+  left_passed : call_of line ≡ None → is_accepted 1 (row_told line (tell (column 0 line) line (Some s))) ≡ false
+      → group_after (Some s) lines ≡ Some (state_after (calls_from store s lines) s)
       → LeftBy (call_of line)
   unfolding if_some◌give◌otherwise◌
   left_passed e made again =
       subst LeftBy (sym e) (ap (λ (g : Option State). group_after g lines) (no_call_passes line s e made).group ∙ again)
 
-  left_called : (call : Call) → length store ≡ store_length → call_of line ≡ some call
-      → group_after (some (do_call (asking store call) s).state) lines
-      ≡ some (state_after (calls_from (do_call (asking store call) s).lent.store (do_call (asking store call) s).state lines) (do_call (asking store call) s).state)
+  left_called : (call : Call) → length store ≡ store_length → call_of line ≡ Some call
+      → group_after (Some (do_call (asking store call) s).state) lines
+      ≡ Some (state_after (calls_from (do_call (asking store call) s).lent.store (do_call (asking store call) s).state lines) (do_call (asking store call) s).state)
       → LeftBy (call_of line)
   unfolding if_some◌give◌otherwise◌ state_after
   left_called call long e again =
       subst LeftBy (sym e) (ap (λ (told : ToldLine). group_after told.group lines) (line_is_call line call store s long e) ∙ again)
 
-lines_leave : (lines : List Line) (store : List ℕ) (s : State) → length store ≡ store_length → OneGroup (rows_from (some s) lines)
-    → group_after (some s) lines ≡ some (state_after (calls_from store s lines) s)
+lines_leave : (lines : List Line) (store : List ℕ) (s : State) → length store ≡ store_length → OneGroup (rows_from (Some s) lines)
+    → group_after (Some s) lines ≡ Some (state_after (calls_from store s lines) s)
 unfolding beside replay_from calls_from group_after state_after
 lines_leave [] store s long one = refl
 lines_leave (line ∷ lines) store s long one =
@@ -362,7 +361,7 @@ rows_whole (line ∷ lines) s =
 -- ---- the claims
 
 rows_are_calls : (listing : List Line) (part : Part listing)
-    → group_after (some (new (making_of part))) (inputs part.rows) ≡ some (reached (making_of part) (calls_of part))
+    → group_after (Some (new (making_of part))) (inputs part.rows) ≡ Some (reached (making_of part) (calls_of part))
 rows_are_calls listing part =
     lines_leave (inputs part.rows) blank_store (new (making_of part)) blank_long (subst OneGroup (rows_replayed part) part.one_group)
 
@@ -370,7 +369,7 @@ pub listing_theorem : ListingTheorem
 unfolding replay
 listing_theorem =
     record {
-      rows = λ listing. rows_whole listing none;
+      rows = λ listing. rows_whole listing None;
       covers = covers;
       line_is_call = line_is_call;
       rows_are_calls = rows_are_calls;

@@ -1,9 +1,8 @@
 -- What is proved of the definitions in specs/Port.antt, with what the proofs need.
-use Rattle.std.specs.Prelude.{◌≡◌, Bool, true, false, ◌⊎◌, eqb}
+use Rattle.std.specs.Prelude.{◌≡◌, Bool, true, false, ◌⊎◌, eqb, None, Option, Some}
 use Rattle.std.proofs.Math.Path.{refl, sym, ap, subst, fun_ext}
 use Rattle.std.proofs.Common.{◌∙◌, add_comm, mod-eq_of_lt, arith}
 use mathlib.Core.List.{List, [], ◌∷◌, ◌++◌, append_assoc, append-nil}
-use Rattle.std.proofs.Math.Option.{Option, none, some}
 use Prim.Native.Nat.{ℕ, ◌+◌, ◌-◌, ◌%◌, ◌<◌}
 use Rattle.srt_protocol.specs.Circle.{further}
 use Rattle.srt_protocol.specs.Laws.Circle.{distance_up, distance_further}
@@ -170,18 +169,18 @@ shown_clerk_is s (t ∷ steps) h =
 -- The delivered list that a port shows is the clerk's, who is told what the port shows; and he stands at the base's place.
 pub port_has_clerks_list : (schedule : List Delivery) (first : ℕ) → Consecutive first schedule → (g : Making) (steps : List Taken)
     → Performed (new g) steps → Fair schedule first g (calls_of steps)
-    → (left : List Delivery) × (pass_to schedule (place_shown g steps) ≡ some left)
-    × (clerk schedule 0 (shown_told (all_shown steps)) ≡ some record { gave = shown_deliveries (all_shown steps); left = left })
+    → (left : List Delivery) × (pass_to schedule (place_shown g steps) ≡ Some left)
+    × (clerk schedule 0 (shown_told (all_shown steps)) ≡ Some record { gave = shown_deliveries (all_shown steps); left = left })
 unfolding new
 port_has_clerks_list schedule first runs g steps h fair =
-    let w : (left : List Delivery) × (pass_to schedule (place_of_base g (calls_of steps)) ≡ some left)
-    × (clerk schedule 0 (told_by (calls_of steps) (new g)) ≡ some record { gave = deliveries (calls_of steps) (new g); left = left }) =
+    let w : (left : List Delivery) × (pass_to schedule (place_of_base g (calls_of steps)) ≡ Some left)
+    × (clerk schedule 0 (told_by (calls_of steps) (new g)) ≡ Some record { gave = deliveries (calls_of steps) (new g); left = left }) =
     history_theorem.schedule schedule first runs g (calls_of steps) fair
     in (
       w.0,
       ap (pass_to schedule) (place_shown_is g steps h) ∙ w.1,
       shown_clerk_is (new g) steps h schedule ∙ w.2
-          ∙ ap (λ (l : List Delivery). some record { gave = l; left = w.0 }) (sym (shown_deliveries_are (new g) steps h)),
+          ∙ ap (λ (l : List Delivery). Some record { gave = l; left = w.0 }) (sym (shown_deliveries_are (new g) steps h)),
     )
 
 -- ---- the base
@@ -193,17 +192,17 @@ back_again first n fits =
     ap (λ (z : ℕ). sequence_distance n (z % (half + half))) (add_comm first n) ∙ distance_further half n first half_above_zero
     ∙ mod-eq_of_lt fits
 
-first_here : (x : Shown) (xs : List Shown) (base : ℕ) → Fits base → next_receive_sequence x.state.receive ≡ some base
-    → shown_delivery x ≡ [] → skipped_in x.state ≡ 0 → first_shown (x ∷ xs) ≡ some base
+first_here : (x : Shown) (xs : List Shown) (base : ℕ) → Fits base → next_receive_sequence x.state.receive ≡ Some base
+    → shown_delivery x ≡ [] → skipped_in x.state ≡ 0 → first_shown (x ∷ xs) ≡ Some base
 unfolding first_shown if_some◌give◌otherwise◌ counts_of
 first_here x xs base fits e silent unskipped =
     ap
     (λ (o : Option ℕ).
     if_some o
-    give (λ base. some (less_moved x base))
+    give (λ base. Some (less_moved x base))
     otherwise first_shown xs)
     e
-    ∙ ap (λ (n : ℕ). some (sequence_distance n base)) none_yet ∙ ap {B = Option ℕ} some from_zero
+    ∙ ap (λ (n : ℕ). Some (sequence_distance n base)) none_yet ∙ ap {B = Option ℕ} Some from_zero
   where
     from_zero : sequence_distance 0 base ≡ base
     from_zero = omega (arith, distance_up half 0 base (omega arith) fits)
@@ -211,14 +210,14 @@ first_here x xs base fits e silent unskipped =
     none_yet : counts_of (shown_delivery x) + skipped_in x.state ≡ 0
     none_yet = omega (arith, ap counts_of silent, unskipped)
 
-first_later : (x : Shown) (xs : List Shown) → next_receive_sequence x.state.receive ≡ none
+first_later : (x : Shown) (xs : List Shown) → next_receive_sequence x.state.receive ≡ None
     → first_shown (x ∷ xs) ≡ first_shown xs
 unfolding first_shown if_some◌give◌otherwise◌
 first_later x xs e =
     ap
     (λ (o : Option ℕ).
     if_some o
-    give (λ base. some (less_moved x base))
+    give (λ base. Some (less_moved x base))
     otherwise first_shown xs)
     e
 
@@ -253,8 +252,8 @@ module _ (g : Making) where
   performed_on before call = sym (state_after_both before (call ∷ []) (new g))
 
   -- the first value of the base of a list is that of a longer one, once it is set
-  first_of_more : (before more : List Asked) (first : ℕ) → first_base (log_after before (new g)) ≡ some first
-      → first_base (log_after (before ++ more) (new g)) ≡ some first
+  first_of_more : (before more : List Asked) (first : ℕ) → first_base (log_after before (new g)) ≡ Some first
+      → first_base (log_after (before ++ more) (new g)) ≡ Some first
   first_of_more before more first e =
       ap first_base (log_after_both before more (new g))
       ∙ first_base_stays (log_after more (state_after before (new g))) (log_after before (new g)) first e
@@ -273,32 +272,32 @@ module _ (g : Making) where
 
   -- the first step that shows a base
   first_of_step : (before : List Asked) (call : Asked) (base : ℕ)
-      → next_receive_sequence (state_after before (new g)).receive ≡ none
-      → next_receive_sequence (do_call call (state_after before (new g))).state.receive ≡ some base
+      → next_receive_sequence (state_after before (new g)).receive ≡ None
+      → next_receive_sequence (do_call call (state_after before (new g))).state.receive ≡ Some base
       → total_skipped (log_after (before ++ (call ∷ [])) (new g)) < largest_64
       → first_base (log_after (before ++ (call ∷ [])) (new g))
-      ≡ some
+      ≡ Some
       (sequence_distance
       (counts_of (shown_delivery (shows (do_call call (state_after before (new g)))))
       + skipped_in (do_call call (state_after before (new g))).state) base)
   unfolding deliveries state_after counts_of
   first_of_step before call base unset set below =
-      let w : (first : ℕ) × (first_base (log_after (before ++ (call ∷ [])) (new g)) ≡ some first)
+      let w : (first : ℕ) × (first_base (log_after (before ++ (call ∷ [])) (new g)) ≡ Some first)
       × (base ≡ sequence_further first (place_after (log_after (before ++ (call ∷ [])) (new g)))) =
       based_has_first g (before ++ (call ∷ [])) base
       (ap (λ (x : State). next_receive_sequence x.receive) (state_after_both before (call ∷ []) (new g)) ∙ set)
       in
       w.1
-      ∙ ap {B = Option ℕ} some
+      ∙ ap {B = Option ℕ} Some
       (sym
       (ap (sequence_distance _) w.2
       ∙ ap (λ (n : ℕ). sequence_distance n (sequence_further w.0 (place_after (log_after (before ++ (call ∷ [])) (new g))))) place
       ∙ back_again w.0 (place_after (log_after (before ++ (call ∷ [])) (new g))) (first_fits (first_base (log_after (before ++ (call ∷ [])) (new g))) _ _ w.0 w.1
       (sums_after g (before ++ (call ∷ []))).stands)))
     where
-      first_fits : (o b : Option ℕ) (n first : ℕ) → o ≡ some first → Stands o b n → Fits first
-      first_fits none b n first e h = none_some e
-      first_fits (some f) b n first e h = subst Fits (some_inj e) h.0
+      first_fits : (o b : Option ℕ) (n first : ℕ) → o ≡ Some first → Stands o b n → Fits first
+      first_fits None b n first e h = none_some e
+      first_fits (Some f) b n first e h = subst Fits (some_inj e) h.0
 
       place : counts_of (shown_delivery (shows (do_call call (state_after before (new g)))))
           + skipped_in (do_call call (state_after before (new g))).state
@@ -317,7 +316,7 @@ module _ (g : Making) where
             (unbased_is_still g before unset).1,
           )
 
-  first_shown_from : (before : List Asked) → next_receive_sequence (state_after before (new g)).receive ≡ none
+  first_shown_from : (before : List Asked) → next_receive_sequence (state_after before (new g)).receive ≡ None
       → (steps : List Taken) → Performed (state_after before (new g)) steps
       → skipped_in (state_after (before ++ calls_of steps) (new g)) < largest_64
       → first_shown (all_shown steps) ≡ first_base (log_after (before ++ calls_of steps) (new g))
@@ -354,7 +353,7 @@ module _ (g : Making) where
       first_or : Shown → Option ℕ → Option ℕ
       first_or x o =
           if_some o
-          give (λ base. some (less_moved x base))
+          give (λ base. Some (less_moved x base))
           otherwise first_shown (all_shown steps)
 
       regroup : (call : Asked) → (before ++ (call ∷ [])) ++ calls_of steps ≡ before ++ (call ∷ calls_of steps)
@@ -373,12 +372,12 @@ module _ (g : Making) where
   -- modulo 2^31.
   pub port_base : (steps : List Taken) → Performed (new g) steps
       → skipped_in (last_shown (new g) (all_shown steps)) < largest_64
-      → (base : ℕ) → next_receive_sequence (last_shown (new g) (all_shown steps)).receive ≡ some base
+      → (base : ℕ) → next_receive_sequence (last_shown (new g) (all_shown steps)).receive ≡ Some base
       → (first : ℕ)
-      × (first_shown (all_shown steps) ≡ some first)
+      × (first_shown (all_shown steps) ≡ Some first)
       × (sequence_distance first base ≡ place_shown g steps % (half + half))
   port_base steps h below base e =
-      let w : (first : ℕ) × (first_base (log_after (calls_of steps) (new g)) ≡ some first)
+      let w : (first : ℕ) × (first_base (log_after (calls_of steps) (new g)) ≡ Some first)
       × (skipped_in (state_after (calls_of steps) (new g)) < largest_64
       → sequence_distance first base ≡ place_of_base g (calls_of steps) % (half + half)) =
       history_theorem.base g (calls_of steps) base
@@ -392,16 +391,16 @@ module _ (g : Making) where
 
   -- While it shows no base, it shows nothing delivered and nothing skipped.
   pub port_unbased : (steps : List Taken) → Performed (new g) steps
-      → next_receive_sequence (last_shown (new g) (all_shown steps)).receive ≡ none
+      → next_receive_sequence (last_shown (new g) (all_shown steps)).receive ≡ None
       → place_shown g steps ≡ 0
   port_unbased steps h e =
       place_shown_is g steps h
       ∙ (history_theorem.unset g (calls_of steps) (ap (λ (s : State). next_receive_sequence s.receive) (sym (last_shown_is (new g) steps h)) ∙ e)).1
 
   base_shown_fits : (steps : List Taken) → Performed (new g) steps → (base : ℕ)
-      → next_receive_sequence (last_shown (new g) (all_shown steps)).receive ≡ some base → Fits base
+      → next_receive_sequence (last_shown (new g) (all_shown steps)).receive ≡ Some base → Fits base
   base_shown_fits steps h base e =
-      let w : (first : ℕ) × (first_base (log_after (calls_of steps) (new g)) ≡ some first)
+      let w : (first : ℕ) × (first_base (log_after (calls_of steps) (new g)) ≡ Some first)
       × (base ≡ sequence_further first (place_after (log_after (calls_of steps) (new g)))) =
       based_has_first g (calls_of steps) base
       (ap (λ (s : State). next_receive_sequence s.receive) (sym (last_shown_is (new g) steps h)) ∙ e)
@@ -410,22 +409,22 @@ module _ (g : Making) where
 
   -- one call, wherever a list of calls has come to
   call_moves_base : (before : List Asked) (call : Asked) (base : ℕ)
-      → next_receive_sequence (state_after before (new g)).receive ≡ some base
+      → next_receive_sequence (state_after before (new g)).receive ≡ Some base
       → skipped_in (do_call call (state_after before (new g))).state < largest_64
       → next_receive_sequence (do_call call (state_after before (new g))).state.receive
-      ≡ some
+      ≡ Some
       (sequence_further base
       (counts_of (shown_delivery (shows (do_call call (state_after before (new g)))))
       + (skipped_in (do_call call (state_after before (new g))).state - skipped_in (state_after before (new g)))))
   unfolding deliveries state_after counts_of
   call_moves_base before call base e below =
-      let w : (first : ℕ) × (first_base (log_after before (new g)) ≡ some first)
+      let w : (first : ℕ) × (first_base (log_after before (new g)) ≡ Some first)
       × (base ≡ sequence_further first (place_after (log_after before (new g)))) =
       based_has_first g before base e
       in
       ap (λ (s : State). next_receive_sequence s.receive) (performed_on before call)
       ∙ stands_at_first (before ++ (call ∷ [])) w.0 (first_of_more before (call ∷ []) w.0 w.1)
-      ∙ ap {B = Option ℕ} some
+      ∙ ap {B = Option ℕ} Some
       (ap (sequence_further w.0) moved ∙ sym (further_twice w.0 (place_after (log_after before (new g))) by)
       ∙ ap (λ (n : ℕ). sequence_further n by) (sym w.2))
     where
@@ -434,9 +433,9 @@ module _ (g : Making) where
           counts_of (shown_delivery (shows (do_call call (state_after before (new g)))))
           + (skipped_in (do_call call (state_after before (new g))).state - skipped_in (state_after before (new g)))
 
-      stands_at_first : (calls : List Asked) (first : ℕ) → first_base (log_after calls (new g)) ≡ some first
+      stands_at_first : (calls : List Asked) (first : ℕ) → first_base (log_after calls (new g)) ≡ Some first
           → next_receive_sequence (state_after calls (new g)).receive
-          ≡ some (sequence_further first (place_after (log_after calls (new g))))
+          ≡ Some (sequence_further first (place_after (log_after calls (new g))))
       stands_at_first calls first f =
           (subst (λ (o : Option ℕ). Stands o (next_receive_sequence (state_after calls (new g)).receive)
           (place_after (log_after calls (new g)))) f
@@ -466,10 +465,10 @@ module _ (g : Making) where
   -- Once a port shows a base, the next step moves it as far as the step shows as delivered and as the skipped count rises, and no
   -- other way.
   pub port_moves_base : (steps : List Taken) (t : Taken) → Performed (new g) (steps ++ (t ∷ [])) → (base : ℕ)
-      → next_receive_sequence (last_shown (new g) (all_shown steps)).receive ≡ some base
+      → next_receive_sequence (last_shown (new g) (all_shown steps)).receive ≡ Some base
       → skipped_in (shown_of t).state < largest_64
       → next_receive_sequence (shown_of t).state.receive
-      ≡ some
+      ≡ Some
       (sequence_further base
       (counts_of (shown_delivery (shown_of t))
       + (skipped_in (shown_of t).state - skipped_in (last_shown (new g) (all_shown steps)))))
@@ -480,14 +479,14 @@ module _ (g : Making) where
       by_step
       (λ (t : Taken). skipped_in (shown_of t).state < largest_64
       → next_receive_sequence (shown_of t).state.receive
-      ≡ some
+      ≡ Some
       (sequence_further base
       (counts_of (shown_delivery (shown_of t))
       + (skipped_in (shown_of t).state - skipped_in (state_after (calls_of steps) (new g))))))
       (state_after (calls_of steps) (new g)) (λ call below. call_moves_base (calls_of steps) call base e below)
       (λ call below.
       e
-      ∙ ap {B = Option ℕ} some
+      ∙ ap {B = Option ℕ} Some
       (sym
       (ap (sequence_further base) (none_moved call)
       ∙ further_none base
@@ -500,9 +499,9 @@ module _ (g : Making) where
     where
       Moves : State → Type 0
       Moves s =
-          next_receive_sequence s.receive ≡ some base → skipped_in (shown_of t).state < largest_64
+          next_receive_sequence s.receive ≡ Some base → skipped_in (shown_of t).state < largest_64
           → next_receive_sequence (shown_of t).state.receive
-          ≡ some
+          ≡ Some
           (sequence_further base
           (counts_of (shown_delivery (shown_of t)) + (skipped_in (shown_of t).state - skipped_in s)))
 
@@ -515,10 +514,10 @@ module _ (g : Making) where
   -- Where the first step that shows a base delivers nothing and shows nothing skipped, that base is the first value. `steps`
   -- come before it, and show none.
   pub first_is_first_base : (steps : List Taken) (t : Taken) (more : List Taken) → Performed (new g) (steps ++ (t ∷ more))
-      → All (λ (x : Shown). next_receive_sequence x.state.receive ≡ none) (all_shown steps)
-      → (base : ℕ) → next_receive_sequence (shown_of t).state.receive ≡ some base
+      → All (λ (x : Shown). next_receive_sequence x.state.receive ≡ None) (all_shown steps)
+      → (base : ℕ) → next_receive_sequence (shown_of t).state.receive ≡ Some base
       → shown_delivery (shown_of t) ≡ [] → skipped_in (shown_of t).state ≡ 0
-      → first_shown (all_shown (steps ++ (t ∷ more))) ≡ some base
+      → first_shown (all_shown (steps ++ (t ∷ more))) ≡ Some base
   unfolding all_shown
   first_is_first_base steps t more h unset base e silent unskipped = go steps unset
     where
@@ -529,8 +528,8 @@ module _ (g : Making) where
           (subst (Performed (new g)) (sym (append_assoc steps (t ∷ []) more)) h)) base
           (ap (λ (s : State). next_receive_sequence s.receive) (last_of (new g) steps t) ∙ e)
 
-      go : (l : List Taken) → All (λ (x : Shown). next_receive_sequence x.state.receive ≡ none) (all_shown l)
-          → first_shown (all_shown (l ++ (t ∷ more))) ≡ some base
+      go : (l : List Taken) → All (λ (x : Shown). next_receive_sequence x.state.receive ≡ None) (all_shown l)
+          → first_shown (all_shown (l ++ (t ∷ more))) ≡ Some base
       go [] h = first_here (shown_of t) (all_shown more) base fits e silent unskipped
       go (y ∷ l) h = first_later (shown_of y) (all_shown (l ++ (t ∷ more))) h.0 ∙ go l h.1
 

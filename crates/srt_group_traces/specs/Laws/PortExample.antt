@@ -1,7 +1,6 @@
 -- A port's steps, and the claims about what it shows: the calls of the example, after a poll that was refused for a short table.
-use Rattle.std.specs.Prelude.{◌≡◌, refl, List, ◌∷◌}
+use Rattle.std.specs.Prelude.{◌≡◌, refl, List, ◌∷◌, Some}
 use Rattle.std.proofs.Common.{sym, subst}
-use Rattle.std.proofs.Math.Option.{some}
 use Rattle.srt_group_model.specs.Laws.Computed.{definitions}
 use Rattle.srt_group_model.specs.Lent.{call_poll_data}
 use Rattle.srt_group_traces.specs.Statement.{clerk, Fair, do_call, counts_of, skipped_in, Delivery, pass_to}
@@ -24,13 +23,13 @@ unfolding steps calls_of
 same_calls = calls_of_taking calls (new group)
 
 -- So the list that it shows is the clerk's, who was told of the refusal too.
-pub clerks_list : (left : List Delivery) × (pass_to schedule (place_shown group steps) ≡ some left)
-    × (clerk schedule 0 (shown_told (all_shown steps)) ≡ some record { gave = shown_deliveries (all_shown steps); left = left })
+pub clerks_list : (left : List Delivery) × (pass_to schedule (place_shown group steps) ≡ Some left)
+    × (clerk schedule 0 (shown_told (all_shown steps)) ≡ Some record { gave = shown_deliveries (all_shown steps); left = left })
 clerks_list =
     port_has_clerks_list schedule 100 runs group steps performed (subst (Fair schedule 100 group) (sym same_calls) fair)
 
 -- what it shows as the first value of the base, and as delivered and skipped
-pub first_value : first_shown (all_shown steps) ≡ some 100
+pub first_value : first_shown (all_shown steps) ≡ Some 100
 unfolding definitions group calls store_0 store_1 store_2 store_3 output sends steps taking all_shown first_shown shown_delivery do_call counts_of
 first_value = refl
 

@@ -1,9 +1,8 @@
 -- The marks of one call. They are quiet (payloads put, the base set, packets collected); or the call gave a packet, and its mark
 -- stands over quiet ones; or it stands over a skip, which passed the give-up test for the packet nearest when it was tested,
 -- went to the packet nearest after collecting, and whose call ends with empty leg queues and no event waiting.
-use Rattle.std.specs.Prelude.{◌≡◌, refl, Bool, true, false, not, ◌||◌, ◌⊎◌, List, [], ◌∷◌, ℕ, zero, suc, ◌+◌, min, length, drop}
+use Rattle.std.specs.Prelude.{◌≡◌, refl, Bool, true, false, not, ◌||◌, ◌⊎◌, List, [], ◌∷◌, ℕ, zero, suc, ◌+◌, min, length, drop, None, Option, Some}
 use Rattle.std.proofs.Common.{sym, ap, ◌∙◌, subst, inl, inr, arith}
-use Rattle.std.proofs.Math.Option.{Option, none, some}
 use Rattle.srt_protocol.specs.Sequence.{sequence_distance, sequence_further}
 use Rattle.srt_group_model.specs.Tools.{is_set, bit, flagged, is_empty, place_of, at_place, All}
 use Rattle.srt_group_model.specs.State.{Member, State, next_receive_sequence, with_continuation}
@@ -60,12 +59,12 @@ pub record Skip (when : When) (p : Packet) (s : State) (log : List Mark) : Type 
   pub is : log ≡ gap_skipped tested when.time distance ∷ before
   pub quiet : Quiet before
   pub at_test : AtTest when base tested gathered
-  pub based : next_receive_sequence tested.receive ≡ some base
+  pub based : next_receive_sequence tested.receive ≡ Some base
   pub missing : is_held base tested.receive.pending ≡ false
   pub complete : is_set tested.visit.continuation ≡ false
   pub given_up : gap_given_up when.time tested ≡ true
   pub still_missing : is_held base gathered.receive.pending ≡ false
-  pub nearest_now : nearest gathered.receive.pending ≡ some p
+  pub nearest_now : nearest gathered.receive.pending ≡ Some p
   pub far : distance ≡ sequence_distance base (sequence_of p)
   pub empty : EmptyQueues s
   pub none_waiting : s.waiting ≡ []
@@ -75,12 +74,12 @@ pub record Given (when : When) (p : Packet) (s : State) (log : List Mark) : Type
   pub before : List Mark
   pub is : log ≡ delivered p ∷ before
   pub how : Quiet before ⊎ Skip when p s before
-  pub past : next_receive_sequence s.receive ≡ some (sequence_further (sequence_of p) p.content.count)
+  pub past : next_receive_sequence s.receive ≡ Some (sequence_further (sequence_of p) p.content.count)
 
 -- by the packet that it gave, if it gave one
 abbrev pub Shape : When → Option Packet → State → List Mark → Type 0
-Shape when none s log = Quiet log
-Shape when (some p) s log = Given when p s log
+Shape when None s log = Quiet log
+Shape when (Some p) s log = Given when p s log
 
 -- collecting and the refresh are quiet
 abbrev refresh_quiet : RefreshLaw (λ hand s log. Quiet log)
@@ -105,25 +104,25 @@ unfolding is_empty
 is_empty_nil [] e = refl
 is_empty_nil (x ∷ q) e = not_both {t = true} refl e
 
-no_place_empty : (ms : List Member) → place_of (λ m. not (is_empty m.queue)) ms ≡ none → Empties ms
+no_place_empty : (ms : List Member) → place_of (λ m. not (is_empty m.queue)) ms ≡ None → Empties ms
 unfolding place_of sides
 no_place_empty [] e = tt
 no_place_empty (m ∷ ms) e =
-    if_elim (λ (o : Option ℕ). o ≡ none → Empties (m ∷ ms)) (not (is_empty m.queue)) _ _ (λ t f. none_some (sym f))
+    if_elim (λ (o : Option ℕ). o ≡ None → Empties (m ∷ ms)) (not (is_empty m.queue)) _ _ (λ t f. none_some (sym f))
     (λ t.
-    if_some_elim (λ (o : Option ℕ). o ≡ none → Empties (m ∷ ms)) (place_of (λ m. not (is_empty m.queue)) ms) _ _
+    if_some_elim (λ (o : Option ℕ). o ≡ None → Empties (m ∷ ms)) (place_of (λ m. not (is_empty m.queue)) ms) _ _
     (λ i f g. none_some (sym g)) (λ f g. (is_empty_nil m.queue t, no_place_empty ms f)))
     e
 
-in_turn_none_empty : (round : ℕ) (ms : List Member) → in_turn round ms ≡ none → Empties ms
+in_turn_none_empty : (round : ℕ) (ms : List Member) → in_turn round ms ≡ None → Empties ms
 unfolding in_turn
 in_turn_none_empty round ms =
-    if_some_elim (λ (o : Option ℕ). o ≡ none → Empties ms) (place_of (λ m. not (is_empty m.queue)) (drop round ms)) _ _
+    if_some_elim (λ (o : Option ℕ). o ≡ None → Empties ms) (place_of (λ m. not (is_empty m.queue)) (drop round ms)) _ _
     (λ i e f. none_some (sym f)) (λ e f. no_place_empty ms f)
 
 -- the place in turn is that of a member with a queue that is not empty
 abbrev HasFront : List Member → ℕ → Type 0
-HasFront ms i = (m : Member) × (at_place i ms ≡ some m) × (not (is_empty m.queue) ≡ true)
+HasFront ms i = (m : Member) × (at_place i ms ≡ Some m) × (not (is_empty m.queue) ≡ true)
 
 place_has_front : (ms : List Member) → Each (HasFront ms) (place_of (λ m. not (is_empty m.queue)) ms)
 unfolding place_of at_place
@@ -135,7 +134,7 @@ place_has_front (m ∷ ms) =
     (λ i e. each_at (HasFront ms) (place_of (λ m. not (is_empty m.queue)) ms) i e (place_has_front ms))
     (λ e. tt))
 
-at_place_drop : (n i : ℕ) (ms : List Member) (m : Member) → at_place i (drop n ms) ≡ some m → at_place (n + i) ms ≡ some m
+at_place_drop : (n i : ℕ) (ms : List Member) (m : Member) → at_place i (drop n ms) ≡ Some m → at_place (n + i) ms ≡ Some m
 unfolding at_place
 at_place_drop zero i ms m e = let same : 0 + i ≡ i = omega arith in rw same e
 at_place_drop (suc n) i [] m e = e
@@ -158,7 +157,7 @@ in_turn_has_front round ms =
 abbrev Finds : Visited → Type 0
 Finds v = v.took ≡ false → not (is_set v.run.state.visit.continuation) ≡ true → EmptyQueues v.run.state
 
-front_of_nonempty : (q : List Event) → not (is_empty q) ≡ true → front q ≡ none → ⊥
+front_of_nonempty : (q : List Event) → not (is_empty q) ≡ true → front q ≡ None → ⊥
 unfolding is_empty at_place
 front_of_nonempty [] e f = not_both {t = true} refl (sym e)
 front_of_nonempty (x ∷ q) e f = none_some (sym f)
@@ -197,20 +196,20 @@ collect_until_empty_empties (suc visits) sequence r =
 
 -- ---- a delivery moves the base past the run
 
-deliver_moves_base : (base : ℕ) (p : Packet) (s : State) → held_at base s.receive.pending ≡ some p
-    → next_receive_sequence (deliver_packet base p s).receive ≡ some (sequence_further (sequence_of p) p.content.count)
+deliver_moves_base : (base : ℕ) (p : Packet) (s : State) → held_at base s.receive.pending ≡ Some p
+    → next_receive_sequence (deliver_packet base p s).receive ≡ Some (sequence_further (sequence_of p) p.content.count)
 unfolding deliver_packet pass_run flagged
 deliver_moves_base base p s e =
-    ap (λ (n : ℕ). some (sequence_further n p.content.count))
+    ap (λ (n : ℕ). Some (sequence_further n p.content.count))
     (sym (each_at (λ (q : Packet). sequence_of q ≡ base) (held_at base s.receive.pending) p e
     (held_at_sequence base s.receive.pending)))
 
 -- ---- a poll
 
 abbrev pub packet_of : Polled → Option Packet
-packet_of nothing = none
-packet_of (event w) = none
-packet_of (packet p) = some p
+packet_of nothing = None
+packet_of (event w) = None
+packet_of (packet p) = Some p
 
 abbrev PollShape : When → Poll → Type 0
 PollShape when q = Shape when (packet_of q.gave) q.run.state q.run.log
@@ -221,7 +220,7 @@ deliver_shape when base r h =
     if_some_elim (PollShape when) (held_at base r.state.receive.pending) _ _
     (λ p e. record { before = r.log; is = refl; how = inl h; past = deliver_moves_base base p r.state e }) (λ e. h)
 
-deliver_after_skip : (when : When) (base : ℕ) (p : Packet) (r : Run) → held_at base r.state.receive.pending ≡ some p
+deliver_after_skip : (when : When) (base : ℕ) (p : Packet) (r : Run) → held_at base r.state.receive.pending ≡ Some p
     → Skip when p (deliver_packet base p r.state) r.log → PollShape when (deliver base r)
 unfolding deliver
 deliver_after_skip when base p r found h =
@@ -240,7 +239,7 @@ unfolding give_waiting
 give_waiting_shape when r h = if_some_elim (PollShape when) (at_place 0 r.state.waiting) _ _ (λ w e. h) (λ e. h)
 
 skip_after_shape : (when : When) (tested : State) (base : ℕ) (c : Emptied) → AtTest when base tested c.run.state
-    → next_receive_sequence tested.receive ≡ some base
+    → next_receive_sequence tested.receive ≡ Some base
     → is_held base tested.receive.pending ≡ false → is_set tested.visit.continuation ≡ false
     → gap_given_up when.time tested ≡ true
     → (c.emptied ≡ true → EmptyQueues c.run.state) → (c.emptied ≡ true → is_held base c.run.state.receive.pending ≡ false)
@@ -283,7 +282,7 @@ test_was_true false false true e = refl
 test_was_true false false false e = not_both {t = true} refl e
 
 skip_given_up_gap_shape : (when : When) (base : ℕ) (r : Run) → UnderTest when r → waits r ≡ 0
-    → next_receive_sequence r.state.receive ≡ some base → Quiet r.log
+    → next_receive_sequence r.state.receive ≡ Some base → Quiet r.log
     → PollShape when (skip_given_up_gap when.time base r)
 unfolding skip_given_up_gap base_stays
 skip_given_up_gap_shape when base r under none_waits based h =
@@ -301,7 +300,7 @@ skip_given_up_gap_shape when base r under none_waits based h =
     (test_was_true (is_held base r.state.receive.pending) (is_set r.state.visit.continuation)
     (gap_given_up when.time r.state) e)
     (collect_until_empty_empties max_visits base r) (until_empty_not_held max_visits base r)
-    (collects_until_empty (λ hand s log. Quiet log) refresh_quiet collect_quiet none max_visits base r (omega (arith, none_waits)) h))
+    (collects_until_empty (λ hand s log. Quiet log) refresh_quiet collect_quiet None max_visits base r (omega (arith, none_waits)) h))
 
 deliver_next_shape : (when : When) (r : Run) → UnderTest when r → waits r ≡ 0 → Quiet r.log
     → PollShape when (deliver_next when.time r)
@@ -311,7 +310,7 @@ deliver_next_shape when r under none_waits h =
     (λ base e. skip_given_up_gap_shape when base r under none_waits e h)
     (λ e.
     if_some_elim (PollShape when) (nearest r.state.receive.pending) _ _
-    (λ p e. deliver_shape when (sequence_of p) (set_base (some (sequence_of p)) r) (set_base_quiet (some (sequence_of p)) r h))
+    (λ p e. deliver_shape when (sequence_of p) (set_base (Some (sequence_of p)) r) (set_base_quiet (Some (sequence_of p)) r h))
     (λ e. h))
 
 -- the run is that of this call after so many event polls
@@ -324,13 +323,13 @@ unfolding poll_event run_at_test
 poll_event_shape_after when polls r here h =
     if_elim (PollShape when) _ _ _ (λ e. give_waiting_shape when _ gathered)
     (λ e.
-    deliver_next_shape when _ (polls, ap run_at_test here) (refresh_waits _ ∙ none_waits _ e) (refreshes (λ hand s log. Quiet log) refresh_quiet none _ gathered))
+    deliver_next_shape when _ (polls, ap run_at_test here) (refresh_waits _ ∙ none_waits _ e) (refreshes (λ hand s log. Quiet log) refresh_quiet None _ gathered))
   where
     gathered : Quiet
         (collect_until_held max_visits
         (refresh_pending_states record { state = with_continuation false r.state; log = r.log; budget = delivery_budget })).log
     gathered =
-        collects_until_held (λ hand s log. Quiet log) refresh_quiet collect_quiet none max_visits _ (refreshes_pending (λ hand s log. Quiet log) refresh_quiet none _ h)
+        collects_until_held (λ hand s log. Quiet log) refresh_quiet collect_quiet None max_visits _ (refreshes_pending (λ hand s log. Quiet log) refresh_quiet None _ h)
 
 poll_event_shape : (when : When) → PollShape when (poll_event when.time (start when.from))
 unfolding after_polls

@@ -1,8 +1,7 @@
 -- The premises on the calls alone are met by the list of Example, whose schedule has five packets: its first six calls queue no data and
 -- leave the base at 100, and each packet queued after them is of the schedule.
-use Rattle.std.specs.Prelude.{◌≡◌, refl, List, [], ◌∷◌, ◌<◌, take, drop}
+use Rattle.std.specs.Prelude.{◌≡◌, refl, List, [], ◌∷◌, ◌<◌, take, drop, None, Option, Some}
 use Rattle.std.proofs.Common.{sym, ap, ◌∙◌, lit<}
-use Rattle.std.proofs.Math.Option.{Option, none, some}
 use Rattle.srt_protocol.specs.Sequence.{half}
 use Rattle.srt_group_model.specs.State.{State, next_receive_sequence}
 use Rattle.srt_group_model.specs.Laws.Computed.{definitions}
@@ -18,22 +17,22 @@ use Rattle.srt_group_model.specs.Calls.{new}
 
 -- the packet that a call is given to queue
 unfoldable to_queue : Call → Option Delivery
-to_queue (call_add_member id weight leg queue) = none
-to_queue (call_mark_member_broken id) = none
-to_queue (call_remove_member_connection id) = none
-to_queue call_refresh_member_states = none
-to_queue (call_disconnect time) = none
-to_queue (call_poll_event time) = none
-to_queue (call_poll_data_bounded time max_events) = none
-to_queue (call_send time payload) = none
-to_queue call_can_send = none
-to_queue (call_can_send_with_pacing time) = none
-to_queue (call_look look) = none
-to_queue (call_read_leg id field n) = none
-to_queue (call_queue_data id content payload) = some (with_payload content payload)
-to_queue (call_queue_event id kind reason) = none
+to_queue (call_add_member id weight leg queue) = None
+to_queue (call_mark_member_broken id) = None
+to_queue (call_remove_member_connection id) = None
+to_queue call_refresh_member_states = None
+to_queue (call_disconnect time) = None
+to_queue (call_poll_event time) = None
+to_queue (call_poll_data_bounded time max_events) = None
+to_queue (call_send time payload) = None
+to_queue call_can_send = None
+to_queue (call_can_send_with_pacing time) = None
+to_queue (call_look look) = None
+to_queue (call_read_leg id field n) = None
+to_queue (call_queue_data id content payload) = Some (with_payload content payload)
+to_queue (call_queue_event id kind reason) = None
 
-no_data : (calls : List Asked) → All (λ (asked : Asked). to_queue asked.call ≡ none) calls → All QueuesNone calls
+no_data : (calls : List Asked) → All (λ (asked : Asked). to_queue asked.call ≡ None) calls → All QueuesNone calls
 unfolding to_queue
 no_data [] h = tt
 no_data (asked ∷ calls) h = ((λ id d payload e. none_some (sym h.0 ∙ ap to_queue e)), no_data calls h.1)
@@ -50,11 +49,11 @@ packets_scheduled : All (λ (asked : Asked). Each (Scheduled schedule) (to_queue
 unfolding definitions store_0 store_1 store_2 store_3 output sends schedule calls pass_to to_queue
 packets_scheduled = (tt, (tt, (tt, (tt, (tt, (tt, ((0, planned 101 2 (65 ∷ 66 ∷ []) ∷ planned 103 1 (67 ∷ []) ∷ planned 104 1 (68 ∷ []) ∷ [], refl), ((1, planned 103 1 (67 ∷ []) ∷ planned 104 1 (68 ∷ []) ∷ [], refl), (tt, (tt, (tt, ((4, [], refl), (tt, (tt, (tt, (tt, (tt, tt)))))))))))))))))
 
-first_six : All (λ (asked : Asked). to_queue asked.call ≡ none) (take 6 calls)
+first_six : All (λ (asked : Asked). to_queue asked.call ≡ None) (take 6 calls)
 unfolding calls to_queue
 first_six = (refl, (refl, (refl, (refl, (refl, (refl, tt))))))
 
-base_set_to_100 : next_receive_sequence (state_after (take 6 calls) (new group)).receive ≡ some 100
+base_set_to_100 : next_receive_sequence (state_after (take 6 calls) (new group)).receive ≡ Some 100
 unfolding definitions group store_0 store_1 store_2 store_3 output sends calls do_call state_after
 base_set_to_100 = refl
 

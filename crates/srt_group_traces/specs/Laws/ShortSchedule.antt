@@ -1,11 +1,10 @@
 -- Where a schedule has less than 2^30 packets in all, each packet of it is near the base, wherever the base stands along it: the
 -- premises of the second claim follow from the calls alone. Every packet collected was queued by an accepted call of the list
 -- (AsQueued), so it is of the schedule; the base's place is at most the schedule's sum (Follows).
-use Rattle.std.specs.Prelude.{◌≡◌, ◌⊎◌, ℕ, ◌+◌, ◌-◌, ◌≤◌, ◌<◌, leb, eqb}
+use Rattle.std.specs.Prelude.{◌≡◌, ◌⊎◌, ℕ, ◌+◌, ◌-◌, ◌≤◌, ◌<◌, leb, eqb, None, Option, Some}
 use Rattle.std.proofs.Math.Path.{refl, ap, subst}
 use Rattle.std.proofs.Common.{sym, ◌∙◌, inl, inr, arith}
 use mathlib.Core.List.{List, [], ◌∷◌, ◌++◌, append_assoc, append-nil}
-use Rattle.std.proofs.Math.Option.{Option, none, some}
 use Rattle.srt_protocol.specs.Sequence.{half, sequence_further}
 use Rattle.srt_group_model.specs.Tools.{All}
 use Rattle.srt_group_model.specs.State.{State, next_receive_sequence, Making}
@@ -30,16 +29,16 @@ use Rattle.srt_group_model.specs.Calls.{new}
 -- ---- places of a schedule
 
 -- no place is beyond the schedule's sum
-pub place_within : (l : List Delivery) (n : ℕ) (rest : List Delivery) → pass_to l n ≡ some rest → n + counts_of rest ≤ counts_of l
+pub place_within : (l : List Delivery) (n : ℕ) (rest : List Delivery) → pass_to l n ≡ Some rest → n + counts_of rest ≤ counts_of l
 unfolding pass_to counts_of
 place_within [] n rest =
-    if_elim (λ (o : Option (List Delivery)). o ≡ some rest → n + counts_of rest ≤ 0) (eqb n 0) _ _
+    if_elim (λ (o : Option (List Delivery)). o ≡ Some rest → n + counts_of rest ≤ 0) (eqb n 0) _ _
     (λ e f. omega (arith, eq_of n 0 e, ap counts_of (some_inj f))) (λ e f. none_some f)
 place_within (x ∷ xs) n rest =
-    if_elim (λ (o : Option (List Delivery)). o ≡ some rest → n + counts_of rest ≤ x.count + counts_of xs) (eqb n 0) _ _
+    if_elim (λ (o : Option (List Delivery)). o ≡ Some rest → n + counts_of rest ≤ x.count + counts_of xs) (eqb n 0) _ _
     (λ e f. omega (arith, eq_of n 0 e, ap counts_of (some_inj f)))
     (λ e.
-    if_elim (λ (o : Option (List Delivery)). o ≡ some rest → n + counts_of rest ≤ x.count + counts_of xs) (leb x.count n) _ _
+    if_elim (λ (o : Option (List Delivery)). o ≡ Some rest → n + counts_of rest ≤ x.count + counts_of xs) (leb x.count n) _ _
     (λ k f. omega (arith, le_of x.count n k, place_within xs (n - x.count) rest f)) (λ k f. none_some f))
 
 -- ---- each packet collected, by the accepted call that queued it
@@ -97,8 +96,8 @@ all_newer P [] log h = tt
 all_newer P (x ∷ m) log h = (h.0, all_newer P m log h.1)
 
 quiet_call : (when : When) (o : Option Packet) (s : State) (m : List Mark) → Shape when o s m → All NotDelivered m → Quiet m
-quiet_call when none s m shape h = shape
-quiet_call when (some p) s m shape h = absurd (subst (All NotDelivered) shape.is h).0
+quiet_call when None s m shape h = shape
+quiet_call when (Some p) s m shape h = absurd (subst (All NotDelivered) shape.is h).0
 
 unmoved : (calls : List Asked) (s : State) → All NotDelivered (log_after calls s) → place_after (log_after calls s) ≡ 0
 unfolding log_after total_delivered total_skipped
@@ -120,20 +119,20 @@ unmoved (call ∷ more) s h =
       ap total_skipped (append-nil (do_call call s).log),
     )
 
-first_fits : (o b : Option ℕ) (n first : ℕ) → o ≡ some first → Stands o b n → Fits first
-first_fits none b n first e h = none_some e
-first_fits (some f) b n first e h = subst Fits (some_inj e) h.0
+first_fits : (o b : Option ℕ) (n first : ℕ) → o ≡ Some first → Stands o b n → Fits first
+first_fits None b n first e h = none_some e
+first_fits (Some f) b n first e h = subst Fits (some_inj e) h.0
 
 -- the base after such calls is its first value
 first_is_base : (g : Making) (calls : List Asked) (base : ℕ) → All QueuesNone calls
-    → next_receive_sequence (state_after calls (new g)).receive ≡ some base → first_base (log_after calls (new g)) ≡ some base
+    → next_receive_sequence (state_after calls (new g)).receive ≡ Some base → first_base (log_after calls (new g)) ≡ Some base
 first_is_base g calls base h e =
-    let w : (first : ℕ) × (first_base (log_after calls (new g)) ≡ some first)
+    let w : (first : ℕ) × (first_base (log_after calls (new g)) ≡ Some first)
     × (base ≡ sequence_further first (place_after (log_after calls (new g)))) =
     based_has_first g calls base e
     in
     w.1
-    ∙ ap {B = Option ℕ} some
+    ∙ ap {B = Option ℕ} Some
     (sym
     (w.2 ∙ ap (sequence_further w.0) (unmoved calls (new g) (none_delivered g calls h))
     ∙ further_none w.0
@@ -142,9 +141,9 @@ first_is_base g calls base h e =
 -- ---- the base stays set
 
 abbrev BasedEach : ℕ → List Mark → Type 0
-BasedEach first = EachCollected (λ log p. first_base log ≡ some first)
+BasedEach first = EachCollected (λ log p. first_base log ≡ Some first)
 
-set_before_more : (first : ℕ) (m log : List Mark) → first_base log ≡ some first → BasedEach first log → BasedEach first (m ++ log)
+set_before_more : (first : ℕ) (m log : List Mark) → first_base log ≡ Some first → BasedEach first log → BasedEach first (m ++ log)
 set_before_more first [] log e h = h
 set_before_more first (put cell payload ∷ m) log e h = set_before_more first m log e h
 set_before_more first (base_set base ∷ m) log e h = set_before_more first m log e h
@@ -175,7 +174,7 @@ module _ (schedule : List Delivery) (first : ℕ) (runs : Consecutive first sche
   near g calls h payloads base leg d within q =
       let by : AcceptedQueueing g calls = q.by in
       let x : Delivery = with_payload by.given by.payload in
-      let w : (place : ℕ) × (rest : List Delivery) × (pass_to schedule place ≡ some (x ∷ rest)) =
+      let w : (place : ℕ) × (rest : List Delivery) × (pass_to schedule place ≡ Some (x ∷ rest)) =
       scheduled_at schedule by.before (queueing by.id by.given by.payload by.lent) by.after (new g)
       (subst (λ (cs : List Asked). AllScheduled schedule cs (new g)) by.is h) by.id by.given by.payload refl by.accepted
       in
@@ -186,7 +185,7 @@ module _ (schedule : List Delivery) (first : ℕ) (runs : Consecutive first sche
       record {
         place = w.0;
         rest = w.1;
-        here = w.2 ∙ ap (λ (y : Delivery). some (y ∷ w.1)) (sym same);
+        here = w.2 ∙ ap (λ (y : Delivery). Some (y ∷ w.1)) (sym same);
         not_far_ahead = omega (arith, short, in_sum);
         not_far_behind = omega (arith, short, within);
       }
@@ -209,8 +208,8 @@ module _ (schedule : List Delivery) (first : ℕ) (runs : Consecutive first sche
   near_call : (g : Making) (calls : List Asked) → AllScheduled schedule calls (new g) → (when : When) (o : Option Packet) (s : State) (m log : List Mark)
       → Shape when o s m → place_after log ≤ counts_of schedule → EachCollected (Queued g calls) (m ++ log) → NearEach log
       → NearEach (m ++ log)
-  near_call g calls h when none s m log shape within q k = near_quiet g calls h m log shape within q k
-  near_call g calls h when (some p) s m log shape within q k =
+  near_call g calls h when None s m log shape within q k = near_quiet g calls h m log shape within q k
+  near_call g calls h when (Some p) s m log shape within q k =
       subst (λ (z : List Mark). NearEach (z ++ log)) (sym shape.is)
       (go shape.how (subst (λ (z : List Mark). EachCollected (Queued g calls) (z ++ log)) shape.is q))
     where
@@ -232,13 +231,13 @@ module _ (schedule : List Delivery) (first : ℕ) (runs : Consecutive first sche
     pub base_within : (calls : List Asked) → FromSchedule schedule first (log_after calls (new g))
         → place_after (log_after calls (new g)) ≤ counts_of schedule
     base_within calls from =
-        let here : (rest : List Delivery) × (pass_to schedule (place_after (log_after calls (new g))) ≡ some rest) =
+        let here : (rest : List Delivery) × (pass_to schedule (place_after (log_after calls (new g))) ≡ Some rest) =
         ((follows calls).kept.1 from).here
         in
         omega (arith, place_within schedule (place_after (log_after calls (new g))) here.0 here.1)
 
     -- after the calls before, where the base stands at its first value, call by call
-    from_schedule : (before after : List Asked) → first_base (log_after before (new g)) ≡ some first
+    from_schedule : (before after : List Asked) → first_base (log_after before (new g)) ≡ Some first
         → FromSchedule schedule first (log_after before (new g)) → AllScheduled schedule (before ++ after) (new g)
         → FromSchedule schedule first (log_after (before ++ after) (new g))
     unfolding log_after

@@ -1,8 +1,7 @@
 -- What receiving sees of a member: its queue and the first sequence of its leg's peer. All that a refresh, a send, a reading and a
 -- delivery do to the members leaves that alone.
-use Rattle.std.specs.Prelude.{◌≡◌, refl, List, [], ◌∷◌, ℕ, zero, suc}
+use Rattle.std.specs.Prelude.{◌≡◌, refl, List, [], ◌∷◌, ℕ, zero, suc, Some}
 use Rattle.std.proofs.Common.{sym, ap, subst, ◌∙◌}
-use Rattle.std.proofs.Math.Option.{some}
 use Rattle.srt_group_model.specs.Tools.{at_place, change, each, All}
 use Rattle.srt_group_model.specs.State.{Member, State, on_leg}
 use Rattle.srt_group_model.specs.Legs.{advance_receive_sequence}
@@ -39,7 +38,7 @@ all_members Q (m ∷ ms) h = (h.0, all_members Q ms h.1)
 -- ---- changes that leave the sides
 
 -- the member at a place is changed, and its side is not
-pub moved_sides : (i : ℕ) (m : Member) (f : Member → Member) (ms : List Member) → at_place i ms ≡ some m → side (f m) ≡ side m → sides (change i f ms) ≡ sides ms
+pub moved_sides : (i : ℕ) (m : Member) (f : Member → Member) (ms : List Member) → at_place i ms ≡ Some m → side (f m) ≡ side m → sides (change i f ms) ≡ sides ms
 unfolding sides change at_place
 moved_sides zero m f [] at e = refl
 moved_sides (suc i) m f [] at e = refl

@@ -2,9 +2,8 @@
 -- state's base was set and not held, and no continuation was asked for; the give-up test was true for the packet nearest in it.
 -- The test is made once, before collecting. After collecting the base was still not held; the call delivers the packet then
 -- nearest, and ends with empty leg queues and no event waiting.
-use Rattle.std.specs.Prelude.{◌≡◌, refl, Bool, true, ◌||◌, ◌⊎◌, List, [], ◌∷◌, ℕ}
+use Rattle.std.specs.Prelude.{◌≡◌, refl, Bool, true, ◌||◌, ◌⊎◌, List, [], ◌∷◌, ℕ, None, Option, Some}
 use Rattle.std.proofs.Common.{sym, subst, inl, inr}
-use Rattle.std.proofs.Math.Option.{Option, none, some}
 use Rattle.srt_protocol.specs.Sequence.{sequence_further}
 use Rattle.srt_group_model.specs.State.{State, next_receive_sequence}
 use Rattle.srt_group_model.specs.Nearest.{sequence_of, nearest}
@@ -24,7 +23,7 @@ use Rattle.srt_group_traces.specs.Laws.Marks.{marked_all}
 -- it is gone the first, gives up on it by then.
 pub record GivenUp (time : ℕ) (tested : State) : Type 0 where
   pub nearest_then : Packet
-  pub is : nearest tested.receive.pending ≡ some nearest_then
+  pub is : nearest tested.receive.pending ≡ Some nearest_then
   pub passed : (all (λ m. is_disconnected m.leg) tested.members || leg_gives_up time nearest_then tested.members) ≡ true
 
 pub given_up_for_nearest : (time : ℕ) (tested : State) → gap_given_up time tested ≡ true → GivenUp time tested
@@ -34,8 +33,8 @@ given_up_for_nearest time tested =
     (λ p e f. record { nearest_then = p; is = e; passed = f }) (λ e f. not_both {t = true} refl (sym f))
 
 pub right_skip : {when : When} {p : Packet} {s : State} {log : List Mark} (skip : Skip when p s log)
-    → next_receive_sequence s.receive ≡ some (sequence_further (sequence_of p) p.content.count)
-    → RightSkip when (some p) s skip.tested when.time skip.distance
+    → next_receive_sequence s.receive ≡ Some (sequence_further (sequence_of p) p.content.count)
+    → RightSkip when (Some p) s skip.tested when.time skip.distance
 right_skip {when} {p} {s} skip past =
     record {
       in_time = refl;
@@ -73,14 +72,14 @@ quiet_right when gave s (gap_skipped tested time distance ∷ log) h = absurd h.
 quiet_right when gave s (delivered p ∷ log) h = absurd h.0
 
 shape_right : (when : When) (o : Option Packet) (s : State) (log : List Mark) → Shape when o s log → All (Right when o s) log
-shape_right when none s log h = quiet_right when none s log h
-shape_right when (some p) s log h = subst (All (Right when (some p) s)) (sym h.is) (tt, go h.how)
+shape_right when None s log h = quiet_right when None s log h
+shape_right when (Some p) s log h = subst (All (Right when (Some p) s)) (sym h.is) (tt, go h.how)
   where
-    go : Quiet h.before ⊎ Skip when p s h.before → All (Right when (some p) s) h.before
-    go (inl quiet) = quiet_right when (some p) s h.before quiet
+    go : Quiet h.before ⊎ Skip when p s h.before → All (Right when (Some p) s) h.before
+    go (inl quiet) = quiet_right when (Some p) s h.before quiet
     go (inr skip) =
-        subst (All (Right when (some p) s)) (sym skip.is)
-        (right_skip skip h.past, quiet_right when (some p) s skip.before skip.quiet)
+        subst (All (Right when (Some p) s)) (sym skip.is)
+        (right_skip skip h.past, quiet_right when (Some p) s skip.before skip.quiet)
 
 pub skips_claim : (call : Asked) (s : State) (tested : State) (time distance : ℕ) (older : List Mark)
     → Marked (do_call call s).log (gap_skipped tested time distance) older

@@ -2,9 +2,8 @@
 -- start this holds of every list; without one, of every list whose accepted calls are lent stores of one length, so wherever
 -- they are lent one store (`OneStore`): a send that ends with 22 to 29 names no new cell (FailedSends). From the model's
 -- `valid_kept`, which keeps it over one call.
-use Rattle.std.specs.Prelude.{◌≡◌, refl, Bool, true, false, not, ◌&&◌, ◌||◌, ◌⊎◌, List, [], ◌∷◌, ℕ, ◌+◌, ◌*◌, ◌≤◌, ltb, eqb, length, replicate}
+use Rattle.std.specs.Prelude.{◌≡◌, refl, Bool, true, false, not, ◌&&◌, ◌||◌, ◌⊎◌, List, [], ◌∷◌, ℕ, ◌+◌, ◌*◌, ◌≤◌, ltb, eqb, length, replicate, None, Option, Some}
 use Rattle.std.proofs.Common.{sym, ap, ◌∙◌, subst, inl, inr, arith}
-use Rattle.std.proofs.Math.Option.{Option, none, some}
 use Rattle.std.proofs.lemmas.List.{length-replicate}
 use Rattle.srt_protocol.specs.Cells.{cell_size, cells_of, max_cells}
 use Rattle.srt_protocol.specs.Laws.CellLaws.{overwritten_length}
@@ -224,8 +223,8 @@ put_fits store output list (call_queue_event id kind reason) s takes = not_both 
 
 stored_length : (o : Option Put) (store : List ℕ) → Each (Fits (length store)) o → length (stored o store) ≡ length store
 unfolding stored
-stored_length none store h = refl
-stored_length (some p) store h = overwritten_length (p.cell * cell_size) p.payload store h
+stored_length None store h = refl
+stored_length (Some p) store h = overwritten_length (p.cell * cell_size) p.payload store h
 
 store_left_length : (store : List ℕ) (call : Asked) (s : State) → LendsThis store call s → length (store_left store call s) ≡ length store
 unfolding store_left do_call perform with_bytes

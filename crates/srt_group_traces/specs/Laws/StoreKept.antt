@@ -1,7 +1,6 @@
 -- The store that a call leaves, whatever it was lent: as long as before, and the same where the call is refused or is lent none.
-use Rattle.std.specs.Prelude.{◌≡◌, refl, ◌&&◌, List, [], ◌∷◌, ℕ, ◌+◌, ◌*◌, ◌≤◌, eqb, length}
+use Rattle.std.specs.Prelude.{◌≡◌, refl, ◌&&◌, List, [], ◌∷◌, ℕ, ◌+◌, ◌*◌, ◌≤◌, eqb, length, Option}
 use Rattle.std.proofs.Common.{sym, ap, ◌∙◌, subst, arith}
-use Rattle.std.proofs.Math.Option.{Option}
 use Rattle.srt_protocol.specs.Cells.{cell_size}
 use Rattle.srt_protocol.specs.Laws.CellLaws.{overwritten_length}
 use Rattle.srt_group_model.specs.Tools.{All}

@@ -1,32 +1,28 @@
 -- A call in words that begins with 5 and 6 and then does what its form for a valid state does.
-use Rattle.std.specs.Prelude.{◌≡◌, refl, Bool, true, false, not, ◌||◌, List, [], ◌∷◌, ℕ, ◌≤◌, ◌<◌, eqb, ltb, length}
+use Rattle.srt_protocol.specs.Errors.{Outcome}
+use Rattle.std.specs.Prelude.{◌≡◌, refl, Bool, true, false, not, ◌||◌, List, [], ◌∷◌, ℕ, ◌≤◌, ◌<◌, eqb, ltb, length, Err, Ok}
 use Rattle.std.proofs.Common.{sym, ap, subst, ◌∙◌, arith, lt-ltb, le-ltb, eq-eqb, ne_eqb}
 use Rattle.srt_protocol.specs.declared.error.Error.{Error}
 use Rattle.srt_protocol.specs.declared.error.Error.TheVariants.{MissingGroupMask, OutOfRange, UnknownMember, PayloadTooLong, InsufficientBuffer, InvalidState, MemberLimit, DuplicateMember, AlignmentFailed, PayloadAboveLimit, NoActiveMember, SequenceMismatch, AllBroadcastFailed, AllBackupFailed, ReplayRefused, PromotionSendFailed, NoFreeCell, QueueFull, OutOfTurn}
-use Rattle.srt_protocol.specs.declared.error.Outcome.{Outcome}
-use Rattle.srt_protocol.specs.declared.error.Outcome.TheVariants.{Accepted, Refused}
 use Rattle.srt_protocol.specs.Errors.{error_number, outcome_number}
 use Rattle.srt_protocol.specs.Cells.{overwritten}
 use Rattle.srt_group_model.specs.Laws.Reason.{when_true, when_false, or_yes_right}
 use Rattle.srt_group_model.specs.Guards.{no_answer}
 use Rattle.srt_group_model.specs.Lent.{Lent, Call}
 use Rattle.srt_group_model.specs.Answers.{values_of}
-use Rattle.srt_group_model.specs.declared.Core.{Core}
-use Rattle.srt_group_model.specs.declared.Identity.{Identity}
-use Rattle.srt_group_model.specs.declared.Sending.{Sending}
-use Rattle.srt_group_tables.specs.declared.history.HistoryRing.{HistoryRing}
 use Rattle.cell_set.specs.Bits.{set_size}
 use Rattle.srt_group_traces.specs.Laws.Port.{performs_does}
-use Rattle.srt_group_shown.specs.Tables.{Parts, parts, Tables, state_of}
+use Rattle.srt_group_shown.specs.Tables.{Tables, state_of}
 use Rattle.srt_group_shown.specs.Ready.{lending}
 use Rattle.srt_group.specs.Made.{parts_of}
+use Rattle.srt_group.specs.declared.Group.{Group}
 use Rattle.srt_group_refusals.specs.Begins.{are_short, BeginsStored, BeginsPoll}
 use Rattle.srt_group_refusals.specs.Laws.Begins.{not_short, begins_as_stored, has_room}
 use Rattle.srt_group_refusals.specs.Promised.{showing, Promised}
 use Rattle.srt_group_refusals.specs.Laws.Promised.{promised_does}
-use Rattle.srt_group_words.specs.Record.{record_size, identity_of, core_of, sending_of, ring_of, group_of}
+use Rattle.srt_group_words.specs.Record.{record_size, group_of}
 use Rattle.srt_group_words.specs.Words.{zeros, Says, silent, in_words, sent_words, Words, words, parts_in, are_few, PromisedWords, ReadyWords, PerformsWords, BegunStored, BegunPoll, set_unfit, BeginsValid}
-use Rattle.srt_group_words.specs.Laws.Words.{parts_read, silent_enough, sent_enough, room_in_words, in_words_of}
+use Rattle.srt_group_words.specs.Laws.Words.{silent_enough, sent_enough, room_in_words, in_words_of}
 
 -- ---- the number of an outcome
 
@@ -51,43 +47,42 @@ number_refused NoFreeCell h = omega arith
 number_refused QueueFull h = omega arith
 number_refused OutOfTurn h = omega arith
 
-zero_accepted : (o : Outcome) → outcome_number o ≡ 0 → o ≡ Accepted
-zero_accepted Accepted h = refl
-zero_accepted (Refused e) h = absurd (number_refused e h)
+zero_accepted : (o : Outcome) → outcome_number o ≡ 0 → o ≡ Ok tt
+zero_accepted (Ok tt) h = refl
+zero_accepted (Err e) h = absurd (number_refused e h)
 
 -- what refuses it has the number
-by_refusal : (B : ℕ → Type 0) (o : Outcome) → (outcome_number o ≡ 0 → ⊥) → ((e : Error) → o ≡ Refused e → B (error_number e)) → B (outcome_number o)
-by_refusal B Accepted other refused = absurd (other refl)
-by_refusal B (Refused e) other refused = refused e refl
+by_refusal : (B : ℕ → Type 0) (o : Outcome) → (outcome_number o ≡ 0 → ⊥) → ((e : Error) → o ≡ Err e → B (error_number e)) → B (outcome_number o)
+by_refusal B (Ok tt) other refused = absurd (other refl)
+by_refusal B (Err e) other refused = refused e refl
 
--- ---- the parts that were read
+-- ---- the group that was read
 
-module _ (w : List ℕ) {identity : Identity} {core : Core} {sending : Sending} {ring : HistoryRing} (one : identity ≡ identity_of w)
-    (two : core ≡ core_of w) (three : sending ≡ sending_of w) (four : ring ≡ ring_of w) {t : Tables} {store : ℕ} {code : ℕ} {used : List ℕ} {o : Outcome} where
-  pub begun_stored : BeginsStored (parts identity core sending ring) t store o used → code ≡ outcome_number o → BegunStored w t store code used
+module _ (w : List ℕ) {g : Group} (read : g ≡ group_of w) {t : Tables} {store : ℕ} {code : ℕ} {used : List ℕ} {o : Outcome} where
+  pub begun_stored : BeginsStored (parts_of g) t store o used → code ≡ outcome_number o → BegunStored w t store code used
   begun_stored begins same =
       record {
         outcome = o;
-        begins = subst (λ (p : Parts). BeginsStored p t store o used) (parts_read w one two three four) begins;
+        begins = subst (λ (x : Group). BeginsStored (parts_of x) t store o used) read begins;
         same = same;
       }
 
-  pub begun_poll : {output : ℕ} → BeginsPoll (parts identity core sending ring) t store output o used → code ≡ outcome_number o
+  pub begun_poll : {output : ℕ} → BeginsPoll (parts_of g) t store output o used → code ≡ outcome_number o
       → BegunPoll w t store output code used
   begun_poll {output} begins same =
       record {
         outcome = o;
-        begins = subst (λ (p : Parts). BeginsPoll p t store output o used) (parts_read w one two three four) begins;
+        begins = subst (λ (x : Group). BeginsPoll (parts_of x) t store output o used) read begins;
         same = same;
       }
 
 -- ---- it goes on
 
-pub stored_on : {w : List ℕ} {t : Tables} {store code : ℕ} {used : List ℕ} (begun : BegunStored w t store code used) → code ≡ 0 → begun.outcome ≡ Accepted
+pub stored_on : {w : List ℕ} {t : Tables} {store code : ℕ} {used : List ℕ} (begun : BegunStored w t store code used) → code ≡ 0 → begun.outcome ≡ Ok tt
 stored_on begun on = zero_accepted begun.outcome (sym begun.same ∙ on)
 
 pub poll_on : {w : List ℕ} {t : Tables} {store output code : ℕ} {used : List ℕ} (begun : BegunPoll w t store output code used) → code ≡ 0
-    → begun.outcome ≡ Accepted
+    → begun.outcome ≡ Ok tt
 poll_on begun on = zero_accepted begun.outcome (sym begun.same ∙ on)
 
 pub stored_ready : {w : List ℕ} {t : Tables} {store code : ℕ} {used : List ℕ} → BegunStored w t store code used → code ≡ 0 → record_size ≤ length w
@@ -135,7 +130,7 @@ module _ (call : Call) (w : List ℕ) (t : Tables) (bytes : Lent) where
   abbrev refused_with : ℕ → Type 0
   refused_with n = Promised call (parts_of (group_of w)) t bytes (showing (parts_of (group_of w)) t bytes n no_answer 0)
 
-  pub refused_in_words : {o : Outcome} {code : ℕ} → code ≡ outcome_number o → (code ≡ 0 → ⊥) → ((e : Error) → o ≡ Refused e → refused_with (error_number e))
+  pub refused_in_words : {o : Outcome} {code : ℕ} → code ≡ outcome_number o → (code ≡ 0 → ⊥) → ((e : Error) → o ≡ Err e → refused_with (error_number e))
       → refused_with code
   refused_in_words {o} same other refused =
       subst refused_with (sym same) (by_refusal refused_with o (λ zero. other (same ∙ zero)) refused)
@@ -144,7 +139,7 @@ module _ (call : Call) (w : List ℕ) (t : Tables) (bytes : Lent) where
 pub poll_refused : (call : Call) (w : List ℕ) (t : Tables) (store output answer : List ℕ) → record_size ≤ length w → 8 ≤ length answer
     → {code : ℕ} {used : List ℕ} (begun : BegunPoll w t (length store) (length output) code used) → (code ≡ 0 → ⊥)
     → {answer' : List ℕ} → answer' ≡ overwritten 0 (0 ∷ 0 ∷ 0 ∷ 0 ∷ 0 ∷ 0 ∷ 0 ∷ 0 ∷ []) answer
-    → ((e : Error) → begun.outcome ≡ Refused e → refused_with call w t (lending store output) (error_number e))
+    → ((e : Error) → begun.outcome ≡ Err e → refused_with call w t (lending store output) (error_number e))
     → PromisedWords call (in_words 8) false (words w t (lending store output) answer) code (words w t (lending store output) answer')
 unfolding in_words values_of zeros
 poll_refused call w t store output answer long room {code} begun other {answer'} put refused =

@@ -1,6 +1,6 @@
 -- What is proved of the definitions in specs/Record.antt.
 use Rattle.std.specs.Prelude.{◌≡◌, refl, ℕ, zero, suc, ◌+◌, ◌≤◌, length, drop, get_or}
-use Rattle.std.proofs.Common.{sym, ◌∙◌, arith, drop-cons}
+use Rattle.std.proofs.Common.{◌∙◌, arith, drop-cons}
 use Rattle.std.proofs.Math.Path.{ap}
 use mathlib.Core.List.{List, [], ◌∷◌, ◌++◌}
 use Rattle.std.proofs.Math.Seq.{sets}

@@ -3,11 +3,9 @@ use Rattle.std.specs.Prelude.{◌≡◌, Bool, true, ◌||◌, ℕ, zero, suc, �
 use Rattle.std.proofs.Math.Path.{refl}
 use Rattle.std.proofs.Common.{sym, ap, subst, ◌∙◌, arith, lt-ltb, le-ltb}
 use Rattle.std.proofs.Math.Bool.{false}
-use mathlib.Core.List.{List, [], ◌∷◌, ◌++◌}
+use mathlib.Core.List.{List, []}
 use Rattle.std.proofs.Math.ListN.{length}
 use Rattle.srt_protocol.specs.Cells.{overwritten}
-use Rattle.srt_protocol.specs.Laws.CellLaws.{overwritten_length}
-use Rattle.srt_group_model.specs.Tools.{if_true◌then◌else◌}
 use Rattle.srt_group_model.specs.Laws.Reason.{when_true, when_false, or_yes_right}
 use Rattle.srt_group_model.specs.Guards.{Answer, no_answer}
 use Rattle.srt_group_model.specs.Lent.{Lent, Call, takes, perform}

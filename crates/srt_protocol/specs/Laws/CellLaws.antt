@@ -1,18 +1,25 @@
 -- Laws of Cells.antt: what was put is what is copied, and a put into one cell changes nothing in another.
-use Rattle.std.specs.Prelude.{◌≡◌, ℕ, ◌+◌, ◌-◌, ◌*◌, ◌<◌, ◌≤◌, min, ◌⊎◌, List, ◌++◌, length, get_or, take, drop, ◌≢◌, slice_index_or, refl}
+use Rattle.srt_protocol.specs.Errors.{Outcome}
+use Rattle.std.specs.Prelude.{◌≡◌, ℕ, ◌+◌, ◌-◌, ◌*◌, ◌<◌, ◌≤◌, min, ◌⊎◌, List, ◌++◌, length, get_or, take, drop, ◌≢◌, slice_index_or, refl, Err, Ok}
 use Rattle.std.proofs.Math.Path.{sym, ap}
-use Rattle.std.proofs.Common.{◌∙◌, append_assoc, inl, inr, arith, length-append, length-take, length-drop, drop_at, ext_get_or}
+use Rattle.std.proofs.Common.{◌∙◌, append_assoc, inl, inr, arith, length-append, length-take, length-drop, drop_at, drop-drop, ext_get_or}
 use Rattle.std.proofs.Math.Decide.{dec_lt, dec_le}
 use borrow.Author.Tests.{lt-ltb, le-ltb, le-leb, lt-leb}
 use Rattle.std.proofs.Math.ListN.{get_or-append}
 use Rattle.std.proofs.Math.Seq.{length-take-le, take-append_seam, get_or-take, get_or-drop, get_or-append-add}
 use Rattle.srt_protocol.specs.declared.error.Error.{Error}
 use Rattle.srt_protocol.specs.declared.error.Error.TheVariants.{PayloadTooLong, InsufficientBuffer, InvalidState}
-use Rattle.srt_protocol.specs.declared.error.Outcome.{Outcome}
-use Rattle.srt_protocol.specs.declared.error.Outcome.TheVariants.{Accepted, Refused}
 use Rattle.srt_protocol.specs.Cells.{output_size, cell_size, head_size, cells_of, overwritten, cell_bytes, cell_outcome, copy_outcome, Put, Copied}
 
 -- ---- laws of `overwritten`, for elements of any type
+
+-- how a list stands when a part of it was lent, of n elements from `at` on, and came back as `part`
+pub part_back : {A : Type 0} (at n : ℕ) (part whole : List A) → length part ≡ n
+    → take at whole ++ (part ++ drop (at + n - at) (drop at whole)) ≡ overwritten at part whole
+unfolding overwritten
+part_back {A} at n part whole long =
+    let end : at + (at + n - at) ≡ at + length part = omega arith in
+    ap (λ (rest : List A). take at whole ++ (part ++ rest)) (drop-drop (at + n - at) at whole ∙ ap (λ (k : ℕ). drop k whole) end)
 
 module _ {A : Type 0} (at : ℕ) (part whole : List A) (fits : at + length part ≤ length whole) where
   abbrev front : List A
@@ -82,31 +89,31 @@ module _ {A : Type 0} (at : ℕ) (part whole : List A) (fits : at + length part 
 -- ---- the outcomes of using a cell, by what led to each
 
 module _ (store_length cell size : ℕ) where
-  pub cell_short : store_length < cell_size → cell_outcome store_length cell size ≡ Refused InsufficientBuffer
+  pub cell_short : store_length < cell_size → cell_outcome store_length cell size ≡ Err InsufficientBuffer
   unfolding cell_outcome
   cell_short short = simp (lt-ltb store_length cell_size short)
 
   module _ (one : cell_size ≤ store_length) where
-    pub cell_beyond : cells_of store_length ≤ cell → cell_outcome store_length cell size ≡ Refused InvalidState
+    pub cell_beyond : cells_of store_length ≤ cell → cell_outcome store_length cell size ≡ Err InvalidState
     unfolding cell_outcome
     cell_beyond beyond = simp (le-ltb store_length cell_size one, le-leb (cells_of store_length) cell beyond)
 
-    pub cell_too_small : cell < cells_of store_length → cell_size < size → cell_outcome store_length cell size ≡ Refused PayloadTooLong
+    pub cell_too_small : cell < cells_of store_length → cell_size < size → cell_outcome store_length cell size ≡ Err PayloadTooLong
     unfolding cell_outcome
     cell_too_small there long =
         simp (le-ltb store_length cell_size one, lt-leb (cells_of store_length) cell there, lt-ltb cell_size size long)
 
-    pub cell_accepted : cell < cells_of store_length → size ≤ cell_size → cell_outcome store_length cell size ≡ Accepted
+    pub cell_accepted : cell < cells_of store_length → size ≤ cell_size → cell_outcome store_length cell size ≡ Ok tt
     unfolding cell_outcome
     cell_accepted there room =
         simp (le-ltb store_length cell_size one, lt-leb (cells_of store_length) cell there, le-ltb cell_size size room)
 
   -- a use that was tested and accepted stays within the store
-  pub cell_within : (tested : Outcome) → tested ≡ cell_outcome store_length cell size → tested ≡ Accepted
+  pub cell_within : (tested : Outcome) → tested ≡ cell_outcome store_length cell size → tested ≡ Ok tt
       → (cell * cell_size + size ≤ store_length) × (size ≤ cell_size)
   cell_within tested is accepted = go (dec_lt store_length cell_size) (dec_le (cells_of store_length) cell) (dec_lt cell_size size)
     where
-      never : (e : Error) → cell_outcome store_length cell size ≢ Refused e
+      never : (e : Error) → cell_outcome store_length cell size ≢ Err e
       never e refused = let different : ◌≡◌ {A = ℕ} 0 1 = cc in omega arith
 
       go : Dec (store_length < cell_size) → Dec (cells_of store_length ≤ cell) → Dec (cell_size < size)
@@ -117,7 +124,7 @@ module _ (store_length cell size : ℕ) where
       go (no short) (no beyond) (no long) = (omega arith, omega arith)
 
   module _ (output_length : ℕ) where
-    pub output_short : output_length < output_size → copy_outcome store_length cell size output_length ≡ Refused InsufficientBuffer
+    pub output_short : output_length < output_size → copy_outcome store_length cell size output_length ≡ Err InsufficientBuffer
     output_short short = simp (lt-ltb output_length output_size short)
 
     pub output_enough : output_size ≤ output_length
@@ -127,26 +134,26 @@ module _ (store_length cell size : ℕ) where
 -- ---- two cells
 
 -- what was put is what is copied
-pub put_then_copied : (store after output output_after payload : List ℕ) (cell : ℕ) → Put store cell payload Accepted after
-    → Copied after cell (length payload) output Accepted output_after → output_after ≡ overwritten head_size payload output
+pub put_then_copied : (store after output output_after payload : List ℕ) (cell : ℕ) → Put store cell payload (Ok tt) after
+    → Copied after cell (length payload) output (Ok tt) output_after → output_after ≡ overwritten head_size payload output
 put_then_copied store after output output_after payload cell put copy =
     copy.copied
     ∙ ap (λ (bytes : List ℕ). overwritten head_size bytes output)
     (ap (cell_bytes cell (length payload)) put.stored ∙ overwritten_there (cell * cell_size) payload store within.0)
   where
     within : (cell * cell_size + length payload ≤ length store) × (length payload ≤ cell_size)
-    within = cell_within (length store) cell (length payload) Accepted put.outcome refl
+    within = cell_within (length store) cell (length payload) (Ok tt) put.outcome refl
 
 -- a put into one cell, accepted or refused, changes nothing in another
 pub put_elsewhere : (store after payload : List ℕ) (answer : Outcome) (cell other size : ℕ) → Put store cell payload answer after
     → (other < cell) ⊎ (cell < other) → size ≤ cell_size → cell_bytes other size after ≡ cell_bytes other size store
-put_elsewhere store after payload (Refused e) cell other size put different room = ap (cell_bytes other size) put.stored
-put_elsewhere store after payload Accepted cell other size put different room =
+put_elsewhere store after payload (Err e) cell other size put different room = ap (cell_bytes other size) put.stored
+put_elsewhere store after payload (Ok tt) cell other size put different room =
     ap (cell_bytes other size) put.stored
     ∙ overwritten_run (cell * cell_size) payload store within.0 0 (other * cell_size) size (apart different)
   where
     within : (cell * cell_size + length payload ≤ length store) × (length payload ≤ cell_size)
-    within = cell_within (length store) cell (length payload) Accepted put.outcome refl
+    within = cell_within (length store) cell (length payload) (Ok tt) put.outcome refl
 
     apart : (other < cell) ⊎ (cell < other)
         → (other * cell_size + size ≤ cell * cell_size) ⊎ (cell * cell_size + length payload ≤ other * cell_size)

@@ -124,6 +124,11 @@ before_no_half h a b l = rw (le-ltb (distance h a b) h l) (and_false (nat_lt 0 (
     and_false true = refl
     and_false false = refl
 
+-- only the places of the two on the circle count
+pub before_mod : (h a b : ℕ) → before h a b ≡ before h (a % (h + h)) (b % (h + h))
+unfolding before
+before_mod h a b = ap (λ (n : ℕ). nat_lt 0 n && nat_lt n h) (distance_mod h a b)
+
 -- before, as document 01's sentence: the distance is 1 .. h - 1
 pub before_exactly : (h a b : ℕ) → before h a b ≡ true → (0 < distance h a b) × (distance h a b < h)
 before_exactly h a b e = go (dec_lt 0 (distance h a b)) (dec_lt (distance h a b) h)

@@ -1,7 +1,6 @@
 -- What is proved of the definitions in specs/Errors.antt, with what the proofs need.
-use Rattle.std.specs.Prelude.{◌≡◌, ℕ, Bool, true, false, List, [], ◌∷◌, ◌==◌, ◌≢◌, refl}
+use Rattle.std.specs.Prelude.{◌≡◌, ℕ, Bool, true, false, List, [], ◌∷◌, ◌==◌, ◌≢◌, refl, None, Option, Some}
 use Rattle.std.proofs.Common.{ap, arith}
-use Rattle.std.proofs.Math.Option.{Option, none, some}
 use Rattle.srt_protocol.specs.declared.error.Error.{Error}
 use Rattle.srt_protocol.specs.declared.error.Error.TheVariants.{MissingGroupMask, OutOfRange, UnknownMember, PayloadTooLong, InsufficientBuffer, InvalidState, MemberLimit, DuplicateMember, AlignmentFailed, PayloadAboveLimit, NoActiveMember, SequenceMismatch, AllBroadcastFailed, AllBackupFailed, ReplayRefused, PromotionSendFailed, NoFreeCell, QueueFull, OutOfTurn}
 use Rattle.srt_protocol.specs.Errors.{error_number}
@@ -18,14 +17,14 @@ refusals =
 
 -- the first refusal of a list that has this number
 abbrev numbered : ℕ → List Error → Option Error
-numbered n [] = none
+numbered n [] = None
 numbered n (e ∷ es) = first_if (n == error_number e) e (numbered n es)
   where
     first_if : Bool → Error → Option Error → Option Error
-    first_if true e other = some e
+    first_if true e other = Some e
     first_if false e other = other
 
-number_found : (e : Error) → numbered (error_number e) refusals ≡ some e
+number_found : (e : Error) → numbered (error_number e) refusals ≡ Some e
 number_found MissingGroupMask = refl
 number_found OutOfRange = refl
 number_found UnknownMember = refl

@@ -1,12 +1,12 @@
 -- What is proved of the definitions in specs/Rows.antt, with what the proofs need.
-use Rattle.std.specs.Prelude.{◌≡◌, ◌⊎◌, List, [], ◌∷◌, ◌++◌, ℕ, suc, ◌+◌, ◌*◌, ◌-◌, ◌≤◌, ◌<◌, drop, get_or, set}
+use Rattle.std.specs.Prelude.{◌≡◌, ◌⊎◌, List, [], ◌∷◌, ◌++◌, ℕ, suc, ◌+◌, ◌*◌, ◌-◌, ◌≤◌, ◌<◌, drop, get_or}
 use Rattle.std.proofs.Math.Path.{ap}
-use Rattle.std.proofs.Common.{sym, ◌∙◌, ⊎_elim, mul-le-mul_right, eq-or-lt_of_le, add-one, arith, length-drop, length-take-le, drop-drop, get_or-take, get_or-drop, get_or-set_same, get_or-set_other, ext_get_or}
+use Rattle.std.proofs.Common.{sym, ◌∙◌, mul-le-mul_right, add-one, arith, length-drop, length-take-le, get_or-take, get_or-drop, ext_get_or}
 use Rattle.std.proofs.Math.Logic.{inl, inr}
 use Rattle.std.proofs.Math.Decide.{dec_lt}
 use Rattle.std.proofs.Math.ListN.{length, take}
 use Rattle.srt_protocol.specs.Cells.{overwritten}
-use Rattle.srt_protocol.specs.Laws.CellLaws.{overwritten_there, overwritten_run}
+use Rattle.srt_protocol.specs.Laws.CellLaws.{part_back, overwritten_there, overwritten_run}
 use Rattle.word_rows.specs.Tab.{tab, removed}
 use Rattle.word_rows.specs.Laws.Tab.{tab_push, tab_remove}
 use Rattle.word_rows.specs.Rows.{row_at, Closed}
@@ -47,11 +47,7 @@ row_part width words i =
 -- how the words stand when the part comes back as `row`
 pub row_back : (width : ℕ) (words row : List ℕ) (i : ℕ) → length row ≡ width
     → take (i * width) words ++ (row ++ drop (i * width + width - i * width) (drop (i * width) words)) ≡ overwritten (i * width) row words
-unfolding overwritten
-row_back width words row i long =
-    let end : i * width + (i * width + width - i * width) ≡ i * width + length row = omega arith in
-    ap (λ (rest : List ℕ). take (i * width) words ++ (row ++ rest))
-    (drop-drop (i * width + width - i * width) (i * width) words ∙ ap (λ (n : ℕ). drop n words) end)
+row_back width words row i long = part_back (i * width) width row words long
 
 next_row : (width j i : ℕ) → j < i → j * width + width ≤ i * width
 next_row width j i below =
@@ -73,27 +69,6 @@ module _ (width : ℕ) (words row : List ℕ) (i : ℕ) (fits : i * width + widt
       apart : Dec (j < i) → (j * width + width ≤ i * width) ⊎ (i * width + length row ≤ j * width)
       apart (yes lower) = inl (next_row width j i lower)
       apart (no not_lower) = inr (omega (arith, next_row width i j (omega arith)))
-
--- ---- a turn of the loop that moves words
-
-module _ (width : ℕ) (words here : List ℕ) (end at : ℕ) where
-  pub close_low : (from v : ℕ) → from ≤ at → ((k : ℕ) → k < from → get_or here k 0 ≡ get_or words k 0)
-      → (k : ℕ) → k < from → get_or (set here at v) k 0 ≡ get_or words k 0
-  close_low from v within low k below = get_or-set_other here at k v 0 (λ q. omega arith) ∙ low k below
-
-  pub close_high : (from : ℕ) → at < length here
-      → ((k : ℕ) → from ≤ k → k < at → get_or here k 0 ≡ get_or words (k + width) 0)
-      → ((k : ℕ) → at ≤ k → get_or here k 0 ≡ get_or words k 0)
-      → (k : ℕ) → from ≤ k → k < at + 1 → get_or (set here at (get_or here (at + width) 0)) k 0 ≡ get_or words (k + width) 0
-  close_high from within high rest k above below =
-      ⊎_elim
-      (λ same. rw same (get_or-set_same here at (get_or here (at + width) 0) 0 within ∙ rest (at + width) (omega arith)))
-      (λ less. get_or-set_other here at k (get_or here (at + width) 0) 0 (λ q. omega arith) ∙ high k above less)
-      (let upto : k ≤ at = omega arith in eq-or-lt_of_le upto)
-
-  pub close_rest : (v : ℕ) → ((k : ℕ) → at ≤ k → get_or here k 0 ≡ get_or words k 0)
-      → (k : ℕ) → at + 1 ≤ k → get_or (set here at v) k 0 ≡ get_or words k 0
-  close_rest v rest k above = get_or-set_other here at k v 0 (λ q. omega arith) ∙ rest k (omega arith)
 
 -- ---- a table: the first `count` rows, each read as what it stands for
 

@@ -1,26 +1,15 @@
--- `listing::reading::leading_spaces` meets its contract: what follows the spaces passed so far follows all of them.
-use native.Mathlib.Omega.{arith}
-use mathlib.Core.Path.{refl, sym, ◌∙◌}
-use Rattle.listing.proofs.ColumnLaws.{after_a_space, after_no_space, after_all_spaces}
+-- `listing::reading::leading_spaces` meets its contract: the first byte that is no space ends the spaces.
+use Rattle.std.proofs.Common.{rules, ◌≡◌, not, nat_eq}
+use Rattle.std.proofs.lemmas.Iterator.{YieldsList-from_slice}
+use Rattle.std.proofs.lemmas.Iterator.Search.{position_from_yields_List}
+use Rattle.std.specs.List.{position}
+use borrow.Author.Tests.{tests}
+use Rattle.listing.proofs.ColumnLaws.{place_or_end, spaces_before}
 use Rattle.listing.proofs.reading.leading_spaces.Goals as goal
-
-pub loop-at-init : goal.loop-at-init
-loop-at-init c = (omega arith, refl)
-
-pub returns-then-bytes-at-ne32 : goal.returns-then-bytes-at-ne32
-returns-then-bytes-at-ne32 c =
-    let l = c.loop-at in
-    let bytes = c.args.bytes.now in
-    record { inside = omega arith; rest = sym (after_no_space bytes l.at (omega arith) c.if-bytes-at-ne32.true) ∙ l.invariant.1 }
-
-pub loop-at-preserved : goal.loop-at-preserved
-loop-at-preserved c =
-    let l = c.loop-at in
-    let bytes = c.args.bytes.now in
-    (omega arith, sym (after_a_space bytes l.at (omega arith) c.if-bytes-at-ne32.false) ∙ l.invariant.1)
 
 pub returns : goal.returns
 returns c =
-    let l = c.loop-at in
     let bytes = c.args.bytes.now in
-    record { inside = omega arith; rest = sym (after_all_spaces bytes l.at (omega arith)) ∙ l.invariant.1 }
+    let first : c.position.result ≡ position (λ byte. not (nat_eq byte 32)) bytes =
+    position_from_yields_List (λ byte. not (nat_eq byte 32)) _ _ _ c.position.ensures.ran (YieldsList-from_slice bytes cc) (λ x b q k. search (rules, tests)) in
+    rw (c.unwrap_or.ensures, first, place_or_end (λ byte. not (nat_eq byte 32)) bytes) (spaces_before bytes)

@@ -4,6 +4,8 @@ use Prim.Native.Nat.{◌+◌, ◌≤◌}
 use native.Mathlib.Omega.{arith}
 use mathlib.Core.Path.{refl}
 use lib.ListN.{length}
+use borrow.Author.Rules.{rules}
+use Rattle.listing.proofs.PlacedLaws.{placed_part}
 use Rattle.listing.proofs.StreamLaws.{held_longer, held_overflow, held_append}
 use Rattle.listing.proofs.stream.append.Goals as goal
 
@@ -23,14 +25,12 @@ returns-then-buffer-size-2 c =
       held = λ line h. held_overflow a.buffer.now line a.bytes.now a.size h c.if-buffer-size.false c.if-buffer-size-2.true;
     }
 
-pub copy_in-requires : goal.copy_in-requires
-copy_in-requires c = omega arith
-
 pub returns : goal.returns
 returns c =
     let a = c.args in
     let fits : a.size + length a.bytes.now ≤ length a.buffer.now = omega arith in
     record {
-      same = c.copy_in.auto.buffer;
-      held = λ line h. rw c.copy_in.ensures (held_append a.buffer.now line a.bytes.now a.size h fits);
+      same = search rules;
+      held = λ line h. rw (placed_part a.buffer.now a.size _ a.bytes.now _ refl c.copy_from_slice.ensures.after)
+          (held_append a.buffer.now line a.bytes.now a.size h fits);
     }

@@ -17,31 +17,25 @@ room_left left room long e h = by_cases (ltb 0 left)
     (λ t. let some = ltb-true 0 left t in let fits : long ≤ room = omega arith in t ∙ sym (le-leb _ _ fits))
     (λ f. let none = ltb-false 0 left f in let large : room < long = omega arith in f ∙ sym (lt-leb _ _ large))
 
-pub loop-index-init : goal.loop-index-init
-loop-index-init c = (omega arith, omega arith, omega arith)
-
 pub returns-then-left-length : goal.returns-then-left-length
 returns-then-left-length c =
     let a = c.args in
-    let l = c.loop-index in
+    let l = c.loop-number in
     let long : a.room < length (line_text a.width a.numbers.now) =
-    omega (arith, length_line_text a.width a.numbers.now, columns_text_from a.width a.numbers.now l.index (omega arith)) in
+    omega (arith, length_line_text a.width a.numbers.now, columns_text_from a.width a.numbers.now l.number-index (omega arith)) in
     sym (lt-leb _ _ long)
 
-pub loop-index-smaller : goal.loop-index-smaller
-loop-index-smaller c = omega arith
-
-pub loop-index-preserved : goal.loop-index-preserved
-loop-index-preserved c =
+pub loop-number-preserved : goal.loop-number-preserved
+loop-number-preserved c =
     let a = c.args in
-    let l = c.loop-index in
-    let from = columns_text_from a.width a.numbers.now l.index (omega arith) in
+    let l = c.loop-number in
+    let from = columns_text_from a.width a.numbers.now l.number-index (omega arith) in
     (omega arith, omega arith, omega arith)
 
 pub returns : goal.returns
 returns c =
     let a = c.args in
-    let l = c.loop-index in
-    let none = columns_text_none a.width a.numbers.now l.index (omega arith) in
+    let l = c.loop-number in
+    let none = columns_text_none a.width a.numbers.now l.number-index (omega arith) in
     room_left l.left a.room (length (line_text a.width a.numbers.now))
     (omega (arith, length_line_text a.width a.numbers.now)) (omega arith)

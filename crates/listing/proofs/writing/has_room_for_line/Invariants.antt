@@ -6,11 +6,8 @@ use lib.ListN.{length, drop}
 use Rattle.listing.specs.Text.{columns_text}
 use Rattle.listing.proofs.writing.has_room_for_line.Given as goal
 
-abbrev pub invariant-loop-index : goal.invariant-loop-index
-invariant-loop-index l =
-    (l.index ≤ length l.numbers)
+abbrev pub invariant-loop-number : goal.invariant-loop-number
+invariant-loop-number l =
+    (l.number-index ≤ length l.numbers)
     × (l.left ≤ l.room)
-    × (length (columns_text l.width l.numbers) ≡ l.room - l.left + length (columns_text l.width (drop l.index l.numbers)))
-
-abbrev pub decreases-loop-index : goal.decreases-loop-index
-decreases-loop-index l = length l.numbers - l.index
+    × (length (columns_text l.width l.numbers) ≡ l.room - l.left + length (columns_text l.width (drop l.number-index l.numbers)))

@@ -3,7 +3,7 @@ use Prim.Native.Nat.{ℕ, ◌+◌, ◌<◌}
 use native.Mathlib.Omega.{arith}
 use mathlib.Core.Path.{◌≡◌, refl, ap, sym, ◌∙◌}
 use mathlib.Core.List.{List, [], ◌∷◌}
-use lib.ListN.{length, take, get_or, set, length-set, length-append}
+use lib.ListN.{length, take, get_or, set, length-append}
 use native.Mathlib.Nat.{add-zero}
 use lib.Seq.{take_all}
 use Rattle.listing.specs.Text.{right_justified, columns_text, line_text}
@@ -35,36 +35,33 @@ feed-behind-columns out at width numbers after end h e f =
       end_of = omega arith;
     }
 
-pub loop-index-init : goal.loop-index-init
-loop-index-init c =
+pub loop-number-init : goal.loop-number-init
+loop-number-init c =
     let a = c.args in
     (omega arith, refl, nothing_written a.at a.width, sym (nothing_placed a.out.now a.at a.width))
 
 pub put_column-end-requires : goal.put_column-end-requires
 put_column-end-requires c =
     let a = c.args in
-    let l = c.loop-index in
+    let l = c.loop-number in
     let numbers = a.numbers.now in
-    let next = ap length (columns_text_next a.width numbers l.index (omega arith)) in
+    let next = ap length (columns_text_next a.width numbers l.number-index (omega arith)) in
     omega (
       arith,
-      columns_text_upto a.width numbers (l.index + 1),
+      columns_text_upto a.width numbers (l.number-index + 1),
       length_line_text a.width numbers,
-      length-append (columns_text a.width (take l.index numbers)) (right_justified a.width (get_or numbers l.index 0)),
+      length-append (columns_text a.width (take l.number-index numbers)) (right_justified a.width (get_or numbers l.number-index 0)),
     )
 
-pub loop-index-smaller : goal.loop-index-smaller
-loop-index-smaller c = omega arith
-
-pub loop-index-preserved : goal.loop-index-preserved
-loop-index-preserved c =
+pub loop-number-preserved : goal.loop-number-preserved
+loop-number-preserved c =
     let a = c.args in
-    let l = c.loop-index in
+    let l = c.loop-number in
     let numbers = a.numbers.now in
     let put = c.put_column-end in
-    let text = right_justified a.width (get_or numbers l.index 0) in
-    let before = columns_text a.width (take l.index numbers) in
-    let next = columns_text_next a.width numbers l.index (omega arith) in
+    let text = right_justified a.width (get_or numbers l.number-index 0) in
+    let before = columns_text a.width (take l.number-index numbers) in
+    let next = columns_text_next a.width numbers l.number-index (omega arith) in
     let all = length-append before text in
     let end_is : put.result ≡ l.end + length text = put.ensures.end_of in (
       omega arith,
@@ -79,25 +76,22 @@ loop-index-preserved c =
 pub bounds-out-end : goal.bounds-out-end
 bounds-out-end c =
     let a = c.args in
-    let l = c.loop-index in
+    let l = c.loop-number in
     let numbers = a.numbers.now in
-    omega (arith, columns_text_upto a.width numbers l.index, length_line_text a.width numbers)
+    omega (arith, columns_text_upto a.width numbers l.number-index, length_line_text a.width numbers)
 
 pub overflow_add-result : goal.overflow_add-result
 overflow_add-result c =
     let a = c.args in
-    let l = c.loop-index in
+    let l = c.loop-number in
     let numbers = a.numbers.now in
-    omega (arith, columns_text_upto a.width numbers l.index, length_line_text a.width numbers)
-
-pub shape_of-out : goal.shape_of-out
-shape_of-out c = (simp length-set) ∙ c.loop-index.invariant.1
+    omega (arith, columns_text_upto a.width numbers l.number-index, length_line_text a.width numbers)
 
 pub returns : goal.returns
 returns c =
     let a = c.args in
-    let l = c.loop-index in
+    let l = c.loop-number in
     let numbers = a.numbers.now in
-    let all : take l.index numbers ≡ numbers = take_all l.index numbers (omega arith) in
+    let all : take l.number-index numbers ≡ numbers = take_all l.number-index numbers (omega arith) in
     let long = length_line_text a.width numbers in
     feed-behind-columns a.out.now a.at a.width numbers l.out l.end (omega arith) (rw all at l.invariant.2) (rw all at l.invariant.3)

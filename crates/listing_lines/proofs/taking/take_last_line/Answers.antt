@@ -1,6 +1,5 @@
 -- `listing_lines::taking::take_last_line` meets its contract: size 0 is no line, and any other is read into the first row.
 use native.Mathlib.Omega.{arith}
-use mathlib.Core.Path.{sym}
 use lib.Seq.{length-take-le}
 use Rattle.listing_lines.specs.Laws.Taken.{no_last_line, last_line_taken}
 use Rattle.listing_lines.proofs.taking.take_last_line.Goals as goal
@@ -8,9 +7,6 @@ use Rattle.listing_lines.proofs.taking.take_last_line.Goals as goal
 pub returns-then-size-eq0 : goal.returns-then-size-eq0
 returns-then-size-eq0 c =
     let a = c.args in no_last_line a.buffer.now a.rows.now a.size c.if-size-eq0.true
-
-pub slice_bounds-read_held_line-end-2 : goal.slice_bounds-read_held_line-end-2
-slice_bounds-read_held_line-end-2 c = sym (length-take-le 8 c.args.rows.now (omega arith))
 
 pub returns : goal.returns
 returns c =

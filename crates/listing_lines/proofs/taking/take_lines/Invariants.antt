@@ -1,14 +1,11 @@
--- `listing_lines::taking::take_lines` meets its contract: each turn takes one line at most from where the last one stopped.
-use Prim.Native.Nat.{◌-◌, ◌≤◌}
-use lib.ListN.{length, take}
-use Rattle.listing_lines.specs.Taken.{LinesTakenFrom}
+-- `listing_lines::taking::take_lines` meets its contract: each turn takes one line at most from what is left.
+use Rattle.std.proofs.Common.{length}
+use Rattle.listing_lines.specs.Laws.Taken.{TakenSoFar}
 use Rattle.listing_lines.proofs.taking.take_lines.Given as goal
 
-abbrev pub invariant-loop-at : goal.invariant-loop-at
-invariant-loop-at l =
-    (l.at ≤ length l.block)
-    × (l.count ≤ l.at)
-    × LinesTakenFrom (take l.at l.block) l.initial.buffer l.size l.initial.rows l.buffer l.rows (record { count = l.count; size = l.held })
+abbrev pub invariant-loop-rest : goal.invariant-loop-rest
+invariant-loop-rest l =
+    TakenSoFar l.block l.rest l.initial.buffer l.size l.initial.rows l.buffer l.rows (record { count = l.count; size = l.held })
 
-abbrev pub decreases-loop-at : goal.decreases-loop-at
-decreases-loop-at l = length l.block - l.at
+abbrev pub decreases-loop-rest : goal.decreases-loop-rest
+decreases-loop-rest l = length l.rest

@@ -1,5 +1,5 @@
 -- `listing_lines::writing::write_lines` meets its contract: each turn writes one row behind the text of those before it.
-use Prim.Native.Nat.{◌-◌, ◌*◌, ◌≤◌}
+use Prim.Native.Nat.{◌*◌, ◌≤◌}
 use mathlib.Core.Path.{◌≡◌}
 use lib.ListN.{length, take}
 use Rattle.listing.specs.Line.{cut}
@@ -8,10 +8,6 @@ use Rattle.listing_lines.proofs.writing.write_lines.Given as goal
 
 abbrev pub invariant-loop-index : goal.invariant-loop-index
 invariant-loop-index l =
-    (l.index ≤ l.count)
-    × (l.end ≤ 121 * l.index)
+    (l.end ≤ 121 * l.index)
     × (length l.out ≡ length l.initial.out)
     × (take l.end l.out ≡ texts (cut l.index 6 l.answers))
-
-abbrev pub decreases-loop-index : goal.decreases-loop-index
-decreases-loop-index l = l.count - l.index

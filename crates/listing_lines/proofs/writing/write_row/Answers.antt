@@ -13,4 +13,4 @@ pub returns : goal.returns
 returns c =
     let a = c.args in
     row_written a.row.now a.out.now a.at _ _ (omega arith) (λ index. (c.type_inv.row index).fits) (omega arith)
-    c.write_line.ensures _ c.in-End.is
+    c.write_line.ensures _ c.in-Some.is

@@ -2,7 +2,7 @@
 use mathlib.Core.Path.{sym, ◌∙◌}
 use borrow.Author.Tests.{eq-eqb, ne_eqb, le-leb, lt-leb}
 use Rattle.srt_group_model.specs.Tools.{if_true◌then◌else◌}
-use Rattle.srt_group_model.specs.Legs.{can_send, send_shared_with_sequence}
+use Rattle.srt_group_model.specs.Legs.{send_shared_with_sequence}
 use Rattle.srt_connection.specs.Laws.Answers.{window_left}
 use Rattle.srt_connection.proofs.legs.send_shared_with_sequence.Goals as goal
 

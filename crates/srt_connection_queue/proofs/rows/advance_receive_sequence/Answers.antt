@@ -1,10 +1,6 @@
 -- `advance_receive_sequence` meets its contract: the law `advanced_put`.
-use native.Mathlib.Omega.{arith}
 use Rattle.srt_connection_queue.specs.Laws.Rows.{advanced_put}
 use Rattle.srt_connection_queue.proofs.rows.advance_receive_sequence.Goals as goal
-
-pub bounds-row-31 : goal.bounds-row-31
-bounds-row-31 c = omega arith
 
 pub returns : goal.returns
 returns c = advanced_put _ c.requires _

@@ -1,10 +1,6 @@
 -- `put_reservation` meets its contract: the law `reservation_put`.
-use native.Mathlib.Omega.{arith}
 use Rattle.srt_connection_queue.specs.Laws.Rows.{reservation_put}
 use Rattle.srt_connection_queue.proofs.rows.put_reservation.Goals as goal
-
-pub bounds-row-30 : goal.bounds-row-30
-bounds-row-30 c = omega arith
 
 pub returns : goal.returns
 returns c = reservation_put _ c.requires _

@@ -13,11 +13,11 @@ returns-then-align_member_sequence c =
     let a = c.args in
     adds_aligned a.id a.weight a.leg a.core a.sending a.members.now _ _
     c.handed_over.ensures c.join-after.ensures c.membership_at-membership.ensures c.if-membership-ne1.false _
-    c.align_member_sequence.ensures c.if-align_member_sequence.true
+    (rw c.next_send_sequence.ensures at c.align_member_sequence.ensures) c.if-align_member_sequence.true
 
 pub returns-else-align_member_sequence : goal.returns-else-align_member_sequence
 returns-else-align_member_sequence c =
     let a = c.args in
     adds_22 a.id a.weight a.leg a.core a.sending a.members.now _ _
     c.handed_over.ensures c.join-after.ensures c.membership_at-membership.ensures c.if-membership-ne1.false _
-    c.align_member_sequence.ensures c.if-align_member_sequence.false
+    (rw c.next_send_sequence.ensures at c.align_member_sequence.ensures) c.if-align_member_sequence.false

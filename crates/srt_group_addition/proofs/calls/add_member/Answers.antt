@@ -13,11 +13,11 @@ returns-then-row-lt-ROW c =
     let a = c.args in
     row_refused (call_of_row a.id a.weight a.row.now) (parts_of a.group) (tables a.members.now a.pending.now a.waiting.now a.history.now a.sources.now) a.row.now c.if-row-lt-ROW.true
 
-pub returns-in-Refused : goal.returns-in-Refused
-returns-in-Refused c =
+pub returns-in-Err : goal.returns-in-Err
+returns-in-Err c =
     let a = c.args in
     addition_refused_6 a.id a.weight a.row.now (parts_of a.group) (tables a.members.now a.pending.now a.waiting.now a.history.now a.sources.now)
-    c.if-row-lt-ROW.false c.begin-begun.ensures _ c.in-Refused.is
+    c.if-row-lt-ROW.false c.begin-begun.ensures _ c.in-Err.is
 
 pub add_leg-added-requires : goal.add_leg-added-requires
 add_leg-added-requires c =

@@ -2,11 +2,11 @@
 use Rattle.srt_group_addition.specs.Laws.Handed.{leg_refused, leg_room, leg_added}
 use Rattle.srt_group_addition.proofs.handed.add_leg.Goals as goal
 
-pub returns-in-Refused : goal.returns-in-Refused
-returns-in-Refused c =
+pub returns-in-Err : goal.returns-in-Err
+returns-in-Err c =
     let a = c.args in
     leg_refused a.id a.weight a.row.now a.core a.sending a.members.now c.leg_at-leg.ensures c.refusal-refused.ensures
-    _ c.in-Refused.is
+    _ c.in-Err.is
 
 pub add_member_at_end-requires : goal.add_member_at_end-requires
 add_member_at_end-requires c =

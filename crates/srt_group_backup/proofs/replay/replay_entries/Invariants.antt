@@ -1,14 +1,9 @@
 -- `replay_entries` meets its contract. The loop's invariant: with the sends so far, what is left of the entries gives what all of
 -- them give.
-use Prim.Native.Nat.{◌≤◌, ◌-◌}
 use Rattle.srt_group_tables.specs.Ring.{entries_of, arrays}
 use Rattle.srt_group_backup.specs.Laws.Replay.{Replaying}
 use Rattle.srt_group_backup.proofs.replay.replay_entries.Given as goal
 
 abbrev pub invariant-loop-index : goal.invariant-loop-index
 invariant-loop-index l =
-    (l.index ≤ l.ring.length)
-    × Replaying l.time.0 l.id (entries_of l.ring (arrays l.history l.sources)) l.initial.here l.sent l.initial.list l.here l.index l.list
-
-abbrev pub decreases-loop-index : goal.decreases-loop-index
-decreases-loop-index l = l.ring.length - l.index
+    Replaying l.time.0 l.id (entries_of l.ring (arrays l.history l.sources)) l.initial.here l.sent l.initial.list l.here l.index l.list

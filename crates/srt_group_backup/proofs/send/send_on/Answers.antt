@@ -5,9 +5,5 @@ use Rattle.srt_group_backup.proofs.send.send_on.Goals as goal
 pub returns-in_default : goal.returns-in_default
 returns-in_default c = search own_not_sent
 
-pub write_sent-requires : goal.write_sent-requires
-write_sent-requires c =
-    c.requires.sent_row_size_in_bounds
-
 pub returns : goal.returns
 returns c = search own_sent

@@ -12,35 +12,35 @@ returns-in_default c = none_active_none_demoted _ _ _ (sym c.in_default.is ∙ c
 pub returns-then-not-has_standby : goal.returns-then-not-has_standby
 returns-then-not-has_standby c =
     no_standby_none_demoted _ _ _ _
-    (sym c.in-At.is ∙ c.first_active-found.ensures)
+    (sym c.in-Some.is ∙ c.first_active-found.ensures)
     c.has_standby.ensures c.if-not-has_standby.true
 
 pub leg_at-requires : goal.leg_at-requires
 leg_at-requires c =
     omega
-    (arith, found_row is_active _ _ _ (sym c.in-At.is ∙ c.first_active-found.ensures))
+    (arith, found_row is_active _ _ _ (sym c.in-Some.is ∙ c.first_active-found.ensures))
 
 pub is_stale-requires : goal.is_stale-requires
 is_stale-requires c =
     trip_fits _ _ _
-    (found_row is_active _ _ _ (sym c.in-At.is ∙ c.first_active-found.ensures))
+    (found_row is_active _ _ _ (sym c.in-Some.is ∙ c.first_active-found.ensures))
     c.requires.all_fit c.leg_at.ensures
 
 pub returns-then-not-is_stale : goal.returns-then-not-is_stale
 returns-then-not-is_stale c =
     not_stale_none_demoted _ _ _ _
-    (sym c.in-At.is ∙ c.first_active-found.ensures)
+    (sym c.in-Some.is ∙ c.first_active-found.ensures)
     c.leg_at.ensures c.is_stale.ensures c.if-not-is_stale.true
 
 pub turn_at-requires : goal.turn_at-requires
 turn_at-requires c =
     omega
-    (arith, found_row is_active _ _ _ (sym c.in-At.is ∙ c.first_active-found.ensures))
+    (arith, found_row is_active _ _ _ (sym c.in-Some.is ∙ c.first_active-found.ensures))
 
 pub returns : goal.returns
 returns c =
     stale_demoted _ _ _ _
-    (sym c.in-At.is ∙ c.first_active-found.ensures)
+    (sym c.in-Some.is ∙ c.first_active-found.ensures)
     c.has_standby.ensures
     c.if-not-has_standby.false
     c.leg_at.ensures

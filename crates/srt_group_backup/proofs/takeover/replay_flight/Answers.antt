@@ -8,8 +8,5 @@ returns-then-sending-ne0 c = search gap_not_replayed
 pub returns-in_default : goal.returns-in_default
 returns-in_default c = search unaligned_not_replayed
 
-pub replay_on-requires : goal.replay_on-requires
-replay_on-requires c = record { length_le_max_history = c.requires.length_le_max_history; has_row = c.requires.has_row; list_size_in_bounds = c.requires.list_size_in_bounds }
-
 pub returns : goal.returns
 returns c = search aligned_replayed

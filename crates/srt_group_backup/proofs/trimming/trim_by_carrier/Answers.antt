@@ -14,9 +14,9 @@ returns-in_default c =
 
 pub leg_at-leg-requires : goal.leg_at-leg-requires
 leg_at-leg-requires c =
-    omega (arith, found_below _ _ _ _ (sym c.in-At.is ∙ c.find-found.ensures))
+    omega (arith, found_below _ _ _ _ (sym c.in-Some.is ∙ c.find-found.ensures))
 
 pub returns : goal.returns
 returns c =
-    carrier_trimmed _ _ _ _ _ c.if-sending-eq0.false _ (sym c.in-At.is ∙ c.find-found.ensures) c.leg_at-leg.ensures
+    carrier_trimmed _ _ _ _ _ c.if-sending-eq0.false _ (sym c.in-Some.is ∙ c.find-found.ensures) c.leg_at-leg.ensures
     c.trim_backup_history.ensures

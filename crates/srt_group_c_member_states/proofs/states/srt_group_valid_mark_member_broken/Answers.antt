@@ -1,22 +1,6 @@
 -- `srt_group_valid_mark_member_broken` meets its contract: that of the form over the parts that the words show.
-use mathlib.Core.Path.{refl}
-use Rattle.srt_group_words.specs.Laws.Words.{parts_ready, performs_kept}
+use Rattle.srt_group_words.specs.Laws.Words.{performs_kept}
 use Rattle.srt_group_c_member_states.proofs.states.srt_group_valid_mark_member_broken.Goals as goal
 
-pub read_identity-requires : goal.read_identity-requires
-read_identity-requires c = c.requires.long
-
-pub read_core-requires : goal.read_core-requires
-read_core-requires c = c.requires.long
-
-pub read_sending-requires : goal.read_sending-requires
-read_sending-requires c = c.requires.long
-
-pub read_ring-requires : goal.read_ring-requires
-read_ring-requires c = c.requires.long
-
-pub mark_member_broken-done-requires : goal.mark_member_broken-done-requires
-mark_member_broken-done-requires c = parts_ready _ c.read_identity.ensures c.read_core.ensures c.read_sending.ensures c.read_ring.ensures c.requires
-
 pub returns : goal.returns
-returns c = performs_kept _ c.read_identity.ensures c.read_core.ensures c.read_sending.ensures c.read_ring.ensures _ _ _ c.requires.long _ _ _ _ refl c.mark_member_broken-done.ensures c.number.ensures
+returns c = search performs_kept

@@ -1,9 +1,6 @@
 -- `srt_group_raw_add_member` meets its contract: 5 for the record, or the promise of the call by value.
-use Rattle.srt_group_words.specs.Laws.Words.{record_refused, row_moved}
+use Rattle.srt_group_words.specs.Laws.Words.{row_moved}
 use Rattle.srt_group_c_members.proofs.adding.srt_group_raw_add_member.Goals as goal
-
-pub returns-then-record-lt-RECORD : goal.returns-then-record-lt-RECORD
-returns-then-record-lt-RECORD c = search record_refused
 
 pub returns : goal.returns
 returns c = search row_moved

@@ -1,25 +1,6 @@
 -- `srt_group_valid_remove_member` meets its contract: that of the form over the parts that the words show.
-use mathlib.Core.Path.{refl}
-use Rattle.srt_group_words.specs.Laws.Words.{parts_ready, performs_silent}
+use Rattle.srt_group_words.specs.Laws.Words.{performs_silent}
 use Rattle.srt_group_c_members.proofs.removing.srt_group_valid_remove_member.Goals as goal
 
-pub read_identity-requires : goal.read_identity-requires
-read_identity-requires c = c.requires.long
-
-pub read_core-requires : goal.read_core-requires
-read_core-requires c = c.requires.long
-
-pub read_sending-requires : goal.read_sending-requires
-read_sending-requires c = c.requires.long
-
-pub read_ring-requires : goal.read_ring-requires
-read_ring-requires c = c.requires.long
-
-pub remove_member-removed-requires : goal.remove_member-removed-requires
-remove_member-removed-requires c = parts_ready _ c.read_identity.ensures c.read_core.ensures c.read_sending.ensures c.read_ring.ensures c.requires
-
-pub put_removed_core-requires : goal.put_removed_core-requires
-put_removed_core-requires c = c.requires.long
-
 pub returns : goal.returns
-returns c = performs_silent _ c.read_identity.ensures c.read_core.ensures c.read_sending.ensures c.read_ring.ensures _ _ _ c.requires.long _ _ _ _ _ refl c.remove_member-removed.ensures c.put_removed_core.ensures
+returns c = search performs_silent

@@ -1,9 +1,6 @@
 -- `srt_group_raw_read_leg` meets its contract: 5 for the record, or the promise of the call by value.
-use Rattle.srt_group_words.specs.Laws.Words.{record_refused, silent_kept}
+use Rattle.srt_group_words.specs.Laws.Words.{silent_kept}
 use Rattle.srt_group_c_queueing.proofs.legs.srt_group_raw_read_leg.Goals as goal
-
-pub returns-then-record-lt-RECORD : goal.returns-then-record-lt-RECORD
-returns-then-record-lt-RECORD c = search record_refused
 
 pub returns : goal.returns
 returns c = search silent_kept

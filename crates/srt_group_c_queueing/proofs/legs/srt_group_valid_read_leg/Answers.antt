@@ -1,22 +1,6 @@
 -- `srt_group_valid_read_leg` meets its contract: that of the form over the parts that the words show.
-use mathlib.Core.Path.{refl}
-use Rattle.srt_group_words.specs.Laws.Words.{parts_ready, performs_kept}
+use Rattle.srt_group_words.specs.Laws.Words.{performs_kept}
 use Rattle.srt_group_c_queueing.proofs.legs.srt_group_valid_read_leg.Goals as goal
 
-pub read_identity-requires : goal.read_identity-requires
-read_identity-requires c = c.requires.long
-
-pub read_core-requires : goal.read_core-requires
-read_core-requires c = c.requires.long
-
-pub read_sending-requires : goal.read_sending-requires
-read_sending-requires c = c.requires.long
-
-pub read_ring-requires : goal.read_ring-requires
-read_ring-requires c = c.requires.long
-
-pub read_leg-done-requires : goal.read_leg-done-requires
-read_leg-done-requires c = parts_ready _ c.read_identity.ensures c.read_core.ensures c.read_sending.ensures c.read_ring.ensures c.requires
-
 pub returns : goal.returns
-returns c = performs_kept _ c.read_identity.ensures c.read_core.ensures c.read_sending.ensures c.read_ring.ensures _ _ _ c.requires.long _ _ _ _ refl c.read_leg-done.ensures c.number.ensures
+returns c = search performs_kept

@@ -11,10 +11,10 @@ pub returns-then-answer-lt-SENT : goal.returns-then-answer-lt-SENT
 returns-then-answer-lt-SENT c = search sent_refused
 
 pub returns-then-list-lt-SENT_LENGTH : goal.returns-then-list-lt-SENT_LENGTH
-returns-then-list-lt-SENT_LENGTH c = list_short _ _ _ _ _ _ _ c.if-record-lt-RECORD.false c.if-answer-lt-SENT.false c.put_two.ensures c.if-list-lt-SENT_LENGTH.true
+returns-then-list-lt-SENT_LENGTH c = list_short _ _ _ _ _ _ _ c.if-record-lt-RECORD.false c.if-answer-lt-SENT.false c.put.ensures c.if-list-lt-SENT_LENGTH.true
 
 pub returns-then-code-ne0 : goal.returns-then-code-ne0
-returns-then-code-ne0 c = begin_refused _ _ _ _ _ _ _ c.if-record-lt-RECORD.false c.if-answer-lt-SENT.false c.put_two-then-code-ne0.ensures c.if-list-lt-SENT_LENGTH.false c.begin_stored-code.ensures c.if-code-ne0.true
+returns-then-code-ne0 c = begin_refused _ _ _ _ _ _ _ c.if-record-lt-RECORD.false c.if-answer-lt-SENT.false c.put-then-code-ne0.ensures c.if-list-lt-SENT_LENGTH.false c.begin_stored-code.ensures c.if-code-ne0.true
 
 pub srt_group_valid_send-requires : goal.srt_group_valid_send-requires
 srt_group_valid_send-requires c = record { ready_words = stored_ready c.begin_stored-code.ensures c.if-code-ne0.false c.if-record-lt-RECORD.false; list_size_in_bounds = (c.if-list-lt-SENT_LENGTH.false, c.if-answer-lt-SENT.false) }

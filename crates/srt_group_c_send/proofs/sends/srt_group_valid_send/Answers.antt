@@ -1,6 +1,5 @@
 -- `srt_group_valid_send` meets its contract: that of the form over the parts that the words show.
 use Rattle.srt_group_words.specs.Laws.Words.{parts_ready, performs_sent}
-use Rattle.srt_group_c_send.specs.Laws.Sends.{code_small}
 use Rattle.srt_group_words.specs.Words.{sent_words}
 use Rattle.srt_group_c_send.proofs.sends.srt_group_valid_send.Goals as goal
 
@@ -20,7 +19,7 @@ pub send-sent-requires : goal.send-sent-requires
 send-sent-requires c = record { ready = parts_ready _ c.read_identity.ensures c.read_core.ensures c.read_sending.ensures c.read_ring.ensures c.requires.ready_words; list_size_in_bounds = c.requires.list_size_in_bounds.0 }
 
 pub put_send-requires : goal.put_send-requires
-put_send-requires c = record { record_size_in_bounds = (c.requires.ready_words.long, c.requires.list_size_in_bounds.1); code_bound = code_small c.send-sent.ensures }
+put_send-requires c = (c.requires.ready_words.long, c.requires.list_size_in_bounds.1)
 
 pub returns : goal.returns
 returns c = performs_sent _ c.read_identity.ensures c.read_core.ensures c.read_sending.ensures c.read_ring.ensures _ _ _ c.requires.ready_words.long _ _ _ sent_words _ _ _ _ _ _ c.send-sent.ensures.rows c.send-sent.ensures.performs c.put_send.ensures

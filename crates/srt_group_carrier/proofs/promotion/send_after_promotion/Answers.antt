@@ -6,23 +6,14 @@ use Rattle.srt_group_members.specs.Laws.Scan.{found_row}
 use Rattle.srt_group_carrier.specs.Laws.Flows.{lendable_with, none_promoted, promoted_flows}
 use Rattle.srt_group_carrier.proofs.promotion.send_after_promotion.Goals as goal
 
-pub first_active-found-requires : goal.first_active-found-requires
-first_active-found-requires c =
-    omega (arith, c.requires.sendable.lent.rows, c.promote_after_failure.ensures.long)
-
 pub returns-in_default : goal.returns-in_default
 returns-in_default c =
     none_promoted _ _ _ _ _ _ _ _ _ _ _ c.promote_after_failure.ensures (sym c.in_default.is ∙ c.first_active-found.ensures) c.requires.sendable.lent (omega (arith, c.requires.sent_bound.0))
 
-pub send_on_promoted-requires : goal.send_on_promoted-requires
-send_on_promoted-requires c =
-    let found = sym c.in-At.is ∙ c.first_active-found.ensures in record { sendable = record { below = found_row is_active _ _ _ found; lent = lendable_with _ c.requires.sendable.lent c.promote_after_failure.ensures.long }; sent_bound = c.requires.sent_bound }
-
-pub shape_of-members : goal.shape_of-members
-shape_of-members c =
-    omega (arith, c.send_on_promoted.auto, c.promote_after_failure.auto)
+pub send_on_promoted-requires-clause-sendable : goal.send_on_promoted-requires-clause-sendable
+send_on_promoted-requires-clause-sendable c = let found = sym c.in-Some.is ∙ c.first_active-found.ensures in record { below = found_row is_active _ _ _ found; lent = lendable_with _ c.requires.sendable.lent c.promote_after_failure.ensures.long }
 
 pub returns : goal.returns
 returns c =
-    let found = sym c.in-At.is ∙ c.first_active-found.ensures in
+    let found = sym c.in-Some.is ∙ c.first_active-found.ensures in
     promoted_flows _ _ _ _ _ _ _ _ _ _ _ c.promote_after_failure.ensures _ found c.send_on_promoted.ensures

@@ -3,9 +3,6 @@ use Rattle.srt_group_collecting.specs.Laws.Visit.{collected_data, collected_othe
 use Rattle.srt_group_collecting.specs.Laws.Used.{data_freed, event_kept}
 use Rattle.srt_group_collecting.proofs.collecting.collect_member_event.Goals as goal
 
-pub retain_group_packet-requires : goal.retain_group_packet-requires
-retain_group_packet-requires c = record { has_row = c.requires.collectable.there; holdable = c.requires.collectable.holdable c.if-event-eq0.true; used_len = c.requires.used_len }
-
 pub returns-then-event-eq0 : goal.returns-then-event-eq0
 returns-then-event-eq0 c = record { collected = search collected_data; freed = search data_freed }
 

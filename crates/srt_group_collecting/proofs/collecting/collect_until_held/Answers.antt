@@ -1,19 +1,11 @@
 -- `collect_until_held` meets its contract. The loop's invariant: what is left of the visits gives what all of them give (`Holding`).
 use Rattle.srt_group_collecting.specs.Laws.Gather.{holding_start, holding_on, holding_ended, holding_done}
-use borrow.Author.Rules.{rules}
-use native.Mathlib.Omega.{arith}
 use Rattle.srt_group_collecting.specs.Laws.Follows.{follows_same, follows_then}
 use Rattle.srt_group_model.specs.Laws.Flag.{zero_unset, other_set}
 use Rattle.srt_group_collecting.proofs.collecting.collect_until_held.Goals as goal
 
 pub loop-left-init : goal.loop-left-init
 loop-left-init c = (search holding_start, search follows_same)
-
-pub visit_until_held-visited-requires : goal.visit_until_held-visited-requires
-visit_until_held-visited-requires c = record { usable = search rules; used_len = search rules }
-
-pub shape_of-used-then-visited-eq0 : goal.shape_of-used-then-visited-eq0
-shape_of-used-then-visited-eq0 c = omega (arith, c.requires.used_len, c.loop-left.invariant.1.long, c.loop-left.invariant.0.members_long, c.loop-left.invariant.0.pending_long, c.loop-left.invariant.0.waiting_long, c.visit_until_held-visited.ensures.held_visit.members_long, c.visit_until_held-visited.ensures.held_visit.pending_long, c.visit_until_held-visited.ensures.held_visit.waiting_long, c.visit_until_held-visited.ensures.follows.long)
 
 pub returns-then-visited-eq0 : goal.returns-then-visited-eq0
 returns-then-visited-eq0 c =
@@ -31,10 +23,6 @@ loop-left-preserved c =
       follows_then c.loop-left.invariant.1 c.visit_until_held-visited.ensures.follows,
     )
 
-pub returns : goal.returns
-returns c =
-    let args = c.args in record {
-      gathers = holding_done args.core args.budget args.members.now args.pending.now args.waiting.now _ c.loop-left.visited _ _ _
-          c.loop-left-test.false c.loop-left.invariant.0;
-      follows = c.loop-left.invariant.1;
-    }
+pub returns-clause-gathers : goal.returns-clause-gathers
+returns-clause-gathers c = let args = c.args in holding_done args.core args.budget args.members.now args.pending.now args.waiting.now _ c.loop-left.visited _ _ _
+    c.loop-left-test.false c.loop-left.invariant.0

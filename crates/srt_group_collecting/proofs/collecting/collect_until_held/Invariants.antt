@@ -8,6 +8,3 @@ abbrev pub invariant-loop-left : goal.invariant-loop-left
 invariant-loop-left l =
     Holding l.left l.initial.visited.core l.budget (receive_tables l.initial.members l.initial.pending l.initial.waiting) l.visited (receive_tables l.members l.pending l.waiting)
     × Follows l.initial.visited.core l.initial.members l.initial.pending l.initial.used l.visited.core l.members l.pending l.used
-
-abbrev pub decreases-loop-left : goal.decreases-loop-left
-decreases-loop-left l = l.left

@@ -1,9 +1,8 @@
 -- `is_held` meets its contract: it is held if the search finds it.
-use Rattle.srt_group_collecting.specs.Laws.Collect.{held_found, held_nowhere}
+use Rattle.std.proofs.Common.{ap, sym, ◌∙◌, is_some}
+use Rattle.srt_group_model.specs.Nearest.{has_sequence}
+use Rattle.srt_group_members.specs.Laws.Scan.{any_found}
 use Rattle.srt_group_collecting.proofs.collecting.is_held.Goals as goal
 
-pub returns-in-At : goal.returns-in-At
-returns-in-At c = search held_found
-
-pub returns-in-Nothing : goal.returns-in-Nothing
-returns-in-Nothing c = search held_nowhere
+pub returns : goal.returns
+returns c = c.is_some.ensures ∙ (ap is_some c.find.ensures ∙ sym (any_found (has_sequence c.args.sequence) _))

@@ -1,13 +1,8 @@
 -- `reserve_at` meets its contract: the account that is put is the one that was there with the count added.
-use mathlib.Core.Path.{ap, sym, subst, ◌∙◌}
-use Rattle.srt_group_model.specs.declared.Account.{Account}
+use mathlib.Core.Path.{ap, ◌∙◌}
 use Rattle.srt_connection_members.specs.Laws.Members.{account_changed}
-use Rattle.srt_group_model.specs.Accounts.{reserve, Fits}
+use Rattle.srt_group_model.specs.Accounts.{reserve}
 use Rattle.srt_group_collecting.proofs.collecting.reserve_at.Goals as goal
-
-pub reserve_packet-account-requires : goal.reserve_packet-account-requires
-reserve_packet-account-requires c =
-    subst (λ (a : Account). Fits (reserve c.args.count a)) (sym c.account_at.ensures) c.requires.fits
 
 pub returns : goal.returns
 returns c =

@@ -1,18 +1,10 @@
 -- `take_front` meets its contract, for each answer of the leg.
 use Rattle.srt_group_collecting.specs.Laws.Visit.{visits_nothing, visits_spent, visits_event, collectable}
-use borrow.Author.Rules.{rules}
 use Rattle.srt_group_collecting.specs.Laws.Used.{follows_nothing, follows_spent, follows_event}
 use Rattle.srt_group_collecting.proofs.collecting.take_front.Goals as goal
 
-pub turn_past-requires : goal.turn_past-requires
-turn_past-requires c = (search rules, search rules)
-
-pub turn_past-next-requires : goal.turn_past-next-requires
-turn_past-next-requires c = (c.requires.index_lt_members.0, c.requires.usable.members_few)
-
-pub collect_member_event-after-requires : goal.collect_member_event-after-requires
-collect_member_event-after-requires c =
-    let polled = c.poll_event_for_group_at-polled.ensures in record { collectable = collectable _ _ _ _ c.requires.usable _ c.requires.index_lt_members.0 _ _ _ _ _ _ _ c.turn_past-next.ensures polled.changed c.in-Event.is polled.gave c.requires.index_lt_members.1; used_len = c.requires.used_len }
+pub collect_member_event-after-requires-clause-collectable : goal.collect_member_event-after-requires-clause-collectable
+collect_member_event-after-requires-clause-collectable c = let polled = c.poll_event_for_group_at-polled.ensures in collectable _ _ _ _ c.requires.usable _ c.requires.index_lt_members.0 _ _ _ _ _ _ _ c.turn_past-next.ensures polled.changed c.in-Event.is polled.gave c.requires.index_lt_members.1
 
 pub returns-in-Nothing : goal.returns-in-Nothing
 returns-in-Nothing c = record { visits = search visits_nothing; follows = search follows_nothing }

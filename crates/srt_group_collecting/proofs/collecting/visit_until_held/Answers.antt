@@ -1,24 +1,15 @@
 -- `visit_until_held` meets its contract.
 use Rattle.srt_group_collecting.specs.Laws.Gather.{held_waits, held_none, held_one}
-use borrow.Author.Rules.{rules}
-use Rattle.srt_group_collecting.specs.Laws.Follows.{follows_same}
 use Rattle.srt_group_collecting.specs.Laws.Used.{follows_continued}
 use Rattle.srt_group_model.specs.Laws.Flag.{zero_unset, other_set}
 use Rattle.srt_group_collecting.proofs.collecting.visit_until_held.Goals as goal
 
-pub returns-then-here-gt0 : goal.returns-then-here-gt0
-returns-then-here-gt0 c = record { held_visit = search held_waits; follows = search follows_same }
+pub returns-then-here-gt0-clause-held_visit : goal.returns-then-here-gt0-clause-held_visit
+returns-then-here-gt0-clause-held_visit c = search held_waits
 
-pub collect_one_event-visited-requires : goal.collect_one_event-visited-requires
-collect_one_event-visited-requires c = record { usable = search rules; waiting_lt_max_waiting = search rules; used_len = search rules }
-
-pub returns-then-visited-eq0 : goal.returns-then-visited-eq0
-returns-then-visited-eq0 c =
-    let args = c.args in record {
-      held_visit = held_none args.visits args.before args.members.now args.pending.now args.waiting.now c.requires.usable c.collect_one_event-visited.result _ _ _
-          c.if-here-gt0.false c.collect_one_event-visited.ensures.collects (zero_unset c.collect_one_event-visited.result.took c.if-visited-eq0.true);
-      follows = c.collect_one_event-visited.ensures.follows;
-    }
+pub returns-then-visited-eq0-clause-held_visit : goal.returns-then-visited-eq0-clause-held_visit
+returns-then-visited-eq0-clause-held_visit c = let args = c.args in held_none args.visits args.before args.members.now args.pending.now args.waiting.now c.requires.usable c.collect_one_event-visited.result _ _ _
+    c.if-here-gt0.false c.collect_one_event-visited.ensures.collects (zero_unset c.collect_one_event-visited.result.took c.if-visited-eq0.true)
 
 pub returns : goal.returns
 returns c =

@@ -4,12 +4,12 @@ use Rattle.srt_group.specs.Made.{parts_of}
 use Rattle.srt_group_refusals.specs.Laws.Polled.{data_poll_refused, data_poll_performed}
 use Rattle.srt_group_data_poll.proofs.calls.poll_data_bounded.Goals as goal
 
-pub returns-in-Refused : goal.returns-in-Refused
-returns-in-Refused c =
+pub returns-in-Err : goal.returns-in-Err
+returns-in-Err c =
     let a = c.args in
     data_poll_refused a.time.0 a.max_events (parts_of a.group)
     (tables a.members.now a.pending.now a.waiting.now a.history.now a.sources.now) a.store.now a.output.now
-    c.begin_poll-begun.ensures _ c.in-Refused.is
+    c.begin_poll-begun.ensures _ c.in-Err.is
 
 pub poll_data_bounded-poll-requires : goal.poll_data_bounded-poll-requires
 poll_data_bounded-poll-requires c =

@@ -4,14 +4,14 @@ use borrow.Author.Rules.{rules}
 use Rattle.srt_group_collecting.specs.Laws.Follows.{follows_same}
 use Rattle.srt_group_delivery.proofs.delivery.deliver.Goals as goal
 
-pub returns-in_default : goal.returns-in_default
-returns-in_default c = record { by_index = search (base_not_held, follows_same); follows = search (base_not_held, follows_same) }
+pub returns-in_default-clause-by_index : goal.returns-in_default-clause-by_index
+returns-in_default-clause-by_index c = search (base_not_held, follows_same)
 
 pub packet-packet-requires : goal.packet-packet-requires
 packet-packet-requires c = search found_in_table
 
-pub deliver_packet-after-requires : goal.deliver_packet-after-requires
-deliver_packet-after-requires c = record { deliverable = search (rules, found_held); held_at = search (rules, found_held); used_len = search (rules, found_held) }
+pub deliver_packet-after-requires-clause-held_at : goal.deliver_packet-after-requires-clause-held_at
+deliver_packet-after-requires-clause-held_at c = search (rules, found_held)
 
-pub returns : goal.returns
-returns c = record { by_index = search base_delivered; follows = search base_delivered }
+pub returns-clause-by_index : goal.returns-clause-by_index
+returns-clause-by_index c = search base_delivered

@@ -6,8 +6,8 @@ use Rattle.srt_group_delivery.proofs.delivery.leg_gives_up.Goals as goal
 pub leg_at-requires : goal.leg_at-requires
 leg_at-requires c = search found_has_row
 
-pub returns-in-At : goal.returns-in-At
-returns-in-At c = search own_leg_asked
+pub returns-in-Some : goal.returns-in-Some
+returns-in-Some c = search own_leg_asked
 
 pub returns-then-count-eq0 : goal.returns-then-count-eq0
 returns-then-count-eq0 c = no_leg_asked _ _ _ _ c.if-count-eq0.true

@@ -3,5 +3,5 @@ use Rattle.srt_group_delivery.specs.Laws.Delivery.{that_released}
 use Rattle.srt_group_delivery.specs.Laws.UsedByDelivery.{that_freed}
 use Rattle.srt_group_delivery.proofs.delivery.release_held.Goals as goal
 
-pub returns : goal.returns
-returns c = record { released = search (that_released, that_freed); freed = search (that_released, that_freed) }
+pub returns-clause-freed : goal.returns-clause-freed
+returns-clause-freed c = search (that_released, that_freed)

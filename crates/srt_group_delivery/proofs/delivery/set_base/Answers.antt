@@ -5,8 +5,8 @@ use Rattle.srt_group_delivery.proofs.delivery.set_base.Goals as goal
 pub returns-then-core-ne0 : goal.returns-then-core-ne0
 returns-then-core-ne0 c = base_was_set _ _ c.if-core-ne0.true
 
-pub returns-then-based-eq0 : goal.returns-then-based-eq0
-returns-then-based-eq0 c = search base_not_given
+pub returns-in_default : goal.returns-in_default
+returns-in_default c = base_not_given _ c.if-core-ne0.false c.in_default.is
 
 pub returns : goal.returns
-returns c = search base_given
+returns c = base_given _ _ c.if-core-ne0.false c.in-Some.is

@@ -4,12 +4,12 @@ use Rattle.srt_group.specs.Made.{parts_of}
 use Rattle.srt_group_refusals.specs.Laws.Polled.{event_poll_refused, event_poll_performed}
 use Rattle.srt_group_event_poll.proofs.calls.poll_event.Goals as goal
 
-pub returns-in-Refused : goal.returns-in-Refused
-returns-in-Refused c =
+pub returns-in-Err : goal.returns-in-Err
+returns-in-Err c =
     let a = c.args in
     event_poll_refused a.time.0 (parts_of a.group)
     (tables a.members.now a.pending.now a.waiting.now a.history.now a.sources.now) a.store.now a.output.now
-    c.begin_poll-begun.ensures _ c.in-Refused.is
+    c.begin_poll-begun.ensures _ c.in-Err.is
 
 pub poll_event-poll-requires : goal.poll_event-poll-requires
 poll_event-poll-requires c =

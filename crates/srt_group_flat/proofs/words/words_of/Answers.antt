@@ -2,8 +2,8 @@
 use Rattle.srt_group_flat.specs.Laws.Words.{says_refused, says_polled}
 use Rattle.srt_group_flat.proofs.words.words_of.Goals as goal
 
-pub returns-in-Refused : goal.returns-in-Refused
-returns-in-Refused c = search says_refused
+pub returns-in-Err : goal.returns-in-Err
+returns-in-Err c = search says_refused
 
-pub returns-in-Polled : goal.returns-in-Polled
-returns-in-Polled c = search says_polled
+pub returns-in-Ok : goal.returns-in-Ok
+returns-in-Ok c = search says_polled

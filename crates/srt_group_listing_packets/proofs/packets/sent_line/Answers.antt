@@ -1,13 +1,10 @@
 -- `sent_line` meets its contract.
-use mathlib.Core.Path.{sym}
-use borrow.Author.Tests.{eq-eqb, ne_eqb}
-use Rattle.srt_group_model.specs.Tools.{if_true◌then◌else◌}
+use Rattle.srt_group_listing.specs.Telling.{sent_line}
+use mathlib.Core.Path.{sym, ap}
 use Rattle.srt_group_listing_packets.proofs.packets.sent_line.Goals as goal
 
-pub returns-then-code-eq0 : goal.returns-then-code-eq0
-unfolding if_true◌then◌else◌
-returns-then-code-eq0 c = sym (rw (eq-eqb c.args.code 0 c.if-code-eq0.true))
+pub returns-in-Ok : goal.returns-in-Ok
+returns-in-Ok c = sym (ap sent_line c.in-Ok.is)
 
-pub returns : goal.returns
-unfolding if_true◌then◌else◌
-returns c = sym (rw (ne_eqb c.args.code 0 c.if-code-eq0.false))
+pub returns-in-Err : goal.returns-in-Err
+returns-in-Err c = rw c.from.ensures (sym (ap sent_line c.in-Err.is))

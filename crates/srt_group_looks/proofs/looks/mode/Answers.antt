@@ -1,16 +1,12 @@
 -- `mode` meets its contract: 5, 6, or the number.
-use Rattle.srt_group_model.specs.Lent.{look_mode}
-use Rattle.srt_group_shown.specs.Tables.{tables}
-use Rattle.srt_group.specs.Made.{parts_of}
+use Rattle.std.proofs.lemmas.Result.{err_from_is_err_and}
 use Rattle.srt_group_looks.specs.Laws.Looks.{look_refused, mode_shown}
 use Rattle.srt_group_looks.proofs.looks.mode.Goals as goal
 
-pub returns-in-Refused : goal.returns-in-Refused
-returns-in-Refused c =
-    let a = c.args in
-    look_refused look_mode (parts_of a.group) (tables a.members.now a.pending.now a.waiting.now a.history.now a.sources.now) c.begin-begun.ensures _ c.in-Refused.is
+pub returns-in_err-begin : goal.returns-in_err-begin
+returns-in_err-begin c =
+    let p = err_from_is_err_and c.from_residual.result c.from_residual.ensures.1 in
+    rw (p.1, p.2) (look_refused _ _ _ c.begin.ensures _ c.in_err-begin.was)
 
 pub returns : goal.returns
-returns c =
-    let a = c.args in
-    mode_shown (parts_of a.group) (tables a.members.now a.pending.now a.waiting.now a.history.now a.sources.now) c.begin-begun.ensures c.in_default.is
+returns c = mode_shown _ _ c.begin.ensures c.in_ok-begin.was

@@ -32,7 +32,7 @@ returns-in_default c =
 pub turn_at-requires : goal.turn_at-requires
 turn_at-requires c =
     let a = c.args in
-    row_there a.core.counts.members a.id _ a.members.now c.requires (sym c.in-At.is ∙ c.find-found.ensures)
+    row_there a.core.counts.members a.id _ a.members.now c.requires (sym c.in-Some.is ∙ c.find-found.ensures)
 
 pub returns : goal.returns
 returns c =
@@ -41,5 +41,5 @@ returns c =
       over =
           λ identity sending ring pending waiting history sources unbroken.
           member_changed (broken_call a.id) (parts identity a.core sending ring) (tables a.members.now pending waiting history sources) unbroken (le-ltb _ _ c.if-id-gt-LARGEST_32.false) _
-          (sym c.in-At.is ∙ c.find-found.ensures) _ refl c.turn_at.ensures;
+          (sym c.in-Some.is ∙ c.find-found.ensures) _ refl c.turn_at.ensures;
     }

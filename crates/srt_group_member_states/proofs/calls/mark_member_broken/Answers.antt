@@ -1,4 +1,5 @@
 -- `mark_member_broken` meets its contract: 5, 6, and then what follows them.
+use Rattle.std.proofs.lemmas.Result.{err_from_is_err_and}
 use Rattle.srt_group_model.specs.Lent.{call_mark_member_broken}
 use Rattle.srt_group_shown.specs.Tables.{tables}
 use Rattle.srt_group.specs.Made.{parts_of}
@@ -10,21 +11,23 @@ use Rattle.srt_group_queueing.specs.Laws.Calls.{one_member_refused}
 use Rattle.srt_group_member_states.specs.Laws.Broken.{broken_call}
 use Rattle.srt_group_member_states.proofs.calls.mark_member_broken.Goals as goal
 
-pub returns-in-Refused : goal.returns-in-Refused
-returns-in-Refused c =
+pub returns-in_err-begin : goal.returns-in_err-begin
+returns-in_err-begin c =
     let a = c.args in
-    one_member_refused (broken_call a.id) (parts_of a.group) (tables a.members.now a.pending.now a.waiting.now a.history.now a.sources.now) c.begin-begun.ensures _ c.in-Refused.is
+    let p = err_from_is_err_and c.from_residual.result c.from_residual.ensures.1 in
+    rw (p.1, p.2)
+    (one_member_refused (broken_call a.id) (parts_of a.group) (tables a.members.now a.pending.now a.waiting.now a.history.now a.sources.now) c.begin.ensures _ c.in_err-begin.was)
 
 pub turn_broken-requires : goal.turn_broken-requires
 turn_broken-requires c =
     let a = c.args in
-    rows_unbroken (begun_unbroken (parts_of a.group) (tables a.members.now a.pending.now a.waiting.now a.history.now a.sources.now) c.begin-begun.ensures c.in_default.is)
+    rows_unbroken (begun_unbroken (parts_of a.group) (tables a.members.now a.pending.now a.waiting.now a.history.now a.sources.now) c.begin.ensures c.in_ok-begin.was)
 
 pub returns : goal.returns
 returns c =
     let a = c.args in
     let p = (parts_of a.group) in
     let t = (tables a.members.now a.pending.now a.waiting.now a.history.now a.sources.now) in
-    promised_steps (call_mark_member_broken a.id) p t nothing_lent c.begin-begun.ensures c.in_default.is nothing_delivered
+    promised_steps (call_mark_member_broken a.id) p t nothing_lent c.begin.ensures c.in_ok-begin.was nothing_delivered
     (c.turn_broken.ensures.over a.group.identity a.group.sending a.group.ring a.pending.now a.waiting.now a.history.now a.sources.now
-    (begun_unbroken p t c.begin-begun.ensures c.in_default.is)).steps
+    (begun_unbroken p t c.begin.ensures c.in_ok-begin.was)).steps

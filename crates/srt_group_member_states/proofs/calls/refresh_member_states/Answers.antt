@@ -9,10 +9,10 @@ use Rattle.srt_group_refusals.specs.Laws.Promised.{promised_steps}
 use Rattle.srt_group_member_states.specs.Laws.States.{refresh_refused, refreshed}
 use Rattle.srt_group_member_states.proofs.calls.refresh_member_states.Goals as goal
 
-pub returns-in-Refused : goal.returns-in-Refused
-returns-in-Refused c =
+pub returns-in-Err : goal.returns-in-Err
+returns-in-Err c =
     let a = c.args in
-    refresh_refused (parts_of a.group) (tables a.members.now a.pending.now a.waiting.now a.history.now a.sources.now) c.begin-begun.ensures _ c.in-Refused.is
+    refresh_refused (parts_of a.group) (tables a.members.now a.pending.now a.waiting.now a.history.now a.sources.now) c.begin-begun.ensures _ c.in-Err.is
 
 pub refresh_states-after-requires : goal.refresh_states-after-requires
 refresh_states-after-requires c =

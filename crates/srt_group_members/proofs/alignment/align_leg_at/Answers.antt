@@ -11,5 +11,5 @@ returns-in_default c =
 pub returns : goal.returns
 returns c =
     leg_aligned _ _ _ c.leg_at.ensures _ (sym
-    c.in-Ok.is ∙
+    c.in-Some.is ∙
     c.align_leg-result.ensures) c.put_leg_at.ensures

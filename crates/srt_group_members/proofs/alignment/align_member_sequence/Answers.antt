@@ -1,23 +1,16 @@
 -- `align_member_sequence` meets its contract: one law for each answer.
 use mathlib.Core.Path.{sym, ◌∙◌}
 use Rattle.srt_group_members.specs.Laws.Alignment.{align_past, align_no_source, align_with}
-use native.Mathlib.Omega.{arith}
 use Rattle.srt_group_members.proofs.alignment.align_member_sequence.Goals as goal
 
 pub returns-then-count-index : goal.returns-then-count-index
 returns-then-count-index c = align_past _ _ _ _ c.if-count-index.true
-
-pub membership_at-membership-requires : goal.membership_at-membership-requires
-membership_at-membership-requires c = omega arith
 
 pub returns-in_default : goal.returns-in_default
 returns-in_default c =
     align_no_source _ _ _ _ c.if-count-index.false
     c.membership_at-membership.ensures
     (sym c.in_default.is ∙ c.alignment_source-source.ensures)
-
-pub align_leg_at-requires : goal.align_leg_at-requires
-align_leg_at-requires c = omega (arith, c.if-count-index.false)
 
 pub returns : goal.returns
 returns c =

@@ -2,12 +2,6 @@
 use Rattle.srt_group_members.specs.Laws.Rank.{outranks_by_weight, outranked_by_weight, outranks_by_id}
 use Rattle.srt_group_members.proofs.promotion.outranks_at.Goals as goal
 
-pub membership_at-first-requires : goal.membership_at-first-requires
-membership_at-first-requires c = c.requires.has_row
-
-pub membership_at-second-requires : goal.membership_at-second-requires
-membership_at-second-requires c = c.requires.has_row_2
-
 pub returns-then-second-first : goal.returns-then-second-first
 returns-then-second-first c =
     outranks_by_weight _ _ c.membership_at-first.ensures

@@ -12,10 +12,10 @@ turn_at-requires c =
     omega (
       arith,
       promotion_below _ _ _
-          (sym c.in-At.is ∙ c.promotion-found.ensures),
+          (sym c.in-Some.is ∙ c.promotion-found.ensures),
     )
 
 pub returns : goal.returns
 returns c =
-    promoted _ _ _ (sym c.in-At.is ∙
+    promoted _ _ _ (sym c.in-Some.is ∙
     c.promotion-found.ensures) c.turn_at.ensures

@@ -2,8 +2,5 @@
 use Rattle.srt_group_members.specs.Laws.Rank.{Ranking}
 use Rattle.srt_group_members.proofs.promotion.promotion.Given as goal
 
-abbrev pub invariant-loop-left : goal.invariant-loop-left
-invariant-loop-left l = Ranking l.count l.members l.left l.best
-
-abbrev pub decreases-loop-left : goal.decreases-loop-left
-decreases-loop-left l = l.left
+abbrev pub invariant-loop-index : goal.invariant-loop-index
+invariant-loop-index l = Ranking l.count l.members l.index l.best

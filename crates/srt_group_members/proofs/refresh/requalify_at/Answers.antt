@@ -2,11 +2,7 @@
 use Rattle.srt_group_model.specs.Members.{requalify}
 use Rattle.srt_group_members.specs.Refresh.{requalifies, requalified_state}
 use Rattle.srt_group_members.specs.Laws.Refresh.{turn_left_out, turn_refused, turn_made}
-use native.Mathlib.Omega.{arith}
 use Rattle.srt_group_members.proofs.refresh.requalify_at.Goals as goal
-
-pub requalifies_at-requires : goal.requalifies_at-requires
-requalifies_at-requires c = omega (arith, c.requires.index_lt_count)
 
 pub returns-then-not-requalifies_at : goal.returns-then-not-requalifies_at
 unfolding requalify requalifies requalified_state
@@ -14,43 +10,12 @@ returns-then-not-requalifies_at c =
     turn_left_out requalifies _ _ _ _ _ c.requires.index_lt_count c.requalifies_at.ensures
     c.if-not-requalifies_at.true
 
-pub align_member_sequence-requires : goal.align_member_sequence-requires
-align_member_sequence-requires c = c.requires.row_size_in_bounds
-
-pub shape_of-members-then-not-align_member_sequence : goal.shape_of-members-then-not-align_member_sequence
-shape_of-members-then-not-align_member_sequence c = c.align_member_sequence.ensures.long
-
 pub returns-then-not-align_member_sequence : goal.returns-then-not-align_member_sequence
 unfolding requalify requalifies requalified_state
 returns-then-not-align_member_sequence c =
     turn_refused requalifies _ _ _ _ _ c.requires.index_lt_count
     c.requalifies_at.ensures c.if-not-requalifies_at.false c.align_member_sequence.ensures
     c.if-not-align_member_sequence.true
-
-pub requalified_state-state-requires : goal.requalified_state-state-requires
-requalified_state-state-requires c =
-    omega (
-      arith,
-      c.requires.row_size_in_bounds,
-      c.align_member_sequence.ensures.long,
-    )
-
-pub turn_at-requires : goal.turn_at-requires
-turn_at-requires c =
-    omega (
-      arith,
-      c.requires.row_size_in_bounds,
-      c.requires.index_lt_count,
-      c.align_member_sequence.ensures.long,
-    )
-
-pub shape_of-members : goal.shape_of-members
-shape_of-members c =
-    omega (
-      arith,
-      c.turn_at.ensures.long,
-      c.align_member_sequence.ensures.long,
-    )
 
 pub returns : goal.returns
 unfolding requalify requalifies requalified_state

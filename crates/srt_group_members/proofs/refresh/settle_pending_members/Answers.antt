@@ -6,22 +6,10 @@ use Rattle.srt_group_members.proofs.refresh.settle_pending_members.Goals as goal
 pub loop-i-init : goal.loop-i-init
 loop-i-init c = stepping_start _ _ _
 
-pub settle_at-requires : goal.settle_at-requires
-settle_at-requires c = record { row_size_in_bounds = omega (arith, c.loop-i.invariant.long); index_lt_count = c.loop-i-test.true }
-
-pub overflow_add-i : goal.overflow_add-i
-overflow_add-i c = omega (arith, c.loop-i-test.true)
-
-pub loop-i-smaller : goal.loop-i-smaller
-loop-i-smaller c = omega (arith, c.loop-i-test.true)
-
 pub loop-i-preserved : goal.loop-i-preserved
 loop-i-preserved c =
-    stepping_on _ _ _ _ _ c.loop-i-test.true
+    stepping_on _ _ _ _ _ (omega arith)
     c.loop-i.invariant c.settle_at.ensures
 
-pub shape_of-members : goal.shape_of-members
-shape_of-members c = c.loop-i.invariant.long
-
 pub returns : goal.returns
-returns c = stepping_done _ _ _ _ _ c.loop-i-test.false c.loop-i.invariant
+returns c = stepping_done _ _ _ _ _ (omega arith) c.loop-i.invariant

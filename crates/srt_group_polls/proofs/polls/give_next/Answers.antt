@@ -2,8 +2,8 @@
 use native.Mathlib.Omega.{arith}
 use Rattle.srt_group_model.specs.Run.{refresh_states}
 use Rattle.srt_group_polls.specs.Refresh.{Refreshes}
-use Rattle.srt_group_polls.specs.Laws.Refresh.{usable_refreshed, rows_there, refresh_left_out}
-use Rattle.srt_group_polls.specs.Laws.EventPoll.{event_next, packet_next, still_none_waits}
+use Rattle.srt_group_polls.specs.Laws.Refresh.{usable_refreshed, refresh_left_out}
+use Rattle.srt_group_polls.specs.Laws.EventPoll.{event_next, packet_next}
 use Rattle.srt_group_skip.specs.Laws.SkipUsed.{follows_given}
 use Rattle.srt_group_polls.specs.Laws.PollsUsed.{follows_refreshed}
 use Rattle.srt_group_collecting.specs.Leaves.{sends}
@@ -15,32 +15,15 @@ pub returns-then-here-gt0 : goal.returns-then-here-gt0
 returns-then-here-gt0 c =
     let given = c.give_waiting.ensures in record { polls_from = event_next _ _ _ _ _ _ _ _ _ (search) (search) (given _ _); follows = follows_given _ _ _ _ _ _ _ (search) (given _ _) }
 
-pub refresh_all_states-refreshed-requires : goal.refresh_all_states-refreshed-requires
-refresh_all_states-refreshed-requires c = rows_there _ _ _ _ c.requires.usable
-
-pub deliver_next-requires : goal.deliver_next-requires
-deliver_next-requires c =
+pub deliver_next-requires-clause-usable : goal.deliver_next-requires-clause-usable
+deliver_next-requires-clause-usable c =
     -- made or left out, it is the definition's refresh
     let refreshed : Refreshes (sends c.args.sending) refresh_states c.args.gathered.core c.args.members.now c.if-not-quiet.refreshed c.if-not-quiet.members =
     elim c.if-not-quiet.branch [
       | then-not-quiet w ↦ rw (w.refreshed-is, w.members-is) w.refresh_all_states-refreshed.ensures
       | else-not-quiet w ↦ rw (w.refreshed-is, w.members-is) (refresh_left_out _ _ _ (c.requires.known c.if-here-gt0.false) w.if-not-quiet.false)
     ] in
-    record {
-      usable = usable_refreshed _ c.requires.sending_fit _ _ _ _ c.requires.usable _ _ refreshed;
-      waiting_value = still_none_waits (omega (arith, c.if-here-gt0.false)) refreshed;
-      used_len = c.requires.used_len;
-    }
-
-pub shape_of-members : goal.shape_of-members
-shape_of-members c =
-    -- made or left out, it is the definition's refresh
-    let refreshed : Refreshes (sends c.args.sending) refresh_states c.args.gathered.core c.args.members.now c.if-not-quiet.refreshed c.if-not-quiet.members =
-    elim c.if-not-quiet.branch [
-      | then-not-quiet w ↦ rw (w.refreshed-is, w.members-is) w.refresh_all_states-refreshed.ensures
-      | else-not-quiet w ↦ rw (w.refreshed-is, w.members-is) (refresh_left_out _ _ _ (c.requires.known c.if-here-gt0.false) w.if-not-quiet.false)
-    ] in
-    omega (arith, refreshed.members_long, c.deliver_next.ensures.polls_from.members_long)
+    usable_refreshed _ c.requires.sending_fit _ _ _ _ c.requires.usable _ _ refreshed
 
 pub returns : goal.returns
 returns c =

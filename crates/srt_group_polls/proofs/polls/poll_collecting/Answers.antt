@@ -1,5 +1,4 @@
 -- `poll_collecting` meets its contract: the refresh or none, the visits, and what is given then.
-use native.Mathlib.Omega.{arith}
 use Rattle.srt_group_model.specs.Core.{continued}
 use Rattle.srt_group_model.specs.Run.{refresh_pending_states}
 use Rattle.srt_group_polls.specs.Refresh.{Refreshes}
@@ -8,28 +7,22 @@ use Rattle.srt_group_polls.specs.Laws.PollsUsed.{follows_begun}
 use Rattle.srt_group_polls.specs.Laws.Quiet.{known_begun, known_gathered}
 use Rattle.srt_group_collecting.specs.Leaves.{sends}
 use Rattle.srt_group_collecting.specs.Laws.Follows.{follows_then}
-use Rattle.srt_group_polls.specs.Laws.Refresh.{rows_there, settling_left_out}
+use Rattle.srt_group_polls.specs.Laws.Refresh.{settling_left_out}
 use Rattle.srt_group_polls.proofs.polls.poll_collecting.Goals as goal
 use Rattle.srt_group_polls.proofs.polls.poll_collecting.Goals.{then-not-quiet, else-not-quiet}
 
-pub refresh_pending_states-begun-requires : goal.refresh_pending_states-begun-requires
-refresh_pending_states-begun-requires c = rows_there _ _ _ _ c.requires.usable
-
-pub collect_until_held-gathered-requires : goal.collect_until_held-gathered-requires
-collect_until_held-gathered-requires c =
+pub collect_until_held-gathered-requires-clause-usable : goal.collect_until_held-gathered-requires-clause-usable
+collect_until_held-gathered-requires-clause-usable c =
     -- made or left out, it is the definition's refresh
     let begun : Refreshes (sends c.args.sending) refresh_pending_states (continued 0 c.args.core) c.args.members.now c.if-not-quiet.begun c.if-not-quiet.members =
     elim c.if-not-quiet.branch [
       | then-not-quiet w ↦ rw (w.begun-is, w.members-is) w.refresh_pending_states-begun.ensures
       | else-not-quiet w ↦ rw (w.begun-is, w.members-is) (settling_left_out _ _ _ c.requires.known w.if-not-quiet.false)
     ] in
-    record {
-      usable = usable_begun _ c.requires.sending_fit c.args.core _ _ _ c.requires.usable _ _ begun;
-      used_len = c.requires.used_len;
-    }
+    usable_begun _ c.requires.sending_fit c.args.core _ _ _ c.requires.usable _ _ begun
 
-pub give_next-requires : goal.give_next-requires
-give_next-requires c =
+pub give_next-requires-clause-known : goal.give_next-requires-clause-known
+give_next-requires-clause-known c =
     -- made or left out, it is the definition's refresh
     let begun : Refreshes (sends c.args.sending) refresh_pending_states (continued 0 c.args.core) c.args.members.now c.if-not-quiet.begun c.if-not-quiet.members =
     elim c.if-not-quiet.branch [
@@ -38,24 +31,7 @@ give_next-requires c =
     ] in
     let known = known_begun _ _ c.requires.known _ _ _ begun in
     let gathered = c.collect_until_held-gathered in
-    record {
-      usable = gathered.ensures.gathers.usable;
-      sending_fit = c.requires.sending_fit;
-      used_len = gathered.ensures.follows.long;
-      known = λ none_waits. known_gathered _ _ known _ _ _ _ _ _ _ gathered.ensures.gathers none_waits;
-    }
-
-pub shape_of-members : goal.shape_of-members
-shape_of-members c =
-    -- made or left out, it is the definition's refresh
-    let begun : Refreshes (sends c.args.sending) refresh_pending_states (continued 0 c.args.core) c.args.members.now c.if-not-quiet.begun c.if-not-quiet.members =
-    elim c.if-not-quiet.branch [
-      | then-not-quiet w ↦ rw (w.begun-is, w.members-is) w.refresh_pending_states-begun.ensures
-      | else-not-quiet w ↦ rw (w.begun-is, w.members-is) (settling_left_out _ _ _ c.requires.known w.if-not-quiet.false)
-    ] in
-    let gathered = c.collect_until_held-gathered.ensures in
-    let given = c.give_next.ensures in
-    omega (arith, c.requires.used_len, begun.members_long, gathered.gathers.members_long, gathered.gathers.pending_long, gathered.gathers.waiting_long, gathered.follows.long, given.polls_from.members_long, given.polls_from.pending_long, given.polls_from.waiting_long, given.follows.long)
+    λ none_waits. known_gathered _ _ known _ _ _ _ _ _ _ gathered.ensures.gathers none_waits
 
 pub returns : goal.returns
 returns c =

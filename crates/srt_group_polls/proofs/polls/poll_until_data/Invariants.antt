@@ -1,14 +1,12 @@
 -- `poll_until_data` meets its contract. The loop's invariant: what is left of the event polls gives what all of them give (`Passing`).
+use Prim.Native.Nat.{◌-◌}
 use Rattle.srt_group_polls.specs.Laws.DataPoll.{Passing}
 use Rattle.srt_group_collecting.specs.Follows.{Follows}
 use Rattle.srt_group_shown.specs.Tables.{receive_tables}
 use Rattle.srt_group_collecting.specs.Leaves.{sends}
 use Rattle.srt_group_polls.proofs.polls.poll_until_data.Given as goal
 
-abbrev pub invariant-loop-left : goal.invariant-loop-left
-invariant-loop-left l =
-    Passing (sends l.sending) l.left l.time.0 l.visits l.initial.answer.core (receive_tables l.initial.members l.initial.pending l.initial.waiting) l.answer (receive_tables l.members l.pending l.waiting)
+abbrev pub invariant-loop-visit : goal.invariant-loop-visit
+invariant-loop-visit l =
+    Passing (sends l.sending) (l.visits - l._visit) l.time.0 l.visits l.initial.answer.core (receive_tables l.initial.members l.initial.pending l.initial.waiting) l.answer (receive_tables l.members l.pending l.waiting)
     × Follows l.initial.answer.core l.initial.members l.initial.pending l.initial.used l.answer.core l.members l.pending l.used
-
-abbrev pub decreases-loop-left : goal.decreases-loop-left
-decreases-loop-left l = l.left

@@ -1,9 +1,6 @@
 -- `refresh_pending_states` meets its contract: what is admitted settles.
-use Rattle.srt_group_polls.specs.Laws.Refresh.{still_long, settles}
+use Rattle.srt_group_polls.specs.Laws.Refresh.{settles}
 use Rattle.srt_group_polls.proofs.refresh.refresh_pending_states.Goals as goal
 
-pub settle_members-requires : goal.settle_members-requires
-settle_members-requires c = search still_long
-
 pub returns : goal.returns
-returns c = search settles
+returns c = settles _ _ _ _ _ _ c.admit_connected_peer_groups-after.ensures (rw c.next_send_sequence.ensures at c.settle_members.ensures)

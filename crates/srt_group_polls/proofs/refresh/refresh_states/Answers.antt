@@ -5,6 +5,3 @@ use Rattle.srt_group_polls.proofs.refresh.refresh_states.Goals as goal
 
 pub returns-then-is_quiet : goal.returns-then-is_quiet
 returns-then-is_quiet c = refresh_left_out _ _ _ (λ told. sym c.is_quiet.ensures ∙ told) c.if-is_quiet.true
-
-pub returns : goal.returns
-returns c = c.refresh_all_states.ensures

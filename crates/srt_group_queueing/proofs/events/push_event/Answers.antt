@@ -31,7 +31,7 @@ returns-in_default c =
 
 pub push_at-requires : goal.push_at-requires
 push_at-requires c =
-    row_there c.args.core.counts.members c.args.id _ c.args.members.now c.requires (sym c.in-At.is ∙ c.find-found.ensures)
+    row_there c.args.core.counts.members c.args.id _ c.args.members.now c.requires (sym c.in-Some.is ∙ c.find-found.ensures)
 
 pub returns : goal.returns
 returns c =
@@ -40,6 +40,6 @@ returns c =
       over =
           λ identity sending ring pending waiting history sources unbroken.
           event_pushed a.id a.kind a.reason (parts identity a.core sending ring) (tables a.members.now pending waiting history sources) unbroken
-          (sym c.event_unfit.ensures ∙ c.if-event_unfit.false) _ (sym c.in-At.is ∙ c.find-found.ensures)
+          (sym c.event_unfit.ensures ∙ c.if-event_unfit.false) _ (sym c.in-Some.is ∙ c.find-found.ensures)
           _ _ _ c.lifecycle_event.ensures c.push_at.ensures;
     }

@@ -20,22 +20,22 @@ returns-in_default c =
 
 pub returns-then-payload-gt-CELL : goal.returns-then-payload-gt-CELL
 returns-then-payload-gt-CELL c =
-    long_refused _ _ _ _ _ _ _ c.requires (sym c.data_unfit.ensures ∙ c.if-data_unfit.false) _ (sym c.in-At.is ∙ c.find-found.ensures) c.if-payload-gt-CELL.true
+    long_refused _ _ _ _ _ _ _ c.requires (sym c.data_unfit.ensures ∙ c.if-data_unfit.false) _ (sym c.in-Some.is ∙ c.find-found.ensures) c.if-payload-gt-CELL.true
 
 pub lowest_free-lowest-requires : goal.lowest_free-lowest-requires
 lowest_free-lowest-requires c = (c.requires.shows.cells.long, omega (arith, c.cells_of.ensures))
 
 pub returns-in_default-lowest : goal.returns-in_default-lowest
 returns-in_default-lowest c =
-    full_refused _ _ _ _ _ _ _ c.requires (sym c.data_unfit.ensures ∙ c.if-data_unfit.false) _ (sym c.in-At.is ∙ c.find-found.ensures) c.if-payload-gt-CELL.false
+    full_refused _ _ _ _ _ _ _ c.requires (sym c.data_unfit.ensures ∙ c.if-data_unfit.false) _ (sym c.in-Some.is ∙ c.find-found.ensures) c.if-payload-gt-CELL.false
     (subst (λ (n : ℕ). LowestFree c.args.used.now n c.lowest_free-lowest.result) c.cells_of.ensures c.lowest_free-lowest.ensures) c.in_default-lowest.is
 
 pub enqueue-requires : goal.enqueue-requires
 enqueue-requires c =
-    enqueueable _ _ c.args.payload.now _ _ c.args.store.now _ c.requires (sym c.data_unfit.ensures ∙ c.if-data_unfit.false) _ (sym c.in-At.is ∙ c.find-found.ensures) c.if-payload-gt-CELL.false
-    _ (subst (λ (n : ℕ). LowestFree c.args.used.now n c.lowest_free-lowest.result) c.cells_of.ensures c.lowest_free-lowest.ensures) c.in-Cell.is
+    enqueueable _ _ c.args.payload.now _ _ c.args.store.now _ c.requires (sym c.data_unfit.ensures ∙ c.if-data_unfit.false) _ (sym c.in-Some.is ∙ c.find-found.ensures) c.if-payload-gt-CELL.false
+    _ (subst (λ (n : ℕ). LowestFree c.args.used.now n c.lowest_free-lowest.result) c.cells_of.ensures c.lowest_free-lowest.ensures) c.in-Some-lowest.is
 
 pub returns : goal.returns
 returns c =
-    performed _ _ _ _ _ _ _ c.requires (sym c.data_unfit.ensures ∙ c.if-data_unfit.false) _ (sym c.in-At.is ∙ c.find-found.ensures) c.if-payload-gt-CELL.false
-    _ (subst (λ (n : ℕ). LowestFree c.args.used.now n c.lowest_free-lowest.result) c.cells_of.ensures c.lowest_free-lowest.ensures) c.in-Cell.is _ _ _ _ c.enqueue.ensures
+    performed _ _ _ _ _ _ _ c.requires (sym c.data_unfit.ensures ∙ c.if-data_unfit.false) _ (sym c.in-Some.is ∙ c.find-found.ensures) c.if-payload-gt-CELL.false
+    _ (subst (λ (n : ℕ). LowestFree c.args.used.now n c.lowest_free-lowest.result) c.cells_of.ensures c.lowest_free-lowest.ensures) c.in-Some-lowest.is _ _ _ _ c.enqueue.ensures

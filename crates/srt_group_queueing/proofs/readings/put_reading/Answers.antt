@@ -31,7 +31,7 @@ returns-in_default c =
 
 pub leg_at-leg-requires : goal.leg_at-leg-requires
 leg_at-leg-requires c =
-    row_there c.args.core.counts.members c.args.id _ c.args.members.now c.requires (sym c.in-At.is ∙ c.find-found.ensures)
+    row_there c.args.core.counts.members c.args.id _ c.args.members.now c.requires (sym c.in-Some.is ∙ c.find-found.ensures)
 
 pub returns-then-goes_back : goal.returns-then-goes_back
 returns-then-goes_back c =
@@ -40,13 +40,13 @@ returns-then-goes_back c =
       over =
           λ identity sending ring pending waiting history sources unbroken.
           reading_refused a.id a.field a.number (parts identity a.core sending ring) (tables a.members.now pending waiting history sources) unbroken
-          (sym c.reading_unfit.ensures ∙ c.if-reading_unfit.false) _ (sym c.in-At.is ∙ c.find-found.ensures)
+          (sym c.reading_unfit.ensures ∙ c.if-reading_unfit.false) _ (sym c.in-Some.is ∙ c.find-found.ensures)
           _ c.leg_at-leg.ensures _ c.goes_back.ensures c.if-goes_back.true;
     }
 
 pub put_leg_at-requires : goal.put_leg_at-requires
 put_leg_at-requires c =
-    row_there c.args.core.counts.members c.args.id _ c.args.members.now c.requires (sym c.in-At.is ∙ c.find-found.ensures)
+    row_there c.args.core.counts.members c.args.id _ c.args.members.now c.requires (sym c.in-Some.is ∙ c.find-found.ensures)
 
 pub returns : goal.returns
 returns c =
@@ -55,6 +55,6 @@ returns c =
       over =
           λ identity sending ring pending waiting history sources unbroken.
           reading_put a.id a.field a.number (parts identity a.core sending ring) (tables a.members.now pending waiting history sources) unbroken
-          (sym c.reading_unfit.ensures ∙ c.if-reading_unfit.false) _ (sym c.in-At.is ∙ c.find-found.ensures)
+          (sym c.reading_unfit.ensures ∙ c.if-reading_unfit.false) _ (sym c.in-Some.is ∙ c.find-found.ensures)
           _ c.leg_at-leg.ensures _ c.goes_back.ensures c.if-goes_back.false _ _ c.read_field.ensures c.put_leg_at.ensures;
     }

@@ -19,12 +19,12 @@ returns-then-row-lt-ROW c =
       row_after = refl;
     }
 
-pub returns-in-Refused : goal.returns-in-Refused
-returns-in-Refused c =
+pub returns-in-Err : goal.returns-in-Err
+returns-in-Err c =
     let a = c.args in record {
       promised_row = removal_refused a.id (parts_of a.group)
           (tables a.members.now a.pending.now a.waiting.now a.history.now a.sources.now) a.row.now c.if-row-lt-ROW.false
-          c.begin-begun.ensures _ c.in-Refused.is;
+          c.begin-begun.ensures _ c.in-Err.is;
       row_after = refl;
     }
 

@@ -15,7 +15,7 @@ returns-in_default c =
 
 pub remove_member_at-removed-requires : goal.remove_member_at-removed-requires
 remove_member_at-removed-requires c =
-    let a = c.args in record { removable = c.requires.any_removable.each _ (found_below a.core.counts.members a.id _ a.members.now (sym c.in-At.is ∙ c.find-found.ensures)); used_len = c.requires.used_len }
+    let a = c.args in record { removable = c.requires.any_removable.each _ (found_below a.core.counts.members a.id _ a.members.now (sym c.in-Some.is ∙ c.find-found.ensures)); used_len = c.requires.used_len }
 
 pub give_back-requires : goal.give_back-requires
 give_back-requires c = c.requires.has_row
@@ -24,7 +24,7 @@ pub returns : goal.returns
 returns c =
     let a = c.args in
     let gives = c.give_back.ensures in record {
-      steps_removal = named_removed a.id a.core a.members.now a.pending.now c.if-id-gt-LARGEST_32.false _ _ _ _ _ _ (sym c.in-At.is ∙ c.find-found.ensures)
+      steps_removal = named_removed a.id a.core a.members.now a.pending.now c.if-id-gt-LARGEST_32.false _ _ _ _ _ _ (sym c.in-Some.is ∙ c.find-found.ensures)
           c.remove_member_at-removed.ensures.removes gives;
       row_after = row_given gives;
       follows = c.remove_member_at-removed.ensures.follows;

@@ -11,7 +11,7 @@ pub returns-in_default : goal.returns-in_default
 returns-in_default c = record { value = (λ others members waiting. search based_nowhere); upper_bound = omega arith }
 
 pub sequence_at-requires : goal.sequence_at-requires
-sequence_at-requires c = (c.requires.pending_long, omega (arith, at_in_use _ _ _ c.nearest-nearest.ensures.within c.in-At.is, c.requires.held_few))
+sequence_at-requires c = (c.requires.pending_long, omega (arith, at_in_use _ _ _ c.nearest-nearest.ensures.within c.in-Some.is, c.requires.held_few))
 
 pub returns : goal.returns
-returns c = record { value = (λ others members waiting. search based_nearest); upper_bound = omega (arith, c.sequence_at.ensures, based_low _ _ c.requires _ (at_in_use _ _ _ c.nearest-nearest.ensures.within c.in-At.is)) }
+returns c = record { value = (λ others members waiting. search based_nearest); upper_bound = omega (arith, c.sequence_at.ensures, based_low _ _ c.requires _ (at_in_use _ _ _ c.nearest-nearest.ensures.within c.in-Some.is)) }

@@ -13,8 +13,8 @@ returns c =
     simp (
       c.flight_out_of_range.ensures,
       or_assoc,
-      no_word_above c.args.leg.sender.oldest.0 (omega (arith, c.struct_known-10-1.given)),
-      no_word_above c.args.leg.sender.pace.0 (omega (arith, c.struct_known-10-1.given)),
-      no_word_above c.args.leg.receiver.latency (omega (arith, c.struct_known-10-1.given)),
-      no_word_above c.args.leg.trip.heard.0 (omega (arith, c.struct_known-10-1.given)),
+      no_word_above c.args.leg.sender.oldest.0 (omega arith),
+      no_word_above c.args.leg.sender.pace.0 (omega arith),
+      no_word_above c.args.leg.receiver.latency (omega arith),
+      no_word_above c.args.leg.trip.heard.0 (omega arith),
     )

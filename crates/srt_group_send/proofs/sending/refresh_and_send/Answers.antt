@@ -19,4 +19,4 @@ send_mode-sent-requires c =
 
 pub returns : goal.returns
 returns c =
-    mode_made _ _ _ _ _ _ c.refresh_states-after.ensures _ _ _ c.above_limit.ensures _ _ c.if-above_limit.false c.send_mode-sent.ensures c.number-code.ensures c.legs_sent.ensures
+    mode_made _ _ _ _ _ _ c.refresh_states-after.ensures _ _ _ c.above_limit.ensures c.if-above_limit.false c.send_mode-sent.ensures c.legs_sent.ensures

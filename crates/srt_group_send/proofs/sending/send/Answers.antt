@@ -32,15 +32,15 @@ pub refresh_and_send-sent-requires : goal.refresh_and_send-sent-requires
 refresh_and_send-sent-requires c =
     let ready = c.requires.ready in
     let lowest = subst (λ (n : ℕ). LowestFree c.args.used.now n c.lowest_free-lowest.result) c.cells_of.ensures c.lowest_free-lowest.ensures in
-    let there = cell_there c.args.time.0 c.args.payload.now _ _ c.args.store.now c.args.list.now _ ready c.requires.list_size_in_bounds (omega (arith, c.well_formed)) _ (sym c.is_backup.ensures ∙ c.if-not-is_backup.false) c.if-payload-gt-CELL.false lowest c.in-Cell.is in record { lendable = send_lendable ready _ c.requires.list_size_in_bounds; fit_shown = send_fit ready _ c.requires.list_size_in_bounds; members_le_max_members = (few_members ready c.args.list.now c.requires.list_size_in_bounds, ((λ in_backup. omega (arith, there)), omega (arith, c.if-payload-gt-CELL.false))) }
+    let there = cell_there c.args.time.0 c.args.payload.now _ _ c.args.store.now c.args.list.now _ ready c.requires.list_size_in_bounds (omega (arith, c.well_formed)) _ (sym c.is_backup.ensures ∙ c.if-not-is_backup.false) c.if-payload-gt-CELL.false lowest c.in-Some.is in record { lendable = send_lendable ready _ c.requires.list_size_in_bounds; fit_shown = send_fit ready _ c.requires.list_size_in_bounds; members_le_max_members = (few_members ready c.args.list.now c.requires.list_size_in_bounds, ((λ in_backup. omega (arith, there)), omega (arith, c.if-payload-gt-CELL.false))) }
 
 pub store_sent-requires : goal.store_sent-requires
 store_sent-requires c =
     let lowest = subst (λ (n : ℕ). LowestFree c.args.used.now n c.lowest_free-lowest.result) c.cells_of.ensures c.lowest_free-lowest.ensures in
-    cell_storable c.args.time.0 c.args.payload.now _ _ c.args.store.now c.args.list.now _ c.requires.ready c.requires.list_size_in_bounds (omega (arith, c.well_formed)) _ (sym c.is_backup.ensures ∙ c.if-not-is_backup.false) c.if-payload-gt-CELL.false lowest c.in-Cell.is
+    cell_storable c.args.time.0 c.args.payload.now _ _ c.args.store.now c.args.list.now _ c.requires.ready c.requires.list_size_in_bounds (omega (arith, c.well_formed)) _ (sym c.is_backup.ensures ∙ c.if-not-is_backup.false) c.if-payload-gt-CELL.false lowest c.in-Some.is
 
 pub returns : goal.returns
 returns c =
     let lowest = subst (λ (n : ℕ). LowestFree c.args.used.now n c.lowest_free-lowest.result) c.cells_of.ensures c.lowest_free-lowest.ensures in
-    backup_performed _ _ _ _ _ _ _ c.requires.ready c.requires.list_size_in_bounds (omega (arith, c.well_formed)) _ (sym c.is_backup.ensures ∙ c.if-not-is_backup.false) c.if-payload-gt-CELL.false lowest c.in-Cell.is
+    backup_performed _ _ _ _ _ _ _ c.requires.ready c.requires.list_size_in_bounds (omega (arith, c.well_formed)) _ (sym c.is_backup.ensures ∙ c.if-not-is_backup.false) c.if-payload-gt-CELL.false lowest c.in-Some.is
     c.refresh_and_send-sent.ensures c.store_sent.ensures c.store_sent.auto.store

@@ -4,12 +4,12 @@ use Rattle.srt_group_model.specs.Lent.{call_can_send}
 use Rattle.srt_group_send_calls.specs.Laws.Readiness.{can_send_refused, can_test, tested}
 use Rattle.srt_group_send_calls.proofs.calls.can_send.Goals as goal
 
-pub returns-in-Refused : goal.returns-in-Refused
-returns-in-Refused c =
+pub returns-in-Err : goal.returns-in-Err
+returns-in-Err c =
     let a = c.args in
     can_send_refused a.group.identity a.group.core a.group.sending a.group.ring
     a.members.now a.pending.now a.waiting.now a.history.now a.sources.now
-    c.begin-begun.ensures _ c.in-Refused.is
+    c.begin-begun.ensures _ c.in-Err.is
 
 pub can_send-tested-requires : goal.can_send-tested-requires
 can_send-tested-requires c =

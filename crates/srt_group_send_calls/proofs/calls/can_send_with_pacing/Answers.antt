@@ -4,12 +4,12 @@ use Rattle.srt_group_model.specs.Lent.{call_can_send_with_pacing}
 use Rattle.srt_group_send_calls.specs.Laws.Readiness.{with_pacing_refused, can_test, tested}
 use Rattle.srt_group_send_calls.proofs.calls.can_send_with_pacing.Goals as goal
 
-pub returns-in-Refused : goal.returns-in-Refused
-returns-in-Refused c =
+pub returns-in-Err : goal.returns-in-Err
+returns-in-Err c =
     let a = c.args in
     with_pacing_refused a.group.identity a.group.core a.group.sending a.group.ring
     a.members.now a.pending.now a.waiting.now a.history.now a.sources.now
-    c.begin-begun.ensures a.time.0 _ c.in-Refused.is
+    c.begin-begun.ensures a.time.0 _ c.in-Err.is
 
 pub can_send_with_pacing-told-requires : goal.can_send_with_pacing-told-requires
 can_send_with_pacing-told-requires c =

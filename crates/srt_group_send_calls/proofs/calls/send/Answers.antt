@@ -4,7 +4,7 @@ use lib.ListN.{length}
 use Rattle.srt_group_model.specs.Sending.{list_size}
 use Rattle.srt_group_shown.specs.Tables.{tables}
 use Rattle.srt_group.specs.Made.{parts_of}
-use Rattle.srt_group_send_calls.specs.Laws.Promised.{sent_coded, list_refused, send_refused, send_performed}
+use Rattle.srt_group_send_calls.specs.Laws.Promised.{list_refused, send_refused, send_performed}
 use Rattle.srt_group_send_calls.proofs.calls.send.Goals as goal
 
 pub returns-then-list-lt-SENT_LENGTH : goal.returns-then-list-lt-SENT_LENGTH
@@ -14,23 +14,20 @@ returns-then-list-lt-SENT_LENGTH c =
     (tables a.members.now a.pending.now a.waiting.now a.history.now a.sources.now) a.store.now a.list.now
     (lt-ltb (length a.list.now) list_size c.if-list-lt-SENT_LENGTH.true)
 
-pub returns-in-Refused : goal.returns-in-Refused
-returns-in-Refused c =
+pub returns-in-Err : goal.returns-in-Err
+returns-in-Err c =
     let a = c.args in
     send_refused a.time.0 a.payload.now (parts_of a.group)
     (tables a.members.now a.pending.now a.waiting.now a.history.now a.sources.now) a.store.now a.list.now
-    c.begin_stored-begun.ensures (le-ltb (length a.list.now) list_size c.if-list-lt-SENT_LENGTH.false) _ c.in-Refused.is
+    c.begin_stored-begun.ensures (le-ltb (length a.list.now) list_size c.if-list-lt-SENT_LENGTH.false) _ c.in-Err.is
 
 pub send-sent-requires : goal.send-sent-requires
 send-sent-requires c =
     let accepted = c.in_default.is in record { ready = c.begin_stored-begun.ensures.ready accepted; list_size_in_bounds = c.if-list-lt-SENT_LENGTH.false }
-
-pub answer_of-requires : goal.answer_of-requires
-answer_of-requires c = sent_coded c.send-sent.ensures
 
 pub returns : goal.returns
 returns c =
     let a = c.args in
     send_performed a.time.0 a.payload.now (parts_of a.group)
     (tables a.members.now a.pending.now a.waiting.now a.history.now a.sources.now) a.store.now a.list.now
-    c.begin_stored-begun.ensures c.in_default.is c.send-sent.ensures c.answer_of.ensures
+    c.begin_stored-begun.ensures c.in_default.is c.send-sent.ensures

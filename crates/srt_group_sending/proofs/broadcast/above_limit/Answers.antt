@@ -14,11 +14,11 @@ pub leg_at-leg-requires : goal.leg_at-leg-requires
 leg_at-leg-requires c =
     omega (
       arith,
-      found_row is_active _ _ _ (sym c.in-At.is ∙
+      found_row is_active _ _ _ (sym c.in-Some.is ∙
           c.first_active-first.ensures),
     )
 
 pub returns : goal.returns
 returns c =
-    limit_of_first _ _ _ _ (sym c.in-At.is ∙
+    limit_of_first _ _ _ _ (sym c.in-Some.is ∙
     c.first_active-first.ensures) c.leg_at-leg.ensures

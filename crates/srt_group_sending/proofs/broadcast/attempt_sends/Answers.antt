@@ -1,13 +1,9 @@
 -- `attempt_sends` meets its contract. The loop's invariant: the members passed are tried, the others not yet.
 use Rattle.srt_group_sending.specs.Laws.Broadcast.{attempting_start, attempting_on, attempting_done}
-use borrow.Author.Rules.{rules}
 use Rattle.srt_group_sending.proofs.broadcast.attempt_sends.Goals as goal
 
 pub loop-i-init : goal.loop-i-init
 loop-i-init c = attempting_start _ _ _ _ _ _
-
-pub attempt_send_at-sent-requires : goal.attempt_send_at-sent-requires
-attempt_send_at-sent-requires c = record { has_row = search rules; list_size_in_bounds = (search rules, search rules) }
 
 pub loop-i-preserved : goal.loop-i-preserved
 loop-i-preserved c = search attempting_on

@@ -14,20 +14,20 @@ pub sequence_for_send-sequence-requires : goal.sequence_for_send-sequence-requir
 sequence_for_send-sequence-requires c =
     omega (
       arith,
-      found_row is_active _ _ _ (sym c.in-At.is ∙
+      found_row is_active _ _ _ (sym c.in-Some.is ∙
           c.first_active-found.ensures),
     )
 
 pub returns-then-sequence_mismatch : goal.returns-then-sequence_mismatch
 returns-then-sequence_mismatch c =
-    mismatch_left _ _ _ _ _ _ _ (sym c.in-At.is ∙
+    mismatch_left _ _ _ _ _ _ _ (sym c.in-Some.is ∙
     c.first_active-found.ensures)
     c.sequence_for_send-sequence.ensures c.sequence_mismatch.ensures c.if-sequence_mismatch.true
 
 pub returns-then-sent-eq0 : goal.returns-then-sent-eq0
 returns-then-sent-eq0 c =
     all_failed _ _ _ _ _ _ _ (sym
-    c.in-At.is
+    c.in-Some.is
     ∙
     c.first_active-found.ensures)
     c.sequence_for_send-sequence.ensures
@@ -41,7 +41,7 @@ returns-then-sent-eq0 c =
 pub returns : goal.returns
 returns c =
     sent_by_some _ _ _ _ _ _ _ (sym
-    c.in-At.is
+    c.in-Some.is
     ∙
     c.first_active-found.ensures)
     c.sequence_for_send-sequence.ensures

@@ -1,11 +1,7 @@
 -- `sequence_mismatch` meets its contract. The loop's invariant: no leg that was passed is active and elsewhere.
-use Prim.Native.Nat.{◌≤◌, ◌-◌}
 use Rattle.srt_group_members.specs.Laws.Scan.{Passed}
 use Rattle.srt_group_sending.specs.Broadcast.{is_mismatched}
 use Rattle.srt_group_sending.proofs.broadcast.sequence_mismatch.Given as goal
 
 abbrev pub invariant-loop-i : goal.invariant-loop-i
-invariant-loop-i l = (l.i ≤ l.count) × Passed (is_mismatched l.sequence) l.members 0 l.i
-
-abbrev pub decreases-loop-i : goal.decreases-loop-i
-decreases-loop-i l = l.count - l.i
+invariant-loop-i l = Passed (is_mismatched l.sequence) l.members 0 l.i

@@ -15,50 +15,44 @@ pub leg_at-requires : goal.leg_at-requires
 leg_at-requires c =
     omega (
       arith,
-      found_row is_active _ _ _ (sym c.in-At.is ∙
+      found_row is_active _ _ _ (sym c.in-Some.is ∙
           c.first_active-found.ensures),
     )
 
-pub backup_member_ready-requires : goal.backup_member_ready-requires
-backup_member_ready-requires c = record {
-  has_row = omega (
-    arith,
-    found_row is_active _ _ _ (sym c.in-At.is ∙
-        c.first_active-found.ensures),
-  );
-  history_len = c.requires.history_len;
-}
+pub backup_member_ready-requires-clause-has_row : goal.backup_member_ready-requires-clause-has_row
+backup_member_ready-requires-clause-has_row c = omega (
+  arith,
+  found_row is_active _ _ _ (sym c.in-Some.is ∙
+      c.first_active-found.ensures),
+)
 
 pub returns-then-can_send : goal.returns-then-can_send
 returns-then-can_send c =
-    first_decides _ _ _ _ _ _ _ (sym c.in-At.is ∙
+    first_decides _ _ _ _ _ _ _ (sym c.in-Some.is ∙
     c.first_active-found.ensures)
     c.leg_at.ensures c.can_send.ensures c.if-can_send.true
     c.backup_member_ready.ensures
 
 pub returns-in_default-standby : goal.returns-in_default-standby
 returns-in_default-standby c =
-    nobody_to_promote _ _ _ _ _ _ _ (sym c.in-At.is ∙
+    nobody_to_promote _ _ _ _ _ _ _ (sym c.in-Some.is ∙
     c.first_active-found.ensures)
     c.leg_at.ensures c.can_send.ensures
     c.if-can_send.false (sym c.in_default-standby.is ∙ c.promotion-standby.ensures)
 
-pub backup_member_ready-requires-2 : goal.backup_member_ready-requires-2
-backup_member_ready-requires-2 c = record {
-  has_row = omega (
-    arith,
-    promotion_below _ _ _ (sym c.in-At-standby.is ∙
-        c.promotion-standby.ensures),
-  );
-  history_len = c.requires.history_len;
-}
+pub backup_member_ready-requires-2-clause-has_row : goal.backup_member_ready-requires-2-clause-has_row
+backup_member_ready-requires-2-clause-has_row c = omega (
+  arith,
+  promotion_below _ _ _ (sym c.in-Some-standby.is ∙
+      c.promotion-standby.ensures),
+)
 
 pub returns : goal.returns
 returns c =
     promoted_decides _ _ _ _ _ _ _ (sym
-    c.in-At.is ∙
+    c.in-Some.is ∙
     c.first_active-found.ensures)
     c.leg_at.ensures
     c.can_send.ensures _
-    c.if-can_send.false (sym c.in-At-standby.is ∙
+    c.if-can_send.false (sym c.in-Some-standby.is ∙
     c.promotion-standby.ensures) c.backup_member_ready-2.ensures

@@ -3,11 +3,11 @@
 use Rattle.srt_group_sending.specs.Laws.Readiness.{least_start, least_on, wait_none, wait_least}
 use Rattle.srt_group_sending.proofs.readiness.group_time_until_send.Goals as goal
 
-pub loop-left-init : goal.loop-left-init
-loop-left-init c = least_start _ _ _
+pub loop-index-init : goal.loop-index-init
+loop-index-init c = least_start _ _ _
 
-pub loop-left-preserved : goal.loop-left-preserved
-loop-left-preserved c = search least_on
+pub loop-index-preserved : goal.loop-index-preserved
+loop-index-preserved c = search least_on
 
 pub returns-in_default : goal.returns-in_default
 returns-in_default c = search wait_none

@@ -9,14 +9,14 @@ pub returns-then-core-gt0 : goal.returns-then-core-gt0
 returns-then-core-gt0 c =
     let given = c.give_waiting.ensures in record { polls = λ tested time. event_first _ _ _ _ _ _ _ _ _ _ tested time (search) (given _ _); follows = follows_given _ _ _ _ _ _ _ (search) (given _ _) }
 
-pub skip_to_nearest-requires : goal.skip_to_nearest-requires
-skip_to_nearest-requires c = record { deliverable = search deliverable; used_len = search deliverable }
+pub skip_to_nearest-requires-clause-deliverable : goal.skip_to_nearest-requires-clause-deliverable
+skip_to_nearest-requires-clause-deliverable c = search deliverable
 
-pub returns-then-collected-ne0 : goal.returns-then-collected-ne0
-returns-then-collected-ne0 c = record { polls = λ tested time. skipped_if_empty _ _ _ _ _ _ _ _ _ _ tested time (search) (search other_set) (c.skip_to_nearest.ensures.by_index _ tested time); follows = c.skip_to_nearest.ensures.follows }
+pub returns-then-collected-ne0-clause-polls : goal.returns-then-collected-ne0-clause-polls
+returns-then-collected-ne0-clause-polls c = λ tested time. skipped_if_empty _ _ _ _ _ _ _ _ _ _ tested time (search) (search other_set) (c.skip_to_nearest.ensures.by_index _ tested time)
 
-pub deliver-requires : goal.deliver-requires
-deliver-requires c = record { deliverable = search deliverable; used_len = search deliverable }
+pub deliver-requires-clause-deliverable : goal.deliver-requires-clause-deliverable
+deliver-requires-clause-deliverable c = search deliverable
 
-pub returns : goal.returns
-returns c = record { polls = λ tested time. stays_if_not_empty _ _ _ _ _ _ _ _ _ _ tested time (search) (search zero_unset) (c.deliver.ensures.by_index _); follows = c.deliver.ensures.follows }
+pub returns-clause-polls : goal.returns-clause-polls
+returns-clause-polls c = λ tested time. stays_if_not_empty _ _ _ _ _ _ _ _ _ _ tested time (search) (search zero_unset) (c.deliver.ensures.by_index _)

@@ -7,12 +7,11 @@ use Rattle.srt_group_skip.proofs.skip.skip_given_up_gap.Goals as goal
 pub base_stays-requires : goal.base_stays-requires
 base_stays-requires c = search deliverable
 
-pub deliver-requires : goal.deliver-requires
-deliver-requires c = record { deliverable = search deliverable; used_len = search deliverable }
+pub deliver-requires-clause-deliverable : goal.deliver-requires-clause-deliverable
+deliver-requires-clause-deliverable c = search deliverable
 
-pub returns-then-base_stays : goal.returns-then-base_stays
-returns-then-base_stays c =
-    let stays = c.base_stays.ensures in record { polls_from = gap_stays _ _ _ _ _ _ _ (search) stays _ _ _ (search) (c.deliver.ensures.by_index _); follows = c.deliver.ensures.follows }
+pub returns-then-base_stays-clause-polls_from : goal.returns-then-base_stays-clause-polls_from
+returns-then-base_stays-clause-polls_from c = let stays = c.base_stays.ensures in gap_stays _ _ _ _ _ _ _ (search) stays _ _ _ (search) (c.deliver.ensures.by_index _)
 
 pub returns : goal.returns
 returns c = record { polls_from = gap_passed _ _ _ _ _ _ _ (search) c.base_stays.ensures c.if-base_stays.false c.collect_until_empty-collected.result _ _ _ c.collect_until_empty-collected.ensures.empties _ _ _ _ c.skip_after.ensures.polls; follows = follows_then c.collect_until_empty-collected.ensures.follows c.skip_after.ensures.follows }

@@ -1,11 +1,7 @@
 -- `history_breaks_rule` meets its contract. The loop's invariant: the entries before `index` are good, and their cells are marked.
-use Prim.Native.Nat.{◌-◌}
 use Rattle.srt_group_tables.specs.Ring.{arrays}
 use Rattle.srt_group_state.specs.Laws.Passes.{PassedTo, entry_good, entry_names}
 use Rattle.srt_group_state.proofs.passes.history_breaks_rule.Given as goal
 
 abbrev pub invariant-loop-index : goal.invariant-loop-index
 invariant-loop-index l = PassedTo l.cells (entry_good l.ring (arrays l.history l.sources)) (entry_names l.ring (arrays l.history l.sources)) l.ring.length l.initial.used l.index l.used
-
-abbrev pub decreases-loop-index : goal.decreases-loop-index
-decreases-loop-index l = l.ring.length - l.index

@@ -1,6 +1,6 @@
 -- `is_invalid` meets its contract: the record's numbers, the waiting events, and then one pass over the members and the held packets and one
 -- over the history.
-use mathlib.Core.Path.{refl, sym, ◌∙◌}
+use mathlib.Core.Path.{sym, ◌∙◌}
 use Rattle.srt_group_shown.specs.Tables.{parts, tables}
 use Rattle.srt_group_tables.specs.Ring.{arrays, entries_of}
 use Rattle.srt_group_state.specs.Laws.Cells.{fresh_marking}
@@ -23,9 +23,6 @@ tables_break_rule-requires c = let most = counts_within c.args.identity c.args.c
 
 pub returns-then-tables_break_rule : goal.returns-then-tables_break_rule
 returns-then-tables_break_rule c = tested_tables (parts c.args.identity c.args.core c.args.sending c.args.ring) (tables c.args.members.now c.args.pending.now c.args.waiting.now c.args.history.now c.args.sources.now) _ _ _ c.numbers_break_rule.ensures c.if-numbers_break_rule.false c.waiting_breaks_rule.ensures c.if-waiting_breaks_rule.false _ c.clear.ensures _ (passes_answered c.if-tables_break_rule.true c.tables_break_rule.ensures)
-
-pub history_breaks_rule-requires : goal.history_breaks_rule-requires
-history_breaks_rule-requires c = record { long = c.requires.long; marking = (c.tables_break_rule.ensures.marks c.if-tables_break_rule.false).kept refl }
 
 pub returns : goal.returns
 returns c = tested_history (parts c.args.identity c.args.core c.args.sending c.args.ring) (tables c.args.members.now c.args.pending.now c.args.waiting.now c.args.history.now c.args.sources.now) _ _ _ c.numbers_break_rule.ensures c.if-numbers_break_rule.false c.waiting_breaks_rule.ensures c.if-waiting_breaks_rule.false _ c.clear.ensures _ _ _ (passes_answered c.if-tables_break_rule.false c.tables_break_rule.ensures) c.history_breaks_rule.ensures

@@ -1,18 +1,8 @@
 -- `write_row` meets its contract: every word of the row is stored.
 use native.Mathlib.Omega.{arith}
-use lib.ListN.{length-set}
 use Rattle.srt_group_tables.specs.Packets.{row_words}
 use Rattle.srt_group_tables.specs.Laws.PacketIndex.{all_stored}
 use Rattle.srt_group_tables.proofs.pending.write_row.Goals as goal
-
-pub bounds-row-4 : goal.bounds-row-4
-bounds-row-4 c = simp length-set (omega arith)
-
-pub bounds-row-5 : goal.bounds-row-5
-bounds-row-5 c = simp length-set (omega arith)
-
-pub bounds-row-6 : goal.bounds-row-6
-bounds-row-6 c = simp length-set (omega arith)
 
 pub returns : goal.returns
 unfolding row_words

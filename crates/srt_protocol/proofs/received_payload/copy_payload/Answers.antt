@@ -1,58 +1,26 @@
--- `copy_payload` meets its contract: what `check_cell` accepts stays within the store (`cell_within`), and the parts that were
--- lent on are what `cell_bytes` and `overwritten` say (`range_copied`).
-use Rattle.std.proofs.Common.{◌*◌, length, sym, refl, ◌∙◌, arith}
-use Rattle.srt_protocol.specs.Cells.{cell_size, head_size}
-use Rattle.srt_protocol.specs.Laws.CellLaws.{cell_within, output_short, output_enough}
-use Rattle.srt_protocol.proofs.Parts.{range_copied}
+-- `copy_payload` meets its contract: the part that was lent on is what `cell_bytes` and `overwritten` say (`part_back`).
+use Rattle.std.proofs.Common.{◌≡◌, ◌+◌, ◌-◌, ◌*◌, ℕ, length, take, drop, sym, refl, ap, ◌∙◌, arith, length-take, length-drop}
+use Rattle.srt_protocol.specs.Cells.{cell_size, head_size, cell_bytes, overwritten}
+use Rattle.srt_protocol.specs.Laws.CellLaws.{cell_within, output_enough, part_back}
 use Rattle.srt_protocol.proofs.received_payload.copy_payload.Goals as goal
-
-pub returns-then-output-lt-OUTPUT : goal.returns-then-output-lt-OUTPUT
-returns-then-output-lt-OUTPUT c =
-    let args = c.args in
-    record { outcome = sym (output_short (length args.store.now) args.cell args.size (length args.output.now) (omega arith)); copied = refl }
-
-pub returns-in-Refused : goal.returns-in-Refused
-returns-in-Refused c =
-    let args = c.args in
-    record {
-      outcome =
-          sym c.in-Refused.is ∙ c.check_cell-checked.ensures
-          ∙ sym (output_enough (length args.store.now) args.cell args.size (length args.output.now) (omega arith));
-      copied = refl;
-    }
-
-pub overflow_mul-start : goal.overflow_mul-start
-overflow_mul-start c =
-    let within = cell_within _ _ _ _ c.check_cell-checked.ensures c.in_default.is in
-    record { fits = omega (arith, within.0) }
-
-pub overflow_add-end : goal.overflow_add-end
-overflow_add-end c =
-    let within = cell_within _ _ _ _ c.check_cell-checked.ensures c.in_default.is in
-    record { fits = omega (arith, within.0) }
-
-pub slice_bounds-copy_bytes-end-2 : goal.slice_bounds-copy_bytes-end-2
-slice_bounds-copy_bytes-end-2 c =
-    let within = cell_within _ _ _ _ c.check_cell-checked.ensures c.in_default.is in
-    omega (arith, within.0)
-
-pub copy_bytes-requires : goal.copy_bytes-requires
-copy_bytes-requires c =
-    let within = cell_within _ _ _ _ c.check_cell-checked.ensures c.in_default.is in
-    omega (arith, within.1)
 
 pub returns : goal.returns
 returns c =
     let args = c.args in
-    let large = c.if-output-lt-OUTPUT.false in
-    let tested = c.check_cell-checked.ensures in
-    let accepted = c.in_default.is in
-    let within = cell_within _ _ _ _ tested accepted in
+    let start = args.cell * cell_size in
+    let size_is : start + args.size - start ≡ args.size = omega arith in
+    let copied : c.copy_from_slice.new.self ≡ cell_bytes args.cell args.size args.store.now =
+    c.copy_from_slice.ensures.after ∙ ap (λ (n : ℕ). take n (drop start args.store.now)) size_is
+    in
+    let within = cell_within _ _ _ _ c.in_ok-check_cell.ensures refl in
+    let long : length c.copy_from_slice.new.self ≡ args.size =
+    ap length copied ∙ omega (arith, length-take {A = ℕ}, length-drop {A = ℕ}, within.0)
+    in
     record {
       outcome =
-          sym accepted ∙ tested
-          ∙ sym (output_enough (length args.store.now) args.cell args.size (length args.output.now) (omega (arith, large)));
+          c.in_ok-check_cell.ensures
+          ∙ sym (output_enough (length args.store.now) args.cell args.size (length args.output.now) (omega (arith, c.if-output-lt-OUTPUT.false)));
       copied =
-          range_copied (args.cell * cell_size) args.size head_size args.store.now args.output.now _
-          (omega (arith, within.1, large)) c.copy_bytes.ensures;
+          part_back head_size args.size c.copy_from_slice.new.self args.output.now long
+          ∙ ap (λ part. overwritten head_size part args.output.now) copied;
     }

@@ -1,9 +1,0 @@
--- `put_sender` meets its contract: the law `sender_put`.
-use Rattle.srt_connection_queue.specs.Laws.Rows.{sender_put}
-use Rattle.srt_connection_queue.proofs.rows.put_sender.Goals as goal
-
-pub returns : goal.returns
-returns c =
-    rw c.write_sender.ensures
-    (sender_put c.args.row.now c.requires
-    c.args.sender)

@@ -1,8 +1,0 @@
--- `ready_members` meets its contract: one after the other.
-use Rattle.srt_group_model.specs.Members.{promote_if_none}
-use Rattle.srt_group_members.specs.Laws.Scan.{became_then}
-use Rattle.srt_group_carrier.proofs.carrier.ready_members.Goals as goal
-
-pub returns : goal.returns
-returns c =
-    became_then _ (promote_if_none c.args.mode) _ _ _ c.demote_stale_backup_carrier.ensures c.promote_if_none.ensures

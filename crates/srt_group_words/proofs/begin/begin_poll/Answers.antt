@@ -1,6 +1,0 @@
--- `begin_poll` meets its contract: that of the call over the parts that the words show.
-use Rattle.srt_group_words.specs.Laws.Begin.{begun_poll}
-use Rattle.srt_group_words.proofs.begin.begin_poll.Goals as goal
-
-pub returns : goal.returns
-returns c = begun_poll _ c.read_identity.ensures c.read_core.ensures c.read_sending.ensures c.read_ring.ensures c.begin_poll-begun.ensures c.number.ensures
