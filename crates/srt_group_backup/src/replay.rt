@@ -10,14 +10,16 @@ use srt_connection::legs::send_shared_with_sequence;
 use srt_group_model::{Entry, Leg};
 use srt_group_sending::list::write_sent;
 use srt_group_tables::history::{HistoryRing, entry_at};
+use srt_protocol::error::Error;
 use srt_protocol::time::Timestamp;
 
-// The leg after a replay, how many rows of the list are in use, and whether all entries were sent.
+// The leg after a replay, how many rows of the list are in use, and whether all entries were sent: the rows of those that were stay in
+// use after a refusal too.
 #[derive(Clone, Copy)]
 pub struct Replayed {
+    pub outcome: Result<(), Error>,
     pub leg: Leg,
     pub sent: usize,
-    pub whole: u64,
 }
 
 // One entry on a leg, with its row in the list if it was sent.
@@ -64,16 +66,16 @@ pub fn replay_entries(
         let result = replay_entry(here, entry, time, id, list, sent + index);
         let Some(after) = result else {
             return Replayed {
+                outcome: Err(Error::ReplayRefused),
                 leg: here,
                 sent: sent + index,
-                whole: 0,
             };
         };
         here = after;
     }
     Replayed {
+        outcome: Ok(()),
         leg: here,
         sent: sent + ring.length,
-        whole: 1,
     }
 }

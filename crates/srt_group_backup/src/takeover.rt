@@ -1,8 +1,6 @@
 // The take-over: a member that is to carry the next send first replays the flight of the carrier before it, as far as it is not
 // acknowledged, at the same sequences. One that cannot replay all of it is refused.
 ghost use Rattle.std.specs.Prelude.{◌≡◌, ◌-◌, ◌*◌, ◌≤◌, ◌<◌, length};
-ghost use Rattle.srt_protocol.specs.Errors.{outcome_number};
-ghost use Rattle.srt_group_model.specs.Tools.{if_true◌then◌else◌, is_set};
 ghost use Rattle.srt_group_model.specs.Backup.{max_history, replay_on, replay_flight, take_over_backup_flight};
 ghost use Rattle.srt_group_model.specs.Sending.{max_sent, list_size};
 ghost use Rattle.srt_connection_queue.specs.Rows.{row_size};
@@ -19,7 +17,7 @@ use srt_group_members::alignment::{align_leg, align_member_sequence};
 use srt_group_model::{Leg, Sending};
 use srt_group_sending::readiness::takes_over;
 use srt_group_tables::history::{HistoryRing, entry_at};
-use srt_protocol::error::{Error, outcome_number};
+use srt_protocol::error::Error;
 use srt_protocol::time::Timestamp;
 
 // Whether the flight was replayed, and how many rows of the list are in use.
@@ -36,15 +34,6 @@ pub struct TakenOver {
     pub sending: Sending,
     pub ring: HistoryRing,
     pub sent: usize,
-}
-
-fn replay_outcome(whole: u64) -> Result<(), Error>
-    ensures { outcome_number result ≡ (if_true is_set whole then 0 else 28) }
-{
-    if whole != 0 {
-        return Ok(());
-    }
-    Err(Error::ReplayRefused)
 }
 
 // The flight on a leg that stands at its first sequence. The window must have room for one more than all: the next send.
@@ -78,10 +67,11 @@ pub fn replay_on(
     let membership = membership_at(members, index);
     let id = membership.id;
     let played = replay_entries(leg, ring, history, sources, time, id, list, sent);
+    let outcome = played.outcome;
     let after = played.leg;
     put_leg_at(members, index, after);
     Flight {
-        outcome: replay_outcome(played.whole),
+        outcome,
         sent: played.sent,
     }
 }
