@@ -7,6 +7,7 @@ ghost use Rattle.srt_group_shown.specs.Ready.{storing};
 ghost use Rattle.srt_group.specs.Made.{parts_of};
 ghost use Rattle.srt_group_refusals.specs.Promised.{nothing_lent, showing, Promised};
 
+use cell_set::WORDS;
 use crate::events::push_event;
 use crate::queueing;
 use crate::readings::put_reading;
@@ -41,7 +42,7 @@ pub fn queue_data(
         sending,
         ring,
     } = group;
-    let mut used = [0u64; 32];
+    let mut used = [0; WORDS];
     let lent = LentGroup {
         group,
         members,

@@ -11,6 +11,7 @@ ghost use Rattle.srt_group_shown.specs.Tables.{parts, tables};
 ghost use Rattle.srt_group_shown.specs.Ready.{Ready, storing, Performs};
 ghost use Rattle.srt_group_shown.specs.Steps.{StepsOver};
 
+use cell_set::CellSet;
 use srt_connection::legs::LARGEST_32;
 use srt_connection_members::{find, push_at};
 use srt_group_model::{Core, Data, Event, Identity, Sending};
@@ -77,7 +78,7 @@ pub fn queue_event(
     history: &[u64],
     sources: &[u64],
     store: &[u8],
-    used: &[u64],
+    used: &CellSet,
     id: u64,
     kind: u64,
     reason: u64,

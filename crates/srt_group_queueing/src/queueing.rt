@@ -11,7 +11,7 @@ ghost use Rattle.srt_group_shown.specs.Tables.{parts, tables};
 ghost use Rattle.srt_group_shown.specs.Ready.{Ready, storing, Performs};
 ghost use Rattle.srt_group_queueing.specs.Queueing.{Enqueueable, Enqueues};
 
-use cell_set::{lowest_free, take};
+use cell_set::{CellSet, lowest_free, take};
 use srt_connection::legs::{LARGEST_16, LARGEST_32, LARGEST_SEQUENCE};
 use srt_connection_members::{find, push_at, put_reservation_at, reservation_at};
 use srt_group_model::{Core, Data, Event, Identity, Sending};
@@ -65,13 +65,13 @@ fn reserve_leg_at(members: &mut [u64], index: usize, count: u64)
 fn enqueue(
     members: &mut [u64],
     store: &mut [u8],
-    used: &mut [u64],
+    used: &mut CellSet,
     index: usize,
     cell: usize,
     content: Data,
     payload: &[u8],
 ) -> Result<(), Error>
-    requires { Enqueueable index cell content (length payload.now) members.old (length store.old) (length used.old) }
+    requires { Enqueueable index cell content (length payload.now) members.old (length store.old) }
     ensures { Enqueues index cell content payload.now
         members.old store.old used.old result
         members.new store.new used.new }
@@ -96,7 +96,7 @@ pub fn queue_data(
     history: &[u64],
     sources: &[u64],
     store: &mut [u8],
-    used: &mut [u64],
+    used: &mut CellSet,
     id: u64,
     content: Data,
     payload: &[u8],

@@ -11,6 +11,7 @@ ghost use Rattle.srt_group_shown.specs.Tables.{parts, tables};
 ghost use Rattle.srt_group_shown.specs.Ready.{Ready, storing, Performs};
 ghost use Rattle.srt_group_shown.specs.Steps.{StepsOver};
 
+use cell_set::CellSet;
 use srt_connection::legs::LARGEST_32;
 use srt_connection::readings::{goes_back, read_field, reading_out_of_range};
 use srt_connection_members::{find, leg_at, put_leg_at};
@@ -63,7 +64,7 @@ pub fn read_leg(
     history: &[u64],
     sources: &[u64],
     store: &[u8],
-    used: &[u64],
+    used: &CellSet,
     id: u64,
     field: u64,
     number: u64,

@@ -18,8 +18,7 @@ pub reserve_leg_at-requires : goal.reserve_leg_at-requires
 reserve_leg_at-requires c = record { has_row = omega (arith, c.requires.there, c.push_at.ensures.changed.long); count_bound = room_left _ _ _ c.args.payload.now _ c.args.store.now c.args.used.now c.requires _ _ c.push_at.ensures c.in_ok-push_at.was }
 
 pub take-requires : goal.take-requires
-take-requires c =
-    (omega (arith, c.requires.words), omega (arith, c.requires.cell_there))
+take-requires c = omega (arith, c.requires.cell_there)
 
 pub returns : goal.returns
 returns c =

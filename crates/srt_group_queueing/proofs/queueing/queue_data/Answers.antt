@@ -23,7 +23,7 @@ returns-then-payload-gt-CELL c =
     long_refused _ _ _ _ _ _ _ c.requires (sym c.data_unfit.ensures ∙ c.if-data_unfit.false) _ (sym c.in-Some.is ∙ c.find-found.ensures) c.if-payload-gt-CELL.true
 
 pub lowest_free-lowest-requires : goal.lowest_free-lowest-requires
-lowest_free-lowest-requires c = (c.requires.shows.cells.long, omega (arith, c.cells_of.ensures))
+lowest_free-lowest-requires c = omega (arith, c.cells_of.ensures)
 
 pub returns-in_default-lowest : goal.returns-in_default-lowest
 returns-in_default-lowest c =
