@@ -3,13 +3,13 @@
 ghost use Rattle.std.specs.Prelude.{◌≡◌, ◌+◌, ◌-◌, ◌*◌, ◌≤◌, ◌<◌, length};
 ghost use Rattle.srt_group_model.specs.Sending.{sent_row_size, max_sent, list_size};
 ghost use Rattle.srt_group_model.specs.Backup.{max_history};
-ghost use Rattle.srt_group_tables.specs.Ring.{arrays, Long, entries_of};
+ghost use Rattle.srt_group_tables.specs.Ring.{arrays, entries_of};
 ghost use Rattle.srt_group_backup.specs.Replay.{EntryReplayed, EntriesReplayed};
 
 use srt_connection::legs::send_shared_with_sequence;
 use srt_group_model::{Entry, Leg};
 use srt_group_sending::list::write_sent;
-use srt_group_tables::history::{HistoryRing, entry_at};
+use srt_group_tables::history::History;
 use srt_protocol::error::Error;
 use srt_protocol::time::Timestamp;
 
@@ -46,23 +46,20 @@ fn replay_entry(
 // All entries, oldest first, up to one that fails.
 pub fn replay_entries(
     leg: Leg,
-    ring: HistoryRing,
-    history: &[u64],
-    sources: &[u64],
+    history: &History,
     time: Timestamp,
     id: u64,
     list: &mut [u64],
     sent: usize,
 ) -> Replayed
-    requires length_le_max_history { (ring.length ≤ max_history) × Long (arrays history.now sources.now) }
-    requires list_size_in_bounds { (list_size ≤ length list.old) × (sent ≤ max_sent - max_history) }
+    requires { (list_size ≤ length list.old) × (sent ≤ max_sent - max_history) }
     ensures { EntriesReplayed time.0 id
-        (entries_of ring (arrays history.now sources.now)) leg sent
+        (entries_of history.now.ring (arrays history.now.history.now history.now.sources.now)) leg sent
         list.old result list.new }
 {
     let mut here = leg;
-    for index in 0..ring.length {
-        let entry = entry_at(ring, history, sources, index);
+    for index in 0..history.ring.length {
+        let entry = history.entry_at(index);
         let result = replay_entry(here, entry, time, id, list, sent + index);
         let Some(after) = result else {
             return Replayed {
@@ -76,6 +73,6 @@ pub fn replay_entries(
     Replayed {
         outcome: Ok(()),
         leg: here,
-        sent: sent + ring.length,
+        sent: sent + history.ring.length,
     }
 }

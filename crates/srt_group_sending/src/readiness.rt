@@ -1,7 +1,7 @@
 // Whether and when a send can go.
 ghost use Rattle.std.specs.Prelude.{◌≡◌, ◌*◌, ◌≤◌, length};
 ghost use Rattle.srt_group_model.specs.Tools.{any};
-ghost use Rattle.srt_group_model.specs.Backup.{max_history, ready_to_send, group_time_until_send};
+ghost use Rattle.srt_group_model.specs.Backup.{ready_to_send, group_time_until_send};
 ghost use Rattle.srt_connection_queue.specs.Rows.{row_size};
 ghost use Rattle.srt_connection_members.specs.Members.{member_at, members_of, HasRow};
 ghost use Rattle.srt_group_sending.specs.Readiness.{pacing_in, sends_now, may_carry, least_with};
@@ -15,7 +15,7 @@ use srt_connection_members::{leg_at, membership_at};
 use srt_group_members::promotion::promotion;
 use srt_group_members::states::{ACTIVE, STANDBY, first_active, is_active_at};
 use srt_group_model::{Leg, Sending};
-use srt_group_tables::history::{HistoryRing, sequence_at};
+use srt_group_tables::history::History;
 use srt_protocol::time::Timestamp;
 
 // The wait of a group with no member that could send, in microseconds.
@@ -115,25 +115,23 @@ pub fn takes_over(sending: Sending, id: u64) -> bool
 }
 
 // The sequence of the oldest entry of the history.
-fn front_sequence(ring: HistoryRing, history: &[u64]) -> Option<u64>
-    requires { length history.now ≡ max_history }
-    ensures { result ≡ front_sequence ring history.now }
+fn front_sequence(history: &History) -> Option<u64>
+    ensures { result ≡ front_sequence history.now.ring history.now.history.now }
 {
-    if ring.length == 0 {
+    if history.ring.length == 0 {
         return None;
     }
-    Some(sequence_at(ring, history, 0))
+    Some(history.sequence_at(0))
 }
 
 // The sequence at which a leg has to stand: that of the first entry that it would replay, else the group's send number.
-fn replay_sequence(takes: bool, sending: Sending, ring: HistoryRing, history: &[u64]) -> Option<u64>
-    requires { length history.now ≡ max_history }
-    ensures { result ≡ replay_sequence takes sending ring history.now }
+fn replay_sequence(takes: bool, sending: Sending, history: &History) -> Option<u64>
+    ensures { result ≡ replay_sequence takes sending history.now.ring history.now.history.now }
 {
     if !takes {
         return sending.next_send_sequence();
     }
-    let front = front_sequence(ring, history);
+    let front = front_sequence(history);
     let Some(sequence) = front else {
         return sending.next_send_sequence();
     };
@@ -167,29 +165,28 @@ fn stands_at(leg: Leg, sequence: Option<u64>) -> bool
 }
 
 // How many entries a leg would replay.
-fn replay_length(takes: bool, ring: HistoryRing) -> usize
-    ensures { result ≡ replay_length takes ring }
+fn replay_length(takes: bool, history: &History) -> usize
+    ensures { result ≡ replay_length takes history.now.ring }
 {
     if takes {
-        return ring.length;
+        return history.ring.length;
     }
     0
 }
 
 // Whether a leg that can send could make the take-over, with room for the send behind it.
-fn could_take_over(leg: Leg, id: u64, sending: Sending, ring: HistoryRing, history: &[u64]) -> bool
-    requires { length history.now ≡ max_history }
-    ensures { result ≡ could_take_over id sending ring history.now leg }
+fn could_take_over(leg: Leg, id: u64, sending: Sending, history: &History) -> bool
+    ensures { result ≡ could_take_over id sending history.now.ring history.now.history.now leg }
 {
     let takes = takes_over(sending, id);
-    let replay = replay_length(takes, ring);
+    let replay = replay_length(takes, history);
     if !gap_allows(takes, replay, sending.gap) {
         return false;
     }
     if remaining_window_packets(leg) <= replay as u64 {
         return false;
     }
-    let sequence = replay_sequence(takes, sending, ring, history);
+    let sequence = replay_sequence(takes, sending, history);
     stands_at(leg, sequence)
 }
 
@@ -198,13 +195,11 @@ pub fn backup_member_ready(
     members: &[u64],
     index: usize,
     sending: Sending,
-    ring: HistoryRing,
-    history: &[u64],
+    history: &History,
     pacing: Option<Timestamp>,
 ) -> bool
-    requires has_row { HasRow index members.now }
-    requires history_len { length history.now ≡ max_history }
-    ensures { MemberReady (pacing_in pacing) sending ring history.now
+    requires { HasRow index members.now }
+    ensures { MemberReady (pacing_in pacing) sending history.now.ring history.now.history.now
         (member_at members.now index) result }
 {
     let leg = leg_at(members, index);
@@ -215,7 +210,7 @@ pub fn backup_member_ready(
         return false;
     }
     let membership = membership_at(members, index);
-    could_take_over(leg, membership.id, sending, ring, history)
+    could_take_over(leg, membership.id, sending, history)
 }
 
 // Whether the first active member could carry the next send or, if its window is full, the one that would be promoted.
@@ -223,24 +218,22 @@ pub fn backup_send_ready(
     members: &[u64],
     count: usize,
     sending: Sending,
-    ring: HistoryRing,
-    history: &[u64],
+    history: &History,
     pacing: Option<Timestamp>,
 ) -> bool
-    requires row_size_in_bounds { count * row_size ≤ length members.now }
-    requires history_len { length history.now ≡ max_history }
-    ensures { BackupReady count (pacing_in pacing) sending ring history.now members.now result }
+    requires { count * row_size ≤ length members.now }
+    ensures { BackupReady count (pacing_in pacing) sending history.now.ring history.now.history.now members.now result }
 {
     let found = first_active(members, count);
     let Some(index) = found else {
         return false;
     };
     if can_send(leg_at(members, index)) {
-        return backup_member_ready(members, index, sending, ring, history, pacing);
+        return backup_member_ready(members, index, sending, history, pacing);
     }
     let standby = promotion(members, count);
     let Some(promoted) = standby else {
         return false;
     };
-    backup_member_ready(members, promoted, sending, ring, history, pacing)
+    backup_member_ready(members, promoted, sending, history, pacing)
 }

@@ -64,15 +64,6 @@ pub fn place(ring: HistoryRing, index: usize) -> usize
     (ring.start % MAX_HISTORY + index) % MAX_HISTORY
 }
 
-// The sequence of the entry so many behind the oldest.
-pub fn sequence_at(ring: HistoryRing, history: &[u64], index: usize) -> u64
-    requires { (index ≤ max_history) × (length history.now ≡ max_history) }
-    ensures { result ≡ word_sequence (get_or history.now ((ring.start + index) % max_history) 0) }
-{
-    let at = place(ring, index);
-    sequence_of(history[at])
-}
-
 // The entry so many behind the oldest.
 pub fn entry_at(ring: HistoryRing, history: &[u64], sources: &[u64], index: usize) -> Entry
     requires { (index ≤ max_history) × Long (arrays history.now sources.now) }
@@ -118,22 +109,64 @@ pub fn push_back(ring: HistoryRing) -> HistoryRing
     }
 }
 
-// The ring without the entries at the front that are before `oldest`.
-#[tactic(auto, using(crate::specs::Laws::Ring::trimmed_one, crate::specs::Laws::Ring::trimmed_there, crate::specs::Laws::Ring::trimmed_all))]
-pub fn drop_before(ring: HistoryRing, history: &[u64], oldest: u64) -> HistoryRing
-    requires { (ring.length ≤ max_history) × (length history.now ≡ max_history) }
-    ensures { Trimmed oldest history.now ring result }
-{
-    let mut start = ring.start;
-    for dropped in 0..ring.length {
-        let at = start % MAX_HISTORY;
-        if !word_before(sequence_of(history[at]), oldest) {
-            return HistoryRing {
-                start,
-                length: ring.length - dropped,
-            };
-        }
-        start = (at + 1) % MAX_HISTORY;
+// ---- a history, lent to read
+
+// A ring of at most 512 entries over two arrays of 512 places. Functions that change a history take the parts: of a struct of `&mut`
+// fields each clause would name what every field holds at the end by a ghost name of its own.
+#[derive(Clone, Copy)]
+pub struct History<'a> {
+    pub ring: HistoryRing,
+    pub history: &'a [u64],
+    pub sources: &'a [u64],
+    ghost ring_fits: { ring.length ≤ max_history },
+    ghost history_long: { length history.now ≡ max_history },
+    ghost sources_long: { length sources.now ≡ max_history },
+}
+
+impl History<'_> {
+    // The sequence of the entry so many behind the oldest.
+    pub fn sequence_at(&self, index: usize) -> u64
+        requires { index ≤ max_history }
+        ensures { result ≡ word_sequence (get_or self.now.history.now ((self.now.ring.start + index) % max_history) 0) }
+    {
+        let at = place(self.ring, index);
+        sequence_of(self.history[at])
     }
-    HistoryRing { start, length: 0 }
+
+    // Its cell.
+    pub fn cell_at(&self, index: usize) -> u64
+        requires { index ≤ max_history }
+        ensures { result ≡ word_cell (get_or self.now.history.now ((self.now.ring.start + index) % max_history) 0) }
+    {
+        let at = place(self.ring, index);
+        cell_of(self.history[at])
+    }
+
+    // The whole entry.
+    pub fn entry_at(&self, index: usize) -> Entry
+        requires { index ≤ max_history }
+        ensures { result ≡ entry_at self.now.ring (arrays self.now.history.now self.now.sources.now) index }
+    {
+        entry_at(self.ring, self.history, self.sources, index)
+    }
+
+    // The ring without the entries at the front that are before `oldest`.
+    #[tactic(auto, using(crate::specs::Laws::Ring::trimmed_one, crate::specs::Laws::Ring::trimmed_there, crate::specs::Laws::Ring::trimmed_all))]
+    pub fn drop_before(&self, oldest: u64) -> HistoryRing
+        ensures { Trimmed oldest self.now.history.now self.now.ring result }
+    {
+        let ring = self.ring;
+        let mut start = ring.start;
+        for dropped in 0..ring.length {
+            let at = start % MAX_HISTORY;
+            if !word_before(sequence_of(self.history[at]), oldest) {
+                return HistoryRing {
+                    start,
+                    length: ring.length - dropped,
+                };
+            }
+            start = (at + 1) % MAX_HISTORY;
+        }
+        HistoryRing { start, length: 0 }
+    }
 }

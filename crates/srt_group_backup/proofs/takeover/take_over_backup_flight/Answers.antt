@@ -12,8 +12,8 @@ returns-then-left-eq0 c =
     let args = c.args in
     took_over_nothing _ _ _ _
     c.requires.index_lt_count.0
-    args.sending args.ring
-    (arrays args.history.now args.sources.now)
+    args.sending args.history.now.ring
+    (arrays args.history.now.history.now args.history.now.sources.now)
     _ _
     c.membership_at-membership.ensures
     c.takes_over.ensures
@@ -26,8 +26,8 @@ returns c =
     let args = c.args in
     took_over_flight _ _ _ _
     c.requires.index_lt_count.0
-    args.sending args.ring
-    (arrays args.history.now args.sources.now)
+    args.sending args.history.now.ring
+    (arrays args.history.now.history.now args.history.now.sources.now)
     _ _
     c.membership_at-membership.ensures
     c.takes_over.ensures

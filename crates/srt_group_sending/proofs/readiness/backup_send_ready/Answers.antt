@@ -19,8 +19,8 @@ leg_at-requires c =
           c.first_active-found.ensures),
     )
 
-pub backup_member_ready-requires-clause-has_row : goal.backup_member_ready-requires-clause-has_row
-backup_member_ready-requires-clause-has_row c = omega (
+pub backup_member_ready-requires : goal.backup_member_ready-requires
+backup_member_ready-requires c = omega (
   arith,
   found_row is_active _ _ _ (sym c.in-Some.is ∙
       c.first_active-found.ensures),
@@ -40,8 +40,8 @@ returns-in_default-standby c =
     c.leg_at.ensures c.can_send.ensures
     c.if-can_send.false (sym c.in_default-standby.is ∙ c.promotion-standby.ensures)
 
-pub backup_member_ready-requires-2-clause-has_row : goal.backup_member_ready-requires-2-clause-has_row
-backup_member_ready-requires-2-clause-has_row c = omega (
+pub backup_member_ready-requires-2 : goal.backup_member_ready-requires-2
+backup_member_ready-requires-2 c = omega (
   arith,
   promotion_below _ _ _ (sym c.in-Some-standby.is ∙
       c.promotion-standby.ensures),
