@@ -10,6 +10,7 @@ ghost use Rattle.srt_group_carrier.specs.Lendable.{backup_tables, Lendable, Send
 ghost use Rattle.srt_group_carrier.specs.Flows.{every, InMode, BackupFlows};
 ghost use Rattle.srt_group_backup_send.specs.BackupSend.{on_carrier};
 
+use cell_set::CellSet;
 use srt_connection_members::sender_at;
 use srt_group_backup::send::send_on;
 use srt_group_carrier::carrier::{ready_members, take_over};
@@ -18,7 +19,7 @@ use srt_group_carrier::recording::{BackupSend, keep_sent};
 use srt_group_members::states::first_active;
 use srt_group_model::Sending;
 use srt_group_sending::broadcast::sequence_for_send;
-use srt_group_tables::history::HistoryRing;
+use srt_group_tables::history::{History, HistoryRing};
 use srt_protocol::error::Error;
 use srt_protocol::time::Timestamp;
 
@@ -33,7 +34,7 @@ fn send_at_place(
     index: usize,
     list: &mut [u64],
     sent: usize,
-    used: &mut [u64],
+    used: &mut CellSet,
     time: Timestamp,
     size: u64,
     cell: u64,
@@ -75,7 +76,7 @@ fn send_on_carrier(
     count: usize,
     index: usize,
     list: &mut [u64],
-    used: &mut [u64],
+    used: &mut CellSet,
     time: Timestamp,
     size: u64,
     cell: u64,
@@ -87,9 +88,12 @@ fn send_on_carrier(
         (backup_tables members.old history.old sources.old list.old used.old) result
         (backup_tables members.new history.new sources.new list.new used.new) }
 {
-    let taken = take_over(
-        sending, ring, history, sources, members, count, index, list, 0, used, time,
-    );
+    let flight = History {
+        ring,
+        history,
+        sources,
+    };
+    let taken = take_over(sending, &flight, members, count, index, list, 0, used, time);
     let outcome = taken.outcome;
     let numbers = taken.sending;
     let left = taken.ring;
@@ -117,7 +121,7 @@ pub fn send_backup(
     members: &mut [u64],
     count: usize,
     list: &mut [u64],
-    used: &mut [u64],
+    used: &mut CellSet,
     time: Timestamp,
     size: u64,
     cell: u64,

@@ -16,12 +16,13 @@ ghost use Rattle.srt_group_carrier.specs.Freeing.{TrimFollows};
 ghost use Rattle.srt_group_carrier.specs.Lendable.{backup_tables, Sendable};
 
 use crate::freeing::free_dropped;
+use cell_set::CellSet;
 use srt_group_backup::stale::demote_stale_backup_carrier;
 use srt_group_backup::takeover::{TakenOver, take_over_backup_flight};
 use srt_group_members::promotion::{promote_backup_member, promote_if_none};
 use srt_group_model::Sending;
 use srt_group_sending::broadcast::mark_send_failure_at;
-use srt_group_tables::history::HistoryRing;
+use srt_group_tables::history::History;
 use srt_protocol::time::Timestamp;
 
 // The carrier is demoted if it fell silent, and another is promoted if no member is active then.
@@ -50,31 +51,27 @@ pub fn promote_after_failure(members: &mut [u64], count: usize, index: usize)
 // The take-over, with the cells of the entries that its trim dropped free again.
 pub fn take_over(
     sending: Sending,
-    ring: HistoryRing,
-    history: &[u64],
-    sources: &[u64],
+    history: &History,
     members: &mut [u64],
     count: usize,
     index: usize,
     list: &mut [u64],
     sent: usize,
-    used: &mut [u64],
+    used: &mut CellSet,
     time: Timestamp,
 ) -> TakenOver
-    requires sendable { Sendable count index ring (backup_tables members.old history.now sources.now list.old used.old) }
+    requires sendable { Sendable count index history.now.ring (backup_tables members.old history.now.history.now history.now.sources.now list.old used.old) }
     requires sent_bound { sent ≤ max_sent - max_history }
-    ensures took_over { TookOver (take_over_backup_flight time.0 index) count sending ring
-        (arrays history.now sources.now) sent
+    ensures took_over { TookOver (take_over_backup_flight time.0 index) count sending history.now.ring
+        (arrays history.now.history.now history.now.sources.now) sent
         (send_tables members.old list.old) result
         (send_tables members.new list.new) }
     ensures trim_follows { TrimFollows
-        (entries_of ring (arrays history.now sources.now)) used.old
-        (entries_of result.ring (arrays history.now sources.now)) used.new }
+        (entries_of history.now.ring (arrays history.now.history.now history.now.sources.now)) used.old
+        (entries_of result.ring (arrays history.now.history.now history.now.sources.now)) used.new }
 {
-    let taken = take_over_backup_flight(
-        sending, ring, history, sources, members, count, index, list, sent, time,
-    );
+    let taken = take_over_backup_flight(sending, history, members, count, index, list, sent, time);
     let left = taken.ring;
-    free_dropped(ring, left.length, history, used);
+    free_dropped(history, left.length, used);
     taken
 }

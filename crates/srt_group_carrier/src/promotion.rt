@@ -9,10 +9,11 @@ ghost use Rattle.srt_group_carrier.specs.Flows.{on_promoted, every, BackupFlows}
 
 use crate::carrier::{promote_after_failure, take_over};
 use crate::recording::{BackupSend, keep_sent};
+use cell_set::CellSet;
 use srt_group_backup::send::send_on;
 use srt_group_members::states::first_active;
 use srt_group_model::Sending;
-use srt_group_tables::history::HistoryRing;
+use srt_group_tables::history::{History, HistoryRing};
 use srt_protocol::error::Error;
 use srt_protocol::time::Timestamp;
 
@@ -27,7 +28,7 @@ fn send_on_promoted(
     index: usize,
     list: &mut [u64],
     sent: usize,
-    used: &mut [u64],
+    used: &mut CellSet,
     time: Timestamp,
     size: u64,
     cell: u64,
@@ -39,8 +40,13 @@ fn send_on_promoted(
         (backup_tables members.old history.old sources.old list.old used.old) result
         (backup_tables members.new history.new sources.new list.new used.new) }
 {
+    let flight = History {
+        ring,
+        history,
+        sources,
+    };
     let taken = take_over(
-        sending, ring, history, sources, members, count, index, list, sent, used, time,
+        sending, &flight, members, count, index, list, sent, used, time,
     );
     let outcome = taken.outcome;
     let numbers = taken.sending;
@@ -78,7 +84,7 @@ pub fn send_after_promotion(
     index: usize,
     list: &mut [u64],
     sent: usize,
-    used: &mut [u64],
+    used: &mut CellSet,
     time: Timestamp,
     size: u64,
     cell: u64,
