@@ -7,10 +7,10 @@ ghost use Rattle.srt_group_shown.specs.Ready.{storing};
 ghost use Rattle.srt_group.specs.Made.{parts_of};
 ghost use Rattle.srt_group_refusals.specs.Promised.{nothing_lent, showing, Promised};
 
-use cell_set::WORDS;
 use crate::events::push_event;
 use crate::queueing;
 use crate::readings::put_reading;
+use cell_set::WORDS;
 use srt_group::Group;
 use srt_group_model::Data;
 use srt_group_refusals::refusals::LentGroup;

@@ -20,6 +20,7 @@ use srt_protocol::error::{Error, outcome_number};
 use srt_protocol::received_payload::{CELL, cells_of, put_payload};
 
 // 2: an id or a field of the packet out of range.
+#[tactic(auto, unfolding(srt_group_model::specs::Calls::data_unfit, srt_group_model::specs::Validity::data_words, srt_group_model::specs::Validity::any_above, srt_group_model::specs::Tools::any))]
 fn data_unfit(id: u64, content: Data) -> bool
     ensures { result ≡ data_unfit id content }
 {

@@ -16,9 +16,6 @@ returns-then-event_unfit c =
           (sym c.event_unfit.ensures ∙ c.if-event_unfit.true);
     }
 
-pub find-found-requires : goal.find-found-requires
-find-found-requires c = c.requires
-
 pub returns-in_default : goal.returns-in_default
 returns-in_default c =
     let a = c.args in

@@ -1,7 +1,6 @@
 -- `queue_data` meets its contract: 2, 3, 4, 30, and then 31 or the packet is queued.
 use mathlib.Core.Path.{sym, subst, ◌∙◌}
 use Prim.Native.Nat.{ℕ}
-use native.Mathlib.Omega.{arith}
 use Rattle.cell_set.specs.Sets.{LowestFree}
 use Rattle.srt_group_shown.specs.Laws.Steps.{rows_there}
 use Rattle.srt_group_queueing.specs.Laws.Queueing.{data_refused, unknown_refused, long_refused, full_refused, enqueueable, performed}
@@ -21,9 +20,6 @@ returns-in_default c =
 pub returns-then-payload-gt-CELL : goal.returns-then-payload-gt-CELL
 returns-then-payload-gt-CELL c =
     long_refused _ _ _ _ _ _ _ c.requires (sym c.data_unfit.ensures ∙ c.if-data_unfit.false) _ (sym c.in-Some.is ∙ c.find-found.ensures) c.if-payload-gt-CELL.true
-
-pub lowest_free-lowest-requires : goal.lowest_free-lowest-requires
-lowest_free-lowest-requires c = omega (arith, c.cells_of.ensures)
 
 pub returns-in_default-lowest : goal.returns-in_default-lowest
 returns-in_default-lowest c =

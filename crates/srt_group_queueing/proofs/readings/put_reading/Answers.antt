@@ -16,9 +16,6 @@ returns-then-reading_unfit c =
           (sym c.reading_unfit.ensures ∙ c.if-reading_unfit.true);
     }
 
-pub find-found-requires : goal.find-found-requires
-find-found-requires c = c.requires
-
 pub returns-in_default : goal.returns-in_default
 returns-in_default c =
     let a = c.args in
