@@ -7,6 +7,7 @@ ghost use Rattle.srt_group.specs.Made.{parts_of};
 ghost use Rattle.srt_group_refusals.specs.Promised.{nothing_lent, showing, PromisedRow};
 ghost use Rattle.srt_group_removal.specs.Connection.{RowAfter, given_back, PromisedDropping};
 
+use cell_set::WORDS;
 use crate::connection::remove_named;
 use srt_connection_queue::rows::ROW;
 use srt_group::Group;
@@ -60,7 +61,7 @@ pub fn remove_member_connection(
             outcome: Err(error),
         };
     }
-    let mut used = [0u64; 32];
+    let mut used = [0; WORDS];
     let removed = remove_named(group.core, members, pending, row, &mut used, id);
     let after = removed.core;
     let outcome = removed.outcome;

@@ -1,15 +1,15 @@
 // `remove_member_connection` and `remove_member` after 5 and 6, and their forms for a valid state. The leg is given back in a lent row
 // of the members' table.
-ghost use Rattle.std.specs.Prelude.{◌≡◌, length};
+ghost use Rattle.std.specs.Prelude.{length};
 ghost use Rattle.srt_protocol.specs.Errors.{outcome_number};
 ghost use Rattle.srt_group_model.specs.Lent.{call_remove_member_connection};
-ghost use Rattle.cell_set.specs.Bits.{set_size};
 ghost use Rattle.srt_connection_members.specs.Members.{HasRow};
 ghost use Rattle.srt_group_shown.specs.Tables.{parts, tables};
 ghost use Rattle.srt_group_shown.specs.Ready.{Ready, storing, Performs};
 ghost use Rattle.srt_group_collecting.specs.Follows.{Follows};
 ghost use Rattle.srt_group_removal.specs.Connection.{AnyRemovable, GivesBack, RowAfter, given_back, StepsRemoval, PerformsDropping};
 
+use cell_set::CellSet;
 use crate::removal::remove_member_at;
 use srt_connection::legs::LARGEST_32;
 use srt_connection_members::{clear_at, find, put_leg_at};
@@ -39,12 +39,11 @@ pub fn remove_named(
     members: &mut [u64],
     pending: &mut [u64],
     row: &mut [u64],
-    used: &mut [u64],
+    used: &mut CellSet,
     id: u64,
 ) -> Removal
     requires any_removable { AnyRemovable core members.old pending.old }
     requires has_row { HasRow 0 row.old }
-    requires used_len { length used.old ≡ set_size }
     ensures steps_removal { StepsRemoval id core members.old pending.old
         result members.new pending.new row.new }
     ensures row_after { RowAfter result.outcome row.old row.new }
@@ -87,7 +86,7 @@ pub fn remove_member_connection(
     sources: &[u64],
     store: &[u8],
     row: &mut [u64],
-    used: &mut [u64],
+    used: &mut CellSet,
     id: u64,
 ) -> Removal
     requires ready { Ready (parts identity core sending ring)
@@ -116,7 +115,7 @@ pub fn remove_member(
     history: &[u64],
     sources: &[u64],
     store: &[u8],
-    used: &mut [u64],
+    used: &mut CellSet,
     id: u64,
 ) -> Removal
     requires { Ready (parts identity core sending ring)

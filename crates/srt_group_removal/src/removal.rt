@@ -1,9 +1,9 @@
 // A member is taken out, and its leg given back.
-ghost use Rattle.std.specs.Prelude.{◌≡◌, ◌-◌, min, length};
-ghost use Rattle.cell_set.specs.Bits.{set_size};
+ghost use Rattle.std.specs.Prelude.{◌≡◌, ◌-◌, min};
 ghost use Rattle.srt_group_collecting.specs.Follows.{Follows};
 ghost use Rattle.srt_group_removal.specs.Removal.{Removable, TakesOut, Removes};
 
+use cell_set::CellSet;
 use crate::queue::free_queue_at;
 use crate::retirement::{bound_group_owned_pending, retirement_base};
 use srt_group_members::accounts;
@@ -34,11 +34,10 @@ fn take_out(
     mut core: Core,
     members: &mut [u64],
     pending: &mut [u64],
-    used: &mut [u64],
+    used: &mut CellSet,
     index: usize,
 ) -> Core
-    requires removable { Removable index core members.old pending.old }
-    requires used_len { length used.old ≡ set_size }
+    requires { Removable index core members.old pending.old }
     ensures takes_out { TakesOut index core members.old pending.old
         result members.new pending.new }
     ensures follows { Follows core members.old pending.old used.old
@@ -65,11 +64,10 @@ pub fn remove_member_at(
     core: Core,
     members: &mut [u64],
     pending: &mut [u64],
-    used: &mut [u64],
+    used: &mut CellSet,
     index: usize,
 ) -> Removed
-    requires removable { Removable index core members.old pending.old }
-    requires used_len { length used.old ≡ set_size }
+    requires { Removable index core members.old pending.old }
     ensures removes { Removes index core members.old pending.old
         result members.new pending.new }
     ensures follows { Follows core members.old pending.old used.old

@@ -1,22 +1,20 @@
 // Retirement: while the counts of the group's own packets exceed a limit, the one farthest ahead of a base is retired.
-ghost use Rattle.std.specs.Prelude.{◌≡◌, List, ℕ, ◌≤◌, ◌<◌, length};
+ghost use Rattle.std.specs.Prelude.{◌≡◌, List, ℕ, ◌≤◌, ◌<◌};
 ghost use Rattle.srt_group_model.specs.Legs.{largest_sequence};
 ghost use Rattle.srt_group_model.specs.Removal.{bound_group_owned_pending, retirement_base};
 ghost use Rattle.srt_group_tables.specs.Packets.{packet_at};
 ghost use Rattle.srt_group_shown.specs.Shown.{Rest, shown};
-ghost use Rattle.cell_set.specs.Bits.{set_size};
 ghost use Rattle.srt_group_removal.specs.Retire.{Held, Retires, Retired, FollowsHeld, is_reached, Reachable, RetiresDownward};
 
-use cell_set::free;
+use cell_set::{CellSet, free};
 use srt_group_members::accounts;
 use srt_group_model::{Core, Packet};
 use srt_group_tables::pending;
 
 // The packet at a place is taken out: its cell is free, and the group's own sum falls by its count.
-fn retire_at(mut core: Core, pending: &mut [u64], used: &mut [u64], at: usize) -> Core
+fn retire_at(mut core: Core, pending: &mut [u64], used: &mut CellSet, at: usize) -> Core
     requires held { Held core pending.old }
     requires at_lt_pending { at < core.counts.pending }
-    requires used_len { length used.old ≡ set_size }
     ensures retired { Retired (packet_at pending.old at) core pending.old
         result pending.new }
     ensures follows_held { FollowsHeld core pending.old used.old
@@ -46,13 +44,12 @@ fn is_reached(packet: Packet, base: u64, all: bool) -> bool
 fn retire_downward(
     mut core: Core,
     pending: &mut [u64],
-    used: &mut [u64],
+    used: &mut CellSet,
     limit: u64,
     base: u64,
     all: bool,
 ) -> Core
     requires held { Held core pending.old }
-    requires used_len { length used.old ≡ set_size }
     requires reachable { Reachable limit base all core pending.old }
     ensures retires_downward { RetiresDownward limit base all core pending.old result pending.new }
     ensures follows_held { FollowsHeld core pending.old used.old
@@ -75,12 +72,11 @@ fn retire_downward(
 pub fn bound_group_owned_pending(
     core: Core,
     pending: &mut [u64],
-    used: &mut [u64],
+    used: &mut CellSet,
     limit: u64,
     base: u64,
 ) -> Core
     requires held { Held core pending.old }
-    requires used_len { length used.old ≡ set_size }
     requires base_le_largest_sequence { base ≤ largest_sequence }
     ensures retires { Retires (bound_group_owned_pending core.counts.pending limit base) core pending.old
         result pending.new }

@@ -1,7 +1,6 @@
 -- `remove_member_connection` meets its contract: 5 for the row, 5, 6, and then what follows them.
 use mathlib.Core.Path.{refl}
 use native.Mathlib.Omega.{arith}
-use borrow.Author.Rules.{rules}
 use Rattle.srt_group_model.specs.Lent.{call_remove_member_connection}
 use Rattle.srt_group_shown.specs.Tables.{tables}
 use Rattle.srt_group.specs.Made.{parts_of}
@@ -35,7 +34,6 @@ remove_named-removed-requires c =
           (begun_unbroken (parts_of a.group)
           (tables a.members.now a.pending.now a.waiting.now a.history.now a.sources.now) c.begin-begun.ensures c.in_default.is);
       has_row = omega (arith, c.if-row-lt-ROW.false);
-      used_len = search rules;
     }
 
 pub returns : goal.returns

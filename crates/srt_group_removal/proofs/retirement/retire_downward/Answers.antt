@@ -14,7 +14,7 @@ pub packet-packet-requires : goal.packet-packet-requires
 packet-packet-requires c = (omega (arith, c.loop-at.invariant.0.bounding.held.pending_long), omega (arith, c.loop-at.invariant.0.within, c.loop-at.invariant.0.bounding.held.held_few))
 
 pub retire_at-core-requires : goal.retire_at-core-requires
-retire_at-core-requires c = record { held = c.loop-at.invariant.0.bounding.held; at_lt_pending = omega (arith, c.loop-at.invariant.0.within); used_len = c.loop-at.invariant.1.used_long }
+retire_at-core-requires c = record { held = c.loop-at.invariant.0.bounding.held; at_lt_pending = omega (arith, c.loop-at.invariant.0.within) }
 
 pub loop-at-preserved-then-is_reached : goal.loop-at-preserved-then-is_reached
 loop-at-preserved-then-is_reached c = (downward_retire c.loop-at.invariant.0 c.loop-at-test.true _ c.packet-packet.ensures _ c.is_reached.ensures c.if-is_reached.true c.if-core-limit.false _ _ c.retire_at-core.ensures.retired, held_follows_then c.loop-at.invariant.1 c.retire_at-core.ensures.follows_held)
