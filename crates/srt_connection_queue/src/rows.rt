@@ -49,7 +49,12 @@ pub const MAX_QUEUED: u64 = 16;
 // The words of a row.
 pub const ROW: usize = (FIRST_EVENT + MAX_QUEUED) as usize * PART;
 
+// A member's row.
+pub type Row = [u64; ROW];
+
 // Words that are read or written alone.
+const ID: usize = MEMBERSHIP;
+
 const STATE: usize = MEMBERSHIP + 2;
 
 const ADMITTED: usize = MEMBERSHIP + 3;
@@ -262,39 +267,36 @@ fn write_event(words: &mut [u64], event: Event)
 
 // ---- the parts of a row
 
-fn link_part(row: &[u64]) -> LinkPart
-    requires { length row.now ≡ row_size }
+fn link_part(row: &Row) -> LinkPart
     ensures { result ≡ link_part_of (part row.now link_part) }
 {
     read_link_part(&row[LINK..LINK_END])
 }
 
-pub fn ring_of(row: &[u64]) -> Ring
-    requires { length row.now ≡ row_size }
+pub fn ring_of(row: &Row) -> Ring
     ensures { result ≡ ring_of (part row.now receiver_part) }
 {
     read_ring(&row[RECEIVER..RECEIVER_END])
 }
 
 #[tactic(auto, unfolding(word_rows::specs::Rows::row_at))]
-pub fn put_ring(row: &mut [u64], ring: Ring)
-    requires { length row.old ≡ row_size }
+pub fn put_ring(row: &mut Row, ring: Ring)
     ensures { row.new ≡ put_part row.old receiver_part (ring_in ring (part row.old receiver_part)) }
 {
     write_ring(&mut row[RECEIVER..RECEIVER_END], ring);
 }
 
 #[tactic(auto, using(word_rows::specs::Laws::Rows::row_part))]
-pub fn event_part(row: &[u64], place: usize) -> Event
-    requires { (length row.now ≡ row_size) × (place < parts) }
+pub fn event_part(row: &Row, place: usize) -> Event
+    requires { place < parts }
     ensures { result ≡ event_of (part row.now place) }
 {
     let start = place * PART;
     read_event(&row[start..start + PART])
 }
 
-pub fn put_event_part(row: &mut [u64], place: usize, event: Event)
-    requires { (length row.old ≡ row_size) × (place < parts) }
+pub fn put_event_part(row: &mut Row, place: usize, event: Event)
+    requires { place < parts }
     ensures { row.new ≡ put_part row.old place (event_words event) }
 {
     let start = place * PART;
@@ -303,62 +305,50 @@ pub fn put_event_part(row: &mut [u64], place: usize, event: Event)
 
 // ---- a member's row
 
-pub fn membership(row: &[u64]) -> Membership
-    requires { length row.now ≡ row_size }
+pub fn membership(row: &Row) -> Membership
     ensures { result ≡ (member_of row.now).membership }
 {
     read_membership(&row[MEMBERSHIP..MEMBERSHIP_END])
 }
 
-#[tactic(auto, using(crate::specs::Laws::Rows::membership_put))]
-pub fn put_membership(row: &mut [u64], membership: Membership)
-    requires { length row.old ≡ row_size }
+pub fn put_membership(row: &mut Row, membership: Membership)
     ensures { Kept row.new (with_membership membership (member_of row.old)) }
 {
     write_membership(&mut row[MEMBERSHIP..MEMBERSHIP_END], membership);
 }
 
-#[tactic(auto, using(crate::specs::Laws::Rows::link_trip_put))]
-pub fn put_link_trip(row: &mut [u64], link: Link, trip: Trip)
-    requires { length row.old ≡ row_size }
+pub fn put_link_trip(row: &mut Row, link: Link, trip: Trip)
     ensures { Kept row.new (with_link_trip link trip (member_of row.old)) }
 {
     write_link_part(&mut row[LINK..LINK_END], LinkPart { link, trip });
 }
 
-pub fn sender(row: &[u64]) -> Sender
-    requires { length row.now ≡ row_size }
+pub fn sender(row: &Row) -> Sender
     ensures { result ≡ (member_of row.now).leg.sender }
 {
     read_sender(&row[SENDER..SENDER_END])
 }
 
-#[tactic(auto, using(crate::specs::Laws::Rows::sender_put))]
-pub fn put_sender(row: &mut [u64], sender: Sender)
-    requires { length row.old ≡ row_size }
+pub fn put_sender(row: &mut Row, sender: Sender)
     ensures { Kept row.new (with_sender sender (member_of row.old)) }
 {
     write_sender(&mut row[SENDER..SENDER_END], sender);
 }
 
-pub fn receiver(row: &[u64]) -> Receiver
-    requires { length row.now ≡ row_size }
+pub fn receiver(row: &Row) -> Receiver
     ensures { result ≡ (member_of row.now).leg.receiver }
 {
     read_receiver(&row[RECEIVER..RECEIVER_END])
 }
 
-#[tactic(auto, using(crate::specs::Laws::Rows::receiver_put), unfolding(word_rows::specs::Rows::row_at))]
-pub fn put_receiver(row: &mut [u64], receiver: Receiver)
-    requires { length row.old ≡ row_size }
+pub fn put_receiver(row: &mut Row, receiver: Receiver)
     ensures { Kept row.new (with_receiver receiver (member_of row.old)) }
 {
     write_receiver(&mut row[RECEIVER..RECEIVER_END], receiver);
 }
 
 #[tactic(auto, using(crate::specs::Laws::Rows::leg_read))]
-pub fn leg(row: &[u64]) -> Leg
-    requires { length row.now ≡ row_size }
+pub fn leg(row: &Row) -> Leg
     ensures { result ≡ (member_of row.now).leg }
 {
     let part = link_part(row);
@@ -375,8 +365,7 @@ pub fn leg(row: &[u64]) -> Leg
 }
 
 #[tactic(auto, using(crate::specs::Laws::Rows::leg_put))]
-pub fn put_leg(row: &mut [u64], leg: Leg)
-    requires { length row.old ≡ row_size }
+pub fn put_leg(row: &mut Row, leg: Leg)
     ensures { Kept row.new (with_leg leg (member_of row.old)) }
 {
     put_link_trip(row, leg.link, leg.trip);
@@ -386,33 +375,36 @@ pub fn put_leg(row: &mut [u64], leg: Leg)
 
 // ---- one word of a row
 
+#[tactic(auto, using(crate::specs::Laws::Rows::id_word))]
+pub fn member_id(row: &Row) -> u64
+    ensures { result ≡ (member_of row.now).membership.id }
+{
+    row[ID]
+}
+
 #[tactic(auto, using(crate::specs::Laws::Rows::state_word))]
-pub fn member_state(row: &[u64]) -> u64
-    requires { length row.now ≡ row_size }
+pub fn member_state(row: &Row) -> u64
     ensures { result ≡ (member_of row.now).membership.state }
 {
     row[STATE]
 }
 
 #[tactic(auto, using(crate::specs::Laws::Rows::admitted_word))]
-pub fn admitted(row: &[u64]) -> u64
-    requires { length row.now ≡ row_size }
+pub fn admitted(row: &Row) -> u64
     ensures { result ≡ (member_of row.now).membership.admitted }
 {
     row[ADMITTED]
 }
 
 #[tactic(auto, using(crate::specs::Laws::Rows::link_state_word))]
-pub fn link_state(row: &[u64]) -> u64
-    requires { length row.now ≡ row_size }
+pub fn link_state(row: &Row) -> u64
     ensures { result ≡ (member_of row.now).leg.link.state }
 {
     row[LINK_STATE]
 }
 
 #[tactic(auto, using(crate::specs::Laws::Rows::account_word))]
-pub fn account(row: &[u64]) -> Account
-    requires { length row.now ≡ row_size }
+pub fn account(row: &Row) -> Account
     ensures { result ≡ (member_of row.now).membership.account }
 {
     Account {
@@ -420,30 +412,26 @@ pub fn account(row: &[u64]) -> Account
     }
 }
 
-pub fn put_account(row: &mut [u64], account: Account)
-    requires { length row.old ≡ row_size }
+pub fn put_account(row: &mut Row, account: Account)
     ensures { Kept row.new (on_membership (with_account account) (member_of row.old)) }
 {
     row[ACCOUNT] = account.reserved;
 }
 
 #[tactic(auto, using(crate::specs::Laws::Rows::reserved_word))]
-pub fn reservation(row: &[u64]) -> u64
-    requires { length row.now ≡ row_size }
+pub fn reservation(row: &Row) -> u64
     ensures { result ≡ (member_of row.now).leg.receiver.reserved }
 {
     row[RESERVED]
 }
 
-pub fn put_reservation(row: &mut [u64], reserved: u64)
-    requires { length row.old ≡ row_size }
+pub fn put_reservation(row: &mut Row, reserved: u64)
     ensures { Kept row.new (on_leg (with_reservation reserved) (member_of row.old)) }
 {
     row[RESERVED] = reserved;
 }
 
-pub fn advance_receive_sequence(row: &mut [u64], sequence: u64)
-    requires { length row.old ≡ row_size }
+pub fn advance_receive_sequence(row: &mut Row, sequence: u64)
     ensures { Kept row.new (on_leg (advance_receive_sequence sequence) (member_of row.old)) }
 {
     row[ADVANCED] = sequence;
