@@ -9,20 +9,32 @@ use Rattle.srt_group_model.specs.State.{State}
 use Rattle.srt_group_model.specs.Sending.{list_size}
 use Rattle.srt_group_model.specs.Guards.{Answer, Step}
 use Rattle.srt_group_model.specs.Lent.{Call, step_of}
-use Rattle.srt_group_model.specs.Listing.{Line, columns, refused_line, printed}
+use Rattle.srt_group_model.specs.Listing.{store_length, columns, refused_line, printed}
 use Rattle.srt_group_model.specs.declared.Leg.{Leg}
 use Rattle.srt_group_model.specs.declared.Packet.{Packet}
 use Rattle.srt_connection_members.specs.Members.{member_at, HasRow}
-use Rattle.srt_group_shown.specs.Tables.{Tables, state_of}
+use Rattle.srt_group_shown.specs.Tables.{Tables, tables, state_of}
 use Rattle.srt_group_shown.specs.Ready.{Ready}
 use Rattle.srt_group.specs.Made.{parts_of}
 use Rattle.srt_group.specs.declared.Group.{Group}
+use Rattle.srt_group_listing.specs.declared.Memory.{Memory}
 use Rattle.srt_group_listing.specs.declared.Printed.{Printed}
 use Rattle.srt_group_listing.specs.declared.Told.{Told}
 
--- a line is its eight numbers
-abbrev pub Eight : Line → Type 0
-Eight line = length line ≡ 8
+-- ---- the memory of a replay
+
+-- its tables
+abbrev pub tables_of : Memory → Tables
+tables_of m = tables m.members m.pending m.waiting m.history m.sources
+
+-- the state that a group shows over it
+abbrev pub shown_in : Memory → Group → State
+shown_in m g = state_of (parts_of g) (tables_of m)
+
+-- it is ready for the group's next call, and its store has 40 cells
+pub record ReadyFor (g : Group) (m : Memory) : Type 0 where
+  pub call : Ready (parts_of g) (tables_of m) (length m.store) m.used
+  pub cells : length m.store ≡ store_length
 
 -- ---- what is printed
 
@@ -51,10 +63,10 @@ abbrev pub asks : (store : ℕ) → Call → State → Step
 asks store call s = step_of store output_size list_size call s
 
 -- The group after the call and what its line prints are the model's; and the group is ready for the next.
-pub record Tells (verb : ℕ) (call : Call) (g : Group) (t : Tables) (store : ℕ) (r : Told) (t' : Tables) (used' : List ℕ) : Type 0 where
-  pub state : state_of (parts_of r.group) t' ≡ (asks store call (state_of (parts_of g) t)).state
-  pub line : numbers_of r.line ≡ printed verb (asks store call (state_of (parts_of g) t))
-  pub ready : Ready (parts_of r.group) t' store used'
+pub record Tells (verb : ℕ) (call : Call) (g : Group) (m : Memory) (r : Told) (m' : Memory) : Type 0 where
+  pub state : shown_in m' r.group ≡ (asks (length m.store) call (shown_in m g)).state
+  pub line : numbers_of r.line ≡ printed verb (asks (length m.store) call (shown_in m g))
+  pub ready : ReadyFor r.group m'
 
 -- ---- verb 2
 

@@ -9,6 +9,23 @@ use srt_group::Group;
 pub mod members; // members.rt: verbs 2, 3, 7, 8 and 9
 pub mod telling; // telling.rt: which of them a line asks for
 
+// The eight numbers of a line of a listing: the verb, and what it needs.
+pub type Line = [u64; 8];
+
+// What a replay lends to its group: the tables, each of its full length; a store of 40 cells with the set of those in use; an output, and a list of sends.
+#[derive(Drop)]
+pub struct Memory {
+    pub members: [u64; 12096],
+    pub pending: [u64; 18432],
+    pub waiting: [u64; 192],
+    pub history: [u64; 512],
+    pub sources: [u64; 512],
+    pub store: [u8; 58240],
+    pub output: [u8; 1468],
+    pub list: [u64; 5500],
+    pub used: [u64; 32],
+}
+
 // The six numbers of an output line: the verb, its code, and what an accepted poll or send prints.
 #[repr(C)]
 #[derive(Clone, Copy)]

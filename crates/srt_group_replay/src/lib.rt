@@ -1,18 +1,116 @@
-// A replay listing over a group, line by line: document 01's listing without the reading and writing of columns. The replay is the only writer of
-// its group and of all that it is lent, so these functions have a `requires`, and no host calls them.
+// A replay listing over a group, line by line: document 01's listing without the reading and writing of columns.
 
 #![tactic(auto)]
 
+ghost use Rattle.std.specs.Prelude.{◌≡◌, ◌≤◌, None};
+ghost use Rattle.srt_group_model.specs.Listing.{column};
+ghost use Rattle.srt_group_listing.specs.Telling.{ReadyFor};
+ghost use Rattle.srt_group_listing.specs.Verbs.{TellsVerb};
+ghost use Rattle.srt_group_replay.specs.Told.{TellsLine};
+
+use cell_set::clear;
 use srt_group::Group;
-use srt_group_listing::Printed;
+use srt_group_listing::members::code_line;
+use srt_group_listing::telling::{tell_legs, tell_members};
+use srt_group_listing::{Line, Memory, Printed, Told};
+use srt_group_listing_packets::telling::tell_packets;
+use std::marker::Model;
 
-pub mod telling; // telling.rt: a line, whatever its verb
+// The bytes of the store: 40 cells.
+const STORE: usize = 40 * Group::CELL;
 
-// The group after a line, if one was made (1, else 0), and what the line prints.
-#[repr(C)]
-#[derive(Clone, Copy)]
-pub struct Replayed {
-    pub made: u64,
-    pub group: Group,
-    pub line: Printed,
+// The group that stands, none before a line made one, over the memory that it is lent. The replay is its only writer. In contracts it is the
+// state that the group shows.
+#[derive(Drop)]
+pub struct Replay {
+    group: Option<Group>,
+    memory: Memory,
+}
+
+impl Model for Replay {
+    ghost use Rattle.std.specs.Prelude.{Option};
+    ghost use Rattle.srt_group_model.specs.State.{State};
+
+    ghost Value = { Option State };
+
+    ghost use Rattle.srt_group_replay.specs.Lines.{standing, Standing};
+
+    ghost view = { λ r. standing r.group r.memory };
+
+    ghost invariant = { λ r. Standing r.group r.memory };
+}
+
+impl Replay {
+    // No group stands before verb 1 makes one.
+    pub fn new() -> Self
+        ensures { result ≡ None }
+    {
+        Replay {
+            group: None,
+            memory: Memory {
+                members: [0; 12096],
+                pending: [0; 18432],
+                waiting: [0; 192],
+                history: [0; 512],
+                sources: [0; 512],
+                store: [0; 58240],
+                output: [0; 1468],
+                list: [0; 5500],
+                used: [0; 32],
+            },
+        }
+    }
+
+    // What a line does to the group that stands, if any, and what it prints.
+    pub fn tell(&mut self, line: &Line) -> Printed
+        ensures { TellsLine line.now self.old result self.new }
+    {
+        let verb = line[0];
+        if verb == 1 {
+            return self.tell_new(line);
+        }
+        if verb == 0 {
+            return code_line(0, 2);
+        }
+        if 9 < verb {
+            return code_line(0, 2);
+        }
+        let Some(group) = self.group else {
+            return code_line(verb, 6);
+        };
+        let told = tell_made(&mut self.memory, group, line);
+        self.group = Some(told.group);
+        told.line
+    }
+
+    // Verb 1: a new group in place of the old, which stays if the line is refused. No cell of the new one is in use.
+    fn tell_new(&mut self, line: &Line) -> Printed
+        requires { column 0 line.now ≡ 1 }
+        ensures { TellsLine line.now self.old result self.new }
+    {
+        match Group::new(line[1], line[2], STORE) {
+            Ok(fresh) => {
+                clear(&mut self.memory.used);
+                self.group = Some(fresh);
+                code_line(1, 0)
+            }
+            Err(error) => code_line(1, u32::from(error) as u64),
+        }
+    }
+}
+
+// Any verb over a group that was made, 2 to 9.
+fn tell_made(memory: &mut Memory, group: Group, line: &Line) -> Told
+    requires ready { ReadyFor group memory.old }
+    requires asks { (2 ≤ column 0 line.now) × (column 0 line.now ≤ 9) }
+    ensures { TellsVerb line.now group memory.old result memory.new }
+{
+    let verb = line[0];
+    if verb < 4 {
+        return tell_legs(memory, group, line);
+    }
+    if 6 < verb {
+        return tell_members(memory, group, line);
+    }
+    tell_packets(memory, group, line)
 }
