@@ -4,6 +4,7 @@
 
 #![tactic(auto)]
 
+use cell_set::CellSet;
 use srt_group::Group;
 
 pub mod members; // members.rt: verbs 2, 3, 7, 8 and 9
@@ -23,7 +24,7 @@ pub struct Memory {
     pub store: [u8; 58240],
     pub output: [u8; 1468],
     pub list: [u64; 5500],
-    pub used: [u64; 32],
+    pub used: CellSet,
 }
 
 // The six numbers of an output line: the verb, its code, and what an accepted poll or send prints.
