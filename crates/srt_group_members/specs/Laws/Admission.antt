@@ -37,12 +37,6 @@ module _ (m : Member) {x : Membership} (membership : x ≡ m.membership) where
       go true = refl
       go false = refl
 
-  pub arrives_if_connected : {answer : Bool} → x.admitted ≡ 0 → (x.state ≡ broken_state → ⊥) → answer ≡ is_connected m.leg
-      → answer ≡ arrives m
-  unfolding arrives
-  arrives_if_connected new other is =
-      is ∙ sym (rw (← membership, eq-eqb x.admitted 0 new, ne_eqb x.state broken_state other))
-
 -- ---- one member
 
 -- std's `or` is the model's

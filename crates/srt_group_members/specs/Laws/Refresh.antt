@@ -133,13 +133,13 @@ module _ (i : ℕ) (t : List ℕ) where
   turned_already : (m : Member) → m.membership.state ≡ broken_state → m ≡ turned broken_state m
   turned_already m e = ap (λ (n : ℕ). turned n m) e
 
-  pub broken_already : {x : Membership} → x ≡ (member_at t i).membership → x.state ≡ broken_state → Changed i break_disconnected t t
+  pub broken_already : {state : ℕ} → state ≡ (member_at t i).membership.state → state ≡ broken_state → Changed i break_disconnected t t
   unfolding break_disconnected if_true◌then◌else◌
-  broken_already membership broken =
+  broken_already is broken =
       changed_by i t t break_disconnected (unchanged i t) (go (is_disconnected (member_at t i).leg))
     where
       same : member_at t i ≡ turned broken_state (member_at t i)
-      same = turned_already (member_at t i) (ap (λ (x : Membership). x.state) (sym membership) ∙ broken)
+      same = turned_already (member_at t i) (sym is ∙ broken)
 
       go : (b : Bool) → member_at t i ≡ (if_true b then turned broken_state (member_at t i) else member_at t i)
       go true = same
