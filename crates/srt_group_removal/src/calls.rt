@@ -7,8 +7,8 @@ ghost use Rattle.srt_group.specs.Made.{parts_of};
 ghost use Rattle.srt_group_refusals.specs.Promised.{nothing_lent, showing, PromisedRow};
 ghost use Rattle.srt_group_removal.specs.Connection.{RowAfter, given_back, PromisedDropping};
 
-use cell_set::WORDS;
 use crate::connection::remove_named;
+use cell_set::WORDS;
 use srt_connection_queue::rows::ROW;
 use srt_group::Group;
 use srt_group_refusals::refusals::LentGroup;

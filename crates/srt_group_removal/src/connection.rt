@@ -9,8 +9,8 @@ ghost use Rattle.srt_group_shown.specs.Ready.{Ready, storing, Performs};
 ghost use Rattle.srt_group_collecting.specs.Follows.{Follows};
 ghost use Rattle.srt_group_removal.specs.Connection.{AnyRemovable, GivesBack, RowAfter, given_back, StepsRemoval, PerformsDropping};
 
-use cell_set::CellSet;
 use crate::removal::remove_member_at;
+use cell_set::CellSet;
 use srt_connection::legs::LARGEST_32;
 use srt_connection_members::{clear_at, find, put_leg_at};
 use srt_group_model::{Core, Identity, Leg, Sending};
@@ -34,6 +34,7 @@ fn give_back(row: &mut [u64], leg: Leg)
 }
 
 // `remove_member_connection` after 5 and 6: 2 or 3, or the member is removed and its leg stands in the row.
+#[tactic(auto, using(crate::specs::Laws::Connection::unfit_removal, crate::specs::Laws::Connection::unknown_removal, crate::specs::Laws::Connection::named_removed, srt_connection_members::specs::Laws::Members::found_below))]
 pub fn remove_named(
     core: Core,
     members: &mut [u64],

@@ -23,6 +23,7 @@ fn free_event(used: &mut CellSet, event: Event)
 }
 
 // Frees the cells of a member's queue.
+#[tactic(auto, using(crate::specs::Laws::Queue::freeing_start))]
 fn free_queue(row: &[u64], used: &mut CellSet)
     requires { length row.now ≡ row_size }
     ensures { Freed (queue_cells (member_of row.now)) used.old used.new }
@@ -34,6 +35,7 @@ fn free_queue(row: &[u64], used: &mut CellSet)
     }
 }
 
+#[tactic(auto, using(crate::specs::Laws::Queue::freed_as, srt_connection_members::specs::Laws::Members::lent_member))]
 pub fn free_queue_at(members: &[u64], used: &mut CellSet, index: usize)
     requires { HasRow index members.now }
     ensures { Freed (queue_cells (member_at members.now index)) used.old used.new }

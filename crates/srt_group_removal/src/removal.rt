@@ -3,9 +3,9 @@ ghost use Rattle.std.specs.Prelude.{◌≡◌, ◌-◌, min};
 ghost use Rattle.srt_group_collecting.specs.Follows.{Follows};
 ghost use Rattle.srt_group_removal.specs.Removal.{Removable, TakesOut, Removes};
 
-use cell_set::CellSet;
 use crate::queue::free_queue_at;
 use crate::retirement::{bound_group_owned_pending, retirement_base};
+use cell_set::CellSet;
 use srt_group_members::accounts;
 use srt_group_members::removal::largest_window;
 use srt_group_model::{Core, Leg};
@@ -30,6 +30,7 @@ fn lowered(round: usize, left: usize) -> usize
 }
 
 // The member at the index goes, with its queue, whose cells are free; its held packets become the group's own.
+#[tactic(auto, using(crate::specs::Laws::Removal::taken_all))]
 fn take_out(
     mut core: Core,
     members: &mut [u64],

@@ -12,6 +12,7 @@ use srt_group_model::{Core, Packet};
 use srt_group_tables::pending;
 
 // The packet at a place is taken out: its cell is free, and the group's own sum falls by its count.
+#[tactic(auto, using(crate::specs::Laws::Retire::retired_one))]
 fn retire_at(mut core: Core, pending: &mut [u64], used: &mut CellSet, at: usize) -> Core
     requires held { Held core pending.old }
     requires at_lt_pending { at < core.counts.pending }
@@ -33,6 +34,7 @@ fn retire_at(mut core: Core, pending: &mut [u64], used: &mut CellSet, at: usize)
 }
 
 // Whether a packet is the group's own and in a walk's reach: of all packets, or of those below the base.
+#[tactic(auto, unfolding(crate::specs::Retire::is_reached))]
 fn is_reached(packet: Packet, base: u64, all: bool) -> bool
     ensures { result ≡ is_reached base all packet }
 {
@@ -88,6 +90,7 @@ pub fn bound_group_owned_pending(
 }
 
 // Where distances are taken from: the base; while none is set, the nearest held packet.
+#[tactic(auto, using(crate::specs::Laws::Retire::based_there, crate::specs::Laws::Retire::based_nowhere, crate::specs::Laws::Retire::based_nearest, crate::specs::Laws::Retire::based_low, srt_group_tables::specs::Laws::PacketLaws::at_in_use))]
 pub fn retirement_base(core: Core, pending: &[u64]) -> u64
     requires { Held core pending.now }
     ensures value { (others : Rest) (members waiting : List ℕ)

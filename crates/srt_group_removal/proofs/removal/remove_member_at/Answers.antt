@@ -5,8 +5,8 @@ use Rattle.srt_group_removal.proofs.removal.remove_member_at.Goals as goal
 pub retirement_base-base-requires : goal.retirement_base-base-requires
 retirement_base-base-requires c = search taken_held
 
-pub bound_group_owned_pending-after-requires : goal.bound_group_owned_pending-after-requires
-bound_group_owned_pending-after-requires c = record { held = taken_held _ _ _ _ c.requires _ _ _ c.take_out-taken.ensures.takes_out; base_le_largest_sequence = c.retirement_base-base.ensures.upper_bound }
+pub bound_group_owned_pending-after-requires-clause-held : goal.bound_group_owned_pending-after-requires-clause-held
+bound_group_owned_pending-after-requires-clause-held c = taken_held _ _ _ _ c.requires _ _ _ c.take_out-taken.ensures.takes_out
 
 pub returns : goal.returns
 returns c =
