@@ -3,6 +3,7 @@
 #![tactic(auto)]
 
 ghost use Rattle.std.specs.Prelude.{◌≡◌, [], ◌∷◌, ◌≤◌, ◌<◌, length, eqb};
+ghost use Rattle.std.specs.Borrow.{Lends, Array, u64, sem};
 ghost use Rattle.srt_protocol.specs.Cells.{max_cells};
 ghost use Rattle.cell_set.specs.Bits.{set_size, bit_at};
 ghost use Rattle.cell_set.specs.Marks.{Marking, Marks};
@@ -15,6 +16,22 @@ pub const WORDS: usize = MAX_CELLS / 64;
 
 // A set in its words; their number is the type's.
 pub type CellSet = [u64; WORDS];
+
+// The words that a host lends, as the set that they are.
+pub fn of_words(words: &[u64]) -> &CellSet
+    requires { length words.now ≡ set_size }
+    ensures { result.now ≡ words.now }
+{
+    words.try_into().unwrap()
+}
+
+pub fn of_words_mut(words: &mut [u64]) -> &mut CellSet
+    requires { length words.old ≡ set_size }
+    ensures* writes_back { sem 𝓛 (Lends (Array u64 0) (Array u64 0) words.entry result (λ ws. ws)) }
+    ensures value { result.now ≡ words.old }
+{
+    words.as_mut_array().unwrap()
+}
 
 // A word whose cells are all taken.
 const FULL: u64 = 0xffff_ffff_ffff_ffff;
