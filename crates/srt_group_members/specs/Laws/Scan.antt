@@ -1,12 +1,11 @@
 -- What is proved of the definitions in specs/Scan.antt, with what the proofs need.
 use Rattle.std.specs.Prelude.{◌≡◌, Bool, ◌&&◌, ◌||◌, cond, map, get_or, length, None, Option, Some, is_some, MatchOption}
-use Rattle.std.specs.List.{find, list_any, list_all, position_from, FoldsTo}
+use Rattle.std.specs.List.{find, FoldsTo}
 use Rattle.std.specs.Fn.{Called, CalledAt}
 use Rattle.std.specs.Iterator.{YieldsThen}
 use Rattle.std.specs.Option.{option_map}
 use Rattle.std.proofs.lemmas.Iterator.{YieldsList}
 use Rattle.std.proofs.lemmas.Iterator.Search.{any_from_yields_List, all_from_yields_List, position_from_yields_List, find_from_yields_List}
-use Rattle.std.proofs.lemmas.Iterator.Adapters.{position_from-zero}
 use denote.Param.Members.{Mut}
 use denote.Ref.{Bor}
 use Rattle.std.proofs.Math.Path.{refl, ap, sym}
@@ -19,6 +18,7 @@ use Rattle.std.proofs.Math.ListN.{drop}
 use Rattle.word_rows.specs.Tab.{tab}
 use Rattle.srt_group_model.specs.Tools.{if_true◌then◌else◌, if_some◌give◌otherwise◌, any, all, first_such, place_of, change}
 use Rattle.srt_group_model.specs.State.{Member}
+use Rattle.srt_connection_queue.specs.Laws.Chains.{any_read, all_read, place_read}
 use Rattle.srt_connection_queue.specs.Laws.Tab.{tab_found, tab_not_found, place_below}
 use Rattle.srt_connection_queue.specs.Rows.{member_of}
 use Rattle.srt_connection_members.specs.Members.{member_at, members_in, members_of, Changed}
@@ -52,16 +52,6 @@ became_then n f t u v a b = record { long = b.long ∙ a.long; is = b.is ∙ ap 
 -- ---- what a chain over rows makes of the members that they show
 
 module _ (test : Member → Bool) where
-  any_row : (rows : List (List ℕ)) → list_any (λ row. test (member_of row)) rows ≡ any test (members_in rows)
-  unfolding any
-  any_row [] = refl
-  any_row (row ∷ rows) = ap (λ (later : Bool). test (member_of row) || later) (any_row rows)
-
-  every_row : (rows : List (List ℕ)) → list_all (λ row. test (member_of row)) rows ≡ all test (members_in rows)
-  unfolding all
-  every_row [] = refl
-  every_row (row ∷ rows) = ap (λ (later : Bool). test (member_of row) && later) (every_row rows)
-
   row_found : (rows : List (List ℕ)) → option_map member_of (find (λ row. test (member_of row)) rows) ≡ first_such test (members_in rows)
   unfolding first_such if_true◌then◌else◌
   row_found [] = refl
@@ -73,30 +63,6 @@ module _ (test : Member → Bool) where
       go true later = refl
       go false later = later
 
-  place_counted : (start : ℕ) (rows : List (List ℕ)) → position_from (λ row. test (member_of row)) start rows
-      ≡ (if_some place_of test (members_in rows) give (λ i. Some (start + i)) otherwise None)
-  unfolding place_of if_true◌then◌else◌ if_some◌give◌otherwise◌
-  place_counted start [] = refl
-  place_counted start (row ∷ rows) = go (test (member_of row)) (place_of test (members_in rows)) (place_counted (start + 1) rows)
-    where
-      later : Option ℕ
-      later = position_from (λ row. test (member_of row)) (start + 1) rows
-
-      go : (b : Bool) (o : Option ℕ) → later ≡ (if_some o give (λ i. Some (start + 1 + i)) otherwise None)
-          → cond b (Some start) later
-          ≡ (if_some (if_true b then Some 0 else (if_some o give (λ i. Some (suc i)) otherwise None)) give (λ i. Some (start + i)) otherwise None)
-      go true o e = ap Some (omega arith)
-      go false None e = e
-      go false (Some j) e = e ∙ ap Some (omega arith)
-
-  place_row : (rows : List (List ℕ)) → position_from (λ row. test (member_of row)) 0 rows ≡ place_of test (members_in rows)
-  unfolding if_some◌give◌otherwise◌
-  place_row rows = place_counted 0 rows ∙ same (place_of test (members_in rows))
-    where
-      same : (o : Option ℕ) → (if_some o give (λ i. Some (0 + i)) otherwise None) ≡ o
-      same None = refl
-      same (Some i) = ap Some (omega arith)
-
 module _ {S A F : Type 0} {steps : S → Option A → S → Type 0} {v : A → List ℕ} {s : S} {rows : List (List ℕ)} (test : Member → Bool) (u : S) (f : F) where
   module _ {g : Mut F (A × Unit {0}) Bool} where
     pub any_in : (r : Bool)
@@ -104,14 +70,14 @@ module _ {S A F : Type 0} {steps : S → Option A → S → Type 0} {v : A → L
         × MatchOption o (r ≡ false) (λ x. (r ≡ true) × ((h : F) × Called g j (x, tt) true h))
         → YieldsList steps v s rows
         → ((x : A) (b : Bool) (q : F) → Called g f (x, tt) b q → (q ≡ f) × (b ≡ test (member_of (v x)))) → r ≡ any test (members_in rows)
-    any_in r ran yields calls = any_from_yields_List (λ row. test (member_of row)) u f r ran yields calls ∙ any_row test rows
+    any_in r ran yields calls = any_from_yields_List (λ row. test (member_of row)) u f r ran yields calls ∙ any_read member_of test rows
 
     pub all_in : (r : Bool)
         → (xs : List A) × (o : Option A) × (j : F) × YieldsThen steps s xs o u × FoldsTo (λ p x q. Called g p (x, tt) true q) f xs j
         × MatchOption o (r ≡ true) (λ x. (r ≡ false) × ((h : F) × Called g j (x, tt) false h))
         → YieldsList steps v s rows
         → ((x : A) (b : Bool) (q : F) → Called g f (x, tt) b q → (q ≡ f) × (b ≡ test (member_of (v x)))) → r ≡ all test (members_in rows)
-    all_in r ran yields calls = all_from_yields_List (λ row. test (member_of row)) u f r ran yields calls ∙ every_row test rows
+    all_in r ran yields calls = all_from_yields_List (λ row. test (member_of row)) u f r ran yields calls ∙ all_read member_of test rows
 
     pub place_in : (r : Option ℕ)
         → (xs : List A) × (o : Option A) × (j : F) × YieldsThen steps s xs o u × FoldsTo (λ p x q. Called g p (x, tt) false q) f xs j
@@ -119,8 +85,7 @@ module _ {S A F : Type 0} {steps : S → Option A → S → Type 0} {v : A → L
         → YieldsList steps v s rows
         → ((x : A) (b : Bool) (q : F) → Called g f (x, tt) b q → (q ≡ f) × (b ≡ test (member_of (v x)))) → r ≡ place_of test (members_in rows)
     place_in r ran yields calls =
-        position_from_yields_List (λ row. test (member_of row)) u f r ran yields calls
-        ∙ position_from-zero (λ row. test (member_of row)) rows ∙ place_row test rows
+        position_from_yields_List (λ row. test (member_of row)) u f r ran yields calls ∙ place_read member_of test rows
 
   module _ {g : Mut F (Bor A × Unit {0}) Bool} where
     pub found_in : (r : Option A)
