@@ -54,11 +54,11 @@ pub fn replay_entries(
 ) -> Replayed
     requires { (list_size ≤ length list.old) × (sent ≤ max_sent - max_history) }
     ensures { EntriesReplayed time.0 id
-        (entries_of history.now.ring (arrays history.now.history.now history.now.sources.now)) leg sent
+        (entries_of history.now.words.ring (arrays history.now.words.history.now history.now.sources.now)) leg sent
         list.old result list.new }
 {
     let mut here = leg;
-    for index in 0..history.ring.length {
+    for index in 0..history.words.ring.length {
         let entry = history.entry_at(index);
         let result = replay_entry(here, entry, time, id, list, sent + index);
         let Some(after) = result else {
@@ -73,6 +73,6 @@ pub fn replay_entries(
     Replayed {
         outcome: Ok(()),
         leg: here,
-        sent: sent + history.ring.length,
+        sent: sent + history.words.ring.length,
     }
 }

@@ -13,7 +13,7 @@ use srt_connection_members::{leg_at, membership_at, put_leg_at};
 use srt_group_model::{Entry, Leg, Sending};
 use srt_group_sending::broadcast::with_number_after;
 use srt_group_sending::list::{OWN_PAYLOAD, write_sent};
-use srt_group_tables::history::{History, HistoryRing, push_back, store};
+use srt_group_tables::history::{HistoryRing, HistoryWords, push_back, store};
 use srt_protocol::time::Timestamp;
 
 // A payload of `size` bytes on the member at an index, at a sequence: whether it was sent. If it was, the list has its row.
@@ -63,10 +63,9 @@ pub fn record_backup_send(
     let mut numbers = with_number_after(sending, entry.sequence);
     numbers.carried = 1;
     numbers.carrier = carrier;
-    let pushed = History {
+    let pushed = HistoryWords {
         ring: push_back(ring),
         history,
-        sources,
     };
     trim_backup_history(numbers, &pushed, leg)
 }

@@ -16,7 +16,7 @@ use srt_connection_members::{leg_at, membership_at, put_leg_at};
 use srt_group_members::alignment::{align_leg, align_member_sequence};
 use srt_group_model::{Leg, Sending};
 use srt_group_sending::readiness::takes_over;
-use srt_group_tables::history::{History, HistoryRing};
+use srt_group_tables::history::{History, HistoryRing, HistoryWords};
 use srt_protocol::error::Error;
 use srt_protocol::time::Timestamp;
 
@@ -49,11 +49,11 @@ pub fn replay_on(
     requires has_row { HasRow index members.old }
     requires list_size_in_bounds { (list_size ≤ length list.old) × (sent ≤ max_sent - max_history) }
     ensures { FlightReplayed (replay_on time.0 index (member_at members.old index) leg)
-        (HistoryIs (entries_of history.now.ring (arrays history.now.history.now history.now.sources.now))) sent
+        (HistoryIs (entries_of history.now.words.ring (arrays history.now.words.history.now history.now.sources.now))) sent
         (send_tables members.old list.old) result
         (send_tables members.new list.new) }
 {
-    let entries = history.ring.length as u64;
+    let entries = history.words.ring.length as u64;
     if remaining_window_packets(leg) <= entries {
         put_leg_at(members, index, leg);
         return Flight {
@@ -87,8 +87,8 @@ pub fn replay_flight(
     requires list_size_in_bounds { (list_size ≤ length list.old) × (sent ≤ max_sent - max_history) }
     ensures { FlightReplayed
         (replay_flight time.0 index (member_at members.old index)
-        (entry_at history.now.ring (arrays history.now.history.now history.now.sources.now) 0))
-        (SendIs (send_of sending history.now.ring (arrays history.now.history.now history.now.sources.now))) sent
+        (entry_at history.now.words.ring (arrays history.now.words.history.now history.now.sources.now) 0))
+        (SendIs (send_of sending history.now.words.ring (arrays history.now.words.history.now history.now.sources.now))) sent
         (send_tables members.old list.old) result
         (send_tables members.new list.new) }
 {
@@ -141,8 +141,8 @@ pub fn take_over_backup_flight(
 ) -> TakenOver
     requires index_lt_count { (index < count) × (count * row_size ≤ length members.old) }
     requires list_size_in_bounds { (list_size ≤ length list.old) × (sent ≤ max_sent - max_history) }
-    ensures { TookOver (take_over_backup_flight time.0 index) count sending history.now.ring
-        (arrays history.now.history.now history.now.sources.now) sent
+    ensures { TookOver (take_over_backup_flight time.0 index) count sending history.now.words.ring
+        (arrays history.now.words.history.now history.now.sources.now) sent
         (send_tables members.old list.old) result
         (send_tables members.new list.new) }
 {
@@ -153,12 +153,12 @@ pub fn take_over_backup_flight(
         return TakenOver {
             outcome,
             sending,
-            ring: history.ring,
+            ring: history.words.ring,
             sent,
         };
     }
     // Acknowledgements may have arrived since the carrier's last send.
-    let trimmed = trim_by_carrier(sending, history, members, count);
+    let trimmed = trim_by_carrier(sending, &history.words, members, count);
     let numbers = trimmed.sending;
     let left = trimmed.ring;
     if left.length == 0 {
@@ -171,8 +171,10 @@ pub fn take_over_backup_flight(
         };
     }
     let rest = History {
-        ring: left,
-        history: history.history,
+        words: HistoryWords {
+            ring: left,
+            history: history.words.history,
+        },
         sources: history.sources,
     };
     let flight = replay_flight(numbers, &rest, members, index, list, sent, time);

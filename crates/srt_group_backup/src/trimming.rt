@@ -10,7 +10,7 @@ ghost use Rattle.srt_group_backup.specs.Trimming.{front_after, SendTrimmed, Trim
 use srt_connection::legs::{has_sender, oldest_unacked_sequence};
 use srt_connection_members::{find, leg_at};
 use srt_group_model::{Leg, Sending};
-use srt_group_tables::history::{History, HistoryRing};
+use srt_group_tables::history::{HistoryRing, HistoryWords};
 use srt_protocol::srt_packet::word_before;
 
 // The numbers of sending and the ring of the history, as a call leaves them.
@@ -21,7 +21,7 @@ pub struct SendHistory {
 }
 
 // Whether the oldest entry is after a sequence: older ones were lost.
-fn starts_after(history: &History, oldest: u64) -> u64
+fn starts_after(history: &HistoryWords, oldest: u64) -> u64
     ensures { result ≡ bit (front_after oldest history.now.history.now history.now.ring) }
 {
     if history.ring.length == 0 {
@@ -34,7 +34,7 @@ fn starts_after(history: &History, oldest: u64) -> u64
 }
 
 // What the carrier's leg has had acknowledged is dropped.
-pub fn trim_backup_history(mut sending: Sending, history: &History, leg: Leg) -> SendHistory
+pub fn trim_backup_history(mut sending: Sending, history: &HistoryWords, leg: Leg) -> SendHistory
     ensures { SendTrimmed (trim_backup_history leg) history.now.history.now sending history.now.ring result }
 {
     if !has_sender(leg) {
@@ -45,10 +45,9 @@ pub fn trim_backup_history(mut sending: Sending, history: &History, leg: Leg) ->
     }
     let oldest = oldest_unacked_sequence(leg);
     let left = history.drop_before(oldest);
-    let rest = History {
+    let rest = HistoryWords {
         ring: left,
         history: history.history,
-        sources: history.sources,
     };
     sending.gap = starts_after(&rest, oldest);
     SendHistory {
@@ -60,7 +59,7 @@ pub fn trim_backup_history(mut sending: Sending, history: &History, leg: Leg) ->
 // By what the carrier's leg says, if the group has a carrier that is a member.
 pub fn trim_by_carrier(
     sending: Sending,
-    history: &History,
+    history: &HistoryWords,
     members: &[u64],
     count: usize,
 ) -> SendHistory

@@ -19,7 +19,7 @@ use srt_group_carrier::recording::{BackupSend, keep_sent};
 use srt_group_members::states::first_active;
 use srt_group_model::Sending;
 use srt_group_sending::broadcast::sequence_for_send;
-use srt_group_tables::history::{History, HistoryRing};
+use srt_group_tables::history::{History, HistoryRing, HistoryWords};
 use srt_protocol::error::Error;
 use srt_protocol::time::Timestamp;
 
@@ -88,11 +88,8 @@ fn send_on_carrier(
         (backup_tables members.old history.old sources.old list.old used.old) result
         (backup_tables members.new history.new sources.new list.new used.new) }
 {
-    let flight = History {
-        ring,
-        history,
-        sources,
-    };
+    let words = HistoryWords { ring, history };
+    let flight = History { words, sources };
     let taken = take_over(sending, &flight, members, count, index, list, 0, used, time);
     let outcome = taken.outcome;
     let numbers = taken.sending;

@@ -60,18 +60,18 @@ pub fn take_over(
     used: &mut CellSet,
     time: Timestamp,
 ) -> TakenOver
-    requires sendable { Sendable count index history.now.ring (backup_tables members.old history.now.history.now history.now.sources.now list.old used.old) }
+    requires sendable { Sendable count index history.now.words.ring (backup_tables members.old history.now.words.history.now history.now.sources.now list.old used.old) }
     requires sent_bound { sent ≤ max_sent - max_history }
-    ensures took_over { TookOver (take_over_backup_flight time.0 index) count sending history.now.ring
-        (arrays history.now.history.now history.now.sources.now) sent
+    ensures took_over { TookOver (take_over_backup_flight time.0 index) count sending history.now.words.ring
+        (arrays history.now.words.history.now history.now.sources.now) sent
         (send_tables members.old list.old) result
         (send_tables members.new list.new) }
     ensures trim_follows { TrimFollows
-        (entries_of history.now.ring (arrays history.now.history.now history.now.sources.now)) used.old
-        (entries_of result.ring (arrays history.now.history.now history.now.sources.now)) used.new }
+        (entries_of history.now.words.ring (arrays history.now.words.history.now history.now.sources.now)) used.old
+        (entries_of result.ring (arrays history.now.words.history.now history.now.sources.now)) used.new }
 {
     let taken = take_over_backup_flight(sending, history, members, count, index, list, sent, time);
     let left = taken.ring;
-    free_dropped(history, left.length, used);
+    free_dropped(&history.words, left.length, used);
     taken
 }

@@ -1,14 +1,11 @@
 // The cells of the entries that leave the history are free again.
-ghost use Rattle.std.specs.Prelude.{◌≤◌};
-ghost use Rattle.srt_group_model.specs.Backup.{max_history};
 ghost use Rattle.srt_group_carrier.specs.Freeing.{FrontFreed};
 
 use cell_set::{CellSet, free};
-use srt_group_tables::history::History;
+use srt_group_tables::history::HistoryWords;
 
 // The oldest entries leave until so many are left. The words of the entries themselves stay: only the ring is cut, by the caller.
-pub fn free_dropped(history: &History, left: usize, used: &mut CellSet)
-    requires { left ≤ max_history }
+pub fn free_dropped(history: &HistoryWords, left: usize, used: &mut CellSet)
     ensures { FrontFreed history.now.ring left history.now.history.now used.old used.new }
 {
     for index in 0..history.ring.length.saturating_sub(left) {

@@ -13,7 +13,7 @@ use cell_set::CellSet;
 use srt_group_backup::send::send_on;
 use srt_group_members::states::first_active;
 use srt_group_model::Sending;
-use srt_group_tables::history::{History, HistoryRing};
+use srt_group_tables::history::{History, HistoryRing, HistoryWords};
 use srt_protocol::error::Error;
 use srt_protocol::time::Timestamp;
 
@@ -40,11 +40,8 @@ fn send_on_promoted(
         (backup_tables members.old history.old sources.old list.old used.old) result
         (backup_tables members.new history.new sources.new list.new used.new) }
 {
-    let flight = History {
-        ring,
-        history,
-        sources,
-    };
+    let words = HistoryWords { ring, history };
+    let flight = History { words, sources };
     let taken = take_over(
         sending, &flight, members, count, index, list, sent, used, time,
     );

@@ -14,7 +14,7 @@ use srt_connection_members::{leg_at, membership_at};
 use srt_group_backup::send::record_backup_send;
 use srt_group_backup::trimming::SendHistory;
 use srt_group_model::{Entry, Leg, Sending};
-use srt_group_tables::history::{History, HistoryRing, MAX_HISTORY, push_back};
+use srt_group_tables::history::{HistoryRing, HistoryWords, MAX_HISTORY, push_back};
 use srt_protocol::error::Error;
 use srt_protocol::time::Timestamp;
 
@@ -48,19 +48,14 @@ pub fn remember_send(
         (entries_of ring (arrays history.old sources.old)) used.old
         (entries_of result.ring (arrays history.new sources.new)) used.new }
 {
-    let before = History {
-        ring,
-        history,
-        sources,
-    };
+    let before = HistoryWords { ring, history };
     free_dropped(&before, MAX_HISTORY - 1, used);
     take(used, entry.cell as usize);
     let kept = record_backup_send(sending, ring, history, sources, entry, leg, carrier);
     let left = kept.ring;
-    let pushed = History {
+    let pushed = HistoryWords {
         ring: push_back(ring),
         history,
-        sources,
     };
     free_dropped(&pushed, left.length, used);
     kept

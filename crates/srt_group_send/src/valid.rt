@@ -7,8 +7,9 @@ ghost use Rattle.srt_group_shown.specs.Ready.{Ready, storing, Performs};
 
 use crate::readiness;
 use crate::readiness::Readiness;
+use cell_set::CellSet;
 use srt_group_model::{Core, Identity, Sending};
-use srt_group_tables::history::HistoryRing;
+use srt_group_tables::history::{HistoryRing, HistoryWords};
 use srt_protocol::time::Timestamp;
 
 // `can_send` for a valid state, of which `used` shows the cells in use.
@@ -23,7 +24,7 @@ pub fn can_send(
     history: &[u64],
     sources: &[u64],
     store: &[u8],
-    used: &mut [u64],
+    used: &mut CellSet,
 ) -> Readiness
     requires { Ready (parts identity core sending ring)
         (tables members.old pending.now waiting.now history.now sources.now) (length store.now) used.old }
@@ -33,7 +34,8 @@ pub fn can_send(
         (tables members.new pending.now waiting.now history.now sources.now)
         (storing store.now) used.new }
 {
-    readiness::can_send(core, sending, ring, members, history, used)
+    let words = HistoryWords { ring, history };
+    readiness::can_send(core, sending, &words, members, used)
 }
 
 // `can_send_with_pacing` for a valid state.
@@ -48,7 +50,7 @@ pub fn can_send_with_pacing(
     history: &[u64],
     sources: &[u64],
     store: &[u8],
-    used: &mut [u64],
+    used: &mut CellSet,
     time: Timestamp,
 ) -> Readiness
     requires { Ready (parts identity core sending ring)
@@ -59,5 +61,6 @@ pub fn can_send_with_pacing(
         (tables members.new pending.now waiting.now history.now sources.now)
         (storing store.now) used.new }
 {
-    readiness::can_send_with_pacing(core, sending, ring, members, history, used, time)
+    let words = HistoryWords { ring, history };
+    readiness::can_send_with_pacing(core, sending, &words, members, used, time)
 }

@@ -15,7 +15,7 @@ use srt_connection_members::{leg_at, membership_at};
 use srt_group_members::promotion::promotion;
 use srt_group_members::states::{ACTIVE, STANDBY, first_active, is_active_at};
 use srt_group_model::{Leg, Sending};
-use srt_group_tables::history::History;
+use srt_group_tables::history::HistoryWords;
 use srt_protocol::time::Timestamp;
 
 // The wait of a group with no member that could send, in microseconds.
@@ -115,7 +115,7 @@ pub fn takes_over(sending: Sending, id: u64) -> bool
 }
 
 // The sequence of the oldest entry of the history.
-fn front_sequence(history: &History) -> Option<u64>
+fn front_sequence(history: &HistoryWords) -> Option<u64>
     ensures { result ≡ front_sequence history.now.ring history.now.history.now }
 {
     if history.ring.length == 0 {
@@ -125,7 +125,7 @@ fn front_sequence(history: &History) -> Option<u64>
 }
 
 // The sequence at which a leg has to stand: that of the first entry that it would replay, else the group's send number.
-fn replay_sequence(takes: bool, sending: Sending, history: &History) -> Option<u64>
+fn replay_sequence(takes: bool, sending: Sending, history: &HistoryWords) -> Option<u64>
     ensures { result ≡ replay_sequence takes sending history.now.ring history.now.history.now }
 {
     if !takes {
@@ -165,7 +165,7 @@ fn stands_at(leg: Leg, sequence: Option<u64>) -> bool
 }
 
 // How many entries a leg would replay.
-fn replay_length(takes: bool, history: &History) -> usize
+fn replay_length(takes: bool, history: &HistoryWords) -> usize
     ensures { result ≡ replay_length takes history.now.ring }
 {
     if takes {
@@ -175,7 +175,7 @@ fn replay_length(takes: bool, history: &History) -> usize
 }
 
 // Whether a leg that can send could make the take-over, with room for the send behind it.
-fn could_take_over(leg: Leg, id: u64, sending: Sending, history: &History) -> bool
+fn could_take_over(leg: Leg, id: u64, sending: Sending, history: &HistoryWords) -> bool
     ensures { result ≡ could_take_over id sending history.now.ring history.now.history.now leg }
 {
     let takes = takes_over(sending, id);
@@ -195,7 +195,7 @@ pub fn backup_member_ready(
     members: &[u64],
     index: usize,
     sending: Sending,
-    history: &History,
+    history: &HistoryWords,
     pacing: Option<Timestamp>,
 ) -> bool
     requires { HasRow index members.now }
@@ -218,7 +218,7 @@ pub fn backup_send_ready(
     members: &[u64],
     count: usize,
     sending: Sending,
-    history: &History,
+    history: &HistoryWords,
     pacing: Option<Timestamp>,
 ) -> bool
     requires { count * row_size ≤ length members.now }

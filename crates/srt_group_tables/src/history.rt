@@ -58,15 +58,14 @@ pub fn length_of(word: u64) -> u64
 
 // The place of the entry so many behind the oldest; behind the newest is where the next one goes.
 pub fn place(ring: HistoryRing, index: usize) -> usize
-    requires { index ≤ max_history }
     ensures { (result ≡ (ring.start + index) % max_history) × (result < max_history) }
 {
-    (ring.start % MAX_HISTORY + index) % MAX_HISTORY
+    ring.start.wrapping_add(index) % MAX_HISTORY
 }
 
 // The entry so many behind the oldest.
 pub fn entry_at(ring: HistoryRing, history: &[u64], sources: &[u64], index: usize) -> Entry
-    requires { (index ≤ max_history) × Long (arrays history.now sources.now) }
+    requires { Long (arrays history.now sources.now) }
     ensures { result ≡ entry_at ring (arrays history.now sources.now) index }
 {
     let at = place(ring, index);
@@ -82,7 +81,7 @@ pub fn entry_at(ring: HistoryRing, history: &[u64], sources: &[u64], index: usiz
 
 // An entry is stored behind the newest, in the place that `push_back` then counts in.
 pub fn store(ring: HistoryRing, history: &mut [u64], sources: &mut [u64], entry: Entry)
-    requires length_le_max_history { (ring.length ≤ max_history) × Long (arrays history.old sources.old) }
+    requires long { Long (arrays history.old sources.old) }
     requires packs { Packs entry.sequence entry.cell entry.length }
     ensures { arrays history.new sources.new
         ≡ with_entry (next_place ring) entry (arrays history.old sources.old) }
@@ -111,43 +110,46 @@ pub fn push_back(ring: HistoryRing) -> HistoryRing
 
 // ---- a history, lent to read
 
-// A ring of at most 512 entries over two arrays of 512 places. Functions that change a history take the parts: of a struct of `&mut`
-// fields each clause would name what every field holds at the end by a ghost name of its own.
+// The functions that change a history take the parts: of a struct of `&mut` fields each clause would name what every field holds at the
+// end by a ghost name of its own.
+
+// The ring with the words of its entries, which show all but their source times.
 #[derive(Clone, Copy)]
-pub struct History<'a> {
+pub struct HistoryWords<'a> {
     pub ring: HistoryRing,
     pub history: &'a [u64],
-    pub sources: &'a [u64],
-    ghost ring_fits: { ring.length ≤ max_history },
     ghost history_long: { length history.now ≡ max_history },
+}
+
+// A ring of at most 512 entries, with all that is kept of them.
+#[derive(Clone, Copy)]
+pub struct History<'a, 'b> {
+    pub words: HistoryWords<'a>,
+    pub sources: &'b [u64],
+    ghost ring_fits: { words.ring.length ≤ max_history },
     ghost sources_long: { length sources.now ≡ max_history },
 }
 
-impl History<'_> {
-    // The sequence of the entry so many behind the oldest.
+impl HistoryWords<'_> {
+    // The word of the entry so many behind the oldest.
+    fn word_at(&self, index: usize) -> u64
+        ensures { result ≡ get_or self.now.history.now ((self.now.ring.start + index) % max_history) 0 }
+    {
+        self.history[place(self.ring, index)]
+    }
+
+    // Its sequence.
     pub fn sequence_at(&self, index: usize) -> u64
-        requires { index ≤ max_history }
         ensures { result ≡ word_sequence (get_or self.now.history.now ((self.now.ring.start + index) % max_history) 0) }
     {
-        let at = place(self.ring, index);
-        sequence_of(self.history[at])
+        sequence_of(self.word_at(index))
     }
 
     // Its cell.
     pub fn cell_at(&self, index: usize) -> u64
-        requires { index ≤ max_history }
         ensures { result ≡ word_cell (get_or self.now.history.now ((self.now.ring.start + index) % max_history) 0) }
     {
-        let at = place(self.ring, index);
-        cell_of(self.history[at])
-    }
-
-    // The whole entry.
-    pub fn entry_at(&self, index: usize) -> Entry
-        requires { index ≤ max_history }
-        ensures { result ≡ entry_at self.now.ring (arrays self.now.history.now self.now.sources.now) index }
-    {
-        entry_at(self.ring, self.history, self.sources, index)
+        cell_of(self.word_at(index))
     }
 
     // The ring without the entries at the front that are before `oldest`.
@@ -168,5 +170,14 @@ impl History<'_> {
             start = (at + 1) % MAX_HISTORY;
         }
         HistoryRing { start, length: 0 }
+    }
+}
+
+impl History<'_, '_> {
+    // The entry so many behind the oldest.
+    pub fn entry_at(&self, index: usize) -> Entry
+        ensures { result ≡ entry_at self.now.words.ring (arrays self.now.words.history.now self.now.sources.now) index }
+    {
+        entry_at(self.words.ring, self.words.history, self.sources, index)
     }
 }

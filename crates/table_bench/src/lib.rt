@@ -23,7 +23,7 @@ use srt_group_model::{
     Core, Counts, Data, Entry, Event, Identity, Packet, Receiving, Sending, Visit,
 };
 use srt_group_state::validity::is_invalid;
-use srt_group_tables::history::{History, HistoryRing, push_back, store};
+use srt_group_tables::history::{HistoryRing, HistoryWords, push_back, store};
 use srt_group_tables::pending;
 use srt_protocol::error::outcome_number;
 use srt_protocol::received_payload::MAX_CELLS;
@@ -123,10 +123,9 @@ fn sent(
     if sequence < kept {
         return longer;
     }
-    let lent = History {
+    let lent = HistoryWords {
         ring: longer,
         history,
-        sources,
     };
     lent.drop_before(sequence - kept)
 }

@@ -341,7 +341,7 @@ module _ (time i n : ℕ) (t : List ℕ) (below : i < n) where
               ∙ ap (λ (y : Send). flow_of (with_send y (with_members (members_of n u) s)) [] (outcome_number outcome)) sends;
         }
 
-    module _ {trimmed : SendHistory} (other : answer ≡ true) (by_carrier : TrimmedByCarrier (members_of n t) a.history x r trimmed) where
+    module _ {trimmed : SendHistory} (fits : r.length ≤ max_history) (other : answer ≡ true) (by_carrier : TrimmedByCarrier (members_of n t) a.history x r trimmed) where
       abbrev trimmed_send : Send
       trimmed_send = send_of trimmed.sending trimmed.ring a
 
@@ -352,7 +352,7 @@ module _ (time i n : ℕ) (t : List ℕ) (below : i < n) where
       took_over_nothing {u} {outcome} empty aligned =
           record {
             long = aligned.long;
-            fits = by_carrier.fits;
+            fits = omega (arith, by_carrier.fits);
             few = omega arith;
             sends = [];
             written = wrote_nothing sent list;
@@ -374,7 +374,7 @@ module _ (time i n : ℕ) (t : List ℕ) (below : i < n) where
       took_over_flight {u} {list_after} {flight} some_there replayed =
           record {
             long = replayed.long;
-            fits = by_carrier.fits;
+            fits = omega (arith, by_carrier.fits);
             few = replayed.few;
             sends = replayed.sends;
             written = replayed.written;

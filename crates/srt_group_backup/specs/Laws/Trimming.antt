@@ -4,7 +4,7 @@ use Rattle.std.proofs.Math.Path.{refl, ap, sym}
 use Rattle.std.proofs.Common.{◌∙◌, arith, eq-eqb, ne_eqb}
 use Rattle.std.proofs.Math.Bool.{false}
 use mathlib.Core.List.{List}
-use Prim.Native.Nat.{ℕ, zero, suc, ◌+◌, ◌%◌, ◌≤◌}
+use Prim.Native.Nat.{ℕ, zero, suc, ◌+◌, ◌%◌}
 use Rattle.std.proofs.Math.Dec.{eqb}
 use Rattle.word_rows.specs.Tab.{tab}
 use Rattle.srt_protocol.specs.Sequence.{sequence_before}
@@ -62,10 +62,10 @@ module _ (sequence : ℕ) (history : List ℕ) (r : HistoryRing) where
 -- ---- one trim
 
 module _ (l : Leg) (history : List ℕ) (x : Sending) (r : HistoryRing) where
-  pub no_sender_none_trimmed : {answer : Bool} → r.length ≤ max_history → answer ≡ has_sender l → answer ≡ false
+  pub no_sender_none_trimmed : {answer : Bool} → answer ≡ has_sender l → answer ≡ false
       → SendTrimmed (trim_backup_history l) history x r record { sending = x; ring = r }
   unfolding trim_backup_history if_true◌then◌else◌
-  no_sender_none_trimmed fits is none_there = record { fits = fits; is = λ a e. sym (rw (← is, none_there)) }
+  no_sender_none_trimmed is none_there = record { fits = omega arith; is = λ a e. sym (rw (← is, none_there)) }
 
   pub acknowledged_trimmed : {answer : Bool} {gap oldest : ℕ} {left : HistoryRing} → answer ≡ has_sender l → answer ≡ true
       → oldest ≡ oldest_unacked_sequence l → Trimmed oldest history r left → gap ≡ bit (front_after oldest history left)
@@ -91,24 +91,24 @@ module _ (x : Sending) (h : List Entry) (y : Send) (is : y ≡ send_side x h) wh
   its_carrier there = rw is (set_some x.carried x.carrier there)
 
 module _ (n : ℕ) (t : List ℕ) (history : List ℕ) (x : Sending) (r : HistoryRing) where
-  pub no_carrier_none_trimmed : r.length ≤ max_history → x.carried ≡ 0
+  pub no_carrier_none_trimmed : x.carried ≡ 0
       → TrimmedByCarrier (members_of n t) history x r record { sending = x; ring = r }
   unfolding trim_by_carrier if_some◌give◌otherwise◌
-  no_carrier_none_trimmed fits none_there =
+  no_carrier_none_trimmed none_there =
       record {
-        fits = fits;
+        fits = omega arith;
         is =
             λ s a ms e sent.
             rw (no_carrier x (entries_of r a) s.send sent none_there) (ap (λ (y : Send). with_send y s) sent);
       }
 
   module _ (carried : x.carried ≡ 0 → ⊥) where
-    pub carrier_gone_none_trimmed : r.length ≤ max_history → None ≡ find x.carrier (members_of n t)
+    pub carrier_gone_none_trimmed : None ≡ find x.carrier (members_of n t)
         → TrimmedByCarrier (members_of n t) history x r record { sending = x; ring = r }
     unfolding trim_by_carrier if_some◌give◌otherwise◌
-    carrier_gone_none_trimmed fits gone =
+    carrier_gone_none_trimmed gone =
         record {
-          fits = fits;
+          fits = omega arith;
           is =
               λ s a ms e sent.
               rw (

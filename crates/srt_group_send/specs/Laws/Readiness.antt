@@ -169,7 +169,7 @@ module _ (core : Core) (x : Sending) (r : HistoryRing) (members history used : L
       }
 
   -- every number of the members is still in its range
-  pub members_refreshed : {size : ℕ} → Testable core x r members history size → AllFit (members_of after.counts.members mid)
+  pub members_refreshed : Testable core x r members history → AllFit (members_of after.counts.members mid)
   unfolding run
   members_refreshed testable =
       (subst Fit (refreshed testable.identity testable.pending testable.waiting testable.sources)
@@ -335,14 +335,11 @@ module _ (core : Core) (x : Sending) (r : HistoryRing) (members history used : L
 
 module _ {identity : Identity} {core : Core} {x : Sending} {r : HistoryRing} {members pending waiting history sources used : List ℕ} (store : List ℕ)
     (ready : Ready (parts identity core x r) (tables members pending waiting history sources) (length store) used) where
-  pub testable_of : Testable core x r members history (length used)
+  pub testable_of : Testable core x r members history
   testable_of =
       let fit = (sound_of_valid (cells_of (length store)) (state_of (parts identity core x r) (tables members pending waiting history sources)) (omega arith) ready.valid).fit in
       record {
         rows = rows_there ready;
-        fits = omega (arith, fit.remembered, tab_length r.length (entry_at r (arrays history sources)));
-        history_long = ready.long.history;
-        used_long = ready.shows.cells.long;
         identity = identity;
         pending = pending;
         waiting = waiting;

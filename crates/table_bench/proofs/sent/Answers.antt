@@ -6,5 +6,5 @@ use Rattle.table_bench.proofs.sent.Goals as goal
 pub returns-then-sequence-kept : goal.returns-then-sequence-kept
 returns-then-sequence-kept c = search (rules, pushed_fits)
 
-pub invariant_of-lent-clause-ring_fits : goal.invariant_of-lent-clause-ring_fits
-invariant_of-lent-clause-ring_fits c = search (rules, pushed_fits)
+pub returns : goal.returns
+returns c = search (rules, pushed_fits)

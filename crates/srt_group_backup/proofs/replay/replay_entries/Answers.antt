@@ -15,7 +15,7 @@ returns-in_default c = search replay_stopped
 pub loop-index-preserved : goal.loop-index-preserved
 loop-index-preserved c =
     let lent = c.args.history.now in
-    replaying_on _ _ lent.ring (arrays lent.history.now lent.sources.now) _ _ _ _ _ _
+    replaying_on _ _ lent.words.ring (arrays lent.words.history.now lent.sources.now) _ _ _ _ _ _
     c.loop-index.invariant
     c.entry_at-entry.ensures
     c.replay_entry-result.ensures _
@@ -26,6 +26,6 @@ loop-index-preserved c =
 pub returns : goal.returns
 returns c =
     let lent = c.args.history.now in
-    let end : c.loop-index.index ≡ lent.ring.length = omega arith in
+    let end : c.loop-index.index ≡ lent.words.ring.length = omega arith in
     let whole = rw end at c.loop-index.invariant in
-    replay_done _ _ lent.ring (arrays lent.history.now lent.sources.now) _ _ _ _ _ _ whole (omega arith) (omega arith)
+    replay_done _ _ lent.words.ring (arrays lent.words.history.now lent.sources.now) _ _ _ _ _ _ whole (omega arith) (omega arith)

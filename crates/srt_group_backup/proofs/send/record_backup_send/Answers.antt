@@ -1,14 +1,6 @@
 -- `record_backup_send` meets its contract.
-use Prim.Native.Nat.{◌≤◌}
-use Rattle.srt_group_model.specs.Backup.{max_history}
-use mathlib.Core.Path.{sym, subst}
-use Rattle.srt_group_tables.specs.declared.history.HistoryRing.{HistoryRing}
-use Rattle.srt_group_tables.specs.Laws.Ring.{push_fits}
 use Rattle.srt_group_backup.specs.Laws.OwnSend.{send_recorded}
 use Rattle.srt_group_backup.proofs.send.record_backup_send.Goals as goal
-
-pub invariant_of-pushed-clause-ring_fits : goal.invariant_of-pushed-clause-ring_fits
-invariant_of-pushed-clause-ring_fits c = subst (λ (r : HistoryRing). r.length ≤ max_history) (sym c.push_back.ensures) (push_fits _ c.requires.length_le_max_history.0)
 
 pub returns : goal.returns
 returns c =

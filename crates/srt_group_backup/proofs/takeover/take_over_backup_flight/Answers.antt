@@ -12,11 +12,12 @@ returns-then-left-eq0 c =
     let args = c.args in
     took_over_nothing _ _ _ _
     c.requires.index_lt_count.0
-    args.sending args.history.now.ring
-    (arrays args.history.now.history.now args.history.now.sources.now)
+    args.sending args.history.now.words.ring
+    (arrays args.history.now.words.history.now args.history.now.sources.now)
     _ _
     c.membership_at-membership.ensures
     c.takes_over.ensures
+    c.args.history.now.ring_fits
     c.if-not-takes_over.false
     c.trim_by_carrier-trimmed.ensures
     c.if-left-eq0.true c.align_carrier-outcome-then-left-eq0.ensures
@@ -26,11 +27,12 @@ returns c =
     let args = c.args in
     took_over_flight _ _ _ _
     c.requires.index_lt_count.0
-    args.sending args.history.now.ring
-    (arrays args.history.now.history.now args.history.now.sources.now)
+    args.sending args.history.now.words.ring
+    (arrays args.history.now.words.history.now args.history.now.sources.now)
     _ _
     c.membership_at-membership.ensures
     c.takes_over.ensures
+    c.args.history.now.ring_fits
     c.if-not-takes_over.false
     c.trim_by_carrier-trimmed.ensures
     c.if-left-eq0.false

@@ -10,7 +10,7 @@ returns-then-sending-eq0 c = search no_carrier_none_trimmed
 
 pub returns-in_default : goal.returns-in_default
 returns-in_default c =
-    carrier_gone_none_trimmed _ _ _ _ _ c.if-sending-eq0.false c.args.history.now.ring_fits (sym c.in_default.is ∙ c.find-found.ensures)
+    carrier_gone_none_trimmed _ _ _ _ _ c.if-sending-eq0.false (sym c.in_default.is ∙ c.find-found.ensures)
 
 pub leg_at-leg-requires : goal.leg_at-leg-requires
 leg_at-leg-requires c =

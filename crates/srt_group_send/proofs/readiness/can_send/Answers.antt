@@ -10,7 +10,7 @@ refresh_states-after-requires c = c.requires.rows
 
 pub trim_and_test-requires : goal.trim_and_test-requires
 trim_and_test-requires c =
-    let refreshes = c.refresh_states-after.ensures in record { length_le_max_history = (c.requires.fits, c.requires.history_long); row_size_in_bounds = (omega (arith, c.requires.rows, refreshes.members_long, ap (λ (k : Counts). k.members) refreshes.counts_same), c.requires.used_long) }
+    let refreshes = c.refresh_states-after.ensures in omega (arith, c.requires.rows, refreshes.members_long, ap (λ (k : Counts). k.members) refreshes.counts_same)
 
 pub returns-then-is_backup : goal.returns-then-is_backup
 returns-then-is_backup c =

@@ -4,7 +4,7 @@ use Rattle.srt_protocol.specs.Sequence.{sequence_before}
 use Rattle.srt_group_model.specs.Backup.{max_history}
 use Rattle.srt_group_tables.specs.Ring.{Trimmed}
 use Rattle.srt_group_tables.specs.Laws.Ring.{Trimming, trimmed_one, trimmed_there, trimmed_all}
-use Rattle.srt_group_tables.proofs.history.History.drop_before.Goals as goal
+use Rattle.srt_group_tables.proofs.history.HistoryWords.drop_before.Goals as goal
 
 pub returns-then-not-word_before : goal.returns-then-not-word_before
 returns-then-not-word_before c =
