@@ -17,6 +17,7 @@ use Rattle.listing.specs.Placed.{placed}
 use Rattle.listing.specs.Stream.{lines, in_front, joined, has_feed, first_line, after_feed, ended, open_line, last_line}
 use Rattle.listing.specs.Laws.Stream.{lines_of_blocks}
 use Rattle.listing.specs.Held.{Held}
+use Rattle.listing.specs.declared.stream.OpenLine.{OpenLine}
 
 -- the place of a stream's first line feed, or its end where it has none
 pub record FeedIn (stream : List ℕ) (at : ℕ) : Type 0 where
@@ -73,26 +74,30 @@ first_line_all (byte ∷ stream) h = by_cases (eqb byte 10)
     no_feed_here : eqb byte 10 ≡ true → ⊥
     no_feed_here t = let never : true ≡ false = rw t at h in let z : ◌≡◌ {A = ℕ} 0 1 = cc in omega arith
 
--- a line that a buffer holds, with bytes added to it
-module _ (buffer line bytes : List ℕ) (size : ℕ) (held : Held line buffer size) where
-  pub held_longer : length buffer < size → Held (line ++ bytes) buffer size
+-- a line that is held, with bytes added to it
+module _ {n : ℕ} (held : OpenLine n) (line bytes : List ℕ) (holds : Held line held) where
+  pub held_longer : length held.bytes < held.size → Held (line ++ bytes) held
   held_longer h =
-      let long = held.beyond h in
+      let long = holds.beyond h in
       let more = length-append line bytes in
       record { within = λ w. absurd (omega arith); beyond = λ w. omega arith }
 
-  pub held_overflow : size ≤ length buffer → length buffer - size < length bytes → Held (line ++ bytes) buffer (length buffer + 1)
+  pub held_overflow :
+      held.size ≤ length held.bytes → length held.bytes - held.size < length bytes
+      → Held (line ++ bytes) (record held { size = length held.bytes + 1 })
   held_overflow h g =
-      let here : length (take size buffer) ≡ length line = ap length (held.within h) in
-      let long = length-take-le size buffer h in
+      let here : length (take held.size held.bytes) ≡ length line = ap length (holds.within h) in
+      let long = length-take-le held.size held.bytes h in
       let more = length-append line bytes in
       record { within = λ w. absurd (omega arith); beyond = λ w. omega arith }
 
-  pub held_append : size + length bytes ≤ length buffer → Held (line ++ bytes) (placed buffer size bytes) (size + length bytes)
+  pub held_append :
+      held.size + length bytes ≤ length held.bytes
+      → Held (line ++ bytes) (record held { bytes = placed held.bytes held.size bytes; size = held.size + length bytes })
   held_append h =
-      let same = length_placed buffer size bytes h in
+      let same = length_placed held.bytes held.size bytes h in
       record {
-        within = λ w. upto_placed buffer size bytes (omega arith) ∙ ap (λ (s : List ℕ). s ++ bytes) (held.within (omega arith));
+        within = λ w. upto_placed held.bytes held.size bytes (omega arith) ∙ ap (λ (s : List ℕ). s ++ bytes) (holds.within (omega arith));
         beyond = λ w. absurd (omega arith);
       }
 
@@ -185,17 +190,17 @@ ended_without_feed before (byte ∷ block) h = by_cases (eqb byte 10)
     let more = ended_without_feed (before ++ (byte ∷ [])) block (rw f at h) in
     (rw f more.0, rw f (more.1 ∙ append_snoc before byte block)))
 
--- an empty line is held by any buffer at size 0, and nothing else is
-pub held_nothing : (buffer : List ℕ) → Held [] buffer 0
-held_nothing buffer = record { within = λ h. refl; beyond = λ h. absurd (omega arith) }
+-- an empty line is held at size 0, and nothing else is
+pub held_nothing : {n : ℕ} (held : OpenLine n) → held.size ≡ 0 → Held [] held
+held_nothing held none = record { within = λ h. rw none; beyond = λ h. absurd (omega arith) }
 
-pub held_is_nothing : (line buffer : List ℕ) → Held line buffer 0 → line ≡ []
-held_is_nothing line buffer h = sym (h.within (omega arith))
+pub held_is_nothing : {n : ℕ} (line : List ℕ) (held : OpenLine n) → held.size ≡ 0 → Held line held → line ≡ []
+held_is_nothing line held none h = sym (h.within (omega arith)) ∙ rw none
 
 -- a line that is held at a larger size has a byte
-pub held_some : (line buffer : List ℕ) (size : ℕ) → 0 < size → Held line buffer size → 0 < length line
-held_some line buffer size some h = by_cases (leb size (length buffer))
+pub held_some : {n : ℕ} (line : List ℕ) (held : OpenLine n) → 0 < held.size → Held line held → 0 < length line
+held_some line held some h = by_cases (leb held.size (length held.bytes))
     (λ t.
-    let inside = leb-true size (length buffer) t in
-    omega (arith, ap length (h.within inside), length-take-le size buffer inside))
-    (λ f. let long = h.beyond (leb-false size (length buffer) f) in omega arith)
+    let inside = leb-true held.size (length held.bytes) t in
+    omega (arith, ap length (h.within inside), length-take-le held.size held.bytes inside))
+    (λ f. let long = h.beyond (leb-false held.size (length held.bytes) f) in omega arith)

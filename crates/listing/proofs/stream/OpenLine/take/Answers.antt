@@ -1,4 +1,4 @@
--- `listing::stream::take_line` meets its contract: the bytes before the line feed are the first line, and what is behind it
+-- `listing::stream::OpenLine::take` meets its contract: the bytes before the line feed are the first line, and what is behind it
 -- is the rest.
 use Rattle.std.proofs.Common.{ℕ, rules, ◌≡◌, ◌+◌, ◌++◌, nat_eq, sym, subst, ◌∙◌, List, drop, length-drop, take_all, arith}
 use Rattle.std.proofs.lemmas.Iterator.{YieldsList-from_slice}
@@ -7,15 +7,10 @@ use Rattle.std.specs.List.{position}
 use borrow.Author.Tests.{tests}
 use Rattle.listing.specs.Held.{Held}
 use Rattle.listing.proofs.StreamLaws.{feed_at, no_feed_at, first_line_all}
-use Rattle.listing.proofs.stream.take_line.Goals as goal
-
--- what was added is the first line
-held-first-line :
-    (line part first buffer : List ℕ) (size : ℕ) → part ≡ first → Held (line ++ part) buffer size → Held (line ++ first) buffer size
-held-first-line line part first buffer size e h = subst (λ (s : List ℕ). Held (line ++ s) buffer size) e h
+use Rattle.listing.proofs.stream.OpenLine.take.Goals as goal
 
 pub returns-in-Some : goal.returns-in-Some
-returns-in-Some c =
+returns-in-Some g c =
     let block = c.args.block.now in
     let feed = c.in-Some.feed in
     let first : c.position.result ≡ position (λ byte. nat_eq byte 10) block =
@@ -23,22 +18,17 @@ returns-in-Some c =
     let place = feed_at block feed (sym first ∙ c.in-Some.is) in
     let here = place.1 in
     record {
-      same = c.append.auto.buffer;
-      held = λ line h. held-first-line line _ _ _ _ place.0.before (c.append.ensures.held line h);
-      rest = (
+      holds = λ line h. rw (← place.0.before) (c.append.ensures line h);
+      behind = (
         place.0.feed here,
         take_all _ (drop (feed + 1) block) (omega (arith, length-drop (feed + 1) block)) ∙ place.0.rest here,
       );
     }
 
 pub returns-in-None : goal.returns-in-None
-returns-in-None c =
+returns-in-None g c =
     let block = c.args.block.now in
     let first : c.position.result ≡ position (λ byte. nat_eq byte 10) block =
     position_from_yields_List (λ byte. nat_eq byte 10) _ _ _ c.position.ensures.ran (YieldsList-from_slice block cc) (λ x b q k. search (rules, tests)) in
     let none = no_feed_at block (sym first ∙ c.in-None.is) in
-    record {
-      same = c.append-in-None.auto.buffer;
-      held = λ line h. held-first-line line _ _ _ _ (sym (first_line_all block none).0) (c.append-in-None.ensures.held line h);
-      rest = none;
-    }
+    record { holds = λ line h. rw (first_line_all block none).0 (c.append-in-None.ensures line h); behind = none }
