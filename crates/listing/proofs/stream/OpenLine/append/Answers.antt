@@ -1,11 +1,9 @@
 -- `listing::stream::OpenLine::append` meets its contract: the bytes are added where they fit, and else the line is longer than
 -- the room.
-use Prim.Native.Nat.{◌+◌, ◌≤◌}
 use native.Mathlib.Omega.{arith}
 use mathlib.Core.Path.{refl}
-use lib.ListN.{length}
 use Rattle.listing.proofs.PlacedLaws.{placed_part}
-use Rattle.listing.proofs.StreamLaws.{held_longer, held_overflow, held_append}
+use Rattle.listing.proofs.StreamLaws.{held_append}
 use Rattle.listing.proofs.stream.OpenLine.append.Goals as goal
 
 pub returns : goal.returns

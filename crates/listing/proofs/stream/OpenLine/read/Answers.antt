@@ -1,5 +1,5 @@
 -- `listing::stream::OpenLine::read` meets its contract: a line within the room is the bytes up to its size.
-use Rattle.std.proofs.Common.{ℕ, ◌≤◌, ◌<◌, arith, ◌≡◌, ap, Result, List, length, take, replicate, length-take-le, rules, false}
+use Rattle.std.proofs.Common.{ℕ, ◌≤◌, ◌<◌, arith, ◌≡◌, ap, Result, List, length, take, replicate, length-take-le, false}
 use borrow.Author.Tests.{le-leb, lt-leb}
 use Rattle.listing.specs.Line.{line_answer, LineRead}
 use Rattle.listing.specs.Held.{Held, HeldRead}

@@ -1,11 +1,10 @@
 -- `listing::stream::OpenLine::take` meets its contract: the bytes before the line feed are the first line, and what is behind it
 -- is the rest.
-use Rattle.std.proofs.Common.{ℕ, rules, ◌≡◌, ◌+◌, ◌++◌, nat_eq, sym, subst, ◌∙◌, List, drop, length-drop, take_all, arith}
+use Rattle.std.proofs.Common.{rules, ◌≡◌, ◌+◌, nat_eq, sym, ◌∙◌, drop, length-drop, take_all, arith}
 use Rattle.std.proofs.lemmas.Iterator.{YieldsList-from_slice}
 use Rattle.std.proofs.lemmas.Iterator.Search.{position_from_yields_List}
 use Rattle.std.specs.List.{position}
 use borrow.Author.Tests.{tests}
-use Rattle.listing.specs.Held.{Held}
 use Rattle.listing.proofs.StreamLaws.{feed_at, no_feed_at, first_line_all}
 use Rattle.listing.proofs.stream.OpenLine.take.Goals as goal
 
