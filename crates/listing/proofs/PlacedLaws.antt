@@ -19,15 +19,6 @@ length_placed buffer at text h =
     let inside : at ≤ length buffer = omega arith in
     simp (length-append, length-drop, length-take-le at buffer inside) (omega arith)
 
--- a part of a buffer with a text in its place
-pub placed_part :
-    (buffer : List ℕ) (at end : ℕ) (text part : List ℕ) → end ≡ at + length text → part ≡ text
-    → take at buffer ++ (part ++ drop (end - at) (drop at buffer)) ≡ placed buffer at text
-unfolding placed
-placed_part buffer at end text part e f =
-    let behind : at + (end - at) ≡ at + length text = omega arith in
-    rw (f, drop-drop (end - at) at buffer, behind)
-
 pub placed_nothing : (buffer : List ℕ) (at : ℕ) → placed buffer at [] ≡ buffer
 unfolding placed
 placed_nothing buffer at = rw (add-zero at) (take-append-drop at buffer)
@@ -62,24 +53,10 @@ placed_over buffer at s t u h g =
     behind ∙ (drop_longer t rest (length u) g ∙ (drop-drop (length u - length t) (at + length (s ++ t)) buffer ∙ ap (λ (n : ℕ). drop n buffer) place)) in
     rw (before, end) (simp append_assoc)
 
--- a text placed behind another
-pub placed_behind : (buffer : List ℕ) (at : ℕ) (s u : List ℕ) → at ≤ length buffer → placed (placed buffer at s) (at + length s) u ≡ placed buffer at (s ++ u)
-placed_behind buffer at s u h =
-    subst (λ (t : List ℕ). placed (placed buffer at t) (at + length s) u ≡ placed buffer at (s ++ u)) (append_nil s)
-    (placed_over buffer at s [] u h (omega arith))
-
 -- a store is a text of one byte
 pub set_placed : (buffer : List ℕ) (at byte : ℕ) → at < length buffer → set buffer at byte ≡ placed buffer at (byte ∷ [])
 unfolding placed
 set_placed buffer at byte h = set_split buffer at byte h ∙ rw (← add-one at)
-
--- a byte stored behind a text that is placed
-pub placed_byte_more :
-    (buffer : List ℕ) (at : ℕ) (text : List ℕ) (byte : ℕ) → at + length text < length buffer
-    → set (placed buffer at text) (at + length text) byte ≡ placed buffer at (text ++ (byte ∷ []))
-placed_byte_more buffer at text byte h =
-    let long : length (placed buffer at text) ≡ length buffer = length_placed buffer at text (omega arith) in
-    set_placed (placed buffer at text) (at + length text) byte (omega arith) ∙ placed_behind buffer at text (byte ∷ []) (omega arith)
 
 -- a text's last byte stored first, and the rest of the text placed before it
 pub placed_last_byte_first :

@@ -5,7 +5,7 @@ use mathlib.Core.Bool.{true, false, true≢false}
 use mathlib.Core.Path.{◌≡◌, refl, subst, ap, sym, ◌∙◌}
 use mathlib.Core.List.{List, [], ◌∷◌, ◌++◌, append_assoc}
 use lib.Dec.{leb, eqb}
-use lib.ListN.{length, take, drop, length-append, drop_of_length-le}
+use lib.ListN.{length, take, drop, length-append}
 use lib.Seq.{append_snoc, length-take-le}
 use Rattle.std.specs.Prelude.{nat_eq, nat_lt, Some, None}
 use Rattle.std.specs.List.{position, position_or_len}
@@ -100,10 +100,6 @@ module _ {n : ℕ} (held : OpenLine n) (line bytes : List ℕ) (holds : Held lin
         within = λ w. upto_placed held.bytes held.size bytes (omega arith) ∙ ap (λ (s : List ℕ). s ++ bytes) (holds.within (omega arith));
         beyond = λ w. absurd (omega arith);
       }
-
--- nothing is taken from a place past the end of a block
-pub past_the_end : (block : List ℕ) (from : ℕ) → length block < from → drop from block ≡ []
-past_the_end block from h = drop_of_length-le block {i = from} (omega arith)
 
 -- THE BLOCKS: lines that end in two blocks, one behind the other
 pub ended_append : (before a b : List ℕ) → ended before (a ++ b) ≡ ended before a ++ ended (open_line before a) b

@@ -31,10 +31,10 @@ well_formed_within most count width line = leb (length line) most && well_formed
 pub record HeldRead {n : ℕ} (width : ℕ) (held : OpenLine n) (numbers after : List ℕ) (answer : Result (Unit {0}) MalformedLine) : Type 0 where
   pub form :
       (line : List ℕ) → Held line held
-      → answer ≡ line_answer (well_formed_within (length held.bytes) (length numbers) width line)
+      → answer ≡ line_answer (well_formed_within n (length numbers) width line)
   pub put :
       (line : List ℕ) → Held line held
-      → after ≡ cond (leb (length line) (length held.bytes)) (line_numbers (length numbers) width line) (replicate (length numbers) 0)
+      → after ≡ cond (leb (length line) n) (line_numbers (length numbers) width line) (replicate (length numbers) 0)
 
 -- a well-formed line with its line feed is read where it stands at a block's start; where none stands there, what the numbers
 -- then hold is free

@@ -78,6 +78,7 @@ impl<const N: usize> OpenLine<N> {
 
 // Reads a well-formed line where it stands at a block's start with its line feed, and answers the block behind it: no search
 // for the line feed and no copy. For any other line there is no answer.
+#[tactic(auto, using(crate::proofs::LineLaws::columns_end, crate::proofs::LineLaws::columns_refused, crate::proofs::WholeLaws::whole_found, crate::proofs::WholeLaws::whole_not_found))]
 pub fn read_whole_line<'a>(block: &'a [u8], width: usize, numbers: &mut [u64]) -> Option<&'a [u8]>
     ensures { WholeRead block.now width numbers.old numbers.new result }
 {

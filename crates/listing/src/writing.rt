@@ -4,6 +4,7 @@ ghost use Rattle.listing.specs.Text.{digits, right_justified, line_text};
 ghost use Rattle.listing.specs.Placed.{placed, Placed, PlacedOrRefused};
 
 // How many decimal digits a number has.
+#[tactic(auto, using(crate::proofs::TextLaws::digits_of_one, crate::proofs::TextLaws::digits_from_power, crate::proofs::TextLaws::digits_below_power))]
 fn digit_count(number: u64) -> usize
     ensures { result ≡ length (digits number) }
 {
@@ -22,6 +23,7 @@ fn column_length(width: usize, number: u64) -> usize
 }
 
 // Puts the digits of a number so that the last stands before a place.
+#[tactic(auto, using(crate::proofs::PlacedLaws::set_placed, crate::proofs::PlacedLaws::placed_last_byte_first, crate::proofs::TextLaws::digits_some, crate::proofs::TextLaws::digits_of_one, crate::proofs::TextLaws::digits_of_more, crate::proofs::TextLaws::length_digits_of_more))]
 fn put_digits(out: &mut [u8], end: usize, number: u64)
     requires { (length (digits number) ≤ end) × (end ≤ length out.old) }
     ensures { out.new ≡ placed out.old (end - length (digits number)) (digits number) }
@@ -50,6 +52,7 @@ fn put_column(out: &mut [u8], width: usize, number: u64) -> usize
 }
 
 // Whether a line of numbers has room in so many bytes.
+#[tactic(auto, using(crate::proofs::TextLaws::length_line_text, crate::proofs::TextLaws::columns_text_from, crate::proofs::TextLaws::columns_text_none))]
 fn has_room_for_line(width: usize, numbers: &[u64], room: usize) -> bool
     ensures { result ≡ leb (length (line_text width numbers.now)) room }
 {
@@ -65,7 +68,7 @@ fn has_room_for_line(width: usize, numbers: &[u64], room: usize) -> bool
 }
 
 // Puts a line of numbers at the start, with its line feed, and answers its end.
-#[tactic(auto, using(crate::proofs::TextLaws::length_line_text, crate::proofs::TextLaws::columns_text_upto))]
+#[tactic(auto, using(crate::proofs::TextLaws::length_line_text, crate::proofs::TextLaws::columns_text_upto, crate::proofs::TextLaws::columns_text_next, crate::proofs::TextLaws::length_right_justified, crate::proofs::PlacedLaws::begun_further, crate::proofs::PlacedLaws::begun_byte_more))]
 fn put_line(out: &mut [u8], width: usize, numbers: &[u64]) -> usize
     requires { length (line_text width numbers.now) ≤ length out.old }
     ensures { Placed out.old (line_text width numbers.now) out.new result }
