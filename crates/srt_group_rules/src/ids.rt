@@ -9,7 +9,7 @@ ghost use Rattle.srt_connection_queue.specs.Rows.{row_size};
 ghost use Rattle.srt_connection_members.specs.Members.{member_at, members_of, HasRow};
 ghost use Rattle.srt_group_rules.specs.Ids.{places, nobody, TakenBefore};
 
-use srt_connection_members::find;
+use srt_connection_members::{find, rows};
 use srt_connection_queue::rows::ROW;
 
 // The places of a table of ids.
@@ -90,5 +90,5 @@ pub fn find_by_place(members: &[u64], count: usize, table: &[u8; 64], id: u64) -
             return Some(index);
         }
     }
-    find(members, count, id)
+    find(rows(members, count), id)
 }

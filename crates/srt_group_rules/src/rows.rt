@@ -12,7 +12,7 @@ use crate::ranges::{
     packet_out_of_range, sequence_too_large, waiting_out_of_range,
 };
 use srt_connection::legs::LARGEST_32;
-use srt_connection_queue::rows::{FIRST_EVENT, MAX_QUEUED, Ring, event_part};
+use srt_connection_queue::rows::{FIRST_EVENT, MAX_QUEUED, Ring, Row, event_part};
 use srt_group_model::{Entry, Event, Leg, Packet};
 use srt_group_tables::waiting::waiting_event;
 
@@ -32,8 +32,8 @@ pub fn event_breaks_rule(event: Event) -> bool
 }
 
 // The event so many places after the front.
-pub fn queue_event(row: &[u64], ring: Ring, at: u64) -> Event
-    requires { (length row.now ≡ row_size) × (at < max_queued) }
+pub fn queue_event(row: &Row, ring: Ring, at: u64) -> Event
+    requires { at < max_queued }
     ensures { result ≡ event_in row.now ((ring.start + at) % max_queued) }
 {
     let slot = (FIRST_EVENT + (ring.start % MAX_QUEUED + at) % MAX_QUEUED) as usize;

@@ -16,8 +16,9 @@ ghost use Rattle.srt_group_rules.specs.Rules.{history_breaks_rule};
 ghost use Rattle.srt_group_state.specs.Passes.{Passes, PlacesPacket, QueueGood, MemberGood, RowsGood, TablesGood};
 
 use crate::cells::mark_event;
-use cell_set::mark;
-use srt_connection_queue::rows::{MAX_QUEUED, ROW, leg, membership, ring_of};
+use cell_set::{CellSet, mark};
+use srt_connection_members::row;
+use srt_connection_queue::rows::{MAX_QUEUED, Row, leg, membership, ring_of};
 use srt_group_members::accounts::{NO_PACKETS, is_unlike, reserve_packet};
 use srt_group_model::{Account, Counts, Packet};
 use srt_group_rules::ids::{NOBODY, id_twice};
@@ -33,9 +34,8 @@ use srt_group_tables::pending::packet;
 
 // A leg's queue, whose data count for as many as are reserved. A queue of more than MAX_QUEUED events is not walked: its ring has no
 // place for them.
-fn queue_breaks_rule(row: &[u64], reserved: u64, cells: usize, used: &mut [u64]) -> bool
-    requires row_len { length row.now ≡ row_size }
-    requires marking { Marking cells used.old }
+fn queue_breaks_rule(row: &Row, reserved: u64, cells: usize, used: &mut CellSet) -> bool
+    requires { Marking cells used.old }
     ensures { Passes cells (QueueGood reserved (member_of row.now).queue) (queue_cells (member_of row.now))
         used.old result used.new }
 {
@@ -59,9 +59,8 @@ fn queue_breaks_rule(row: &[u64], reserved: u64, cells: usize, used: &mut [u64])
 }
 
 // A member's row, whose held packets have this account: its leg reserves what they count and what is queued.
-fn member_breaks_rule(row: &[u64], held: Account, cells: usize, used: &mut [u64]) -> bool
-    requires row_len { length row.now ≡ row_size }
-    requires marking { Marking cells used.old }
+fn member_breaks_rule(row: &Row, held: Account, cells: usize, used: &mut CellSet) -> bool
+    requires { Marking cells used.old }
     ensures { Passes cells (MemberGood held (member_of row.now)) (queue_cells (member_of row.now))
         used.old result used.new }
 {
@@ -88,7 +87,7 @@ fn place_packet(
     packet: Packet,
     lowest: u64,
     cells: usize,
-    used: &mut [u64],
+    used: &mut CellSet,
 ) -> Option<usize>
     requires row_size_in_bounds { (count * row_size ≤ length members.now) × (count ≤ max_members) }
     requires members_value { one_twice (each id_of (members_of count members.now)) ≡ false }
@@ -112,7 +111,7 @@ fn rows_break_rule(
     pending: &[u64],
     held: usize,
     cells: usize,
-    used: &mut [u64],
+    used: &mut CellSet,
 ) -> bool
     requires row_size_in_bounds { (count * row_size ≤ length members.now) × (count ≤ max_members) }
     requires members_value { one_twice (each id_of (members_of count members.now)) ≡ false }
@@ -139,9 +138,8 @@ fn rows_break_rule(
         return true;
     }
     for index in 0..count {
-        let start = index * ROW;
         let account = accounts[index];
-        if member_breaks_rule(&members[start..start + ROW], account, cells, used) {
+        if member_breaks_rule(row(members, index), account, cells, used) {
             return true;
         }
     }
@@ -155,7 +153,7 @@ pub fn tables_break_rule(
     members: &[u64],
     pending: &[u64],
     cells: usize,
-    used: &mut [u64],
+    used: &mut CellSet,
 ) -> bool
     requires members_size_in_bounds { (members_size ≤ length members.now) × (counts.members ≤ max_members) }
     requires pending_size_in_bounds { (pending_size ≤ length pending.now) × (counts.pending ≤ max_pending) }
@@ -189,7 +187,7 @@ pub fn history_breaks_rule(
     history: &[u64],
     sources: &[u64],
     cells: usize,
-    used: &mut [u64],
+    used: &mut CellSet,
 ) -> bool
     requires long { Long (arrays history.now sources.now) }
     requires marking { Marking cells used.old }

@@ -15,7 +15,10 @@ use Rattle.srt_group_model.specs.Cells.{is_among}
 use Rattle.srt_group_model.specs.Validity.{one_twice}
 use Rattle.srt_connection_queue.specs.Rows.{row_size}
 use Rattle.srt_connection_members.specs.Members.{member_at, members_of}
-use Rattle.srt_connection_members.specs.Laws.Members.{id_word, found}
+use Rattle.word_rows.specs.Rows.{row_at}
+use Rattle.word_rows.specs.Laws.Rows.{row_word}
+use Rattle.srt_connection_queue.specs.Laws.Rows.{id_word as row_id}
+use Rattle.srt_connection_queue.specs.Laws.Tab.{tab_found}
 use Rattle.word_rows.specs.Tab.{tab}
 use Rattle.srt_group_tables.specs.Laws.PacketLaws.{each_tab}
 use Rattle.srt_group_rules.specs.Laws.Walks.{any_there, any_nowhere, none_there}
@@ -61,6 +64,17 @@ pub once_apart : (n : ℕ) (ids : ℕ → ℕ) → one_twice (tab n ids) ≡ fal
 once_apart n ids once = record { apart = λ i j less below same. not_both (twice_there n ids i j less below same) once }
 
 -- ---- the ids of a table's members
+
+id_word : (t : List ℕ) (i : ℕ) → get_or t (i * row_size) 0 ≡ (member_at t i).membership.id
+unfolding member_at
+id_word t i = ap (λ (k : ℕ). get_or t k 0) (omega arith) ∙ sym (row_word row_size t i 0 (omega arith)) ∙ row_id (row_at row_size t i)
+
+found : (n id : ℕ) (t : List ℕ) (i : ℕ) → i < n → get_or t (i * row_size) 0 ≡ id → ((j : ℕ) → j < i → get_or t (j * row_size) 0 ≡ id → ⊥)
+    → find id (members_of n t) ≡ Some i
+unfolding members_of
+found n id t i h is before =
+    tab_found (has_id id) n (member_at t) i h (eq-eqb (member_at t i).membership.id id (sym (id_word t i) ∙ is))
+    (λ j k. ne_eqb (member_at t j).membership.id id (λ e. before j k (id_word t j ∙ e)))
 
 pub ids_of : (n : ℕ) (t : List ℕ) → each id_of (members_of n t) ≡ tab n (id_at t)
 unfolding members_of

@@ -1,5 +1,5 @@
 -- What one pass over a table finds, from what it finds row by row.
-use Rattle.std.specs.Prelude.{◌≡◌, Bool, true, false, ◌||◌, ℕ, zero, suc, ◌+◌, ◌-◌, ◌*◌, ◌≤◌, ◌<◌, eqb, ltb, length, take, drop, None, Option, Some}
+use Rattle.std.specs.Prelude.{◌≡◌, Bool, true, false, ◌||◌, ℕ, zero, suc, ◌+◌, ◌-◌, ◌≤◌, ◌<◌, eqb, ltb, length, None, Option, Some}
 use Rattle.std.proofs.Math.Path.{refl, ap}
 use Rattle.std.proofs.Common.{sym, subst, ◌∙◌, add-one}
 use Rattle.std.proofs.Math.Bool.{not}
@@ -28,9 +28,8 @@ use Rattle.srt_group_model.specs.declared.Packet.{Packet}
 use Rattle.word_rows.specs.Tab.{tab}
 use Rattle.cell_set.specs.Marks.{Marking, Marks}
 use Rattle.srt_connection_queue.specs.declared.rows.Ring.{Ring}
-use Rattle.srt_connection_queue.specs.Rows.{row_size, receiver_part, part, ring_of, member_of}
+use Rattle.srt_connection_queue.specs.Rows.{receiver_part, part, ring_of, member_of}
 use Rattle.srt_connection_members.specs.Members.{member_at, members_of}
-use Rattle.srt_connection_members.specs.Laws.Members.{lent_member}
 use Rattle.srt_group_tables.specs.Packets.{packet_at, packets}
 use Rattle.srt_group_tables.specs.Laws.PacketLaws.{ascends_up}
 use Rattle.srt_group_tables.specs.Ring.{Arrays, entry_at, entries_of}
@@ -429,15 +428,11 @@ member_good t accounts i = MemberGood (account_at accounts i) (member_at t i)
 abbrev pub member_names : List ℕ → ℕ → List ℕ
 member_names t i = queue_cells (member_at t i)
 
--- the row of a member that is lent
-abbrev lent : List ℕ → ℕ → Member
-lent t i = member_of (take (i * row_size + row_size - i * row_size) (drop (i * row_size) t))
-
-pub member_step : {cells : ℕ} {here after : List ℕ} {r : Bool} (t : List ℕ) (accounts : List Account) (i : ℕ)
-    → Passes cells (MemberGood (account_at accounts i) (lent t i)) (queue_cells (lent t i)) here r after
+pub member_step : {cells : ℕ} {here after : List ℕ} {r : Bool} {m : Member} (t : List ℕ) (accounts : List Account) (i : ℕ) → m ≡ member_at t i
+    → Passes cells (MemberGood (account_at accounts i) m) (queue_cells m) here r after
     → Passes cells (member_good t accounts i) (member_names t i) here r after
-member_step {cells} {here} {after} {r} t accounts i passes =
-    subst (λ (m : Member). Passes cells (MemberGood (account_at accounts i) m) (queue_cells m) here r after) (lent_member t i) passes
+member_step {cells} {here} {after} {r} t accounts i read passes =
+    subst (λ (m : Member). Passes cells (MemberGood (account_at accounts i) m) (queue_cells m) here r after) read passes
 
 module _ (t : List ℕ) (count : ℕ) (pending : List ℕ) (n : ℕ) where
   pub packet_step : {cells lowest : ℕ} (at : ℕ) {p : Packet} {here after : List ℕ} {r : Option ℕ} → p ≡ packet_at pending at → lowest ≡ lowest_at (packet_at pending) at

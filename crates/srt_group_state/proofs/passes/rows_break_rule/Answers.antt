@@ -35,10 +35,10 @@ pub loop-index-init : goal.loop-index-init
 loop-index-init c = passing_start _ _ _ _ _ c.loop-at.invariant.1.0.marking
 
 pub returns-then-member_breaks_rule : goal.returns-then-member_breaks_rule
-returns-then-member_breaks_rule c = rows_member_stopped c.args.members.now c.args.count c.args.pending.now c.args.held c.args.own c.loop-at.invariant.1.0 c.loop-at.accounts c.loop-at.invariant.1.1 c.loop-at-test.false _ c.is_unlike.ensures c.if-is_unlike.false c.loop-index.invariant c.loop-index-test.true (member_step c.args.members.now c.loop-at.accounts c.loop-index.index c.member_breaks_rule.ensures) c.if-member_breaks_rule.true
+returns-then-member_breaks_rule c = rows_member_stopped c.args.members.now c.args.count c.args.pending.now c.args.held c.args.own c.loop-at.invariant.1.0 c.loop-at.accounts c.loop-at.invariant.1.1 c.loop-at-test.false _ c.is_unlike.ensures c.if-is_unlike.false c.loop-index.invariant c.loop-index-test.true (member_step c.args.members.now c.loop-at.accounts c.loop-index.index c.row.ensures c.member_breaks_rule.ensures) c.if-member_breaks_rule.true
 
 pub loop-index-preserved : goal.loop-index-preserved
-loop-index-preserved c = passing_on c.loop-index.invariant c.loop-index-test.true (member_step c.args.members.now c.loop-at.accounts c.loop-index.index c.member_breaks_rule.ensures) c.if-member_breaks_rule.false
+loop-index-preserved c = passing_on c.loop-index.invariant c.loop-index-test.true (member_step c.args.members.now c.loop-at.accounts c.loop-index.index c.row.ensures c.member_breaks_rule.ensures) c.if-member_breaks_rule.false
 
 pub returns : goal.returns
 returns c = rows_passed c.args.members.now c.args.count c.args.pending.now c.args.held c.args.own c.loop-at.invariant.1.0 c.loop-at.accounts c.loop-at.invariant.1.1 c.loop-at-test.false _ c.is_unlike.ensures c.if-is_unlike.false c.loop-index.invariant c.loop-index-test.false
