@@ -65,22 +65,11 @@ impl Replay {
     pub fn tell(&mut self, line: &Line) -> Printed
         ensures { TellsLine line.now self.old result self.new }
     {
-        let verb = line[0];
-        if verb == 1 {
-            return self.tell_new(line);
+        match line[0] {
+            1 => self.tell_new(line),
+            2..=9 => self.tell_group(line),
+            _ => code_line(0, 2),
         }
-        if verb == 0 {
-            return code_line(0, 2);
-        }
-        if 9 < verb {
-            return code_line(0, 2);
-        }
-        let Some(group) = self.group else {
-            return code_line(verb, 6);
-        };
-        let told = tell_made(&mut self.memory, group, line);
-        self.group = Some(told.group);
-        told.line
     }
 
     // Verb 1: a new group in place of the old, which stays if the line is refused. No cell of the new one is in use.
@@ -95,6 +84,21 @@ impl Replay {
                 code_line(1, 0)
             }
             Err(error) => code_line(1, u32::from(error) as u64),
+        }
+    }
+
+    // Verbs 2 to 9, over the group that stands, if any.
+    fn tell_group(&mut self, line: &Line) -> Printed
+        requires { (2 ≤ column 0 line.now) × (column 0 line.now ≤ 9) }
+        ensures { TellsLine line.now self.old result self.new }
+    {
+        match self.group {
+            None => code_line(line[0], 6),
+            Some(group) => {
+                let told = tell_made(&mut self.memory, group, line);
+                self.group = Some(told.group);
+                told.line
+            }
         }
     }
 }

@@ -1,7 +1,7 @@
 -- What is proved of a line of a replay listing, with what the proofs need.
-use Rattle.std.specs.Prelude.{◌≡◌, false, ℕ, zero, suc, ◌-◌, ◌≤◌, ◌<◌, length, Err, None, Ok, Option, Result, Some}
+use Rattle.std.specs.Prelude.{◌≡◌, false, ℕ, zero, suc, ◌-◌, ◌≤◌, ◌<◌, ◌⊎◌, length, Err, None, Ok, Option, Result, Some}
 use Rattle.std.proofs.Math.Path.{refl, ap, ap₂, sym, subst}
-use Rattle.std.proofs.Common.{◌∙◌, arith}
+use Rattle.std.proofs.Common.{◌∙◌, inl, inr, arith}
 use mathlib.Core.List.{List, []}
 use borrow.Author.Tests.{eq-eqb, ne_eqb}
 use Rattle.std.proofs.Math.Dec.{eqb}
@@ -10,7 +10,6 @@ use Rattle.srt_protocol.specs.Laws.Errors.{refused_not_0}
 use Rattle.srt_group_model.specs.Tools.{if_some◌give◌otherwise◌, at_place}
 use Rattle.srt_group_model.specs.State.{State, Making}
 use Rattle.srt_group_model.specs.Calls.{new, new_code, store_unfit}
-use Rattle.srt_group_model.specs.Lent.{Lent}
 use Rattle.srt_group_model.specs.Listing.{Line, column, store_length, verbs, refused_line, tell_new, tell_verb, tell}
 use Rattle.srt_group_model.specs.Laws.Reason.{when_true, when_false}
 use Rattle.srt_group_traces.specs.Port.{Shown}
@@ -23,9 +22,7 @@ use Rattle.srt_group.specs.declared.Group.{Group}
 use Rattle.srt_protocol.specs.declared.error.Error.{Error}
 use Rattle.srt_group_listing.specs.declared.Memory.{Memory}
 use Rattle.srt_group_listing.specs.declared.Printed.{Printed}
-use Rattle.srt_group_listing.specs.declared.Told as told
-use Rattle.srt_group_listing.specs.Telling.{tables_of, numbers_of, shown_in, ReadyFor}
-use Rattle.srt_group_listing.specs.Verbs.{TellsVerb}
+use Rattle.srt_group_listing.specs.Telling.{tables_of, numbers_of, ReadyFor}
 use Rattle.srt_group_replay.specs.Lines.{standing, Standing}
 use Rattle.srt_group_replay.specs.Told.{TellsLine}
 
@@ -82,12 +79,12 @@ module _ (line : Line) where
           ∙ when_true (eqb (new_code making_of) 0) (new making_of) (new making_of) (eq-eqb (new_code making_of) 0 (accepted t))
 
       pub tells_made : column 0 line ≡ 1 → {out : Printed} → numbers_of out ≡ refused_line 1 0
-          → {s : Option State} {m : Memory} → TellsLine line s out (standing (Some fresh) m)
+          → (s : Option State) (t : Tables) → TellsLine line s out (Some (state_of (parts_of fresh) t))
       unfolding tell tell_new
-      tells_made verb {out} says {s} {m} =
+      tells_made verb {out} says s t =
           ap (λ (n : ℕ). tell n line s) verb
-          ∙ when_true (eqb (new_code making_of) 0) _ _ (eq-eqb (new_code making_of) 0 (accepted (tables_of m)))
-          ∙ ap₂ (λ (x : Option State) (l : List ℕ). record { group = x; line = l }) (ap (λ (x : State). Some x) (sym (shows (tables_of m)))) (sym says)
+          ∙ when_true (eqb (new_code making_of) 0) _ _ (eq-eqb (new_code making_of) 0 (accepted t))
+          ∙ ap₂ (λ (x : Option State) (l : List ℕ). record { group = x; line = l }) (ap (λ (x : State). Some x) (sym (shows t))) (sym says)
 
       pub fresh_stands : {m : Memory} → Long (tables_of m) → length m.store ≡ store_length → ShowsCells m.used [] → Standing (Some fresh) m
       fresh_stands {m} long cells clean =
@@ -105,9 +102,9 @@ module _ (line : Line) where
 
     -- refused: what stood in its place stays
     pub tells_refused : (e : Error) → r ≡ Err e → column 0 line ≡ 1 → {n : ℕ} → n ≡ error_number e → {out : Printed} → numbers_of out ≡ refused_line 1 n
-        → {s : Option State} → TellsLine line s out s
+        → (s : Option State) → TellsLine line s out s
     unfolding tell tell_new
-    tells_refused e is verb {n} number {out} says {s} =
+    tells_refused e is verb {n} number {out} says s =
         ap (λ (n : ℕ). tell n line s) verb
         ∙ when_false (eqb (new_code making_of) 0) _ _ (ap (λ (n : ℕ). eqb n 0) (sym code) ∙ ne_eqb (error_number e) 0 (refused_not_0 e))
         ∙ ap (λ (l : List ℕ). record { group = s; line = l }) (ap (λ (n : ℕ). refused_line 1 n) (sym (number ∙ code)) ∙ sym says)
@@ -127,21 +124,24 @@ module _ (line : Line) where
   stays {s} rule says = rule ∙ ap (λ (l : List ℕ). record { group = s; line = l }) (sym says)
 
   -- no such verb
-  pub tells_0 : column 0 line ≡ 0 → {s : Option State} {out : Printed} → numbers_of out ≡ refused_line 0 2 → TellsLine line s out s
+  pub tells_no_verb : (column 0 line < 1) ⊎ (9 < column 0 line) → (s : Option State) {out : Printed} → numbers_of out ≡ refused_line 0 2
+      → TellsLine line s out s
   unfolding tell
-  tells_0 is {s} says = stays (ap (λ (n : ℕ). tell n line s) is) says
-
-  pub tells_beyond : 9 < column 0 line → {s : Option State} {out : Printed} → numbers_of out ≡ refused_line 0 2 → TellsLine line s out s
-  tells_beyond beyond {s} says = stays (no_verb line s (column 0 line) beyond) says
+  tells_no_verb (inl below) s says = let none : column 0 line ≡ 0 = omega (arith, below) in stays (ap (λ (n : ℕ). tell n line s) none) says
+  tells_no_verb (inr beyond) s says = stays (no_verb line s (column 0 line) beyond) says
 
   -- no group was made
-  pub tells_without_group : 2 ≤ column 0 line → column 0 line ≤ 9 → {out : Printed} → numbers_of out ≡ refused_line (column 0 line) 6
-      → TellsLine line None out None
-  tells_without_group from to says =
-      stays (ap (λ (n : ℕ). tell n line None) verb ∙ without_group line (column 0 line - 2) (omega arith)) says
+  pub tells_without_group : 2 ≤ column 0 line → column 0 line ≤ 9 → {s : Option State} → None ≡ s
+      → {out : Printed} → numbers_of out ≡ refused_line (column 0 line) 6 → TellsLine line s out s
+  tells_without_group from to {s} is {out} says =
+      subst (λ (o : Option State). TellsLine line o out o) is
+      (stays (ap (λ (n : ℕ). tell n line None) verb ∙ without_group line (column 0 line - 2) (omega arith)) says)
     where
       verb : column 0 line ≡ suc (suc (column 0 line - 2))
       verb = omega arith
+
+pub none_stands : (g : Option Group) (m : Memory) {s : Option State} → standing g m ≡ s → g ≡ None → None ≡ s
+none_stands g m {s} view is = subst (λ (o : Option Group). standing o m ≡ s) is view
 
 -- a group that is ready stands
 pub stands : {g : Group} {m : Memory} → ReadyFor g m → Standing (Some g) m
