@@ -26,6 +26,7 @@ pub const UNSTABLE: u64 = 3;
 pub const BROKEN: u64 = 4;
 
 // The mode is 0 in Broadcast and 1 in Backup.
+// It stays the word of the record that C lends: an enum of it would be this test again at each call.
 pub fn is_backup(mode: u64) -> bool
     ensures { result ≡ is_backup mode }
 {

@@ -1,24 +1,22 @@
 -- What is proved of the definitions in specs/Alignment.antt, with what the proofs need.
-use Rattle.std.specs.Prelude.{◌≡◌, Bool, not, ◌&&◌, List, [], ◌∷◌, ℕ, suc, ◌≤◌, ◌<◌, eqb, None, Option, Some, is_some}
+use Rattle.std.specs.Prelude.{◌≡◌, Bool, not, ◌&&◌, List, [], ◌∷◌, ℕ, ◌≤◌, ◌<◌, eqb, None, Option, Some, is_some}
 use Rattle.std.proofs.Math.Path.{refl, ap, sym}
 use Rattle.std.proofs.Common.{◌∙◌}
 use Rattle.std.proofs.Math.Bool.{true, false}
-use borrow.Author.Tests.{eq-eqb, ne_eqb}
-use Rattle.srt_group_model.specs.Tools.{if_true◌then◌else◌, if_some◌give◌otherwise◌, or_else, is_set, flagged, first_such, place_of, at_place, change}
+use Rattle.srt_group_model.specs.Tools.{if_true◌then◌else◌, if_some◌give◌otherwise◌, or_else, flagged, first_such, change}
 use Rattle.srt_group_model.specs.Laws.Places.{change_nothing}
 use Rattle.srt_group_model.specs.State.{Member, with_leg}
-use Rattle.srt_group_model.specs.Laws.Flag.{other_set}
 use Rattle.srt_group_model.specs.Legs.{is_connected, has_sender}
 use Rattle.srt_group_model.specs.Members.{has_id, alignment_source, align_leg, align_member_sequence}
 use Rattle.srt_group_model.specs.declared.Leg.{Leg}
 use Rattle.srt_group_model.specs.declared.Membership.{Membership}
 use Rattle.srt_group_model.specs.declared.Sender.{Sender}
 use Rattle.srt_connection.specs.Laws.Answers.{result_ok, result_err}
-use Rattle.srt_connection_queue.specs.Laws.Tab.{tab_past, tab_passes}
+use Rattle.srt_connection_queue.specs.Laws.Tab.{tab_past}
 use Rattle.srt_connection_members.specs.Members.{member_at, members_of, Changed}
-use Rattle.srt_connection_members.specs.Laws.Members.{members_place, found_some, found_none, changed_by, unchanged}
+use Rattle.srt_connection_members.specs.Laws.Members.{members_place, changed_by, unchanged}
 use Rattle.srt_group_members.specs.Scan.{Tried}
-use Rattle.srt_group_members.specs.Laws.Scan.{found_row, sequence_some, sequence_none}
+use Rattle.srt_group_members.specs.Laws.Scan.{sequence_some, sequence_none}
 use Rattle.srt_group_members.specs.Alignment.{is_other_sender, AlignedAt}
 
 -- ---- the source

@@ -11,7 +11,6 @@ use Rattle.srt_group_model.specs.State.{Member, turned, unstable_state, broken_s
 use Rattle.srt_group_model.specs.Legs.{is_connected, is_disconnected, can_send}
 use Rattle.srt_group_model.specs.Members.{in_state, align_member_sequence, turn_aligned, steps_from, at_each_place, settle, requalify, break_disconnected, promote_if_none, settle_members, requalify_members}
 use Rattle.srt_group_model.specs.declared.Leg.{Leg}
-use Rattle.srt_group_model.specs.declared.Membership.{Membership}
 use Rattle.srt_connection_members.specs.Members.{member_at, members_of, Changed, ChangedAll}
 use Rattle.srt_connection_members.specs.Laws.Members.{members_length, members_place, changed_by, unchanged}
 use Rattle.srt_group_members.specs.Scan.{Became, Tried}

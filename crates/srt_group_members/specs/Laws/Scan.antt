@@ -1,5 +1,5 @@
 -- What is proved of the definitions in specs/Scan.antt, with what the proofs need.
-use Rattle.std.specs.Prelude.{◌≡◌, Bool, ◌&&◌, ◌||◌, cond, map, get_or, length, None, Option, Some, is_some, MatchOption}
+use Rattle.std.specs.Prelude.{◌≡◌, Bool, ◌||◌, cond, length, None, Option, Some, is_some, MatchOption}
 use Rattle.std.specs.List.{find, FoldsTo}
 use Rattle.std.specs.Fn.{Called, CalledAt}
 use Rattle.std.specs.Iterator.{YieldsThen}
@@ -180,19 +180,3 @@ any_at test ms i e = sym (any_found test ms ∙ ap is_some (found_some (place_of
 
 pub any_nowhere : (test : Member → Bool) (ms : List Member) → None ≡ place_of test ms → false ≡ any test ms
 any_nowhere test ms e = sym (any_found test ms ∙ ap is_some (found_none (place_of test ms) e))
-
--- whether all pass: so far all do, and it is for those that are left to say
-module _ (test : Member → Bool) (n : ℕ) (t : List ℕ) (i : ℕ) where
-  pub all_on : {answer : Bool} → i < n → all test (members_of n t) ≡ all test (drop i (members_of n t))
-      → answer ≡ test (member_at t i) → answer ≡ true → all test (members_of n t) ≡ all test (drop (i + 1) (members_of n t))
-  unfolding all
-  all_on h so_far is pass = rw (left_next n i t h, sym is ∙ pass) at so_far
-
-  pub all_fails : {answer : Bool} → i < n → all test (members_of n t) ≡ all test (drop i (members_of n t))
-      → answer ≡ test (member_at t i) → answer ≡ false → false ≡ all test (members_of n t)
-  unfolding all
-  all_fails h so_far is fails = sym (rw (left_next n i t h, sym is ∙ fails) at so_far)
-
-  pub all_done : n ≤ i → all test (members_of n t) ≡ all test (drop i (members_of n t)) → true ≡ all test (members_of n t)
-  unfolding all
-  all_done h so_far = sym (rw (left_none n i t h) at so_far)
