@@ -1,7 +1,7 @@
 // Admission of the members whose handshake completed since the last look. As in the Rust, the first of them fixes the receive base
 // before it is compared, and the first peer group that one answers from binds the group.
 //
-// What changes members here takes the words that the host lends (no heap) and the count of rows in use: of `as_chunks_mut` nothing is said of what the words end as.
+// Kept (5, 6): what changes members takes the host's words (no heap) and the count of rows in use; of `as_chunks_mut` nothing is said of what the words end as.
 ghost use Rattle.std.specs.Prelude.{◌≡◌, ◌*◌, ◌≤◌, length, eqb};
 ghost use Rattle.srt_group_model.specs.Tools.{if_true◌then◌else◌};
 ghost use Rattle.srt_group_model.specs.Members.{arrives};

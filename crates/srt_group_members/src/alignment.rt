@@ -1,6 +1,6 @@
 // Alignment of a member's send sequence with the group's, so that what it sends next has the group's number.
 //
-// What changes members here takes the words that the host lends (no heap) and the count of rows in use: of `as_chunks_mut` nothing is said of what the words end as.
+// Kept (5, 6): what changes members takes the host's words (no heap) and the count of rows in use; of `as_chunks_mut` nothing is said of what the words end as.
 ghost use Rattle.std.specs.Prelude.{◌≡◌, ◌&&◌, ◌*◌, ◌≤◌, length, eqb};
 ghost use Rattle.std.specs.Option.{option_map};
 ghost use Rattle.srt_group_model.specs.Tools.{first_such};

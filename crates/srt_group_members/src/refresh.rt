@@ -1,6 +1,6 @@
 // The refresh of the members' states: what is left of `refresh_pending_states` and `refresh_states` after admission.
 //
-// What changes members here takes the words that the host lends (no heap) and the count of rows in use: of `as_chunks_mut` nothing is said of what the words end as.
+// Kept (5, 6): what changes members takes the host's words (no heap) and the count of rows in use; of `as_chunks_mut` nothing is said of what the words end as.
 ghost use Rattle.std.specs.Prelude.{◌≡◌, ◌*◌, ◌≤◌, ◌<◌, length};
 ghost use Rattle.srt_group_model.specs.Tools.{is_set, flagged, each};
 ghost use Rattle.srt_group_model.specs.Members.{at_each_place, settle, requalify, break_disconnected};
@@ -115,7 +115,7 @@ fn requalified_state(rows: &[Row], mode: u64) -> u64
 }
 
 // An Unstable member that can send again requalifies, if it can be aligned.
-// It and `settle_at` stay two, as do their loops: one over a trait of test and state is as long, by the two impls with their ghosts.
+// Kept (2): this and `settle_at`, with their loops, as one over a trait of test and state is as long, by the two impls with their ghosts.
 #[tactic(auto, using(crate::specs::Laws::Refresh::turn_left_out, crate::specs::Laws::Refresh::turn_refused, crate::specs::Laws::Refresh::turn_made), unfolding(srt_group_model::specs::Members::requalify, crate::specs::Refresh::requalifies, crate::specs::Refresh::requalified_state))]
 fn requalify_at(members: &mut [u64], count: usize, refresh: Refresh, index: usize)
     requires row_size_in_bounds { count * row_size ≤ length members.old }

@@ -26,7 +26,7 @@ pub const UNSTABLE: u64 = 3;
 pub const BROKEN: u64 = 4;
 
 // The mode is 0 in Broadcast and 1 in Backup.
-// It stays the word of the record that C lends: an enum of it would be this test again at each call.
+// Kept (1): it is the word of the record that C lends, and an enum of it would be this test again at each call.
 pub fn is_backup(mode: u64) -> bool
     ensures { result ≡ is_backup mode }
 {
@@ -68,6 +68,7 @@ pub fn is_standby(row: &Row) -> bool
     is_connected_in(row, STANDBY)
 }
 
+// Kept (5): it changes a row of the host's words (no heap), and a row lent to be changed leaves the table unsaid.
 pub fn turn_at(members: &mut [u64], index: usize, state: u64)
     requires { HasRow index members.old }
     ensures { Changed index (turned state) members.old members.new }
