@@ -80,6 +80,7 @@ pub fn goes_back(leg: Leg, field: u64, number: u64) -> bool
 }
 
 // A reading: the leg with the number in its field, or 2, or 32.
+#[tactic(auto, using(srt_group_model::specs::Laws::Reason::when_true, srt_group_model::specs::Laws::Reason::when_false), unfolding(crate::specs::Readings::reading))]
 pub fn read(leg: Leg, field: u64, number: u64) -> Result<Leg, Error>
     ensures { result ≡ reading field number leg }
 {
