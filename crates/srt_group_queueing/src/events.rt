@@ -1,4 +1,6 @@
 // `queue_event` of the stand-in leg: a lifecycle event into a leg's queue.
+// The record's parts and the tables stand one by one below: which of them are changed differs from call to call, and one struct of `&mut`
+// fields would need a clause for each field's ghost name. `Ready` is a clause since the host lends them anew to each call.
 ghost use Rattle.std.specs.Prelude.{◌≡◌, ◌||◌, ◌*◌, ◌≤◌, eqb, length};
 ghost use Rattle.srt_protocol.specs.Errors.{outcome_number};
 ghost use Rattle.srt_group_model.specs.Legs.{largest_32};
@@ -13,11 +15,14 @@ ghost use Rattle.srt_group_shown.specs.Steps.{StepsOver};
 
 use cell_set::CellSet;
 use srt_connection::legs::LARGEST_32;
-use srt_connection_members::{find, push_at};
+use srt_connection_members::{find, push_at, rows};
 use srt_group_model::{Core, Data, Event, Identity, Sending};
 use srt_group_tables::history::HistoryRing;
 use srt_protocol::error::{Error, outcome_number};
 use srt_protocol::time::Timestamp;
+
+// The kind stays the host's word: it is tested here and kept in the row as it is. Nothing matches on it, so an enum would be made and undone
+// beside each other.
 
 // 2: an id, a kind (0 is data, which is queued with its payload) or a reason out of range.
 fn event_unfit(id: u64, kind: u64, reason: u64) -> bool
@@ -59,7 +64,7 @@ pub fn push_event(
     if event_unfit(id, kind, reason) {
         return Err(Error::OutOfRange);
     }
-    let found = find(members, core.counts.members, id);
+    let found = find(rows(members, core.counts.members), id);
     let Some(index) = found else {
         return Err(Error::UnknownMember);
     };

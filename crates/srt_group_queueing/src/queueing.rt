@@ -1,4 +1,6 @@
 // `queue_data` of the stand-in leg: a packet into a leg's queue, its payload into the lowest free cell of the store.
+// The record's parts and the tables stand one by one below: which of them are changed differs from call to call, and one struct of `&mut`
+// fields would need a clause for each field's ghost name. `Ready` is a clause since the host lends them anew to each call.
 ghost use Rattle.std.specs.Prelude.{◌≡◌, ◌+◌, ◌^◌, ◌<◌, length};
 ghost use Rattle.srt_protocol.specs.Errors.{outcome_number};
 ghost use Rattle.srt_group_model.specs.State.{on_leg};
@@ -13,7 +15,7 @@ ghost use Rattle.srt_group_queueing.specs.Queueing.{Enqueueable, Enqueues};
 
 use cell_set::{CellSet, lowest_free, take};
 use srt_connection::legs::{LARGEST_16, LARGEST_32, LARGEST_SEQUENCE};
-use srt_connection_members::{find, push_at, put_reservation_at, reservation_at};
+use srt_connection_members::{find, push_at, put_reservation_at, reservation_at, rows};
 use srt_group_model::{Core, Data, Event, Identity, Sending};
 use srt_group_tables::history::HistoryRing;
 use srt_protocol::error::{Error, outcome_number};
@@ -113,7 +115,7 @@ pub fn queue_data(
     if data_unfit(id, content) {
         return Err(Error::OutOfRange);
     }
-    let found = find(members, core.counts.members, id);
+    let found = find(rows(members, core.counts.members), id);
     let Some(index) = found else {
         return Err(Error::UnknownMember);
     };

@@ -1,4 +1,6 @@
 // `read_leg` of the stand-in leg: a number into a field of a leg.
+// The record's parts and the tables stand one by one below: which of them are changed differs from call to call, and one struct of `&mut`
+// fields would need a clause for each field's ghost name. `Ready` is a clause since the host lends them anew to each call.
 ghost use Rattle.std.specs.Prelude.{◌≡◌, ◌||◌, ◌*◌, ◌≤◌, length};
 ghost use Rattle.srt_protocol.specs.Errors.{outcome_number};
 ghost use Rattle.srt_group_model.specs.Legs.{largest_32};
@@ -14,10 +16,12 @@ ghost use Rattle.srt_group_shown.specs.Steps.{StepsOver};
 use cell_set::CellSet;
 use srt_connection::legs::LARGEST_32;
 use srt_connection::readings::{goes_back, read_field, reading_out_of_range};
-use srt_connection_members::{find, leg_at, put_leg_at};
+use srt_connection_members::{find, leg_at, put_leg_at, rows};
 use srt_group_model::{Core, Identity, Sending};
 use srt_group_tables::history::HistoryRing;
 use srt_protocol::error::{Error, outcome_number};
+
+// The field stays the host's word: it is only handed on to srt_connection's readings, which follow document 01's table of fields by number.
 
 // 2: an id, a field or a number out of range.
 fn reading_unfit(id: u64, field: u64, number: u64) -> bool
@@ -40,7 +44,7 @@ pub fn put_reading(
     if reading_unfit(id, field, number) {
         return Err(Error::OutOfRange);
     }
-    let found = find(members, core.counts.members, id);
+    let found = find(rows(members, core.counts.members), id);
     let Some(index) = found else {
         return Err(Error::UnknownMember);
     };
