@@ -92,6 +92,7 @@ pub fn admit_peer_group(members: &mut [u64], index: usize, before: Admission) ->
 
 // In one pass: a member that arrives while the group is not bound either binds it or answers from no group, so what a later
 // member binds the group to does not change what becomes of it.
+#[tactic(auto, using(crate::specs::Laws::Admission::admitting_start, crate::specs::Laws::Admission::admitting_done))]
 pub fn admit_connected_peer_groups(members: &mut [u64], count: usize, peer: u64) -> Admission
     requires { count * row_size ≤ length members.old }
     ensures { Admitted count peer members.old result members.new }

@@ -13,8 +13,8 @@ ghost use Rattle.srt_group_members.specs.Alignment.{is_other_sender, AlignedAt};
 
 use crate::states::leg_connected;
 use srt_connection::legs::synchronize_send_sequence;
-use srt_connection_members::{put_leg_at, row, rows};
-use srt_connection_queue::rows::{Row, leg, membership, sender};
+use srt_connection_members::{leg_at, put_leg_at, row, rows};
+use srt_connection_queue::rows::{Row, membership, sender};
 use srt_group_model::Leg;
 
 // Another member than the one with the id, connected and with a sender.
@@ -33,6 +33,7 @@ fn first_other_sender(rows: &[Row], id: u64) -> Option<&Row>
 }
 
 // The group's send number, else the next number of the first other connected leg, in order of addition.
+#[tactic(auto, using(crate::specs::Laws::Alignment::source_numbered, crate::specs::Laws::Alignment::source_none))]
 pub fn alignment_source(rows: &[Row], number: Option<u64>, id: u64) -> Option<u64>
     ensures { result ≡ alignment_source number id (members_in rows.now) }
 {
@@ -64,7 +65,7 @@ fn align_leg_at(members: &mut [u64], index: usize, sequence: u64) -> bool
     requires { HasRow index members.old }
     ensures { AlignedAt index sequence members.old result members.new }
 {
-    let result = align_leg(leg(row(members, index)), sequence);
+    let result = align_leg(leg_at(members, index), sequence);
     let Some(leg) = result else {
         return false;
     };

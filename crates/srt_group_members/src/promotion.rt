@@ -42,6 +42,7 @@ fn first_in_rank_with(rows: &[Row], index: usize, best: Option<usize>) -> Option
 }
 
 // The index of the member that is promoted.
+#[tactic(auto, using(crate::specs::Laws::Rank::ranking_start, crate::specs::Laws::Rank::ranking_row, crate::specs::Laws::Rank::ranking_done))]
 pub fn promotion(rows: &[Row]) -> Option<usize>
     ensures { result ≡ promotion (members_in rows.now) }
 {
