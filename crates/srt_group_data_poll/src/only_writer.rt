@@ -5,6 +5,7 @@ ghost use Rattle.srt_group_shown.specs.Tables.{parts, tables};
 ghost use Rattle.srt_group_shown.specs.Ready.{Ready};
 
 use crate::polls::poll_data_bounded;
+use cell_set::CellSet;
 use srt_group_model::{Core, Data, Identity, Sending};
 use srt_group_polls::polls::DataPoll;
 use srt_group_queueing::queueing::queue_data;
@@ -24,7 +25,7 @@ pub fn queue_and_poll(
     sources: &[u64],
     store: &mut [u8],
     output: &mut [u8],
-    used: &mut [u64],
+    used: &mut CellSet,
     id: u64,
     content: Data,
     payload: &[u8],

@@ -6,6 +6,7 @@ ghost use Rattle.srt_group_shown.specs.Tables.{parts, tables};
 ghost use Rattle.srt_group_shown.specs.Ready.{Ready, lending, Performs};
 ghost use Rattle.srt_group_data_poll.specs.Polling.{Writable, answer_of};
 
+use cell_set::CellSet;
 use srt_group_model::{Core, Identity, Packet, Sending};
 use srt_group_polls::polls;
 use srt_group_polls::polls::DataPoll;
@@ -39,7 +40,7 @@ pub fn poll_data_bounded(
     sources: &[u64],
     store: &[u8],
     output: &mut [u8],
-    used: &mut [u64],
+    used: &mut CellSet,
     time: Timestamp,
     max_events: usize,
 ) -> DataPoll

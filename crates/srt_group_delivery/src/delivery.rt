@@ -13,14 +13,13 @@ ghost use Rattle.srt_group_tables.specs.Waitings.{waiting_size};
 ghost use Rattle.srt_group_shown.specs.Shown.{Rest, shown};
 ghost use Rattle.srt_group_shown.specs.Tables.{receive_tables};
 ghost use Rattle.cell_set.specs.Sets.{Freed};
-ghost use Rattle.cell_set.specs.Bits.{set_size};
 ghost use Rattle.srt_group_model.specs.Sound.{pending_cells};
 ghost use Rattle.srt_group_model.specs.Validity.{max_waiting, max_pending};
 ghost use Rattle.srt_group_collecting.specs.Follows.{Follows};
 ghost use Rattle.srt_group_delivery.specs.Delivery.{Deliverable, HeldAt, leg_given_up, release_member, Released, Delivered};
 ghost use Rattle.srt_group_delivery.specs.Poll.{Polls, Skips, Bases};
 
-use cell_set::free;
+use cell_set::{CellSet, free};
 use srt_connection::legs;
 use srt_group_members::accounts;
 use srt_group_members::states::all_disconnected;
@@ -47,17 +46,19 @@ pub struct Poll {
 // ---- the give-up test
 
 // Whether a leg has given up by a time on a packet of that source time.
+#[tactic(auto, using(crate::specs::Laws::Delivery::given_up_from, crate::specs::Laws::Delivery::never_given_up))]
 fn leg_given_up(leg: Leg, source: Timestamp, time: Timestamp) -> bool
     ensures { result ≡ leg_given_up time.0 source.0 leg }
 {
     let deadline = legs::gives_up_at(leg, source);
     match deadline {
-        Some(moment) => moment.0 <= time.0,
+        Some(moment) => moment <= time,
         None => false,
     }
 }
 
 // The leg of the packet's member gives up on it; where that member is gone, the first leg.
+#[tactic(auto, using(crate::specs::Laws::Delivery::found_has_row, crate::specs::Laws::Delivery::own_leg_asked, crate::specs::Laws::Delivery::first_leg_asked, crate::specs::Laws::Delivery::no_leg_asked))]
 fn leg_gives_up(members: &[u64], count: usize, packet: Packet, time: Timestamp) -> bool
     requires { count * row_size ≤ length members.now }
     ensures { result ≡ leg_gives_up time.0 packet (members_of count members.now) }
@@ -74,6 +75,7 @@ fn leg_gives_up(members: &[u64], count: usize, packet: Packet, time: Timestamp) 
 }
 
 // A gap is given up if all legs are disconnected, or if the nearest held packet's leg gives up on it.
+#[tactic(auto, using(crate::specs::Laws::Delivery::nothing_held, crate::specs::Laws::Delivery::all_gone))]
 pub fn gap_given_up(core: Core, members: &[u64], pending: &[u64], time: Timestamp) -> bool
     requires { Deliverable core members.now pending.now }
     ensures { (others : Rest) (waiting : List ℕ)
@@ -108,6 +110,7 @@ fn release_at(members: &mut [u64], index: usize, count: u64)
 }
 
 // A packet's count goes off the group's own sum, or off its member's and its leg's; where that member is gone, off none.
+#[tactic(auto, using(crate::specs::Laws::Delivery::released_own, crate::specs::Laws::Delivery::released_nowhere, crate::specs::Laws::Delivery::released_member, crate::specs::Laws::Delivery::found_has_row))]
 fn release_pending_reservation(mut core: Core, members: &mut [u64], packet: Packet) -> Core
     requires { core.counts.members * row_size ≤ length members.old }
     ensures { Released (packet ∷ []) core members.old result members.new }
@@ -132,12 +135,11 @@ fn release_held(
     core: Core,
     members: &mut [u64],
     pending: &[u64],
-    used: &mut [u64],
+    used: &mut CellSet,
     at: usize,
 ) -> Core
     requires row_size_in_bounds { core.counts.members * row_size ≤ length members.old }
     requires pending_size_in_bounds { (pending_size ≤ length pending.now) × (at < max_pending) }
-    requires used_len { length used.old ≡ set_size }
     ensures released { Released (packet_at pending.now at ∷ []) core members.old result members.new }
     ensures freed { Freed (pending_cells (packet_at pending.now at ∷ [])) used.old used.new }
 {
@@ -152,13 +154,12 @@ fn release_range(
     mut core: Core,
     members: &mut [u64],
     pending: &[u64],
-    used: &mut [u64],
+    used: &mut CellSet,
     from: usize,
     end: usize,
 ) -> Core
     requires row_size_in_bounds { core.counts.members * row_size ≤ length members.old }
     requires pending_size_in_bounds { (pending_size ≤ length pending.now) × (from ≤ end) × (end ≤ max_pending) }
-    requires used_len { length used.old ≡ set_size }
     ensures released { Released (packets_between from end pending.now) core members.old result members.new }
     ensures freed { Freed (pending_cells (packets_between from end pending.now)) used.old used.new }
 {
@@ -173,12 +174,11 @@ fn release_covered(
     core: Core,
     members: &mut [u64],
     pending: &[u64],
-    used: &mut [u64],
+    used: &mut CellSet,
     covered: Covered,
 ) -> Core
     requires deliverable { Deliverable core members.old pending.now }
     requires within { Within core.counts.pending covered }
-    requires used_len { length used.old ≡ set_size }
     ensures released { Released (packets_at covered pending.now) core members.old result members.new }
     ensures freed { Freed (pending_cells (packets_at covered pending.now)) used.old used.new }
 {
@@ -197,14 +197,13 @@ fn deliver_packet(
     core: Core,
     members: &mut [u64],
     pending: &mut [u64],
-    used: &mut [u64],
+    used: &mut CellSet,
     base: u64,
     at: usize,
     packet: Packet,
 ) -> Core
     requires deliverable { Deliverable core members.old pending.old }
     requires held_at { HeldAt pending.old core.counts.pending base at }
-    requires used_len { length used.old ≡ set_size }
     ensures delivered { Delivered base packet core members.old pending.old
         result members.new pending.new }
     ensures follows { Follows core members.old pending.old used.old
@@ -225,15 +224,15 @@ fn deliver_packet(
 }
 
 // The packet at the base, if it is held, is delivered.
+#[tactic(auto, using(crate::specs::Laws::Poll::found_in_table, srt_group_collecting::specs::Laws::Follows::follows_same))]
 pub fn deliver(
     core: Core,
     members: &mut [u64],
     pending: &mut [u64],
-    used: &mut [u64],
+    used: &mut CellSet,
     base: u64,
 ) -> Poll
-    requires deliverable { Deliverable core members.old pending.old }
-    requires used_len { length used.old ≡ set_size }
+    requires { Deliverable core members.old pending.old }
     ensures by_index { (waiting : List ℕ) → Polls (deliver base) core
         (receive_tables members.old pending.old waiting) result
         (receive_tables members.new pending.new waiting) }

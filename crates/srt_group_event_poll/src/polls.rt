@@ -6,6 +6,7 @@ ghost use Rattle.srt_group_shown.specs.Tables.{parts, tables};
 ghost use Rattle.srt_group_shown.specs.Ready.{Ready, lending, Performs};
 ghost use Rattle.srt_group_event_poll.specs.Polling.{packet_in, answer_of};
 
+use cell_set::CellSet;
 use srt_group_data_poll::polls::write_payload;
 use srt_group_delivery::delivery::{GroupEvent, Poll};
 use srt_group_model::{Core, Identity, Packet, Sending};
@@ -39,7 +40,7 @@ pub fn poll_event(
     sources: &[u64],
     store: &[u8],
     output: &mut [u8],
-    used: &mut [u64],
+    used: &mut CellSet,
     time: Timestamp,
 ) -> Poll
     requires ready { Ready (parts identity core sending ring)

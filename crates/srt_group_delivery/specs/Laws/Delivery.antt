@@ -1,7 +1,8 @@
 -- What is proved of the definitions in specs/Delivery.antt, with what the proofs need.
 use Rattle.std.specs.Prelude.{◌≡◌, refl, Bool, true, false, ℕ, suc, ◌+◌, ◌≤◌, ◌<◌, ◌*◌, leb, length, None, Option, Some}
 use Rattle.std.proofs.Math.Path.{ap, ap₂, sym}
-use Rattle.std.proofs.Common.{subst, ◌∙◌, eq-eqb, ne_eqb, arith}
+use Rattle.std.proofs.Common.{subst, ◌∙◌, eq-eqb, ne_eqb, arith, is_le, nat_cmp}
+use Rattle.std.proofs.lemmas.Bool.Decides.{nat_tests}
 use mathlib.Core.List.{List, [], ◌∷◌, ◌++◌}
 use Rattle.srt_protocol.specs.Sequence.{sequence_further}
 use Rattle.srt_protocol.specs.declared.time.Timestamp.{Timestamp}
@@ -59,10 +60,15 @@ deadline_none : (o : Option ℕ) → None ≡ deadline_of o → o ≡ None
 deadline_none None e = refl
 deadline_none (Some n) e = cc e
 
+le_is_leb : (a b : ℕ) → is_le (nat_cmp a b) ≡ leb a b
+le_is_leb a b = grind (arith, nat_tests)
+
 module _ (time source : ℕ) (l : Leg) where
-  pub given_up_from : {r : Option Timestamp} (moment : Timestamp) → r ≡ Some moment → r ≡ deadline_of (gives_up_at source l) → leb moment.0 time ≡ leg_given_up time source l
+  pub given_up_from : {r : Option Timestamp} {reached : Bool} (moment : Timestamp) → r ≡ Some moment → r ≡ deadline_of (gives_up_at source l)
+      → reached ≡ is_le (nat_cmp moment.0 time) → reached ≡ leg_given_up time source l
   unfolding if_some◌give◌otherwise◌
-  given_up_from moment at_moment is = rw (deadline_some (gives_up_at source l) moment (sym at_moment ∙ is))
+  given_up_from moment at_moment is compared =
+      rw (deadline_some (gives_up_at source l) moment (sym at_moment ∙ is)) (compared ∙ le_is_leb moment.0 time)
 
   pub never_given_up : {r : Option Timestamp} → r ≡ None → r ≡ deadline_of (gives_up_at source l) → false ≡ leg_given_up time source l
   unfolding if_some◌give◌otherwise◌

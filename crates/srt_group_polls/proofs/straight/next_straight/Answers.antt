@@ -1,13 +1,7 @@
 -- `next_straight` meets its contract: where every test was passed, the packet can be given straight.
 use native.Mathlib.Omega.{arith}
-use Rattle.srt_group_polls.specs.Laws.StraightPolls.{turn_has_row, all_passed}
+use Rattle.srt_group_polls.specs.Laws.StraightPolls.{all_passed}
 use Rattle.srt_group_polls.proofs.straight.next_straight.Goals as goal
-
-pub front_at-requires : goal.front_at-requires
-front_at-requires c = turn_has_row c.args.core _ _ _ c.in_ok-index.was c.in_turn.ensures c.requires.deliverable
-
-pub membership_at-membership-requires : goal.membership_at-membership-requires
-membership_at-membership-requires c = turn_has_row c.args.core _ _ _ c.in_ok-index.was c.in_turn.ensures c.requires.deliverable
 
 pub returns : goal.returns
 returns c =
