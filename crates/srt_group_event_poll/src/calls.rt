@@ -7,6 +7,7 @@ ghost use Rattle.srt_group_refusals.specs.Promised.{showing, Promised};
 ghost use Rattle.srt_group_event_poll.specs.Answers.{event_number, event_answer};
 
 use crate::polls;
+use cell_set::{CellSet, WORDS};
 use srt_group::Group;
 use srt_group_delivery::delivery::GroupEvent;
 use srt_group_refusals::refusals::LentGroup;
@@ -45,7 +46,7 @@ pub fn poll_event(
         sending,
         ring,
     } = group;
-    let mut used = [0u64; 32];
+    let mut used: CellSet = [0; WORDS];
     let lent = LentGroup {
         group,
         members,

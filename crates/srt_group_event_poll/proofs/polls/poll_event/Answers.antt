@@ -6,7 +6,7 @@ use Rattle.srt_group_event_poll.specs.Laws.Polling.{writable, performed}
 use Rattle.srt_group_event_poll.proofs.polls.poll_event.Goals as goal
 
 pub poll_event-polled-requires : goal.poll_event-polled-requires
-poll_event-polled-requires c = record { usable = search usable; sending_fit = search sending_fits; used_len = search rules }
+poll_event-polled-requires c = record { usable = search usable; sending_fit = search sending_fits }
 
 pub write_payload-requires : goal.write_payload-requires
 write_payload-requires c =
