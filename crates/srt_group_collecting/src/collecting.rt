@@ -25,7 +25,8 @@ ghost use Rattle.srt_group_collecting.specs.Visit.{freed_by_event, Collectable, 
 
 use cell_set::{CellSet, free};
 use srt_connection_members::{
-    account_at, membership_at, poll_event_for_group_at, put_account_at, release_data_reservation_at,
+    account_at, membership_at, poll_event_for_group_at, put_account_at,
+    release_data_reservation_at, rows,
 };
 use srt_connection_queue::queue::LegPoll;
 use srt_group_members::accounts;
@@ -329,7 +330,7 @@ pub fn collect_one_event(
     ensures follows { Follows core members.old pending.old used.old
         result.core members.new pending.new used.new }
 {
-    let found = in_turn(members, core.counts.members, core.visit.round);
+    let found = in_turn(rows(members, core.counts.members), core.visit.round);
     let Some(index) = found else {
         return Visited {
             took: 0,

@@ -5,7 +5,7 @@ ghost use Rattle.srt_protocol.specs.Sequence.{sequence_distance};
 ghost use Rattle.srt_group_model.specs.Legs.{largest_64};
 ghost use Rattle.srt_group_model.specs.Delivery.{leg_gives_up, gap_given_up, deliver, give_waiting};
 ghost use Rattle.srt_group_model.specs.Tools.{is_set, flagged};
-ghost use Rattle.srt_connection_members.specs.Members.{members_of, HasRow, Changed};
+ghost use Rattle.srt_connection_members.specs.Members.{members_in, HasRow, Changed};
 ghost use Rattle.srt_connection_queue.specs.Rows.{row_size};
 ghost use Rattle.srt_group_tables.specs.Packets.{pending_size, packet_at, packets_between};
 ghost use Rattle.srt_group_tables.specs.Covered.{Within, packets_at};
@@ -21,6 +21,11 @@ ghost use Rattle.srt_group_delivery.specs.Poll.{Polls, Skips, Bases};
 
 use cell_set::{CellSet, free};
 use srt_connection::legs;
+use srt_connection_members::{
+    account_at, advance_receive_sequence_of_all, find, put_account_at, release_data_reservation_at,
+    rows,
+};
+use srt_connection_queue::rows::{Row, leg};
 use srt_group_members::accounts;
 use srt_group_members::states::all_disconnected;
 use srt_group_model::{Core, Leg, Packet, Waiting};
@@ -58,20 +63,15 @@ fn leg_given_up(leg: Leg, source: Timestamp, time: Timestamp) -> bool
 }
 
 // The leg of the packet's member gives up on it; where that member is gone, the first leg.
-#[tactic(auto, using(crate::specs::Laws::Delivery::found_has_row, crate::specs::Laws::Delivery::own_leg_asked, crate::specs::Laws::Delivery::first_leg_asked, crate::specs::Laws::Delivery::no_leg_asked))]
-fn leg_gives_up(members: &[u64], count: usize, packet: Packet, time: Timestamp) -> bool
-    requires { count * row_size ≤ length members.now }
-    ensures { result ≡ leg_gives_up time.0 packet (members_of count members.now) }
+#[tactic(auto, using(crate::specs::Laws::Delivery::leg_asked, crate::specs::Laws::Delivery::no_leg_asked))]
+fn leg_gives_up(rows: &[Row], packet: Packet, time: Timestamp) -> bool
+    ensures { result ≡ leg_gives_up time.0 packet (members_in rows.now) }
 {
-    let source = packet.content.source;
-    let found = srt_connection_members::find(members, count, packet.member);
-    if let Some(index) = found {
-        return leg_given_up(srt_connection_members::leg_at(members, index), source, time);
-    }
-    if count == 0 {
+    let asked = find(rows, packet.member).unwrap_or(0);
+    let Some(row) = rows.get(asked) else {
         return false;
-    }
-    leg_given_up(srt_connection_members::leg_at(members, 0), source, time)
+    };
+    leg_given_up(leg(row), packet.content.source, time)
 }
 
 // A gap is given up if all legs are disconnected, or if the nearest held packet's leg gives up on it.
@@ -86,12 +86,12 @@ pub fn gap_given_up(core: Core, members: &[u64], pending: &[u64], time: Timestam
     let Some(at) = nearest else {
         return false;
     };
-    let count = core.counts.members;
-    if all_disconnected(members, count) {
+    let rows = rows(members, core.counts.members);
+    if all_disconnected(rows) {
         return true;
     }
     let nearest_held = pending::packet(pending, at);
-    leg_gives_up(members, count, nearest_held, time)
+    leg_gives_up(rows, nearest_held, time)
 }
 
 // ---- reservations
@@ -101,12 +101,9 @@ fn release_at(members: &mut [u64], index: usize, count: u64)
     requires { HasRow index members.old }
     ensures { Changed index (release_member count) members.old members.new }
 {
-    let account = accounts::release_packet(
-        srt_connection_members::account_at(members, index),
-        count,
-    );
-    srt_connection_members::put_account_at(members, index, account);
-    srt_connection_members::release_data_reservation_at(members, index, count);
+    let account = accounts::release_packet(account_at(members, index), count);
+    put_account_at(members, index, account);
+    release_data_reservation_at(members, index, count);
 }
 
 // A packet's count goes off the group's own sum, or off its member's and its leg's; where that member is gone, off none.
@@ -121,8 +118,7 @@ fn release_pending_reservation(mut core: Core, members: &mut [u64], packet: Pack
         core.own = own;
         return core;
     }
-    let count = core.counts.members;
-    let found = srt_connection_members::find(members, count, packet.member);
+    let found = find(rows(members, core.counts.members), packet.member);
     let Some(index) = found else {
         return core;
     };
@@ -215,7 +211,7 @@ fn deliver_packet(
     let mut after = release_covered(core, members, pending, used, covered);
     let next = word_further(base, run);
     let count = after.counts.members;
-    srt_connection_members::advance_receive_sequence_of_all(members, count, next);
+    advance_receive_sequence_of_all(members, count, next);
     let left = pending::remove_covered(pending, held, covered);
     after.counts.pending = left;
     after.receiving.based = 1;

@@ -2,7 +2,6 @@
 -- gives what the whole gives from the start. Over every log and budget, and every rest of the state that the event polls are promised over.
 use Rattle.std.specs.Prelude.{◌≡◌, List, ℕ, length, None, Option, Some}
 use Rattle.srt_group_model.specs.declared.Core.{Core}
-use Rattle.srt_group_model.specs.declared.Packet.{Packet}
 use Rattle.srt_group_model.specs.Tools.{is_set}
 use Rattle.srt_group_model.specs.Run.{Mark, Run}
 use Rattle.srt_group_model.specs.Polls.{pass_events}

@@ -14,6 +14,7 @@ ghost use Rattle.srt_group_skip.specs.Skip.{PollsFrom};
 use crate::refresh::{refresh_all_states, refresh_pending_states};
 use crate::straight::{Straight, give_straight, next_straight};
 use cell_set::CellSet;
+use srt_connection_members::rows;
 use srt_group_collecting::collecting::{
     Gathered, MAX_VISITS, collect_until_held, flag, has_pending_data,
 };
@@ -127,7 +128,7 @@ pub fn poll_event(
     ensures follows { Follows core members.old pending.old used.old
         result.core members.new pending.new used.new }
 {
-    let quiet = is_quiet(members, core.counts.members, core.mode);
+    let quiet = is_quiet(rows(members, core.counts.members), core.mode);
     let next = next_straight(core, members, pending, quiet);
     if let Some(Straight { index, packet }) = next {
         return give_straight(core, members, used, index, packet);

@@ -11,8 +11,10 @@ ghost use Rattle.srt_group_polls.specs.Straight.{goes, Given};
 
 use cell_set::{CellSet, free};
 use srt_connection_members::{
-    advance_receive_sequence_of_all, front_at, membership_at, pop_at, release_data_reservation_at,
+    advance_receive_sequence_of_all, pop_at, release_data_reservation_at, row, rows,
 };
+use srt_connection_queue::queue::front;
+use srt_connection_queue::rows::member_id;
 use srt_group_collecting::collecting::is_held;
 use srt_group_delivery::delivery::{GroupEvent, Poll};
 use srt_group_members::collecting::in_turn;
@@ -50,20 +52,20 @@ pub fn next_straight(core: Core, members: &[u64], pending: &[u64], quiet: bool) 
     if core.receiving.based == 0 {
         return None;
     }
-    let index = in_turn(members, core.counts.members, core.visit.round)?;
-    let event = front_at(members, index)?;
+    let index = in_turn(rows(members, core.counts.members), core.visit.round)?;
+    let row = row(members, index);
+    let event = front(row)?;
     if !is_alone_at(event, core.receiving.base) {
         return None;
     }
     if is_held(pending, core.counts.pending, core.receiving.base) {
         return None;
     }
-    let membership = membership_at(members, index);
     let content = event.content;
     Some(Straight {
         index,
         packet: Packet {
-            member: membership.id,
+            member: member_id(row),
             owned: 0,
             content,
         },
