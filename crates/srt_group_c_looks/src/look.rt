@@ -1,4 +1,5 @@
 // A look at what C lends: each exported look is this one with what it shows.
+// Kept (5, 6): C lends each table by its name and length (docs/TABLES.md), so each is a parameter of its own.
 ghost use Rattle.std.specs.Prelude.{◌<◌, ◌≤◌, length};
 ghost use Rattle.std.specs.Fn.{FnOnceReturnsAt};
 ghost use Rattle.srt_group_shown.specs.Tables.{tables};

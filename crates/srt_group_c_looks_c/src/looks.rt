@@ -1,4 +1,5 @@
-// The looks at the group. Each is a function of its own, since C calls it by its name and lends each table by its own name and length.
+// The looks at the group. Each is a function of its own, since C calls it by its name.
+// Kept (2, 5, 6): C calls each look by its name, and lends each table by its own name and length.
 ghost use Rattle.std.specs.Prelude.{false};
 ghost use Rattle.srt_group_model.specs.Lent.{call_look, look_group_id, look_mode, look_peer_group_id, look_skipped_receive_packets};
 ghost use Rattle.srt_group_model.specs.Lent.{look_has_pending_data, look_has_receive_continuation, look_time_until_send};
