@@ -1,6 +1,5 @@
 // The stand-in's calls with their refusals, over the record and the lent tables: 5 and 6, and then what follows them.
-// The tables stand one by one below: which of them are changed differs from call to call, and one struct of `&mut` fields would need a
-// clause for each field's ghost name.
+// Kept (5, 6): the host lends record and tables anew to each call; which are changed differs, and a struct of `&mut` needs a clause for each ghost name.
 ghost use Rattle.srt_protocol.specs.Errors.{outcome_number};
 ghost use Rattle.srt_group_model.specs.Guards.{no_answer};
 ghost use Rattle.srt_group_model.specs.Lent.{call_queue_data, call_queue_event, call_read_leg};

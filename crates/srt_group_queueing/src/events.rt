@@ -1,6 +1,5 @@
 // `queue_event` of the stand-in leg: a lifecycle event into a leg's queue.
-// The record's parts and the tables stand one by one below: which of them are changed differs from call to call, and one struct of `&mut`
-// fields would need a clause for each field's ghost name. `Ready` is a clause since the host lends them anew to each call.
+// Kept (5, 6): the host lends record and tables anew to each call; which are changed differs, and a struct of `&mut` needs a clause for each ghost name.
 ghost use Rattle.std.specs.Prelude.{◌≡◌, ◌||◌, ◌*◌, ◌≤◌, eqb, length};
 ghost use Rattle.srt_protocol.specs.Errors.{outcome_number};
 ghost use Rattle.srt_group_model.specs.Legs.{largest_32};
@@ -21,8 +20,7 @@ use srt_group_tables::history::HistoryRing;
 use srt_protocol::error::{Error, outcome_number};
 use srt_protocol::time::Timestamp;
 
-// The kind stays the host's word: it is tested here and kept in the row as it is. Nothing matches on it, so an enum would be made and undone
-// beside each other.
+// Kept (1): the kind is tested here and stands in the row as the word it is; nothing matches on it, so an enum would be made and undone at once.
 
 // 2: an id, a kind (0 is data, which is queued with its payload) or a reason out of range.
 fn event_unfit(id: u64, kind: u64, reason: u64) -> bool

@@ -1,6 +1,5 @@
 // `queue_data` of the stand-in leg: a packet into a leg's queue, its payload into the lowest free cell of the store.
-// The record's parts and the tables stand one by one below: which of them are changed differs from call to call, and one struct of `&mut`
-// fields would need a clause for each field's ghost name. `Ready` is a clause since the host lends them anew to each call.
+// Kept (5, 6): the host lends record and tables anew to each call; which are changed differs, and a struct of `&mut` needs a clause for each ghost name.
 ghost use Rattle.std.specs.Prelude.{◌≡◌, ◌+◌, ◌^◌, ◌<◌, length};
 ghost use Rattle.srt_protocol.specs.Errors.{outcome_number};
 ghost use Rattle.srt_group_model.specs.State.{on_leg};

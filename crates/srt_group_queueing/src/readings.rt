@@ -1,6 +1,5 @@
 // `read_leg` of the stand-in leg: a number into a field of a leg.
-// The record's parts and the tables stand one by one below: which of them are changed differs from call to call, and one struct of `&mut`
-// fields would need a clause for each field's ghost name. `Ready` is a clause since the host lends them anew to each call.
+// Kept (5, 6): the host lends record and tables anew to each call; which are changed differs, and a struct of `&mut` needs a clause for each ghost name.
 ghost use Rattle.std.specs.Prelude.{◌≡◌, ◌||◌, ◌*◌, ◌≤◌, length};
 ghost use Rattle.srt_protocol.specs.Errors.{outcome_number};
 ghost use Rattle.srt_group_model.specs.Legs.{largest_32};
@@ -21,7 +20,7 @@ use srt_group_model::{Core, Identity, Sending};
 use srt_group_tables::history::HistoryRing;
 use srt_protocol::error::{Error, outcome_number};
 
-// The field stays the host's word: it is only handed on to srt_connection's readings, which follow document 01's table of fields by number.
+// Kept (1): the field is only handed on to srt_connection's readings, which follow document 01's table of fields by number.
 
 // 2: an id, a field or a number out of range.
 fn reading_unfit(id: u64, field: u64, number: u64) -> bool

@@ -1,5 +1,6 @@
 // `remove_member_connection` and `remove_member` with their refusals, over the record and the lent tables: 5 and 6, and then what follows
 // them.
+// Kept (5, 6): the host lends record and tables anew to each call; which are changed differs, and a struct of `&mut` needs a clause for each ghost name.
 ghost use Rattle.srt_protocol.specs.Errors.{outcome_number};
 ghost use Rattle.srt_group_model.specs.Lent.{call_remove_member_connection};
 ghost use Rattle.srt_group_shown.specs.Tables.{tables};

@@ -1,5 +1,6 @@
 // `remove_member_connection` and `remove_member` after 5 and 6, and their forms for a valid state. The leg is given back in a lent row
 // of the members' table.
+// Kept (5, 6): the host lends record and tables anew to each call; which are changed differs, and a struct of `&mut` needs a clause for each ghost name.
 ghost use Rattle.std.specs.Prelude.{length};
 ghost use Rattle.srt_protocol.specs.Errors.{outcome_number};
 ghost use Rattle.srt_group_model.specs.Lent.{call_remove_member_connection};
@@ -12,7 +13,7 @@ ghost use Rattle.srt_group_removal.specs.Connection.{AnyRemovable, GivesBack, Ro
 use crate::removal::remove_member_at;
 use cell_set::CellSet;
 use srt_connection::legs::LARGEST_32;
-use srt_connection_members::{clear_at, find, put_leg_at};
+use srt_connection_members::{clear_at, find, put_leg_at, rows};
 use srt_group_model::{Core, Identity, Leg, Sending};
 use srt_group_tables::history::HistoryRing;
 use srt_protocol::error::{Error, outcome_number};
@@ -23,6 +24,8 @@ pub struct Removal {
     pub core: Core,
     pub outcome: Result<(), Error>,
 }
+
+// The host's row may be longer than a row, and what lies behind it stays: so it is changed as a table of rows.
 
 // A leg into the first of the lent rows, with an empty queue. The row's membership stays: it is not the leg's.
 fn give_back(row: &mut [u64], leg: Leg)
@@ -57,7 +60,7 @@ pub fn remove_named(
             outcome: Err(Error::OutOfRange),
         };
     }
-    let found = find(members, core.counts.members, id);
+    let found = find(rows(members, core.counts.members), id);
     let Some(index) = found else {
         return Removal {
             core,

@@ -1,4 +1,5 @@
 // A member is taken out, and its leg given back.
+// Kept (5): the core goes by value, and the tables are lent to change: a struct of `&mut` fields, tried, needs a clause for each ghost name.
 ghost use Rattle.std.specs.Prelude.{◌≡◌, ◌-◌, min};
 ghost use Rattle.srt_group_collecting.specs.Follows.{Follows};
 ghost use Rattle.srt_group_removal.specs.Removal.{Removable, TakesOut, Removes};
@@ -6,6 +7,7 @@ ghost use Rattle.srt_group_removal.specs.Removal.{Removable, TakesOut, Removes};
 use crate::queue::free_queue_at;
 use crate::retirement::{bound_group_owned_pending, retirement_base};
 use cell_set::CellSet;
+use srt_connection_members::rows;
 use srt_group_members::accounts;
 use srt_group_members::removal::largest_window;
 use srt_group_model::{Core, Leg};
@@ -78,7 +80,7 @@ pub fn remove_member_at(
     let window = leg.receiver.window;
     let taken = take_out(core, members, pending, used, index);
     let left = taken.counts.members;
-    let limit = largest_window(members, left, window);
+    let limit = largest_window(rows(members, left), window);
     let base = retirement_base(taken, pending);
     let after = bound_group_owned_pending(taken, pending, used, limit, base);
     leg.receiver.reserved = 0;
