@@ -12,7 +12,7 @@ ghost use Rattle.srt_group_backup.specs.TakeOver.{HistoryIs, SendIs, FlightRepla
 use crate::replay::replay_entries;
 use crate::trimming::trim_by_carrier;
 use srt_connection::legs::remaining_window_packets;
-use srt_connection_members::{leg_at, membership_at, put_leg_at};
+use srt_connection_members::{leg_at, membership_at, put_leg_at, rows};
 use srt_group_members::alignment::{align_leg, align_member_sequence};
 use srt_group_model::{Leg, Sending};
 use srt_group_sending::readiness::takes_over;
@@ -158,7 +158,7 @@ pub fn take_over_backup_flight(
         };
     }
     // Acknowledgements may have arrived since the carrier's last send.
-    let trimmed = trim_by_carrier(sending, &history.words, members, count);
+    let trimmed = trim_by_carrier(sending, &history.words, rows(members, count));
     let numbers = trimmed.sending;
     let left = trimmed.ring;
     if left.length == 0 {

@@ -1,14 +1,14 @@
 // The Backup history without what the carrier's peer acknowledged, and whether it still reaches back to the oldest send that is
 // not acknowledged: a full history loses its oldest entry.
-ghost use Rattle.std.specs.Prelude.{◌≡◌, ◌*◌, ◌≤◌, length};
+ghost use Rattle.std.specs.Prelude.{◌≡◌};
 ghost use Rattle.srt_group_model.specs.Tools.{bit};
 ghost use Rattle.srt_group_model.specs.Backup.{trim_backup_history};
-ghost use Rattle.srt_connection_queue.specs.Rows.{row_size};
-ghost use Rattle.srt_connection_members.specs.Members.{members_of};
+ghost use Rattle.srt_connection_members.specs.Members.{members_in};
 ghost use Rattle.srt_group_backup.specs.Trimming.{front_after, SendTrimmed, TrimmedByCarrier};
 
 use srt_connection::legs::{has_sender, oldest_unacked_sequence};
-use srt_connection_members::{find, leg_at};
+use srt_connection_members::find;
+use srt_connection_queue::rows::{Row, leg};
 use srt_group_model::{Leg, Sending};
 use srt_group_tables::history::{HistoryRing, HistoryWords};
 use srt_protocol::srt_packet::word_before;
@@ -57,14 +57,8 @@ pub fn trim_backup_history(mut sending: Sending, history: &HistoryWords, leg: Le
 }
 
 // By what the carrier's leg says, if the group has a carrier that is a member.
-pub fn trim_by_carrier(
-    sending: Sending,
-    history: &HistoryWords,
-    members: &[u64],
-    count: usize,
-) -> SendHistory
-    requires { count * row_size ≤ length members.now }
-    ensures { TrimmedByCarrier (members_of count members.now) history.now.history.now sending history.now.ring result }
+pub fn trim_by_carrier(sending: Sending, history: &HistoryWords, rows: &[Row]) -> SendHistory
+    ensures { TrimmedByCarrier (members_in rows.now) history.now.history.now sending history.now.ring result }
 {
     if sending.carried == 0 {
         return SendHistory {
@@ -72,13 +66,12 @@ pub fn trim_by_carrier(
             ring: history.ring,
         };
     }
-    let found = find(members, count, sending.carrier);
+    let found = find(rows, sending.carrier);
     let Some(index) = found else {
         return SendHistory {
             sending,
             ring: history.ring,
         };
     };
-    let leg = leg_at(members, index);
-    trim_backup_history(sending, history, leg)
+    trim_backup_history(sending, history, leg(&rows[index]))
 }

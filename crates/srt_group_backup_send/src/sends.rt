@@ -11,7 +11,7 @@ ghost use Rattle.srt_group_carrier.specs.Flows.{every, InMode, BackupFlows};
 ghost use Rattle.srt_group_backup_send.specs.BackupSend.{on_carrier};
 
 use cell_set::CellSet;
-use srt_connection_members::sender_at;
+use srt_connection_members::{row, rows, sender_at};
 use srt_group_backup::send::send_on;
 use srt_group_carrier::carrier::{ready_members, take_over};
 use srt_group_carrier::promotion::send_after_promotion;
@@ -45,7 +45,7 @@ fn send_at_place(
         (backup_tables members.old history.old sources.old list.old used.old) result
         (backup_tables members.new history.new sources.new list.new used.new) }
 {
-    let sequence = sequence_for_send(members, sending, index);
+    let sequence = sequence_for_send(row(members, index), sending);
     let sender = sender_at(members, index);
     if sender.next != sequence {
         return BackupSend {
@@ -131,7 +131,7 @@ pub fn send_backup(
         (backup_tables members.new history.new sources.new list.new used.new) }
 {
     ready_members(members, count, mode, time);
-    let found = first_active(members, count);
+    let found = first_active(rows(members, count));
     let Some(index) = found else {
         return BackupSend {
             outcome: Err(Error::NoActiveMember),

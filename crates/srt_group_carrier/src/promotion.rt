@@ -10,6 +10,7 @@ ghost use Rattle.srt_group_carrier.specs.Flows.{on_promoted, every, BackupFlows}
 use crate::carrier::{promote_after_failure, take_over};
 use crate::recording::{BackupSend, keep_sent};
 use cell_set::CellSet;
+use srt_connection_members::rows;
 use srt_group_backup::send::send_on;
 use srt_group_members::states::first_active;
 use srt_group_model::Sending;
@@ -95,7 +96,7 @@ pub fn send_after_promotion(
         (backup_tables members.new history.new sources.new list.new used.new) }
 {
     promote_after_failure(members, count, index);
-    let found = first_active(members, count);
+    let found = first_active(rows(members, count));
     let Some(promoted) = found else {
         return BackupSend {
             outcome: Err(Error::AllBackupFailed),

@@ -7,6 +7,7 @@ ghost use Rattle.srt_group_sending.specs.Readiness.{pacing_in};
 ghost use Rattle.srt_group_send.specs.Readiness.{Tests, TrimmedReady, Testable};
 
 use cell_set::CellSet;
+use srt_connection_members::rows;
 use srt_group_backup::trimming::trim_by_carrier;
 use srt_group_carrier::carrier::ready_members;
 use srt_group_carrier::freeing::free_dropped;
@@ -39,8 +40,8 @@ fn trim_and_test(
     ensures { TrimmedReady (pacing_in pacing) core sending history.now.ring members.now history.now.history.now used.old result
         used.new }
 {
-    let count = core.counts.members;
-    let trimmed = trim_by_carrier(sending, history, members, count);
+    let rows = rows(members, core.counts.members);
+    let trimmed = trim_by_carrier(sending, history, rows);
     let numbers = trimmed.sending;
     let left = trimmed.ring;
     free_dropped(history, left.length, used);
@@ -48,7 +49,7 @@ fn trim_and_test(
         ring: left,
         history: history.history,
     };
-    let ready = backup_send_ready(members, count, numbers, &rest, pacing);
+    let ready = backup_send_ready(rows, numbers, &rest, pacing);
     Readiness {
         ready,
         core,
@@ -73,7 +74,7 @@ pub fn can_send(
     if is_backup(core.mode) {
         return trim_and_test(after, sending, history, members, used, None);
     }
-    let ready = broadcast_send_ready(members, after.counts.members, None);
+    let ready = broadcast_send_ready(rows(members, after.counts.members), None);
     Readiness {
         ready,
         core: after,
@@ -102,7 +103,7 @@ pub fn can_send_with_pacing(
         ready_members(members, after.counts.members, mode, time);
         return trim_and_test(after, sending, history, members, used, pacing);
     }
-    let ready = broadcast_send_ready(members, after.counts.members, pacing);
+    let ready = broadcast_send_ready(rows(members, after.counts.members), pacing);
     Readiness {
         ready,
         core: after,

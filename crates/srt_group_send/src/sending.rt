@@ -17,6 +17,7 @@ ghost use Rattle.srt_group_shown.specs.Ready.{Ready, sending_into};
 ghost use Rattle.srt_group_send.specs.Sends.{by_mode, cell_or_none, CellByMode, FitShown, FlowMade, Storable, Sends};
 
 use cell_set::{CellSet, lowest_free};
+use srt_connection_members::rows;
 use srt_group_backup_send::sends::send_backup;
 use srt_group_carrier::recording::BackupSend;
 use srt_group_members::states::is_backup;
@@ -122,7 +123,7 @@ fn refresh_and_send(
 {
     let after = refresh_states(core, sending, members);
     let count = after.counts.members;
-    if above_limit(members, count, size) {
+    if above_limit(rows(members, count), size) {
         return GroupSend {
             answer: Err(Error::PayloadAboveLimit),
             rows: 0,

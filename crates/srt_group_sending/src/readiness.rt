@@ -1,9 +1,9 @@
 // Whether and when a send can go.
-ghost use Rattle.std.specs.Prelude.{◌≡◌, ◌*◌, ◌≤◌, length};
+ghost use Rattle.std.specs.Prelude.{◌≡◌};
 ghost use Rattle.srt_group_model.specs.Tools.{any};
 ghost use Rattle.srt_group_model.specs.Backup.{ready_to_send, group_time_until_send};
-ghost use Rattle.srt_connection_queue.specs.Rows.{row_size};
-ghost use Rattle.srt_connection_members.specs.Members.{member_at, members_of, HasRow};
+ghost use Rattle.srt_connection_queue.specs.Rows.{member_of};
+ghost use Rattle.srt_connection_members.specs.Members.{members_in};
 ghost use Rattle.srt_group_sending.specs.Readiness.{pacing_in, sends_now, may_carry, least_with};
 ghost use Rattle.srt_group_sending.specs.BackupReadiness.{is_other_carrier, send_number, front_sequence, replay_length, replay_sequence, gap_allows};
 ghost use Rattle.srt_group_sending.specs.BackupReadiness.{stands_at, could_take_over, MemberReady, BackupReady};
@@ -11,9 +11,9 @@ ghost use Rattle.srt_group_sending.specs.BackupReadiness.{stands_at, could_take_
 use srt_connection::legs::{
     can_send, can_send_with_pacing, remaining_window_packets, time_until_send,
 };
-use srt_connection_members::{leg_at, membership_at};
+use srt_connection_queue::rows::{Row, leg, membership};
 use srt_group_members::promotion::promotion;
-use srt_group_members::states::{ACTIVE, STANDBY, first_active, is_active_at};
+use srt_group_members::states::{ACTIVE, STANDBY, first_active, is_active};
 use srt_group_model::{Leg, Sending};
 use srt_group_tables::history::HistoryWords;
 use srt_protocol::time::Timestamp;
@@ -32,23 +32,16 @@ fn ready_to_send(leg: Leg, pacing: Option<Timestamp>) -> bool
     }
 }
 
-fn sends_now_at(members: &[u64], index: usize, pacing: Option<Timestamp>) -> bool
-    requires { HasRow index members.now }
-    ensures { result ≡ sends_now (pacing_in pacing) (member_at members.now index) }
+fn sends_now(row: &Row, pacing: Option<Timestamp>) -> bool
+    ensures { result ≡ sends_now (pacing_in pacing) (member_of row.now) }
 {
-    is_active_at(members, index) && ready_to_send(leg_at(members, index), pacing)
+    is_active(row) && ready_to_send(leg(row), pacing)
 }
 
-pub fn broadcast_send_ready(members: &[u64], count: usize, pacing: Option<Timestamp>) -> bool
-    requires { count * row_size ≤ length members.now }
-    ensures { result ≡ any (sends_now (pacing_in pacing)) (members_of count members.now) }
+pub fn broadcast_send_ready(rows: &[Row], pacing: Option<Timestamp>) -> bool
+    ensures { result ≡ any (sends_now (pacing_in pacing)) (members_in rows.now) }
 {
-    for i in 0..count {
-        if sends_now_at(members, i, pacing) {
-            return true;
-        }
-    }
-    false
+    rows.iter().any(|row| sends_now(row, pacing))
 }
 
 // ---- how long until a send
@@ -63,21 +56,15 @@ fn may_carry(state: u64) -> bool
     state == STANDBY
 }
 
-// The least of the wait of the member at the index, if it is Active or Standby, and of the least of those behind it.
-fn least_wait_with(
-    members: &[u64],
-    index: usize,
-    time: Timestamp,
-    least: Option<u64>,
-) -> Option<u64>
-    requires { HasRow index members.now }
-    ensures { result ≡ least_with time.0 (member_at members.now index) (least) }
+// The least of the wait of a member, if it is Active or Standby, and of the least of those behind it.
+fn least_wait_with(row: &Row, time: Timestamp, least: Option<u64>) -> Option<u64>
+    ensures { result ≡ least_with time.0 (member_of row.now) least }
 {
-    let membership = membership_at(members, index);
+    let membership = membership(row);
     if !may_carry(membership.state) {
         return least;
     }
-    let wait = time_until_send(leg_at(members, index), time);
+    let wait = time_until_send(leg(row), time);
     let Some(other) = least else {
         return Some(wait);
     };
@@ -88,13 +75,12 @@ fn least_wait_with(
 }
 
 // The least time until a send of the Active and Standby members.
-pub fn group_time_until_send(members: &[u64], count: usize, time: Timestamp) -> u64
-    requires { count * row_size ≤ length members.now }
-    ensures { result ≡ group_time_until_send time.0 (members_of count members.now) }
+pub fn group_time_until_send(rows: &[Row], time: Timestamp) -> u64
+    ensures { result ≡ group_time_until_send time.0 (members_in rows.now) }
 {
     let mut least = None;
-    for index in (0..count).rev() {
-        least = least_wait_with(members, index, time, least);
+    for index in (0..rows.len()).rev() {
+        least = least_wait_with(&rows[index], time, least);
     }
     let Some(wait) = least else {
         return NO_MEMBER_WAIT;
@@ -190,50 +176,47 @@ fn could_take_over(leg: Leg, id: u64, sending: Sending, history: &HistoryWords) 
     stands_at(leg, sequence)
 }
 
-// Whether the member at the index could carry the next send.
+// Whether a member could carry the next send.
 pub fn backup_member_ready(
-    members: &[u64],
-    index: usize,
+    row: &Row,
     sending: Sending,
     history: &HistoryWords,
     pacing: Option<Timestamp>,
 ) -> bool
-    requires { HasRow index members.now }
     ensures { MemberReady (pacing_in pacing) sending history.now.ring history.now.history.now
-        (member_at members.now index) result }
+        (member_of row.now) result }
 {
-    let leg = leg_at(members, index);
+    let leg = leg(row);
     if !ready_to_send(leg, pacing) {
         return false;
     }
     if leg.sender.started != 1 {
         return false;
     }
-    let membership = membership_at(members, index);
+    let membership = membership(row);
     could_take_over(leg, membership.id, sending, history)
 }
 
 // Whether the first active member could carry the next send or, if its window is full, the one that would be promoted.
 pub fn backup_send_ready(
-    members: &[u64],
-    count: usize,
+    rows: &[Row],
     sending: Sending,
     history: &HistoryWords,
     pacing: Option<Timestamp>,
 ) -> bool
-    requires { count * row_size ≤ length members.now }
-    ensures { BackupReady count (pacing_in pacing) sending history.now.ring history.now.history.now members.now result }
+    ensures { BackupReady (pacing_in pacing) sending history.now.ring history.now.history.now (members_in rows.now) result }
 {
-    let found = first_active(members, count);
+    let found = first_active(rows);
     let Some(index) = found else {
         return false;
     };
-    if can_send(leg_at(members, index)) {
-        return backup_member_ready(members, index, sending, history, pacing);
+    let row = &rows[index];
+    if can_send(leg(row)) {
+        return backup_member_ready(row, sending, history, pacing);
     }
-    let standby = promotion(members, count);
+    let standby = promotion(rows);
     let Some(promoted) = standby else {
         return false;
     };
-    backup_member_ready(members, promoted, sending, history, pacing)
+    backup_member_ready(&rows[promoted], sending, history, pacing)
 }

@@ -71,7 +71,7 @@ module _ (time : Option ℕ) (core : Core) (x : Sending) (r : HistoryRing) (memb
       (subst (λ (t : State). Suffix (entries_of r a) t.send.history) left (trimmed_by_carrier s).suffix)
 
   pub trimmed_ready : {ready : Bool} → FrontFreed r trimmed.ring.length history used used'
-      → BackupReady core.counts.members time trimmed.sending trimmed.ring history members ready
+      → BackupReady time trimmed.sending trimmed.ring history (members_of core.counts.members members) ready
       → TrimmedReady time core x r members history used record { ready = ready; core = core; sending = trimmed.sending; ring = trimmed.ring } used'
   trimmed_ready {ready} freed tested =
       record {

@@ -19,7 +19,7 @@ returns-then-left-eq0 c =
     c.takes_over.ensures
     c.args.history.now.ring_fits
     c.if-not-takes_over.false
-    c.trim_by_carrier-trimmed.ensures
+    (rw c.rows.ensures.shows at c.trim_by_carrier-trimmed.ensures)
     c.if-left-eq0.true c.align_carrier-outcome-then-left-eq0.ensures
 
 pub returns : goal.returns
@@ -34,6 +34,6 @@ returns c =
     c.takes_over.ensures
     c.args.history.now.ring_fits
     c.if-not-takes_over.false
-    c.trim_by_carrier-trimmed.ensures
+    (rw c.rows.ensures.shows at c.trim_by_carrier-trimmed.ensures)
     c.if-left-eq0.false
     c.replay_flight-flight.ensures

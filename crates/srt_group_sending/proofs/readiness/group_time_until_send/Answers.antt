@@ -4,7 +4,7 @@ use Rattle.srt_group_sending.specs.Laws.Readiness.{least_start, least_on, wait_n
 use Rattle.srt_group_sending.proofs.readiness.group_time_until_send.Goals as goal
 
 pub loop-index-init : goal.loop-index-init
-loop-index-init c = least_start _ _ _
+loop-index-init c = least_start _ _
 
 pub loop-index-preserved : goal.loop-index-preserved
 loop-index-preserved c = search least_on
