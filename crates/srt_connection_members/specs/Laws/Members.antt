@@ -1,6 +1,6 @@
 -- What is proved of the definitions in specs/Members.antt, with what the proofs need.
 use Rattle.srt_protocol.specs.Errors.{Outcome}
-use Rattle.std.specs.Prelude.{◌≡◌, refl, List, [], ◌++◌, ℕ, suc, ◌+◌, ◌-◌, ◌*◌, ◌≤◌, ◌<◌, length, take, drop, get_or, None, Option, Some}
+use Rattle.std.specs.Prelude.{◌≡◌, refl, List, [], ◌∷◌, ◌++◌, ℕ, zero, suc, ◌+◌, ◌-◌, ◌*◌, ◌≤◌, ◌<◌, length, take, drop, get_or, None, Option, Some}
 use Rattle.std.specs.Simd.{first_chunks}
 use Rattle.std.proofs.Math.Path.{ap}
 use Rattle.std.proofs.Common.{sym, ap₂, ◌∙◌, add-one, arith}
@@ -26,7 +26,7 @@ use Rattle.srt_connection_queue.specs.Row.{put_row}
 use Rattle.srt_connection_queue.specs.Laws.Row.{row_put, row_put_other, put_length}
 use Rattle.srt_connection_queue.specs.Rows.{row_size, member_of, Kept, with_membership}
 use Rattle.srt_connection_queue.specs.Queue.{cleared, Pushed, queue_after, Polled}
-use Rattle.srt_connection_members.specs.Members.{member_at, members_of, members_in, HasRow, new_member, Changed, PushedAt, PolledAt, ChangedAll, Appended, Removed}
+use Rattle.srt_connection_members.specs.Members.{member_at, members_of, members_in, member_in, HasRow, new_member, Changed, PushedAt, PolledAt, ChangedAll, Appended, Removed}
 
 -- ---- laws
 
@@ -90,6 +90,18 @@ module _ (i : ℕ) (t r : List ℕ) (there : HasRow i t) where
             ap (λ (n : ℕ). tab n (member_at (put_row row_size t i r))) (add-one i)
             ∙ tab_push i (member_at t) (member_at (put_row row_size t i r)) m (λ j h. c.others j (λ e. omega arith)) c.here;
       }
+
+-- the members that rows show, place by place
+pub members_tab : (rows : List (List ℕ)) → tab (length rows) (member_in rows) ≡ members_in rows
+unfolding tab
+members_tab [] = refl
+members_tab (row ∷ rows) = ap (λ (ms : List Member). member_of row ∷ ms) (members_tab rows)
+
+pub members_front : (n : ℕ) (rows : List (List ℕ)) → n ≤ length rows → tab n (member_in rows) ≡ members_in (take n rows)
+unfolding tab
+members_front zero rows below = refl
+members_front (suc n) [] below = absurd (omega arith)
+members_front (suc n) (row ∷ rows) below = ap (λ (ms : List Member). member_of row ∷ ms) (members_front n rows (omega arith))
 
 -- the row between two parts of the table was lent, and comes back as r
 module _ (i : ℕ) (t before behind lent r : List ℕ) (there : HasRow i t) (front : before ≡ take (i * row_size) t)
