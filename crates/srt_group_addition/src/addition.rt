@@ -6,7 +6,7 @@ ghost use Rattle.srt_connection_members.specs.Members.{members_size};
 ghost use Rattle.srt_group_addition.specs.Addition.{membership_at_addition, Joins, Adds};
 
 use srt_connection::legs::handed_over;
-use srt_connection_members::{append_member, membership_at};
+use srt_connection_members::{append_member, membership_at, rows};
 use srt_group_delivery::delivery::set_base;
 use srt_group_members::accounts::NO_PACKETS;
 use srt_group_members::admission::{Admission, admit_peer_group};
@@ -45,7 +45,7 @@ fn join(core: Core, members: &mut [u64], id: u64, weight: u64, leg: Leg) -> Core
     ensures { Joins id weight leg core members.old result members.new }
 {
     let count = core.counts.members;
-    let state = state_at_addition(members, count, core.mode, leg);
+    let state = state_at_addition(rows(members, count), core.mode, leg);
     append_member(
         members,
         count,
