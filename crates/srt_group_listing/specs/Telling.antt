@@ -9,7 +9,7 @@ use Rattle.srt_group_model.specs.State.{State}
 use Rattle.srt_group_model.specs.Sending.{list_size}
 use Rattle.srt_group_model.specs.Guards.{Answer, Step}
 use Rattle.srt_group_model.specs.Lent.{Call, step_of}
-use Rattle.srt_group_model.specs.Listing.{store_length, columns, refused_line, printed}
+use Rattle.srt_group_model.specs.Listing.{store_length, with_byte, columns, refused_line, printed}
 use Rattle.srt_group_model.specs.declared.Leg.{Leg}
 use Rattle.srt_group_model.specs.declared.Packet.{Packet}
 use Rattle.srt_connection_members.specs.Members.{member_at, HasRow}
@@ -58,15 +58,23 @@ sent_line (Err e) = refused_line 6 (error_number e)
 
 -- ---- what the code of a verb promises
 
--- a call that is lent a store of this length, and the program's own output and list of sends
-abbrev pub asks : (store : ℕ) → Call → State → Step
-asks store call s = step_of store output_size list_size call s
+-- a call that is lent a store of 40 cells, and the program's own output and list of sends
+abbrev pub asks : Call → State → Step
+asks call s = step_of store_length output_size list_size call s
 
--- The group after the call and what its line prints are the model's; and the group is ready for the next.
-pub record Tells (verb : ℕ) (call : Call) (g : Group) (m : Memory) (r : Told) (m' : Memory) : Type 0 where
-  pub state : shown_in m' r.group ≡ (asks (length m.store) call (shown_in m g)).state
-  pub line : numbers_of r.line ≡ printed verb (asks (length m.store) call (shown_in m g))
+-- The group after a step of the model's listing and what its line prints are the model's; and the group is ready for the next.
+pub record TellsStep (verb : ℕ) (step : State → Step) (g : Group) (m : Memory) (r : Told) (m' : Memory) : Type 0 where
+  pub state : shown_in m' r.group ≡ (step (shown_in m g)).state
+  pub line : numbers_of r.line ≡ printed verb (step (shown_in m g))
   pub ready : ReadyFor r.group m'
+
+-- so are those of a call
+abbrev pub Tells : (verb : ℕ) → Call → Group → Memory → Told → Memory → Type 0
+Tells verb call g m r m' = TellsStep verb (asks call) g m r m'
+
+-- and of one whose line gives a byte, which is refused (2) above 255
+abbrev pub TellsByte : (byte verb : ℕ) → Call → Group → Memory → Told → Memory → Type 0
+TellsByte byte verb call g m r m' = TellsStep verb (λ s. with_byte byte (asks call s) s) g m r m'
 
 -- ---- verb 2
 

@@ -8,7 +8,6 @@ use cell_set::CellSet;
 use srt_group::Group;
 
 pub mod members; // members.rt: verbs 2, 3, 7, 8 and 9
-pub mod telling; // telling.rt: which of them a line asks for
 
 // The eight numbers of a line of a listing: the verb, and what it needs.
 pub type Line = [u64; 8];

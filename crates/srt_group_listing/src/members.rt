@@ -17,20 +17,6 @@ use srt_group_removal::connection::remove_member;
 use srt_protocol::error::{Error, outcome_number};
 use srt_protocol::time::Timestamp;
 
-// The line of a verb that is refused, or accepted without columns of its own (0).
-pub fn code_line(verb: u64, code: u64) -> Printed
-    ensures { numbers_of result ≡ refused_line verb code }
-{
-    Printed {
-        verb,
-        code,
-        leg: 0,
-        sequence: 0,
-        count: 0,
-        skipped: 0,
-    }
-}
-
 // The line of a verb that answers its outcome alone.
 pub fn outcome_line(verb: u64, outcome: Result<(), Error>) -> Printed
     ensures { numbers_of result ≡ refused_line verb (outcome_number outcome) }

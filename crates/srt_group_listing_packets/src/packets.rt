@@ -1,8 +1,8 @@
 // The verbs that queue a packet, poll for one and send one.
-ghost use Rattle.std.specs.Prelude.{◌≡◌, ◌≤◌};
+ghost use Rattle.std.specs.Prelude.{◌≡◌};
 ghost use Rattle.srt_group_model.specs.Listing.{column};
 ghost use Rattle.srt_group_traces.specs.VerbCalls.{data_of_line, queueing, polling, sending};
-ghost use Rattle.srt_group_listing.specs.Telling.{ReadyFor, numbers_of, packet_line, sent_line, Tells};
+ghost use Rattle.srt_group_listing.specs.Telling.{ReadyFor, numbers_of, packet_line, sent_line, Tells, TellsByte};
 
 use srt_group::Group;
 use srt_group_collecting::collecting::MAX_VISITS;
@@ -30,12 +30,17 @@ fn data_of_line(line: &Line) -> Data
     }
 }
 
-// Verb 4, where its byte is one: a packet is queued at a leg.
+// Verb 4: a packet is queued at a leg. A byte above 255 is refused.
 pub fn queue(memory: &mut Memory, group: Group, line: &Line) -> Told
-    requires ready { ReadyFor group memory.old }
-    requires byte { column 5 line.now ≤ 255 }
-    ensures { Tells 4 (queueing line.now) group memory.old result memory.new }
+    requires { ReadyFor group memory.old }
+    ensures { TellsByte (column 5 line.now) 4 (queueing line.now) group memory.old result memory.new }
 {
+    if 255 < line[5] {
+        return Told {
+            group,
+            line: outcome_line(4, Err(Error::OutOfRange)),
+        };
+    }
     let Group {
         identity,
         core,
@@ -152,12 +157,17 @@ fn sent_line(answer: Result<usize, Error>) -> Printed
     }
 }
 
-// Verb 6, where its byte is one: a packet is sent.
+// Verb 6: a packet is sent. A byte above 255 is refused.
 pub fn send(memory: &mut Memory, group: Group, line: &Line) -> Told
-    requires ready { ReadyFor group memory.old }
-    requires byte { column 1 line.now ≤ 255 }
-    ensures { Tells 6 (sending line.now) group memory.old result memory.new }
+    requires { ReadyFor group memory.old }
+    ensures { TellsByte (column 1 line.now) 6 (sending line.now) group memory.old result memory.new }
 {
+    if 255 < line[1] {
+        return Told {
+            group,
+            line: outcome_line(6, Err(Error::OutOfRange)),
+        };
+    }
     let Group {
         identity,
         core,

@@ -10,10 +10,10 @@ ghost use Rattle.srt_group_replay.specs.Told.{TellsLine};
 
 use cell_set::clear;
 use srt_group::Group;
-use srt_group_listing::members::code_line;
-use srt_group_listing::telling::{tell_legs, tell_members};
-use srt_group_listing::{Line, Memory, Printed, Told};
-use srt_group_listing_packets::telling::tell_packets;
+use srt_group_listing::members::outcome_line;
+use srt_group_listing::{Line, Memory, Printed, Told, members};
+use srt_group_listing_packets::packets;
+use srt_protocol::error::Error;
 use std::marker::Model;
 
 // The bytes of the store: 40 cells.
@@ -68,7 +68,7 @@ impl Replay {
         match line[0] {
             1 => self.tell_new(line),
             2..=9 => self.tell_group(line),
-            _ => code_line(0, 2),
+            _ => outcome_line(0, Err(Error::OutOfRange)),
         }
     }
 
@@ -81,9 +81,9 @@ impl Replay {
             Ok(fresh) => {
                 clear(&mut self.memory.used);
                 self.group = Some(fresh);
-                code_line(1, 0)
+                outcome_line(1, Ok(()))
             }
-            Err(error) => code_line(1, u32::from(error) as u64),
+            Err(error) => outcome_line(1, Err(error)),
         }
     }
 
@@ -93,7 +93,7 @@ impl Replay {
         ensures { TellsLine line.now self.old result self.new }
     {
         match self.group {
-            None => code_line(line[0], 6),
+            None => outcome_line(line[0], Err(Error::InvalidState)),
             Some(group) => {
                 let told = tell_made(&mut self.memory, group, line);
                 self.group = Some(told.group);
@@ -104,17 +104,20 @@ impl Replay {
 }
 
 // Any verb over a group that was made, 2 to 9.
+#[tactic(auto, using(srt_group_listing::specs::Laws::Verbs::tells_2, srt_group_listing::specs::Laws::Verbs::tells_3, srt_group_listing::specs::Laws::Verbs::tells_4, srt_group_listing::specs::Laws::Verbs::tells_5, srt_group_listing::specs::Laws::Verbs::tells_6, srt_group_listing::specs::Laws::Verbs::tells_7, srt_group_listing::specs::Laws::Verbs::tells_8, srt_group_listing::specs::Laws::Verbs::tells_9))]
 fn tell_made(memory: &mut Memory, group: Group, line: &Line) -> Told
     requires ready { ReadyFor group memory.old }
     requires asks { (2 ≤ column 0 line.now) × (column 0 line.now ≤ 9) }
     ensures { TellsVerb line.now group memory.old result memory.new }
 {
-    let verb = line[0];
-    if verb < 4 {
-        return tell_legs(memory, group, line);
+    match line[0] {
+        2 => members::add(memory, group, line),
+        3 => members::read(memory, group, line),
+        4 => packets::queue(memory, group, line),
+        5 => packets::poll(memory, group, line),
+        6 => packets::send(memory, group, line),
+        7 => members::remove(memory, group, line),
+        8 => members::mark_broken(memory, group, line),
+        _ => members::queue(memory, group, line),
     }
-    if 6 < verb {
-        return tell_members(memory, group, line);
-    }
-    tell_packets(memory, group, line)
 }

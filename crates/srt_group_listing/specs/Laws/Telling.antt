@@ -37,7 +37,7 @@ use Rattle.srt_group_listing.specs.Telling.{tables_of, shown_in, numbers_of, pri
 pub tells : (verb : ℕ) (call : Call) (g g' : Group) (m m' : Memory) (output list output' list' : List ℕ) (code : ℕ) (given : Answer) (line : Printed)
     → length m'.store ≡ store_length
     → Performs call (parts_of g) (tables_of m) (record { store = m.store; output = output; list = list }) code given (parts_of g') (tables_of m') (record { store = m'.store; output = output'; list = list' }) m'.used
-    → step_of (length m.store) (length output) (length list) call (shown_in m g) ≡ asks (length m.store) call (shown_in m g)
+    → step_of (length m.store) (length output) (length list) call (shown_in m g) ≡ asks call (shown_in m g)
     → numbers_of line ≡ prints verb code given (shown_in m' g')
     → Tells verb call g m (record { group = g'; line = line }) m'
 unfolding perform with_bytes printed
@@ -101,13 +101,14 @@ module _ (line : Line) where
 
 -- those that print their code alone
 module _ (verb : ℕ) {call : Call} (unlent : Unlent call) {g g' : Group} {m m' : Memory} {code : ℕ} {line : Printed}
-    (cells : length m'.store ≡ store_length) (says : numbers_of line ≡ refused_line verb code) where
+    (before : length m.store ≡ store_length) (cells : length m'.store ≡ store_length) (says : numbers_of line ≡ refused_line verb code) where
   told_without_columns : (given : Answer) → (code ≡ 0 → columns given (shown_in m' g') ≡ 0 ∷ 0 ∷ 0 ∷ 0 ∷ [])
       → Performs call (parts_of g) (tables_of m) (storing m.store) code given (parts_of g') (tables_of m') (storing m'.store) m'.used
       → Tells verb call g m (record { group = g'; line = line }) m'
   told_without_columns given none_shown done =
       tells verb call g g' m m' [] [] [] [] code given line cells done
-      (unlent (length m.store) 0 0 output_size list_size (shown_in m g))
+      (unlent (length m.store) 0 0 output_size list_size (shown_in m g)
+      ∙ ap (λ (n : ℕ). step_of n output_size list_size call (shown_in m g)) before)
       (says ∙ prints_code verb code given (shown_in m' g') none_shown)
 
   pub tells_code : Performs call (parts_of g) (tables_of m) (storing m.store) code no_answer (parts_of g') (tables_of m') (storing m'.store) m'.used
@@ -122,28 +123,29 @@ unfolding columns
 removal_no_columns id bytes s s' accepted =
     ap (λ (a : Answer). columns a s') (call_answers (call_remove_member_connection id) bytes s accepted).1
 
-module _ (line : Line) {g g' : Group} {m m' : Memory} {code : ℕ} {out : Printed} (cells : length m'.store ≡ store_length) where
+module _ (line : Line) {g g' : Group} {m m' : Memory} {code : ℕ} {out : Printed} (before : length m.store ≡ store_length)
+    (cells : length m'.store ≡ store_length) where
   pub tells_removal : numbers_of out ≡ refused_line 7 code
       → PerformsDropping (column 1 line) (parts_of g) (tables_of m) (storing m.store) code (parts_of g') (tables_of m') (storing m'.store) m'.used
       → Tells 7 (removing line) g m (record { group = g'; line = out }) m'
   tells_removal says done =
-      told_without_columns 7 (removing_unlent line) cells says _
+      told_without_columns 7 (removing_unlent line) before cells says _
       (λ accepted. removal_no_columns (column 1 line) (storing m.store) (shown_in m g) (shown_in m' g') (sym done.code ∙ accepted)) done
 
   pub tells_reading : numbers_of out ≡ refused_line 3 code
       → Performs (reading line) (parts_of g) (tables_of m) (storing m.store) code no_answer (parts_of g') (tables_of m') (storing m'.store) m'.used
       → Tells 3 (reading line) g m (record { group = g'; line = out }) m'
-  tells_reading says done = tells_code 3 (reading_unlent line) cells says done
+  tells_reading says done = tells_code 3 (reading_unlent line) before cells says done
 
   pub tells_breaking : numbers_of out ≡ refused_line 8 code
       → Performs (breaking line) (parts_of g) (tables_of m) (storing m.store) code no_answer (parts_of g') (tables_of m') (storing m'.store) m'.used
       → Tells 8 (breaking line) g m (record { group = g'; line = out }) m'
-  tells_breaking says done = tells_code 8 (breaking_unlent line) cells says done
+  tells_breaking says done = tells_code 8 (breaking_unlent line) before cells says done
 
   pub tells_event : numbers_of out ≡ refused_line 9 code
       → Performs (event line) (parts_of g) (tables_of m) (storing m.store) code no_answer (parts_of g') (tables_of m') (storing m'.store) m'.used
       → Tells 9 (event line) g m (record { group = g'; line = out }) m'
-  tells_event says done = tells_code 9 (event_unlent line) cells says done
+  tells_event says done = tells_code 9 (event_unlent line) before cells says done
 
   pub tells_queueing : {payload : List ℕ} {content : Data} → content ≡ data_of_line line → payload ≡ column 5 line ∷ []
       → numbers_of out ≡ refused_line 4 code
@@ -151,7 +153,7 @@ module _ (line : Line) {g g' : Group} {m m' : Memory} {code : ℕ} {out : Printe
       (storing m'.store) m'.used
       → Tells 4 (queueing line) g m (record { group = g'; line = out }) m'
   tells_queueing made byte says done =
-      tells_code 4 (queueing_unlent line) cells says
+      tells_code 4 (queueing_unlent line) before cells says
       (subst (λ (c : Call). Performs c (parts_of g) (tables_of m) (storing m.store) code no_answer (parts_of g') (tables_of m') (storing m'.store) m'.used)
       (ap₂ (λ (d : Data) (b : List ℕ). call_queue_data (column 1 line) d b) made byte) done)
 
@@ -162,7 +164,7 @@ module _ (line : Line) {g g' : Group} {m m' : Memory} {code : ℕ} {out : Printe
       (storing m'.store) m'.used
       → Tells 2 (addition line) g m (record { group = g'; line = out }) m'
   tells_addition handed says done =
-      tells_code 2 (addition_unlent line) cells says
+      tells_code 2 (addition_unlent line) before cells says
       (subst (λ (c : Call). Performs c (parts_of g) (tables_of m) (storing m.store) code no_answer (parts_of g') (tables_of m') (storing m'.store) m'.used)
       (ap₂ (λ (l : Leg) (q : List Event). call_add_member (column 1 line) (column 2 line) l q) handed.is handed.empty) done)
 
@@ -183,20 +185,20 @@ pub line_with_packet : {gave : Option Packet} {skipped : ℕ} (p : Packet) → g
 line_with_packet {gave} {skipped} p is = ap (λ (o : Option Packet). packet_line o skipped) (sym is)
 
 pub tells_poll : (line : Line) {g g' : Group} {m m' : Memory} {gave : Option Packet} {more : Bool} {out : Printed}
-    → length m'.store ≡ store_length
+    → length m.store ≡ store_length → length m'.store ≡ store_length
     → length m.output ≡ output_size
     → numbers_of out ≡ packet_line gave g'.core.receiving.skipped
     → Performs (polling line) (parts_of g) (tables_of m) (lending m.store m.output) 0 (data_polled gave more) (parts_of g') (tables_of m')
     (lending m'.store m'.output) m'.used
     → Tells 5 (polling line) g m (record { group = g'; line = out }) m'
 unfolding step_of
-tells_poll line {g} {g'} {m} {m'} {gave} {more} {out} cells size says done =
+tells_poll line {g} {g'} {m} {m'} {gave} {more} {out} before cells size says done =
     tells 5 (polling line) g g' m m' m.output [] m'.output [] 0 (data_polled gave more) out cells done
-    (ap (λ (n : ℕ). step_of (length m.store) n 0 (polling line) (shown_in m g)) size)
+    (ap₂ (λ (n k : ℕ). step_of n k 0 (polling line) (shown_in m g)) before size)
     (says ∙ prints_packet gave more (shown_in m' g'))
 
 pub tells_send : (line : Line) {g : Group} {m m' : Memory} {payload : List ℕ} {sent : GroupSend} {out : Printed}
-    → length m'.store ≡ store_length
+    → length m.store ≡ store_length → length m'.store ≡ store_length
     → length m.list ≡ list_size
     → payload ≡ column 1 line ∷ []
     → numbers_of out ≡ sent_line sent.answer
@@ -204,14 +206,14 @@ pub tells_send : (line : Line) {g : Group} {m m' : Memory} {payload : List ℕ} 
     → Tells 6 (sending line) g m
     (record { group = record { identity = g.identity; core = sent.core; sending = sent.sending; ring = sent.ring }; line = out }) m'
 unfolding step_of
-tells_send line {g} {m} {m'} {payload} {sent} {out} cells rows byte says done =
+tells_send line {g} {m} {m'} {payload} {sent} {out} before cells rows byte says done =
     tells 6 (sending line) g after m m' [] m.list [] m'.list (send_number sent.answer) (send_answer sent.answer) out cells
     (subst
     (λ (b : List ℕ).
     Performs (call_send (column 2 line) b) (parts_of g) (tables_of m) (sending_into m.store m.list) (send_number sent.answer) (send_answer sent.answer)
     (parts_of after) (tables_of m') (sending_into m'.store m'.list) m'.used)
     byte done.performs)
-    (ap (λ (n : ℕ). step_of (length m.store) 0 n (sending line) (shown_in m g)) rows)
+    (ap₂ (λ (n k : ℕ). step_of n 0 k (sending line) (shown_in m g)) before rows)
     (says ∙ prints_sent sent.answer (shown_in m' after))
   where
     after : Group
