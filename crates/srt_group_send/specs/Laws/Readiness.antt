@@ -3,7 +3,6 @@ use Rattle.std.specs.Prelude.{◌≡◌, Bool, true, false, ℕ, zero, suc, ◌-
 use Rattle.std.proofs.Math.Path.{refl, ap, sym, subst}
 use Rattle.std.proofs.Common.{◌∙◌, arith, le-ltb}
 use mathlib.Core.List.{List, [], ◌∷◌, ◌++◌, append_assoc}
-use Rattle.word_rows.specs.Laws.Tab.{tab_length}
 use Rattle.srt_group_model.specs.Tools.{any, such_that, each, change}
 use Rattle.srt_group_model.specs.Laws.Reason.{if_elim, if_some_elim, when_true, when_false}
 use Rattle.srt_group_model.specs.State.{Member, State, is_backup, with_send, with_members, turned, active_state}
@@ -31,7 +30,7 @@ use Rattle.srt_group_model.specs.declared.Sending.{Sending}
 use Rattle.srt_connection_members.specs.Members.{members_of}
 use Rattle.srt_group_members.specs.Scan.{Became}
 use Rattle.srt_group_tables.specs.declared.history.HistoryRing.{HistoryRing}
-use Rattle.srt_group_tables.specs.Ring.{Arrays, arrays, entry_at, entries_of, send_of}
+use Rattle.srt_group_tables.specs.Ring.{Arrays, arrays, entries_of, send_of}
 use Rattle.srt_group_sending.specs.Readiness.{sends_now}
 use Rattle.srt_group_sending.specs.BackupReadiness.{BackupReady}
 use Rattle.srt_group_backup.specs.declared.trimming.SendHistory.{SendHistory}

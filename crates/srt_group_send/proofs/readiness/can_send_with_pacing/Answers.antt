@@ -1,6 +1,6 @@
 -- `can_send_with_pacing` meets its contract: the mode decides.
 use mathlib.Core.Path.{ap, ◌∙◌}
-use Rattle.std.specs.Prelude.{None, Some}
+use Rattle.std.specs.Prelude.{Some}
 use Rattle.srt_group_model.specs.Tools.{any}
 use Rattle.srt_group_sending.specs.Readiness.{sends_now}
 use native.Mathlib.Omega.{arith}
