@@ -1,5 +1,6 @@
 // The events of the legs, in turn: a packet is held or discarded, another event waits to be given. One visit takes one event; a
 // poll visits until there is something to give, and before it skips a gap until every queue is empty.
+// Kept (5, 6): a step that moves tables takes them one beside the other: a struct of `&mut` asks for loans that a call does not need, and for a clause to each field, that its slice is still the caller's (tried); what holds of them is one fact, `Usable`.
 ghost use Rattle.std.specs.Prelude.{◌≡◌, true, false, ◌&&◌, ◌||◌, ◌+◌, ◌*◌, ◌%◌, ◌≤◌, ◌<◌, eqb, length};
 ghost use Rattle.srt_protocol.specs.Sequence.{sequence_before};
 ghost use Rattle.srt_group_model.specs.Tools.{is_set, bit, flagged, if_some◌give◌otherwise◌};
@@ -40,6 +41,7 @@ use srt_protocol::srt_packet::word_before;
 // What a visit leaves: whether an event was taken off a queue, the group's numbers, and what is left of the budget.
 #[derive(Clone, Copy)]
 pub struct Visited {
+    // Kept (1): as a `bool` beside a record that goes by value, one cost 50 ns a poll (tried).
     pub took: u64,
     pub core: Core,
     pub budget: u64,
@@ -48,6 +50,7 @@ pub struct Visited {
 // Visits until something is held, under way: whether more of them follow.
 #[derive(Clone, Copy)]
 struct Visiting {
+    // Kept (1): a word, as in `Visited`.
     more: u64,
     core: Core,
     budget: u64,
@@ -56,6 +59,7 @@ struct Visiting {
 // What visits until the queues are empty leave: whether they ended so.
 #[derive(Clone, Copy)]
 pub struct Emptied {
+    // Kept (1): a word, as in `Visited`.
     pub emptied: u64,
     pub core: Core,
     pub budget: u64,
@@ -105,6 +109,7 @@ fn reserve_at(members: &mut [u64], index: usize, count: u64)
 }
 
 // Whether the packet of a sequence is held already.
+// Kept (6): held packets are an index ring and rows by their cells, so that no count cuts a slice of the table.
 #[tactic(auto, using(srt_group_members::specs::Laws::Scan::any_found))]
 pub fn is_held(pending: &[u64], held: usize, sequence: u64) -> bool
     requires pending_size_in_bounds { (pending_size ≤ length pending.now) × (held ≤ max_pending) }
@@ -162,6 +167,7 @@ fn retain_group_packet(
 // ---- an event is reported
 
 // An error or a disconnect breaks its member and, in Backup, promotes another, even if one is Active.
+// Kept (1): the kind is the word of the row that C lends and of the event that waits, read here and in `collect_member_event`; an enum would be made and undone at once.
 #[tactic(auto, using(crate::specs::Laws::Collect::not_broken, crate::specs::Laws::Collect::broken_alone, crate::specs::Laws::Collect::broken_promoted))]
 fn break_member(members: &mut [u64], count: usize, mode: u64, kind: u64, index: usize)
     requires { (HasRow index members.old) × (count * row_size ≤ length members.old) }
@@ -477,6 +483,7 @@ fn is_settled(core: Core, pending: &[u64], sequence: u64) -> bool
 
 // Visits until the sequence is held, the continuation is asked for or every queue is empty. Only where the queues ended
 // empty is a gap skipped.
+// Kept (2): it shares one call with `collect_until_held`: what ends it is asked before a visit, there after one, and each has a last question of its own; closures for these are longer than the loop.
 #[tactic(auto, using(crate::specs::Laws::Gather::emptying_start, crate::specs::Laws::Follows::follows_same))]
 pub fn collect_until_empty(
     core: Core,

@@ -1,4 +1,5 @@
 // `poll_data_bounded` with its refusals, over the record and the lent tables: 5 and 6, and then the form for a valid state.
+// Kept (5, 6): the host lends record and tables anew to each call; which are changed differs, and a struct of `&mut` needs a clause for each ghost name (tried).
 ghost use Rattle.srt_group_model.specs.Lent.{call_poll_data_bounded, call_poll_data};
 ghost use Rattle.srt_group_shown.specs.Tables.{tables};
 ghost use Rattle.srt_group_shown.specs.Ready.{lending};
@@ -19,7 +20,8 @@ use srt_protocol::time::Timestamp;
 #[derive(Clone, Copy)]
 pub struct GroupDataPoll {
     pub packet: Option<Packet>,
-    pub continuation: u64, // a word: as a `bool` beside the record it cost 50 ns a poll (tried)
+    // Kept (1): as a `bool` beside a record that goes by value it cost 50 ns a poll (tried).
+    pub continuation: u64,
 }
 
 // The answer, and the record after the call: as it was where the call is refused.

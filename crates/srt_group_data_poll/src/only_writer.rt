@@ -1,4 +1,5 @@
 // A caller that is the only writer: packets are queued and polled for, and nothing is tested again from call to call.
+// Kept (5, 6): the host lends record and tables anew to each call; which are changed differs, and a struct of `&mut` needs a clause for each ghost name (tried).
 ghost use Rattle.std.specs.Prelude.{◌≤◌, length};
 ghost use Rattle.srt_protocol.specs.Cells.{output_size};
 ghost use Rattle.srt_group_shown.specs.Tables.{parts, tables};

@@ -1,5 +1,6 @@
 // The give-up test, delivery and the skip: a packet at the base is given, its run passed, and what the run covers released; a gap
 // is passed over once the leg of the nearest held packet gives up on it.
+// Kept (5, 6): a step that moves tables takes them one beside the other: a struct of `&mut` asks for loans that a call does not need, and for a clause to each field, that its slice is still the caller's (tried); what holds of them is one fact, `Deliverable`.
 ghost use Rattle.std.specs.Prelude.{◌≡◌, List, [], ◌∷◌, ℕ, ◌+◌, ◌-◌, ◌*◌, ◌≤◌, ◌<◌, min, length};
 ghost use Rattle.srt_protocol.specs.Sequence.{sequence_distance};
 ghost use Rattle.srt_group_model.specs.Legs.{largest_64};

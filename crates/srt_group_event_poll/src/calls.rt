@@ -1,4 +1,5 @@
 // `poll_event` with its refusals, over the record and the lent tables: 5 and 6, and then the form for a valid state.
+// Kept (5, 6): the host lends record and tables anew to each call; which are changed differs, and a struct of `&mut` needs a clause for each ghost name (tried).
 ghost use Rattle.srt_group_model.specs.Lent.{call_poll_event};
 ghost use Rattle.srt_group_shown.specs.Tables.{tables};
 ghost use Rattle.srt_group_shown.specs.Ready.{lending};

@@ -1,4 +1,5 @@
 // The polls: what is collected is given in order, a waiting event first.
+// Kept (5, 6): a step that moves tables takes them one beside the other: a struct of `&mut` asks for loans that a call does not need, and for a clause to each field, that its slice is still the caller's (tried); what holds of them is one fact, `Usable`.
 ghost use Rattle.std.specs.Prelude.{◌≡◌, ℕ, ◌≤◌, min, length};
 ghost use Rattle.srt_group_model.specs.Sound.{SendingFit};
 ghost use Rattle.srt_group_model.specs.Delivery.{max_visits};
@@ -29,7 +30,8 @@ use srt_protocol::time::Timestamp;
 #[derive(Clone, Copy)]
 pub struct DataPoll {
     pub gave: Option<Packet>,
-    pub continuation: u64, // a word: as a `bool` beside the record it cost 50 ns a poll (tried)
+    // Kept (1): as a `bool` beside a record that goes by value it cost 50 ns a poll (tried).
+    pub continuation: u64,
     pub core: Core,
 }
 

@@ -1,5 +1,6 @@
 // A packet that is next in turn and at the base is given straight: nearly every packet that arrives in order. To hold it and to deliver it at once
 // would leave the same.
+// Kept (5): this, the give-up test and `base_stays` read core, members and pending; each caller would write a struct of the three, of five lines, for its one call.
 ghost use Rattle.std.specs.Prelude.{◌≡◌, ◌&&◌, [], ◌∷◌, ◌*◌, ◌≤◌, ◌<◌, eqb, length};
 ghost use Rattle.srt_group_model.specs.Validity.{max_members};
 ghost use Rattle.srt_connection_queue.specs.Rows.{row_size};

@@ -1,4 +1,5 @@
 // The skip: when a missing packet is passed over for good. A gap is skipped once it is given up and every queue was found empty.
+// Kept (5, 6): a step that moves tables takes them one beside the other: a struct of `&mut` asks for loans that a call does not need, and for a clause to each field, that its slice is still the caller's (tried); what holds of them is one fact, `Usable` or `Deliverable`.
 ghost use Rattle.std.specs.Prelude.{◌≡◌, List, ℕ, length};
 ghost use Rattle.srt_group_model.specs.Tools.{is_set};
 ghost use Rattle.srt_group_model.specs.State.{State};
