@@ -41,6 +41,7 @@ fn has_full_window(leg: Leg) -> bool
 }
 
 // A full window opens again once the peer acknowledges; any other failure is for good.
+#[tactic(auto, using(crate::specs::Laws::Broadcast::marked_unstable, crate::specs::Laws::Broadcast::marked_broken))]
 pub fn mark_send_failure_at(members: &mut [u64], index: usize)
     requires { HasRow index members.old }
     ensures { Changed index mark_send_failure members.old members.new }
@@ -66,6 +67,7 @@ pub fn above_limit(rows: &[Row], size: u64) -> bool
 }
 
 // The group's send number, else the next number of the member's leg.
+#[tactic(auto, using(crate::specs::Laws::Broadcast::numbered_number, crate::specs::Laws::Broadcast::leg_number))]
 pub fn sequence_for_send(row: &Row, sending: Sending) -> u64
     ensures { result ≡ number_for_send sending (member_of row.now) }
 {
@@ -124,6 +126,7 @@ fn attempt_send_at(
 }
 
 // An attempt on every active member: how many were successful.
+#[tactic(auto, using(crate::specs::Laws::Broadcast::attempting_done))]
 fn attempt_sends(
     members: &mut [u64],
     count: usize,

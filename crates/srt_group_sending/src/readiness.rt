@@ -47,6 +47,7 @@ pub fn broadcast_send_ready(rows: &[Row], pacing: Option<Timestamp>) -> bool
 // ---- how long until a send
 
 // Active or Standby: one that sends, or that could take over.
+#[tactic(auto, using(crate::specs::Laws::Readiness::active_carries, crate::specs::Laws::Readiness::standby_carries))]
 fn may_carry(state: u64) -> bool
     ensures { result ≡ may_carry state }
 {
@@ -57,6 +58,7 @@ fn may_carry(state: u64) -> bool
 }
 
 // The least of the wait of a member, if it is Active or Standby, and of the least of those behind it.
+#[tactic(auto, using(crate::specs::Laws::Readiness::least_without, crate::specs::Laws::Readiness::least_alone, crate::specs::Laws::Readiness::least_now, crate::specs::Laws::Readiness::least_before))]
 fn least_wait_with(row: &Row, time: Timestamp, least: Option<u64>) -> Option<u64>
     ensures { result ≡ least_with time.0 (member_of row.now) least }
 {
@@ -75,6 +77,7 @@ fn least_wait_with(row: &Row, time: Timestamp, least: Option<u64>) -> Option<u64
 }
 
 // The least time until a send of the Active and Standby members.
+#[tactic(auto, using(crate::specs::Laws::Readiness::least_start, crate::specs::Laws::Readiness::wait_none, crate::specs::Laws::Readiness::wait_least))]
 pub fn group_time_until_send(rows: &[Row], time: Timestamp) -> u64
     ensures { result ≡ group_time_until_send time.0 (members_in rows.now) }
 {
@@ -91,6 +94,7 @@ pub fn group_time_until_send(rows: &[Row], time: Timestamp) -> u64
 // ---- Backup: whether the next send could go, with the take-over that it would make
 
 // Another member carried the last send.
+#[tactic(auto, using(crate::specs::Laws::BackupReadiness::no_carrier, crate::specs::Laws::BackupReadiness::other_carrier))]
 pub fn takes_over(sending: Sending, id: u64) -> bool
     ensures { result ≡ is_other_carrier id sending }
 {
@@ -101,6 +105,7 @@ pub fn takes_over(sending: Sending, id: u64) -> bool
 }
 
 // The sequence of the oldest entry of the history.
+#[tactic(auto, using(crate::specs::Laws::BackupReadiness::front_missing, crate::specs::Laws::BackupReadiness::front_there))]
 fn front_sequence(history: &HistoryWords) -> Option<u64>
     ensures { result ≡ front_sequence history.now.ring history.now.history.now }
 {
@@ -111,6 +116,7 @@ fn front_sequence(history: &HistoryWords) -> Option<u64>
 }
 
 // The sequence at which a leg has to stand: that of the first entry that it would replay, else the group's send number.
+#[tactic(auto, using(crate::specs::Laws::BackupReadiness::no_replay, crate::specs::Laws::BackupReadiness::nothing_to_replay, crate::specs::Laws::BackupReadiness::replay_from))]
 fn replay_sequence(takes: bool, sending: Sending, history: &HistoryWords) -> Option<u64>
     ensures { result ≡ replay_sequence takes sending history.now.ring history.now.history.now }
 {
@@ -125,6 +131,7 @@ fn replay_sequence(takes: bool, sending: Sending, history: &HistoryWords) -> Opt
 }
 
 // A history that lost entries cannot be replayed.
+#[tactic(auto, using(crate::specs::Laws::BackupReadiness::allows_without, crate::specs::Laws::BackupReadiness::allows_none, crate::specs::Laws::BackupReadiness::allows_whole))]
 fn gap_allows(takes: bool, replay: usize, gap: u64) -> bool
     ensures { result ≡ gap_allows takes replay gap }
 {
@@ -138,6 +145,7 @@ fn gap_allows(takes: bool, replay: usize, gap: u64) -> bool
 }
 
 // Whether the leg stands at the sequence, or can be brought there because nothing of it is in flight.
+#[tactic(auto, using(crate::specs::Laws::BackupReadiness::stands_anywhere, crate::specs::Laws::BackupReadiness::stands_there, crate::specs::Laws::BackupReadiness::stands_elsewhere))]
 fn stands_at(leg: Leg, sequence: Option<u64>) -> bool
     ensures { result ≡ stands_at sequence leg }
 {
@@ -151,6 +159,7 @@ fn stands_at(leg: Leg, sequence: Option<u64>) -> bool
 }
 
 // How many entries a leg would replay.
+#[tactic(auto, using(crate::specs::Laws::BackupReadiness::replays_all, crate::specs::Laws::BackupReadiness::replays_none))]
 fn replay_length(takes: bool, history: &HistoryWords) -> usize
     ensures { result ≡ replay_length takes history.now.ring }
 {
@@ -161,6 +170,7 @@ fn replay_length(takes: bool, history: &HistoryWords) -> usize
 }
 
 // Whether a leg that can send could make the take-over, with room for the send behind it.
+#[tactic(auto, using(crate::specs::Laws::BackupReadiness::gap_refuses, crate::specs::Laws::BackupReadiness::window_refuses, crate::specs::Laws::BackupReadiness::stands_decides))]
 fn could_take_over(leg: Leg, id: u64, sending: Sending, history: &HistoryWords) -> bool
     ensures { result ≡ could_take_over id sending history.now.ring history.now.history.now leg }
 {
@@ -177,6 +187,7 @@ fn could_take_over(leg: Leg, id: u64, sending: Sending, history: &HistoryWords) 
 }
 
 // Whether a member could carry the next send.
+#[tactic(auto, using(crate::specs::Laws::BackupReadiness::cannot_send_yet, crate::specs::Laws::BackupReadiness::has_no_sender, crate::specs::Laws::BackupReadiness::ready_if_takes_over))]
 pub fn backup_member_ready(
     row: &Row,
     sending: Sending,
