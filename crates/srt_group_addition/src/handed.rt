@@ -41,6 +41,7 @@ fn leg_unfit(id: u64, weight: u64, leg: Leg) -> bool
 }
 
 // 21: a member has the id.
+#[tactic(auto, using(srt_group_members::specs::Laws::Scan::any_found))]
 fn has_member(rows: &[Row], id: u64) -> bool
     ensures { result ≡ any (has_id id) (members_in rows.now) }
 {
@@ -49,6 +50,7 @@ fn has_member(rows: &[Row], id: u64) -> bool
 
 // What refuses an addition after 5 and 6 of the group's own state: 6 of the leg, 2, 20, 21.
 // Kept (6): words and count, since the table may not have so many rows until 20 is tested.
+#[tactic(auto, using(crate::specs::Laws::Handed::stops_in_use, crate::specs::Laws::Handed::stops_unfit, crate::specs::Laws::Handed::stops_full, crate::specs::Laws::Handed::stops_duplicate, crate::specs::Laws::Handed::none_stops))]
 fn refusal(
     members: &[u64],
     count: usize,
@@ -77,6 +79,7 @@ fn refusal(
 }
 
 // `add_member` after 5 and 6 of the group's own state. It touches the record's core and the members only.
+#[tactic(auto, using(crate::specs::Laws::Handed::leg_refused, crate::specs::Laws::Handed::leg_room, crate::specs::Laws::Handed::leg_added))]
 pub fn add_leg(
     core: Core,
     sending: Sending,

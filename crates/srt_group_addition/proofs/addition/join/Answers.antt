@@ -2,11 +2,7 @@
 use mathlib.Core.Path.{ap, refl, ◌∙◌}
 use Rattle.srt_group_model.specs.Calls.{state_at_addition}
 use Rattle.srt_group_addition.specs.Laws.Addition.{joins}
-use borrow.Author.Rules.{rules}
 use Rattle.srt_group_addition.proofs.addition.join.Goals as goal
-
-pub overflow_add-one_more : goal.overflow_add-one_more
-overflow_add-one_more c = search (rules, c.requires.0)
 
 pub returns : goal.returns
 returns c =
