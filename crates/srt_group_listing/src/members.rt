@@ -1,4 +1,5 @@
 // The verbs that add, remove or change a member, and those that queue an event or read a leg's field.
+// Kept (5): the group stands in an Option beside the memory (srt_group_replay), so a struct of both would be made and taken apart at each line.
 ghost use Rattle.std.specs.Prelude.{◌≡◌};
 ghost use Rattle.srt_protocol.specs.Errors.{outcome_number};
 ghost use Rattle.srt_group_model.specs.Listing.{leg_of_line, refused_line};
@@ -7,6 +8,7 @@ ghost use Rattle.srt_group_listing.specs.Telling.{ReadyFor, numbers_of, HandedOv
 
 use crate::{Line, Memory, Printed, Told};
 use srt_connection_members::{clear_at, put_leg_at};
+use srt_connection_queue::rows::{ROW, Row};
 use srt_group::Group;
 use srt_group_addition::handed::add_member;
 use srt_group_member_states::broken::mark_member_broken;
@@ -65,10 +67,10 @@ fn leg_of_line(line: &Line) -> Leg
 }
 
 // The leg of verb 2 into a row, as an addition is handed one: with an empty queue.
-fn hand_over(line: &Line) -> [u64; 189]
+fn hand_over(line: &Line) -> Row
     ensures { HandedOver (leg_of_line line.now) result }
 {
-    let mut row = [0u64; 189];
+    let mut row = [0; ROW];
     put_leg_at(&mut row, 0, leg_of_line(line));
     clear_at(&mut row, 0);
     row
@@ -79,18 +81,12 @@ pub fn add(memory: &mut Memory, group: Group, line: &Line) -> Told
     requires { ReadyFor group memory.old }
     ensures { Tells 2 (addition line.now) group memory.old result memory.new }
 {
-    let Group {
-        identity,
-        core,
-        sending,
-        ring,
-    } = group;
     let row = hand_over(line);
     let added = add_member(
-        identity,
-        core,
-        sending,
-        ring,
+        group.identity,
+        group.core,
+        group.sending,
+        group.ring,
         &mut memory.members,
         &memory.pending,
         &memory.waiting,
@@ -104,31 +100,24 @@ pub fn add(memory: &mut Memory, group: Group, line: &Line) -> Told
     );
     Told {
         group: Group {
-            identity,
             core: added.core,
-            sending,
-            ring,
+            ..group
         },
         line: outcome_line(2, added.outcome),
     }
 }
 
+// Kept (2): `read` and `queue` differ in the call that they make; a closure for it would take the eleven words and tables that the call takes.
 // Verb 3: a number is read into a leg's field.
 pub fn read(memory: &mut Memory, group: Group, line: &Line) -> Told
     requires { ReadyFor group memory.old }
     ensures { Tells 3 (reading line.now) group memory.old result memory.new }
 {
-    let Group {
-        identity,
-        core,
-        sending,
-        ring,
-    } = group;
     let outcome = read_leg(
-        identity,
-        core,
-        sending,
-        ring,
+        group.identity,
+        group.core,
+        group.sending,
+        group.ring,
         &mut memory.members,
         &memory.pending,
         &memory.waiting,
@@ -151,17 +140,11 @@ pub fn remove(memory: &mut Memory, group: Group, line: &Line) -> Told
     requires { ReadyFor group memory.old }
     ensures { Tells 7 (removing line.now) group memory.old result memory.new }
 {
-    let Group {
-        identity,
-        core,
-        sending,
-        ring,
-    } = group;
     let removed = remove_member(
-        identity,
-        core,
-        sending,
-        ring,
+        group.identity,
+        group.core,
+        group.sending,
+        group.ring,
         &mut memory.members,
         &mut memory.pending,
         &memory.waiting,
@@ -173,10 +156,8 @@ pub fn remove(memory: &mut Memory, group: Group, line: &Line) -> Told
     );
     Told {
         group: Group {
-            identity,
             core: removed.core,
-            sending,
-            ring,
+            ..group
         },
         line: outcome_line(7, removed.outcome),
     }
@@ -187,17 +168,11 @@ pub fn mark_broken(memory: &mut Memory, group: Group, line: &Line) -> Told
     requires { ReadyFor group memory.old }
     ensures { Tells 8 (breaking line.now) group memory.old result memory.new }
 {
-    let Group {
-        identity,
-        core,
-        sending,
-        ring,
-    } = group;
     let outcome = mark_member_broken(
-        identity,
-        core,
-        sending,
-        ring,
+        group.identity,
+        group.core,
+        group.sending,
+        group.ring,
         &mut memory.members,
         &memory.pending,
         &memory.waiting,
@@ -213,22 +188,17 @@ pub fn mark_broken(memory: &mut Memory, group: Group, line: &Line) -> Told
     }
 }
 
+// Kept (2): `read` and `queue` differ in the call that they make; a closure for it would take the eleven words and tables that the call takes.
 // Verb 9: an event is queued at a leg.
 pub fn queue(memory: &mut Memory, group: Group, line: &Line) -> Told
     requires { ReadyFor group memory.old }
     ensures { Tells 9 (event line.now) group memory.old result memory.new }
 {
-    let Group {
-        identity,
-        core,
-        sending,
-        ring,
-    } = group;
     let outcome = queue_event(
-        identity,
-        core,
-        sending,
-        ring,
+        group.identity,
+        group.core,
+        group.sending,
+        group.ring,
         &mut memory.members,
         &memory.pending,
         &memory.waiting,

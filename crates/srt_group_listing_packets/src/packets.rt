@@ -1,4 +1,5 @@
 // The verbs that queue a packet, poll for one and send one.
+// Kept (5): the group stands in an Option beside the memory (srt_group_replay), so a struct of both would be made and taken apart at each line.
 ghost use Rattle.std.specs.Prelude.{◌≡◌};
 ghost use Rattle.srt_group_model.specs.Listing.{column};
 ghost use Rattle.srt_group_traces.specs.VerbCalls.{data_of_line, queueing, polling, sending};
@@ -41,18 +42,12 @@ pub fn queue(memory: &mut Memory, group: Group, line: &Line) -> Told
             line: outcome_line(4, Err(Error::OutOfRange)),
         };
     }
-    let Group {
-        identity,
-        core,
-        sending,
-        ring,
-    } = group;
     let payload = [line[5] as u8];
     let outcome = queue_data(
-        identity,
-        core,
-        sending,
-        ring,
+        group.identity,
+        group.core,
+        group.sending,
+        group.ring,
         &mut memory.members,
         &memory.pending,
         &memory.waiting,
@@ -99,17 +94,11 @@ pub fn poll(memory: &mut Memory, group: Group, line: &Line) -> Told
     requires { ReadyFor group memory.old }
     ensures { Tells 5 (polling line.now) group memory.old result memory.new }
 {
-    let Group {
-        identity,
-        core,
-        sending,
-        ring,
-    } = group;
     let polled = poll_data_bounded(
-        identity,
-        core,
-        sending,
-        ring,
+        group.identity,
+        group.core,
+        group.sending,
+        group.ring,
         &mut memory.members,
         &mut memory.pending,
         &mut memory.waiting,
@@ -124,10 +113,8 @@ pub fn poll(memory: &mut Memory, group: Group, line: &Line) -> Told
     let after = polled.core;
     Told {
         group: Group {
-            identity,
             core: after,
-            sending,
-            ring,
+            ..group
         },
         line: packet_line(polled.gave, after.receiving.skipped),
     }
@@ -146,14 +133,7 @@ fn sent_line(answer: Result<usize, Error>) -> Printed
             count: 0,
             skipped: 0,
         },
-        Err(error) => Printed {
-            verb: 6,
-            code: u32::from(error) as u64,
-            leg: 0,
-            sequence: 0,
-            count: 0,
-            skipped: 0,
-        },
+        Err(error) => outcome_line(6, Err(error)),
     }
 }
 
@@ -168,18 +148,12 @@ pub fn send(memory: &mut Memory, group: Group, line: &Line) -> Told
             line: outcome_line(6, Err(Error::OutOfRange)),
         };
     }
-    let Group {
-        identity,
-        core,
-        sending,
-        ring,
-    } = group;
     let payload = [line[1] as u8];
     let sent = sending::send(
-        identity,
-        core,
-        sending,
-        ring,
+        group.identity,
+        group.core,
+        group.sending,
+        group.ring,
         &mut memory.members,
         &memory.pending,
         &memory.waiting,
@@ -193,7 +167,7 @@ pub fn send(memory: &mut Memory, group: Group, line: &Line) -> Told
     );
     Told {
         group: Group {
-            identity,
+            identity: group.identity,
             core: sent.core,
             sending: sent.sending,
             ring: sent.ring,

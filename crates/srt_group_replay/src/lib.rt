@@ -8,16 +8,18 @@ ghost use Rattle.srt_group_listing.specs.Telling.{ReadyFor};
 ghost use Rattle.srt_group_listing.specs.Verbs.{TellsVerb};
 ghost use Rattle.srt_group_replay.specs.Told.{TellsLine};
 
-use cell_set::clear;
+use cell_set::{WORDS, clear};
+use srt_connection_members::MEMBERS_LENGTH;
 use srt_group::Group;
 use srt_group_listing::members::outcome_line;
-use srt_group_listing::{Line, Memory, Printed, Told, members};
+use srt_group_listing::{LIST, Line, Memory, Printed, STORE, Told, members};
 use srt_group_listing_packets::packets;
+use srt_group_tables::history::MAX_HISTORY;
+use srt_group_tables::pending::PENDING_LENGTH;
+use srt_group_tables::waiting::WAITING_LENGTH;
 use srt_protocol::error::Error;
+use srt_protocol::received_payload::OUTPUT;
 use std::marker::Model;
-
-// The bytes of the store: 40 cells.
-const STORE: usize = 40 * Group::CELL;
 
 // The group that stands, none before a line made one, over the memory that it is lent. The replay is its only writer. In contracts it is the
 // state that the group shows.
@@ -48,15 +50,15 @@ impl Replay {
         Replay {
             group: None,
             memory: Memory {
-                members: [0; 12096],
-                pending: [0; 18432],
-                waiting: [0; 192],
-                history: [0; 512],
-                sources: [0; 512],
-                store: [0; 58240],
-                output: [0; 1468],
-                list: [0; 5500],
-                used: [0; 32],
+                members: [0; MEMBERS_LENGTH],
+                pending: [0; PENDING_LENGTH],
+                waiting: [0; WAITING_LENGTH],
+                history: [0; MAX_HISTORY],
+                sources: [0; MAX_HISTORY],
+                store: [0; STORE],
+                output: [0; OUTPUT],
+                list: [0; LIST],
+                used: [0; WORDS],
             },
         }
     }
@@ -104,6 +106,7 @@ impl Replay {
 }
 
 // Any verb over a group that was made, 2 to 9.
+// Kept (5): the group stands in an Option beside the memory (srt_group_replay), so a struct of both would be made and taken apart at each line.
 #[tactic(auto, using(srt_group_listing::specs::Laws::Verbs::tells_2, srt_group_listing::specs::Laws::Verbs::tells_3, srt_group_listing::specs::Laws::Verbs::tells_4, srt_group_listing::specs::Laws::Verbs::tells_5, srt_group_listing::specs::Laws::Verbs::tells_6, srt_group_listing::specs::Laws::Verbs::tells_7, srt_group_listing::specs::Laws::Verbs::tells_8, srt_group_listing::specs::Laws::Verbs::tells_9))]
 fn tell_made(memory: &mut Memory, group: Group, line: &Line) -> Told
     requires ready { ReadyFor group memory.old }
