@@ -12,7 +12,7 @@ ghost use Rattle.srt_group_shown.specs.Tables.{parts, tables};
 ghost use Rattle.srt_group_shown.specs.Ready.{Ready, storing, Performs};
 ghost use Rattle.srt_group_addition.specs.Handed.{in_use, unfit, addition_refused, call_of_member, call_of_row, StepsAdding};
 
-use crate::addition::{Added, add_member_at_end};
+use crate::addition::{Added, NewMember, add_member_at_end};
 use cell_set::CellSet;
 use srt_connection::legs::{LARGEST_16, LARGEST_32, handed_over};
 use srt_connection_members::{MAX_MEMBERS, find, rows};
@@ -31,13 +31,13 @@ fn leg_in_use(row: &Row, leg: Leg) -> bool
 }
 
 // 2: an id, a weight or a field of the leg out of range. The leg's sender is that of a leg handed over.
-fn leg_unfit(id: u64, weight: u64, leg: Leg) -> bool
-    ensures { result ≡ unfit id weight leg }
+fn leg_unfit(member: NewMember) -> bool
+    ensures { result ≡ unfit member.id member.weight member.leg }
 {
-    (LARGEST_32 < id)
-        | (LARGEST_16 < weight)
-        | leg_out_of_range(handed_over(leg))
-        | leg_sequence_too_large(leg)
+    (LARGEST_32 < member.id)
+        | (LARGEST_16 < member.weight)
+        | leg_out_of_range(handed_over(member.leg))
+        | leg_sequence_too_large(member.leg)
 }
 
 // 21: a member has the id.
@@ -51,28 +51,21 @@ fn has_member(rows: &[Row], id: u64) -> bool
 // What refuses an addition after 5 and 6 of the group's own state: 6 of the leg, 2, 20, 21.
 // Kept (6): words and count, since the table may not have so many rows until 20 is tested.
 #[tactic(auto, using(crate::specs::Laws::Handed::stops_in_use, crate::specs::Laws::Handed::stops_unfit, crate::specs::Laws::Handed::stops_full, crate::specs::Laws::Handed::stops_duplicate, crate::specs::Laws::Handed::none_stops))]
-fn refusal(
-    members: &[u64],
-    count: usize,
-    row: &Row,
-    leg: Leg,
-    id: u64,
-    weight: u64,
-) -> Result<(), Error>
+fn refusal(members: &[u64], count: usize, row: &Row, member: NewMember) -> Result<(), Error>
     requires { members_size ≤ length members.now }
-    ensures { result ≡ addition_refused id weight leg (member_of row.now).queue
+    ensures { result ≡ addition_refused member.id member.weight member.leg (member_of row.now).queue
         (members_of count members.now) }
 {
-    if leg_in_use(row, leg) {
+    if leg_in_use(row, member.leg) {
         return Err(Error::InvalidState);
     }
-    if leg_unfit(id, weight, leg) {
+    if leg_unfit(member) {
         return Err(Error::OutOfRange);
     }
     if MAX_MEMBERS <= count {
         return Err(Error::MemberLimit);
     }
-    if has_member(rows(members, count), id) {
+    if has_member(rows(members, count), member.id) {
         return Err(Error::DuplicateMember);
     }
     Ok(())
@@ -93,15 +86,16 @@ pub fn add_leg(
         result members.new }
 {
     let leg = leg(row);
+    let member = NewMember { id, weight, leg };
     let count = core.counts.members;
-    let refused = refusal(members, count, row, leg, id, weight);
+    let refused = refusal(members, count, row, member);
     if let Err(error) = refused {
         return Added {
             core,
             outcome: Err(error),
         };
     }
-    add_member_at_end(core, sending, members, id, weight, leg)
+    add_member_at_end(core, sending, members, member)
 }
 
 // `add_member` for a valid state. The cells in use stay the same; the store is lent for its length, over which the state is valid.

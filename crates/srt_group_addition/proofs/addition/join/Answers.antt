@@ -7,6 +7,6 @@ use Rattle.srt_group_addition.proofs.addition.join.Goals as goal
 pub returns : goal.returns
 returns c =
     let a = c.args in
-    joins a.id a.weight a.leg a.core a.members.now
-    (c.state_at_addition-state.ensures ∙ ap (state_at_addition a.core.mode a.leg) c.rows.ensures.shows) c.membership_at_addition.ensures _ c.append_member.ensures
+    joins a.member.id a.member.weight a.member.leg a.core a.members.now
+    (c.state_at_addition-state.ensures ∙ ap (state_at_addition a.core.mode a.member.leg) c.rows.ensures.shows) c.membership_at_addition.ensures _ c.append_member.ensures
     _ _ _ c.admit_peer_group-admission.ensures refl refl _ c.set_base-after.ensures
