@@ -272,21 +272,11 @@ pub fn give_waiting(mut core: Core, waiting: &mut [u64]) -> Poll
     }
 }
 
-// A total and what is added to it, up to the largest that 64 bits hold.
-fn saturating_add(total: u64, more: u64) -> u64
-    ensures { result ≡ min (total + more) largest_64 }
-{
-    if more <= u64::MAX - total {
-        return total + more;
-    }
-    u64::MAX
-}
-
 // The skipped total, once the base has gone from `base` ahead to `next`.
 fn skipped_after(skipped: u64, base: u64, next: u64) -> u64
     ensures { result ≡ min (skipped + sequence_distance base next) largest_64 }
 {
-    saturating_add(skipped, word_distance(base, next))
+    skipped.saturating_add(word_distance(base, next))
 }
 
 // The base goes from `base` ahead to `next`, and the skipped total rises by the distance.

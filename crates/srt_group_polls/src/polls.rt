@@ -1,8 +1,7 @@
 // The polls: what is collected is given in order, a waiting event first.
 // Kept (5, 6): a step that moves tables takes them one beside the other: a struct of `&mut` asks for loans that a call does not need, and for a clause to each field, that its slice is still the caller's (tried); what holds of them is one fact, `Usable`.
-ghost use Rattle.std.specs.Prelude.{◌≡◌, ℕ, ◌≤◌, min, length};
+ghost use Rattle.std.specs.Prelude.{◌≡◌, ℕ, ◌≤◌};
 ghost use Rattle.srt_group_model.specs.Sound.{SendingFit};
-ghost use Rattle.srt_group_model.specs.Delivery.{max_visits};
 ghost use Rattle.srt_group_model.specs.Polls.{poll_event, poll_until_data, poll_data_bounded};
 ghost use Rattle.srt_group_shown.specs.Tables.{receive_tables};
 ghost use Rattle.srt_group_collecting.specs.Leaves.{sends, Usable};
@@ -197,16 +196,6 @@ fn poll_until_data(
     }
 }
 
-// As many event polls as events may be passed over, but no more than the polls of one call.
-fn visits_allowed(max_events: usize) -> usize
-    ensures { result ≡ min max_events max_visits }
-{
-    if MAX_VISITS < max_events {
-        return MAX_VISITS;
-    }
-    max_events
-}
-
 // A packet, passing over at most so many events; with none allowed there is no packet, and nothing changes.
 pub fn poll_data_bounded(
     core: Core,
@@ -234,6 +223,6 @@ pub fn poll_data_bounded(
             core,
         };
     }
-    let visits = visits_allowed(max_events);
+    let visits = max_events.min(MAX_VISITS);
     poll_until_data(core, sending, members, pending, waiting, used, time, visits)
 }
