@@ -30,13 +30,12 @@ fn take_through<'a>(
 fn take_next<'a>(block: &'a [u8], line: &mut OpenLine<LINE>, row: &mut [u64; 8]) -> Option<&'a [u8]>
     ensures { LineTakenFrom block.now line.old line.new row.new result }
 {
-    if !line.is_empty() {
-        return take_through(block, line, row);
+    if line.is_empty() {
+        if let Some(rest) = listing::read_whole_line(block, WIDTH, row) {
+            return Some(rest);
+        }
     }
-    match listing::read_whole_line(block, WIDTH, row) {
-        Some(rest) => Some(rest),
-        None => take_through(block, line, row),
-    }
+    take_through(block, line, row)
 }
 
 // Takes all lines that a block ends, the first of them behind what is held of it: a row each. The answer is how many they are.

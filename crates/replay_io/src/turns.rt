@@ -22,10 +22,7 @@ pub struct State {
 fn write_text<W: Write>(to: &mut W, text: &[u8]) -> Result<(), Stopped>
     ensures { OnOk result (Appends (W.contents to.old) (W.contents to.new) text.now) }
 {
-    match to.write_all(text) {
-        Ok(()) => Ok(()),
-        Err(error) => Err(Stopped::Writing(error)),
-    }
+    to.write_all(text).map_err(Stopped::Writing)
 }
 
 // Reads one block, answers it, and writes the text of its answers. The answer is how many bytes were read: none where the listing ended.
@@ -39,10 +36,7 @@ pub fn turn<R: Read, W: Write>(
     ensures read { IfOk result (λ count. BlockRead (R.remaining input.old) (R.remaining input.new) count block.new) }
     ensures replayed { IfOk result (λ count. BlockReplayed (take count block.new) state.old state.new (W.contents to.old) (W.contents to.new)) }
 {
-    let count = match input.read(block) {
-        Ok(count) => count,
-        Err(error) => return Err(Stopped::Reading(error)),
-    };
+    let count = input.read(block).map_err(Stopped::Reading)?;
     if count == 0 {
         return Ok(0);
     }
