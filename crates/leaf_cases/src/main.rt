@@ -4,6 +4,7 @@
 //
 // The stored input and output are the questions and answers that the Rust's own leaves give: oracle/check makes them anew with
 // oracle/srt-protocol/examples/leaf_cases.rs and compares.
+// Kept (7): the operations' numbers are those of the stored questions; an enum of the four would be made by the very same match.
 
 #![tactic(auto)]
 
@@ -25,7 +26,6 @@ fn in_range(a: u64, b: u64) -> Option<(u32, u32)> {
 // 1: a is before b. 2: microseconds from b to a. 3: b microseconds after a. 4: a is a group's id. No answer is there for an
 // unknown operation or an argument beyond its range.
 fn run_leaf(operation: u64, a: u64, b: u64) -> Option<u64> {
-    // The numbers are those of the stored questions: an enum of the four would be made by this very match.
     match operation {
         1 => in_range(a, b).map(|(a, b)| u64::from(srt_packet::sequence_less_than(a, b))),
         2 => Some(Timestamp(a).saturating_sub(Timestamp(b))),
@@ -66,7 +66,7 @@ fn answer_lines(lines: &[u8], out: &mut [u8]) -> usize
 fn read_full(input: &mut impl Read, buffer: &mut [u8]) -> io::Result<usize>
     ensures { IfOk result (λ size. size ≤ length buffer.new) }
 {
-    // read_exact does not say how many bytes came before the input's end, and read_to_end takes a Vec, which is on the heap.
+    // Kept (3): read_exact does not say how many bytes came before the input's end, and read_to_end takes a Vec, which is on the heap.
     let mut size: usize = 0;
     while size < buffer.len() {
         let got = input.read(&mut buffer[size..])?;

@@ -27,7 +27,8 @@ fn run<R: Read, W: Write>(input: &mut R, to: &mut W) -> Result<(), Stopped>
     let mut block = [0u8; BLOCK];
     let mut room = Room::new();
     for _ in 0..u64::MAX {
-        if turn(input, to, &mut state, &mut block, &mut room)? == 0 {
+        let count = turn(input, to, &mut state, &mut block, &mut room)?;
+        if count == 0 {
             return finish(to, &mut state, &mut room);
         }
     }

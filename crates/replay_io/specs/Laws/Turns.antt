@@ -117,9 +117,8 @@ module _ {s : State} {left₀ left written₀ written : Option (List ℕ)} where
             (appends_then written₀ written written' _ _ so.text (done.text line so.open_held));
       }
 
-  -- the same where it is known only of some listings that they ended, and only the outcome says whether the last line was written
-  pub whole_if : {T E A : Type 0} (outcome : Result T E) (written' : Option (List ℕ)) → ReplayedSoFar s left₀ left written₀ written
-      → (A → IsAtEnd left) → OnOk outcome (LastReplayed s written written')
-      → OnOk outcome (A → ListingReplayed left₀ left written₀ written')
-  whole_if (Ok x) written' so end done = λ a. whole so (end a) done
+  -- the same where only the outcome says whether the last line was written
+  pub whole_if : {T E : Type 0} (outcome : Result T E) (written' : Option (List ℕ)) → ReplayedSoFar s left₀ left written₀ written
+      → IsAtEnd left → OnOk outcome (LastReplayed s written written') → OnOk outcome (ListingReplayed left₀ left written₀ written')
+  whole_if (Ok x) written' so end done = whole so end done
   whole_if (Err e) written' so end done = tt
