@@ -4,6 +4,8 @@
 //
 // The stored input and output are the questions and answers that the Rust's own leaves give: oracle/check makes them anew with
 // oracle/srt-protocol/examples/leaf_cases.rs and compares.
+// Kept (3): a read gives any number of bytes; read_exact does not say how many came before the input's end, and read_to_end takes a Vec, which is
+// on the heap.
 // Kept (7): the operations' numbers are those of the stored questions; an enum of the four would be made by the very same match.
 
 #![tactic(auto)]
@@ -66,7 +68,6 @@ fn answer_lines(lines: &[u8], out: &mut [u8]) -> usize
 fn read_full(input: &mut impl Read, buffer: &mut [u8]) -> io::Result<usize>
     ensures { IfOk result (λ size. size ≤ length buffer.new) }
 {
-    // Kept (3): read_exact does not say how many bytes came before the input's end, and read_to_end takes a Vec, which is on the heap.
     let mut size: usize = 0;
     while size < buffer.len() {
         let got = input.read(&mut buffer[size..])?;
