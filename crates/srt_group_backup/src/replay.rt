@@ -23,6 +23,7 @@ pub struct Replayed {
 }
 
 // One entry on a leg, with its row in the list if it was sent.
+#[tactic(auto, using(crate::specs::Laws::Replay::entry_failed))]
 fn replay_entry(
     leg: Leg,
     entry: Entry,
@@ -44,6 +45,7 @@ fn replay_entry(
 }
 
 // All entries, oldest first, up to one that fails.
+#[tactic(auto, using(crate::specs::Laws::Replay::replaying_start))]
 pub fn replay_entries(
     leg: Leg,
     history: &History,

@@ -26,6 +26,7 @@ fn larger(a: u64, b: u64) -> u64
 }
 
 // How long a carrier may be silent: twice the round trip and four times its variance, but not less than 60 ms.
+#[tactic(auto, unfolding(srt_group_model::specs::Backup::stability_timeout))]
 pub fn stability_timeout(leg: Leg) -> u64
     requires { TripFit leg }
     ensures { result ≡ stability_timeout leg }
@@ -36,6 +37,7 @@ pub fn stability_timeout(leg: Leg) -> u64
 
 // Data is outstanding, and the peer has been silent for longer than the timeout. Silence is counted from the oldest send or, if
 // that is later, from when the peer was last heard.
+#[tactic(auto, using(crate::specs::Laws::Stale::no_sender_not_stale, crate::specs::Laws::Stale::no_flight_not_stale, crate::specs::Laws::Stale::stale_by_silence))]
 pub fn is_stale(leg: Leg, time: Timestamp) -> bool
     requires { TripFit leg }
     ensures { result ≡ is_stale time.0 leg }

@@ -37,6 +37,7 @@ pub struct TakenOver {
 }
 
 // The flight on a leg that stands at its first sequence. The window must have room for one more than all: the next send.
+#[tactic(auto, using(crate::specs::Laws::TakeOver::no_room_to_replay, crate::specs::Laws::TakeOver::replayed_with_room))]
 pub fn replay_on(
     leg: Leg,
     history: &History,
@@ -110,6 +111,7 @@ pub fn replay_flight(
 }
 
 // With nothing to replay the leg is aligned to the group's send number, once there is one.
+#[tactic(auto, using(crate::specs::Laws::TakeOver::carrier_not_aligned, crate::specs::Laws::TakeOver::carrier_aligned))]
 pub fn align_carrier(
     sending: Sending,
     members: &mut [u64],
@@ -129,6 +131,7 @@ pub fn align_carrier(
 }
 
 // The member at an index is made ready to carry the next send.
+#[tactic(auto, using(crate::specs::Laws::TakeOver::no_take_over))]
 pub fn take_over_backup_flight(
     sending: Sending,
     history: &History,

@@ -3,11 +3,8 @@
 use Rattle.std.proofs.Common.{◌≡◌}
 use native.Mathlib.Omega.{arith}
 use Rattle.srt_group_tables.specs.Ring.{arrays}
-use Rattle.srt_group_backup.specs.Laws.Replay.{replaying_start, replaying_on, replay_stopped, replay_done}
+use Rattle.srt_group_backup.specs.Laws.Replay.{replaying_on, replay_stopped, replay_done}
 use Rattle.srt_group_backup.proofs.replay.replay_entries.Goals as goal
-
-pub loop-index-init : goal.loop-index-init
-loop-index-init c = replaying_start _ _ _ _ _ _
 
 pub returns-in_default : goal.returns-in_default
 returns-in_default c = search replay_stopped

@@ -1,11 +1,7 @@
 -- `take_over_backup_flight` meets its contract: each return is one of the three cases of a take-over.
-use borrow.Author.Tests.{not-true}
-use Rattle.srt_group_backup.specs.Laws.TakeOver.{no_take_over, took_over_nothing, took_over_flight}
+use Rattle.srt_group_backup.specs.Laws.TakeOver.{took_over_nothing, took_over_flight}
 use Rattle.srt_group_tables.specs.Ring.{arrays}
 use Rattle.srt_group_backup.proofs.takeover.take_over_backup_flight.Goals as goal
-
-pub returns-then-not-takes_over : goal.returns-then-not-takes_over
-returns-then-not-takes_over c = search (no_take_over, not-true)
 
 pub returns-then-left-eq0 : goal.returns-then-left-eq0
 returns-then-left-eq0 c =
