@@ -31,6 +31,7 @@ pub fn mode(lent: &LentGroup) -> Result<u64, Error>
 }
 
 // The peer group that the group is bound to, if it is.
+#[tactic(auto, using(crate::specs::Laws::Looks::no_peer_shown))]
 pub fn peer_group_id(lent: &LentGroup) -> Result<Option<u64>, Error>
     ensures { Looked look_peer_group_id (parts_of lent.now.group) (tables_of lent.now)
         (optional_code result) (optional_answer result) }

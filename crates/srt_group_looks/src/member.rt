@@ -26,6 +26,7 @@ pub fn shown(row: &Row) -> MemberShown
 }
 
 // The row of the member with the id.
+#[tactic(auto, using(crate::specs::Laws::Member::unfit_refuses))]
 fn member_row<'a>(lent: &LentGroup<'a>, id: u64) -> Result<&'a Row, Error>
     ensures { MatchResult result
         (λ row. RowFound id (parts_of lent.now.group) (tables_of lent.now) row.now)

@@ -49,6 +49,7 @@ fn list_member(row: &Row, index: usize, list: &mut [u64])
     write_row(&mut list[start..start + MEMBER_WORDS], shown(row));
 }
 
+#[tactic(auto, using(crate::specs::Laws::Members::row_written, crate::specs::Laws::Members::all_written))]
 fn list_members(rows: &[Row], list: &mut [u64])
     requires { length rows.now * member_row_size ≤ length list.old }
     ensures { list.new ≡ overwritten 0 (all_values (each member_shown (members_in rows.now))) list.old }
@@ -59,6 +60,7 @@ fn list_members(rows: &[Row], list: &mut [u64])
 }
 
 // All members. A list shorter than 64 rows is 5.
+#[tactic(auto, using(crate::specs::Laws::Members::list_too_short))]
 pub fn members(lent: &LentGroup, list: &mut [u64]) -> Result<usize, Error>
     ensures { ListsMembers (parts_of lent.now.group) (tables_of lent.now)
         list.old result list.new }

@@ -13,16 +13,15 @@ use Rattle.std.proofs.Common.{◌∙◌, add-one, arith}
 use Rattle.std.proofs.Math.Bool.{true, false}
 use mathlib.Core.List.{List, [], ◌∷◌}
 use Prim.Native.Nat.{ℕ, zero, suc, ◌+◌, ◌≤◌, ◌<◌}
-use Rattle.std.proofs.Math.Decide.{dec_lt}
 use Rattle.std.proofs.Math.ListN.{drop}
 use Rattle.word_rows.specs.Tab.{tab}
 use Rattle.srt_group_model.specs.Tools.{if_true◌then◌else◌, if_some◌give◌otherwise◌, any, all, first_such, place_of, change}
 use Rattle.srt_group_model.specs.State.{Member}
 use Rattle.srt_connection_queue.specs.Laws.Chains.{any_read, all_read, place_read}
-use Rattle.srt_connection_queue.specs.Laws.Tab.{tab_found, tab_not_found, place_below}
+use Rattle.srt_connection_queue.specs.Laws.Tab.{place_below}
 use Rattle.srt_connection_queue.specs.Rows.{member_of}
 use Rattle.srt_connection_members.specs.Members.{member_at, members_in, members_of, Changed}
-use Rattle.srt_connection_members.specs.Laws.Members.{members_length, found_some, found_none}
+use Rattle.srt_connection_members.specs.Laws.Members.{members_length, found_some}
 use Rattle.srt_group_members.specs.Scan.{Became}
 
 -- an equation of options, the other way round
@@ -138,45 +137,7 @@ module _ (n k : ℕ) (t : List ℕ) where
   unfolding members_of
   left_none h = tab_ended k n (member_at t) h
 
--- ---- the first that passes a test
-
--- none from `start` up to i passes it
-pub record Passed (test : Member → Bool) (t : List ℕ) (start i : ℕ) : Type 0 where
-  pub fails : (j : ℕ) → start ≤ j → j < i → test (member_at t j) ≡ false
-
-module _ (test : Member → Bool) (t : List ℕ) where
-  pub passed_start : (start : ℕ) → Passed test t start start
-  passed_start start = record { fails = λ j low high. absurd (omega arith) }
-
-  pub passed_on : {answer : Bool} (start i : ℕ) → Passed test t start i → answer ≡ test (member_at t i) → answer ≡ false
-      → Passed test t start (i + 1)
-  passed_on start i p is no_pass = record { fails = λ j low high. one_more j low high (dec_lt j i) }
-    where
-      one_more : (j : ℕ) → start ≤ j → j < i + 1 → Dec (j < i) → test (member_at t j) ≡ false
-      one_more j low high (yes h) = p.fails j low h
-      one_more j low high (no h) =
-          let e : j ≡ i = omega arith in
-          rw e (sym is ∙ no_pass)
-
-  pub found_first : {answer : Bool} (n i : ℕ) → i < n → Passed test t 0 i → answer ≡ test (member_at t i) → answer ≡ true
-      → Some i ≡ place_of test (members_of n t)
-  unfolding members_of
-  found_first n i h p is pass =
-      (sym (tab_found test n (member_at t) i h (sym is ∙ pass) (λ j k. p.fails j (omega arith) k)))
-
-  pub found_nowhere : (n i : ℕ) → n ≤ i → Passed test t 0 i → None ≡ place_of test (members_of n t)
-  unfolding members_of
-  found_nowhere n i h p =
-      (sym (tab_not_found test n (member_at t) (λ j k. p.fails j (omega arith) (omega arith))))
-
 -- what was found is there
 pub found_row : (test : Member → Bool) (n : ℕ) (t : List ℕ) (i : ℕ) → Some i ≡ place_of test (members_of n t) → i < n
 found_row test n t i e =
     omega (arith, place_below test (members_of n t) i (found_some (place_of test (members_of n t)) i e), members_length n t)
-
--- whether any passes
-pub any_at : (test : Member → Bool) (ms : List Member) (i : ℕ) → Some i ≡ place_of test ms → true ≡ any test ms
-any_at test ms i e = sym (any_found test ms ∙ ap is_some (found_some (place_of test ms) i e))
-
-pub any_nowhere : (test : Member → Bool) (ms : List Member) → None ≡ place_of test ms → false ≡ any test ms
-any_nowhere test ms e = sym (any_found test ms ∙ ap is_some (found_none (place_of test ms) e))

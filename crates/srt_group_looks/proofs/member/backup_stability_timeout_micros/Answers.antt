@@ -1,7 +1,6 @@
 -- `backup_stability_timeout_micros` meets its contract: the refusal of every look at the member, nothing without a sender, or the timeout.
 use Rattle.std.proofs.lemmas.Result.{err_from_is_err_and}
 use mathlib.Core.Path.{sym, ◌∙◌}
-use Rattle.srt_group_backup.specs.Stale.{TripFit}
 use Rattle.srt_group_looks.specs.Laws.Member.{timeout_refused, no_timeout_shown, timeout_shown}
 use Rattle.srt_group_looks.proofs.member.backup_stability_timeout_micros.Goals as goal
 
@@ -13,9 +12,6 @@ returns-in_err-carrier c =
 pub returns-then-not-has_sender : goal.returns-then-not-has_sender
 returns-then-not-has_sender c =
     no_timeout_shown c.args.id _ _ _ c.in_ok-carrier.ensures _ c.leg-leg.ensures (sym c.has_sender.ensures ∙ c.if-not-has_sender.true)
-
-pub stability_timeout-requires : goal.stability_timeout-requires
-stability_timeout-requires c = rw c.leg-leg.ensures c.in_ok-carrier.ensures.trip
 
 pub returns : goal.returns
 returns c =

@@ -1,22 +1,19 @@
 -- `member_row` meets its contract: 5, 6, 2, 3, or the row.
 use Rattle.std.proofs.lemmas.Result.{err_from_is_err_and}
 use Rattle.std.proofs.Common.{ap}
-use mathlib.Core.Path.{sym, ◌∙◌}
-use borrow.Author.Tests.{lt-ltb, le-ltb}
+use mathlib.Core.Path.{◌∙◌}
+use borrow.Author.Tests.{le-ltb}
 use Rattle.srt_group_model.specs.Members.{find}
 use Rattle.srt_group_shown.specs.Laws.Steps.{rows_unbroken}
 use Rattle.srt_group_shown.specs.Laws.Found.{row_there}
 use Rattle.srt_group_refusals.specs.Laws.Begins.{begun_unbroken}
-use Rattle.srt_group_looks.specs.Laws.Member.{begin_refuses, unfit_refuses, unknown_refuses, row_is_found}
+use Rattle.srt_group_looks.specs.Laws.Member.{begin_refuses, unknown_refuses, row_is_found}
 use Rattle.srt_group_looks.proofs.member.member_row.Goals as goal
 
 pub returns-in_err-begin : goal.returns-in_err-begin
 returns-in_err-begin c =
     let p = err_from_is_err_and c.from_residual.result c.from_residual.ensures.1 in
     rw (p.1, p.2) (begin_refuses _ _ _ c.begin.ensures _ c.in_err-begin.was)
-
-pub returns-then-id-gt-LARGEST_32 : goal.returns-then-id-gt-LARGEST_32
-returns-then-id-gt-LARGEST_32 c = unfit_refuses _ _ _ c.begin.ensures c.in_ok-begin.was (lt-ltb _ _ c.if-id-gt-LARGEST_32.true)
 
 pub rows-rows-requires : goal.rows-rows-requires
 rows-rows-requires c = rows_unbroken (begun_unbroken _ _ c.begin.ensures c.in_ok-begin.was)

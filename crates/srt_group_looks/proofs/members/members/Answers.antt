@@ -1,16 +1,11 @@
 -- `members` meets its contract: 5 for the list, 5, 6, or the rows.
 use Rattle.std.proofs.lemmas.Result.{err_from_is_err_and}
 use Rattle.std.proofs.Common.{arith}
-use borrow.Author.Tests.{lt-ltb, le-ltb}
+use borrow.Author.Tests.{le-ltb}
 use Rattle.srt_group_shown.specs.Laws.Steps.{rows_unbroken}
 use Rattle.srt_group_refusals.specs.Laws.Begins.{begun_unbroken}
-use Rattle.srt_group_looks.specs.Laws.Members.{list_too_short, listing_refused, members_listed, room_there}
+use Rattle.srt_group_looks.specs.Laws.Members.{listing_refused, members_listed, room_there}
 use Rattle.srt_group_looks.proofs.members.members.Goals as goal
-
-pub returns-then-list-lt-LIST_LENGTH : goal.returns-then-list-lt-LIST_LENGTH
-returns-then-list-lt-LIST_LENGTH c =
-    let a = c.args in
-    list_too_short _ _ a.list.now (lt-ltb _ _ c.if-list-lt-LIST_LENGTH.true)
 
 pub returns-in_err-begin : goal.returns-in_err-begin
 returns-in_err-begin c =
