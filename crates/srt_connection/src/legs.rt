@@ -121,6 +121,7 @@ fn after_send(mut sender: Sender, time: Timestamp) -> Sender
     sender
 }
 
+// Kept (5): the three words of one call, which C hands over; only this function reads them all.
 // A send of `size` bytes at a sequence fails unless the leg can send, the sequence is its next, and the payload is within its
 // limit. The next sequence and the flight rise by one.
 #[tactic(auto, using(crate::specs::Laws::Answers::window_left, srt_group_model::specs::Laws::Reason::when_true, srt_group_model::specs::Laws::Reason::when_false), unfolding(srt_group_model::specs::Legs::send_shared_with_sequence))]

@@ -1,5 +1,8 @@
 // The lent table of members, row by row. A row is lent as a part of the table, so that what is proved of a row holds of the
 // table: the row at the index is changed, and no other. Rows past the count of members are free.
+// Kept (5): the host lends the table as words through the C interface, so each function that takes an index needs that row there.
+// Kept (2, 3, 6): what changes members keeps the flat table and walks it by index: `as_chunks_mut` says nothing of the words after it, and
+// no function that lends a `&mut Row` out of a part of them gets a clause on how they stand when it comes back.
 
 #![tactic(auto)]
 

@@ -93,6 +93,7 @@ pub fn clear(row: &mut Row)
 }
 
 // What is left of a budget that is not spent, once this event was given: data lowers it by one.
+#[tactic(auto, using(srt_group_model::specs::Laws::Reason::when_true, srt_group_model::specs::Laws::Reason::when_false))]
 fn budget_after(event: Event, budget: u64) -> u64
     requires { 0 < budget }
     ensures { result ≡ budget_after event budget }

@@ -1,6 +1,7 @@
 // Document 01's code 6: one id twice. And the member with an id, by a table of places: an id's place is its last bits, and the table
 // says which member's id has it. Two ids can share a place, so what the table says is compared, and where it says nothing of use
 // every member is asked.
+// Kept (5): that ids are distinct is tested once, in the pass, and then known of the host's words; a type for it would hold the same rows.
 ghost use Rattle.std.specs.Prelude.{◌≡◌, false, ◌%◌, ◌≤◌, ◌<◌, length, replicate};
 ghost use Rattle.srt_group_model.specs.Tools.{any, each};
 ghost use Rattle.srt_group_model.specs.Members.{id_of, has_id, find};
@@ -52,6 +53,7 @@ pub fn id_twice(rows: &[Row], table: &mut [u8; PLACES]) -> bool
 }
 
 // The index of the member with an id, of which there is at most one: the one that the table says, if it has the id.
+#[tactic(auto, using(crate::specs::Laws::Ids::found_there))]
 pub fn find_by_place(rows: &[Row], table: &[u8; PLACES], id: u64) -> Option<usize>
     requires { one_twice (each id_of (members_in rows.now)) ≡ false }
     ensures { result ≡ find id (members_in rows.now) }

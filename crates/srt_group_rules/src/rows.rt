@@ -32,6 +32,7 @@ pub fn event_breaks_rule(event: Event) -> bool
 }
 
 // The event so many places after the front.
+#[tactic(auto, unfolding(srt_connection_queue::specs::Rows::event_in))]
 pub fn queue_event(row: &Row, ring: Ring, at: u64) -> Event
     requires { at < max_queued }
     ensures { result ≡ event_in row.now ((ring.start + at) % max_queued) }
@@ -60,6 +61,8 @@ pub fn packet_breaks_rule(packet: Packet) -> bool
 
 // ---- waiting events
 
+#[tactic(auto, using(crate::specs::Laws::Walks::passed_all))]
+// Kept (6): the waiting events are read at an index of the host's words, as their table's crate reads them.
 pub fn waiting_breaks_rule(waiting: &[u64], count: usize) -> bool
     requires { (waiting_size ≤ length waiting.now) × (count ≤ max_waiting) }
     ensures { result ≡ any waiting_out_of_range (waitings count waiting.now) }

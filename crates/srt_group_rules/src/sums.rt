@@ -16,6 +16,7 @@ use srt_group_model::{Event, Packet};
 // The place of the group's own account, behind those of the members.
 pub const OWN_PLACE: usize = MAX_MEMBERS;
 
+#[tactic(auto, using(srt_group_model::specs::Laws::Reason::when_true, srt_group_model::specs::Laws::Reason::when_false))]
 pub fn data_count(event: Event) -> u64
     ensures { result ≡ counted is_data event_count event }
 {
@@ -26,6 +27,8 @@ pub fn data_count(event: Event) -> u64
 }
 
 // The place of the account that a packet is added to.
+// Kept (5): see ids.rt.
+#[tactic(auto, using(crate::specs::Laws::Sums::place_own, crate::specs::Laws::Sums::place_held))]
 pub fn account_place(rows: &[Row], table: &[u8; PLACES], packet: Packet) -> Option<usize>
     requires { one_twice (each id_of (members_in rows.now)) ≡ false }
     ensures { result ≡ account_place (members_in rows.now) packet }

@@ -22,6 +22,7 @@ pub fn queued_event(row: &Row, index: u64) -> Event
 }
 
 // Marks the cell of a queued event: only data has one.
+// Kept (5): see passes.rt.
 #[tactic(auto, using(crate::specs::Laws::Cells::no_data_passed, crate::specs::Laws::Cells::data_marked))]
 pub fn mark_event(used: &mut CellSet, cells: usize, event: Event) -> bool
     requires { Marking cells used.old }

@@ -1,6 +1,8 @@
 // Document 01's code 6 in one pass over each lent table and one over the history: each row is read once, tested by itself and against the
 // rows before it, and the cell that it names is marked. The held packets go before the members: each is added to the account of its
 // member, or to that of the group, and then each member is compared with its own.
+// Kept (5, 6): this is the test of what lent words hold, so nothing is known of them yet: a `History` states the very bounds that the pass
+// tests, and the set's marking is what each call of it changes.
 ghost use Rattle.std.specs.Prelude.{◌≡◌, false, ◌++◌, ◌*◌, ◌≤◌, length};
 ghost use Rattle.srt_group_model.specs.Tools.{each};
 ghost use Rattle.srt_group_model.specs.Members.{id_of};

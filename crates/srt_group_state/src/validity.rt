@@ -1,4 +1,6 @@
 // Document 01's code 6, "the lent state breaks a rule". The history is read only where it has entries.
+// Kept (5, 6): code 6 is what makes a lent group a valid one: before it the parts are words that the host lends through C, and a struct of
+// them with their bounds is made after it.
 ghost use Rattle.std.specs.Prelude.{◌≡◌, not, ◌≤◌, length};
 ghost use Rattle.srt_group_model.specs.Validity.{any_above};
 ghost use Rattle.srt_protocol.specs.Handshake.{has_group_mask};
