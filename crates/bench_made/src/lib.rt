@@ -10,6 +10,7 @@ use srt_group_model::{Core, Counts, Data, Receiving, Sending, Visit};
 use srt_protocol::time::Timestamp;
 
 // A Broadcast group of so many members and held packets, with `based` 0 before its first packet.
+// Kept (1): the record's own word.
 pub fn core(members: usize, pending: usize, based: u64) -> Core
     ensures { result ≡ core_of members pending based }
 {

@@ -1,4 +1,5 @@
 // A set of the store's cells, a bit to each in WORDS lent words: cell n is bit n % 64 of word n / 64.
+// Kept (5): a cell is a number in a lent row; a type with its bound would be made and unmade at each row.
 
 #![tactic(auto)]
 
