@@ -75,6 +75,7 @@ fn join(core: Core, members: &mut [u64], member: NewMember) -> Core
 }
 
 // `add_member` once no code refuses it but 22.
+// Kept (5): the core is given back changed, the members are lent to be changed, and of sending the number is read.
 pub fn add_member_at_end(
     core: Core,
     sending: Sending,

@@ -62,6 +62,7 @@ impl LentGroup<'_> {
             | (self.sources.len() != MAX_HISTORY)
     }
 
+    // Kept (5): a number of cells is a plain count, made of the store's length in each call; a type of it would be taken apart at once.
     // 6: the state breaks a rule over so many cells. Where it breaks none, the set shows which are in use, whatever it held.
     fn is_broken(&self, cells: usize, used: &mut CellSet) -> bool
         requires long { Long (tables_of self.now) }
