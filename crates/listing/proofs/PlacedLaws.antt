@@ -1,34 +1,17 @@
 -- Laws of a text placed in a buffer: its length, a text placed over the end of another, and a text that grows by one.
 use Prim.Native.Nat.{ℕ, suc, ◌+◌, ◌-◌, ◌<◌, ◌≤◌}
 use native.Mathlib.Omega.{arith}
-use native.Mathlib.Nat.{add-zero, zero-add}
+use native.Mathlib.Nat.{zero-add}
 use native.Mathlib.Numerals.{add-one}
 use mathlib.Core.Path.{◌≡◌, refl, ap, sym, subst, ◌∙◌}
 use mathlib.Core.List.{List, [], ◌∷◌, ◌++◌, append_assoc}
-use lib.ListN.{length, take, drop, set, length-append, length-drop, length-set, take-append-drop, drop_of_length-le}
+use lib.ListN.{length, take, drop, set, length-append, length-drop, length-set, drop_of_length-le}
 use lib.Seq.{append_snoc, drop-cons, drop-set-lt, get_or-set_same, take-set-le, length-take-le, take_at, drop-append-add, drop-drop, set_split, take_all}
 use Rattle.listing.specs.Placed.{placed, begun}
 
 pub append_nil : (s : List ℕ) → s ++ [] ≡ s
 append_nil [] = refl
 append_nil (byte ∷ s) = ap (λ (t : List ℕ). byte ∷ t) (append_nil s)
-
-pub length_placed : (buffer : List ℕ) (at : ℕ) (text : List ℕ) → at + length text ≤ length buffer → length (placed buffer at text) ≡ length buffer
-unfolding placed
-length_placed buffer at text h =
-    let inside : at ≤ length buffer = omega arith in
-    simp (length-append, length-drop, length-take-le at buffer inside) (omega arith)
-
-pub placed_nothing : (buffer : List ℕ) (at : ℕ) → placed buffer at [] ≡ buffer
-unfolding placed
-placed_nothing buffer at = rw (add-zero at) (take-append-drop at buffer)
-
--- up to the end of the text stand the bytes before it, and the text
-pub upto_placed : (buffer : List ℕ) (at : ℕ) (text : List ℕ) → at ≤ length buffer → take (at + length text) (placed buffer at text) ≡ take at buffer ++ text
-unfolding placed
-upto_placed buffer at text h =
-    let e : length (take at buffer ++ text) ≡ at + length text = length-append (take at buffer) text ∙ ap (λ (n : ℕ). n + length text) (length-take-le at buffer h) in
-    rw (← append_assoc (take at buffer) text (drop (at + length text) buffer)) (take_at (take at buffer ++ text) (drop (at + length text) buffer) (at + length text) e)
 
 drop_longer : (t rest : List ℕ) (n : ℕ) → length t ≤ n → drop n (t ++ rest) ≡ drop (n - length t) rest
 drop_longer t rest n h =

@@ -1,19 +1,18 @@
 -- Laws of the lines of a stream, byte by byte, of a line that a buffer holds, and of streams that come in blocks.
-use Prim.Native.Nat.{ℕ, suc, ◌+◌, ◌-◌, ◌<◌, ◌≤◌}
+use Prim.Native.Nat.{ℕ, suc, ◌+◌, ◌<◌, ◌≤◌}
 use native.Mathlib.Omega.{arith}
 use mathlib.Core.Bool.{true, false, true≢false}
 use mathlib.Core.Path.{◌≡◌, refl, subst, ap, sym, ◌∙◌}
 use mathlib.Core.List.{List, [], ◌∷◌, ◌++◌, append_assoc}
 use lib.Dec.{leb, eqb}
-use lib.ListN.{length, take, drop, length-append}
+use lib.ListN.{length, take, drop}
 use lib.Seq.{append_snoc, length-take-le}
 use Rattle.std.specs.Prelude.{nat_eq, nat_lt, Some, None}
 use Rattle.std.specs.List.{position, position_or_len}
 use Rattle.std.proofs.lemmas.Option.{cond_some, none-some}
 use borrow.Author.Tests.{ltb-true, ltb-false, leb-true, leb-false}
 use Rattle.listing.proofs.Cases.{by_cases}
-use Rattle.listing.proofs.PlacedLaws.{append_nil, upto_placed, length_placed}
-use Rattle.listing.specs.Placed.{placed}
+use Rattle.listing.proofs.PlacedLaws.{append_nil}
 use Rattle.listing.specs.Stream.{lines, in_front, joined, has_feed, first_line, after_feed, ended, open_line, last_line}
 use Rattle.listing.specs.Laws.Stream.{lines_of_blocks}
 use Rattle.listing.specs.Held.{Held}
@@ -73,33 +72,6 @@ first_line_all (byte ∷ stream) h = by_cases (eqb byte 10)
   where
     no_feed_here : eqb byte 10 ≡ true → ⊥
     no_feed_here t = let never : true ≡ false = rw t at h in let z : ◌≡◌ {A = ℕ} 0 1 = cc in omega arith
-
--- a line that is held, with bytes added to it
-module _ {n : ℕ} (held : OpenLine n) (line bytes : List ℕ) (holds : Held line held) where
-  pub held_longer : length held.bytes < held.size → Held (line ++ bytes) held
-  held_longer h =
-      let long = holds.beyond h in
-      let more = length-append line bytes in
-      record { within = λ w. absurd (omega arith); beyond = λ w. omega arith }
-
-  pub held_overflow :
-      held.size ≤ length held.bytes → length held.bytes - held.size < length bytes
-      → Held (line ++ bytes) (record held { size = length held.bytes + 1 })
-  held_overflow h g =
-      let here : length (take held.size held.bytes) ≡ length line = ap length (holds.within h) in
-      let long = length-take-le held.size held.bytes h in
-      let more = length-append line bytes in
-      record { within = λ w. absurd (omega arith); beyond = λ w. omega arith }
-
-  pub held_append :
-      held.size + length bytes ≤ length held.bytes
-      → Held (line ++ bytes) (record held { bytes = placed held.bytes held.size bytes; size = held.size + length bytes })
-  held_append h =
-      let same = length_placed held.bytes held.size bytes h in
-      record {
-        within = λ w. upto_placed held.bytes held.size bytes (omega arith) ∙ ap (λ (s : List ℕ). s ++ bytes) (holds.within (omega arith));
-        beyond = λ w. absurd (omega arith);
-      }
 
 -- THE BLOCKS: lines that end in two blocks, one behind the other
 pub ended_append : (before a b : List ℕ) → ended before (a ++ b) ≡ ended before a ++ ended (open_line before a) b
