@@ -2,8 +2,6 @@
 use Rattle.srt_protocol.specs.Errors.{Outcome}
 use Rattle.std.specs.Prelude.{◌≡◌, List, ℕ, length, Err, Ok}
 use Rattle.std.proofs.Math.Path.{refl}
-use Rattle.std.proofs.Common.{arith}
-use Rattle.word_rows.specs.Laws.Tab.{tab_length}
 use Rattle.srt_protocol.specs.declared.error.Error.{Error}
 use Rattle.srt_protocol.specs.Errors.{error_number}
 use Rattle.srt_group_model.specs.Guards.{no_answer, shown, truth}
@@ -15,7 +13,6 @@ use Rattle.srt_group_model.specs.declared.Core.{Core}
 use Rattle.srt_group_model.specs.declared.Identity.{Identity}
 use Rattle.srt_group_model.specs.declared.Sending.{Sending}
 use Rattle.srt_group_tables.specs.declared.history.HistoryRing.{HistoryRing}
-use Rattle.srt_group_tables.specs.Ring.{arrays, entry_at}
 use Rattle.srt_group_shown.specs.Tables.{Parts, parts, Tables, tables, state_of}
 use Rattle.srt_group_shown.specs.Steps.{Unbroken}
 use Rattle.srt_group_shown.specs.Laws.Steps.{rows_unbroken}
