@@ -1,4 +1,5 @@
 // A carrier that fell silent turns Unstable, so that a Standby member takes over.
+// Kept (5, 6): what changes members, history or list takes them one beside the other: of a struct of `&mut` each clause names every field (tried).
 ghost use Rattle.std.specs.Prelude.{◌≡◌, ◌&&◌, ◌*◌, ◌≤◌, max, length};
 ghost use Rattle.srt_group_model.specs.Tools.{any};
 ghost use Rattle.srt_group_model.specs.Members.{is_standby};

@@ -1,4 +1,5 @@
 // A payload that was sent joins the history in its cell, until its carrier's peer acknowledges it.
+// Kept (5, 6): what changes members, history or list takes them one beside the other: of a struct of `&mut` each clause names every field (tried).
 ghost use Rattle.std.specs.Prelude.{◌≤◌, ◌<◌};
 ghost use Rattle.srt_group_model.specs.Sending.{max_sent};
 ghost use Rattle.srt_group_model.specs.Backup.{max_history};

@@ -1,5 +1,6 @@
 // The readiness tests: `can_send` and `can_send_with_pacing` after 5 and 6. They refresh the members' states and, in Backup, trim the
 // history by what the carrier's peer has acknowledged, so that cells may get free.
+// Kept (5): core, sending and ring are given back changed, the members lent to be changed; a struct of them would be built and taken apart at once.
 ghost use Rattle.std.specs.Prelude.{◌*◌, ◌≤◌, length};
 ghost use Rattle.srt_group_model.specs.Lent.{call_can_send, call_can_send_with_pacing};
 ghost use Rattle.srt_connection_queue.specs.Rows.{row_size};

@@ -1,4 +1,5 @@
 // The readiness tests for a valid state. The store is lent for its length, over which the state is valid.
+// Kept (5, 6): C lends each table by its own name and length (docs/TABLES.md), and `Ready` speaks of them all.
 ghost use Rattle.std.specs.Prelude.{length};
 ghost use Rattle.srt_group_model.specs.Guards.{shown, truth};
 ghost use Rattle.srt_group_model.specs.Lent.{call_can_send, call_can_send_with_pacing};

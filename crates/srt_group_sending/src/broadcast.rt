@@ -1,5 +1,6 @@
 // A send in Broadcast: the same payload at the same sequence on every active leg. A leg that fails is marked, and the others are
 // tried all the same.
+// Kept (5, 6): what changes members, history or list takes them one beside the other: of a struct of `&mut` each clause names every field (tried).
 ghost use Rattle.std.specs.Prelude.{◌≡◌, not, ◌&&◌, ◌*◌, ◌≤◌, ◌<◌, length};
 ghost use Rattle.srt_protocol.specs.Sequence.{sequence_further};
 ghost use Rattle.srt_group_model.specs.Tools.{such_that};

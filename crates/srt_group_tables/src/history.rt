@@ -1,5 +1,6 @@
 // What the Backup carrier sent and its peer has not acknowledged: a ring over two lent arrays of 512 places. A word of
 // `history` is the sequence of an entry, its cell and its length; `sources` has its source time.
+// Kept (5, 6): `store` changes both arrays; `entry_at` also serves the test of code 6, whose ring may be too long for a `History`.
 ghost use Rattle.std.specs.Prelude.{◌≡◌, [], ◌+◌, ◌%◌, ◌≤◌, ◌<◌, length, get_or};
 ghost use Rattle.srt_group_model.specs.Backup.{max_history};
 ghost use Rattle.srt_group_tables.specs.Ring.{Long, arrays, cells_in_word, lengths_in_word, entry_word, word_sequence, word_cell, word_length, Packs, entry_at, with_entry, next_place, after_push, Trimmed};
