@@ -1,5 +1,4 @@
 -- `poll_event` meets its contract.
-use borrow.Author.Rules.{rules}
 use native.Mathlib.Omega.{arith}
 use Rattle.srt_group_data_poll.specs.Laws.Polling.{usable, sending_fits}
 use Rattle.srt_group_event_poll.specs.Laws.Polling.{writable, performed}
