@@ -60,8 +60,7 @@ pub fn add_member(
             outcome: Err(error),
         };
     }
-    let front = srt_connection_members::row(row, 0);
-    let added = add_leg(group.core, group.sending, members, front, id, weight);
+    let added = add_leg(group.core, group.sending, members, row, id, weight);
     let after = added.core;
     let outcome = added.outcome;
     MemberAdded {

@@ -71,9 +71,9 @@ fn refusal(members: &[u64], count: usize, row: &Row, member: NewMember) -> Resul
     Ok(())
 }
 
-// `add_member` after 5 and 6 of the group's own state. It touches the record's core and the members only.
+// `add_leg` over the handed row itself.
 #[tactic(auto, using(crate::specs::Laws::Handed::leg_refused, crate::specs::Laws::Handed::leg_room, crate::specs::Laws::Handed::leg_added))]
-pub fn add_leg(
+fn add_row(
     core: Core,
     sending: Sending,
     members: &mut [u64],
@@ -96,6 +96,23 @@ pub fn add_leg(
         };
     }
     add_member_at_end(core, sending, members, member)
+}
+
+// `add_member` after 5 and 6 of the group's own state. It touches the record's core and the members only.
+pub fn add_leg(
+    core: Core,
+    sending: Sending,
+    members: &mut [u64],
+    row: &[u64],
+    id: u64,
+    weight: u64,
+) -> Added
+    requires { (members_size ≤ length members.old) × HasRow 0 row.now }
+    ensures { StepsAdding (call_of_row id weight row.now) core sending members.old
+        result members.new }
+{
+    let row = srt_connection_members::row(row, 0);
+    add_row(core, sending, members, row, id, weight)
 }
 
 // `add_member` for a valid state. The cells in use stay the same; the store is lent for its length, over which the state is valid.
@@ -124,12 +141,5 @@ pub fn add_member(
         (tables members.new pending.now waiting.now history.now sources.now)
         (storing store.now) used.now }
 {
-    add_leg(
-        core,
-        sending,
-        members,
-        srt_connection_members::row(row, 0),
-        id,
-        weight,
-    )
+    add_leg(core, sending, members, row, id, weight)
 }

@@ -1,10 +1,11 @@
 -- `add_member` meets its contract: what follows 5 and 6, in a state that is ready.
 use Rattle.srt_group_shown.specs.Laws.Steps.{unbroken_of, nothing_delivered, performs_keeping}
-use Rattle.srt_group_addition.specs.Laws.Handed.{of_row}
 use Rattle.srt_group_addition.proofs.handed.add_member.Goals as goal
+
+pub add_leg-requires : goal.add_leg-requires
+add_leg-requires c = (c.requires.ready.long.members, c.requires.has_row)
 
 pub returns : goal.returns
 returns c =
     let ready = c.requires.ready in
-    performs_keeping ready nothing_delivered
-    ((of_row c.args.id c.args.weight _ _ _ _ _ c.row.ensures c.add_leg.ensures).over _ _ _ _ _ _ (unbroken_of ready))
+    performs_keeping ready nothing_delivered (c.add_leg.ensures.over _ _ _ _ _ _ (unbroken_of ready))
