@@ -4,8 +4,8 @@
 
 #![tactic(auto)]
 
-use send_steps::steps::{call_each, step_each};
 use cell_set::WORDS;
+use send_steps::steps::{call_each, step_each};
 use srt_group::Group;
 use srt_group_refusals::refusals::LentGroup;
 use srt_group_sending::list::SENT_LENGTH;

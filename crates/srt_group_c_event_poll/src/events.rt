@@ -7,8 +7,8 @@ ghost use Rattle.srt_group_shown.specs.Tables.{tables};
 ghost use Rattle.srt_group_shown.specs.Ready.{lending};
 ghost use Rattle.srt_group_words.specs.Words.{in_words, words, PromisedWords, ReadyWords, PerformsWords};
 
-use cell_set::{WORDS, of_words_mut};
 use crate::answers::put_poll;
+use cell_set::{WORDS, of_words_mut};
 use srt_group_event_poll::polls;
 use srt_group_words::answers::{POLLED, put};
 use srt_group_words::begin::begin_poll;

@@ -7,8 +7,8 @@ ghost use Rattle.srt_group_shown.specs.Ready.{storing};
 ghost use Rattle.srt_group_refusals.specs.Promised.{nothing_lent};
 ghost use Rattle.srt_group_words.specs.Words.{in_words, words, PromisedWords, ReadyWords, PerformsWords};
 
-use cell_set::of_words_mut;
 use crate::answers::{put_readiness, put_tested};
+use cell_set::of_words_mut;
 use srt_group_c_looks::answers::SHOWN;
 use srt_group_send::valid;
 use srt_group_send_calls::calls;

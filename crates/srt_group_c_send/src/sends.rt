@@ -7,8 +7,8 @@ ghost use Rattle.srt_group_shown.specs.Tables.{tables};
 ghost use Rattle.srt_group_shown.specs.Ready.{sending_into};
 ghost use Rattle.srt_group_words.specs.Words.{sent_words, words, PromisedWords, ReadyWords, PerformsWords};
 
-use cell_set::{WORDS, of_words_mut};
 use crate::answers::{SENT, put_send};
+use cell_set::{WORDS, of_words_mut};
 use srt_group_send::sending;
 use srt_group_sending::list::SENT_LENGTH;
 use srt_group_words::answers::put;
