@@ -7,13 +7,19 @@ ghost use Rattle.std.specs.Prelude.{OnOk};
 ghost use Rattle.replay_io.specs.Turns.{ListingReplayed};
 
 use listing::OpenLine;
-use replay_blocks::blocks::{BLOCK, Room};
+use listing_lines::LINE;
+use replay_blocks::blocks::Room;
 use replay_io::stopped::Stopped;
 use replay_io::turns::{State, finish, turn};
 use srt_group_replay::Replay;
 use std::env::{Env, FillError};
 use std::io::{ErrorKind, Read, Write};
 use std::process::ExitCode;
+
+// The bytes of a block, and so the most lines that one has; and the text of as many answers, 121 bytes each.
+const BLOCK: usize = 8192;
+
+const TEXT: usize = 121 * BLOCK;
 
 // A proved loop has to end, and nothing says that the listing does. So the loop counts its turns, up to a number that no run uses up: at a
 // block of one byte a nanosecond it would take 500 years.
@@ -22,10 +28,10 @@ fn run<R: Read, W: Write>(input: &mut R, to: &mut W) -> Result<(), Stopped>
 {
     let mut state = State {
         replay: Replay::new(),
-        line: OpenLine::new(),
+        line: OpenLine::<LINE>::new(),
     };
     let mut block = [0u8; BLOCK];
-    let mut room = Room::new();
+    let mut room = Room::<BLOCK, TEXT>::new();
     for _ in 0..u64::MAX {
         let count = turn(input, to, &mut state, &mut block, &mut room)?;
         if count == 0 {

@@ -9,7 +9,6 @@ use Rattle.listing_lines.specs.Text.{texts}
 use Rattle.srt_group_model.specs.State.{State}
 use Rattle.srt_group_model.specs.Listing.{Line, replay}
 use Rattle.replay_rows.specs.Rows.{group_after, prints_from}
-use Rattle.replay_blocks.specs.declared.blocks.TheConstants.{TEXT}
 
 -- The bytes of a listing, cut into lines; the eight numbers of each, zeros where it is malformed, since verb 0 prints what a malformed line
 -- prints; what document 01's listing prints for them; as text, six columns of 11 a line.
@@ -28,14 +27,14 @@ pub record RowsAnswered (told : List Line) (s s' : Option State) (out : List ℕ
 abbrev pub numbers : List (List ℕ) → List Line
 numbers ls = map (line_numbers 8 11) ls
 
--- the lines that a block ends are answered, whatever line began before it
-pub record BlockAnswered {n : ℕ} (block : List ℕ) (held held' : OpenLine n) (s s' : Option State) (out : List ℕ) (end : ℕ) : Type 0 where
-  pub inside : end ≤ TEXT
+-- the lines that a block ends are answered, whatever line began before it, in so many bytes at most
+pub record BlockAnswered {n : ℕ} (most : ℕ) (block : List ℕ) (held held' : OpenLine n) (s s' : Option State) (out : List ℕ) (end : ℕ) : Type 0 where
+  pub inside : end ≤ most
   pub text : (line : List ℕ) → Held line held → take end out ≡ texts (prints_from s (numbers (ended line block)))
   pub group : (line : List ℕ) → Held line held → s' ≡ group_after s (numbers (ended line block))
   pub open_held : (line : List ℕ) → Held line held → Held (open_line line block) held'
 
 -- the line that the end of the listing ends is answered
-pub record LastAnswered {n : ℕ} (held : OpenLine n) (s : Option State) (out : List ℕ) (end : ℕ) : Type 0 where
-  pub inside : end ≤ TEXT
+pub record LastAnswered {n : ℕ} (most : ℕ) (held : OpenLine n) (s : Option State) (out : List ℕ) (end : ℕ) : Type 0 where
+  pub inside : end ≤ most
   pub text : (line : List ℕ) → Held line held → take end out ≡ texts (prints_from s (numbers (last_line line)))

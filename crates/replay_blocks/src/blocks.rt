@@ -3,23 +3,19 @@ ghost use Rattle.std.specs.Prelude.{◌*◌, ◌≤◌, length};
 ghost use Rattle.replay_blocks.specs.Blocks.{RowsAnswered, BlockAnswered, LastAnswered};
 
 use listing::OpenLine;
-use listing_lines::{LINE, last_row, take_lines, write_lines};
+use listing_lines::{last_row, take_lines, write_lines};
 use replay_rows::rows::tell_lines;
 use srt_group_listing::Line;
 use srt_group_replay::Replay;
 
-// The bytes of a block. Each line ends with a byte of its own, so there are no more lines than bytes.
-pub const BLOCK: usize = 8192;
-
-// The text of as many lines, 121 bytes each.
-pub const TEXT: usize = 121 * BLOCK;
-
-// Room for the lines of a block: their rows, the answers to them, and the text of those.
+// Room for the lines of a block: their rows, the answers to them, and the text of those, 121 bytes a line. Each line ends with a byte of its
+// own, so a block has no more lines than bytes.
 #[derive(Drop)]
-pub struct Room {
-    rows: [Line; BLOCK],
-    answers: [[u64; 6]; BLOCK],
+pub struct Room<const LINES: usize, const TEXT: usize> {
+    rows: [Line; LINES],
+    answers: [[u64; 6]; LINES],
     pub text: [u8; TEXT],
+    ghost holds: { 121 * LINES ≤ TEXT },
 }
 
 // The lines in some rows are told, and their answers written at the text's start. The answer is where they end.
@@ -36,25 +32,27 @@ fn answer_rows(
     write_lines(&answers[..rows.len()], text)
 }
 
-impl Room {
-    pub fn new() -> Self {
+impl<const LINES: usize, const TEXT: usize> Room<LINES, TEXT> {
+    pub fn new() -> Self
+        requires { 121 * LINES ≤ TEXT }
+    {
         Room {
-            rows: [[0; 8]; BLOCK],
-            answers: [[0; 6]; BLOCK],
+            rows: [[0; 8]; LINES],
+            answers: [[0; 6]; LINES],
             text: [0; TEXT],
         }
     }
 
     // The lines that a block ends, the first of them behind what is held of it. The text of their answers stands at the start of the
     // text, up to the end that is answered.
-    pub fn answer_block(
+    pub fn answer_block<const N: usize>(
         &mut self,
         replay: &mut Replay,
-        line: &mut OpenLine<LINE>,
+        line: &mut OpenLine<N>,
         block: &[u8],
     ) -> usize
-        requires { length block.now ≤ BLOCK }
-        ensures { BlockAnswered block.now line.old line.new replay.old replay.new self.new.text result }
+        requires { (88 ≤ N) × (length block.now ≤ LINES) }
+        ensures { BlockAnswered TEXT block.now line.old line.new replay.old replay.new self.new.text result }
     {
         let count = take_lines(block, line, &mut self.rows);
         answer_rows(
@@ -66,8 +64,13 @@ impl Room {
     }
 
     // The line that the end of the listing ends, where there is one.
-    pub fn answer_last_line(&mut self, replay: &mut Replay, line: &OpenLine<LINE>) -> usize
-        ensures { LastAnswered line.now replay.old self.new.text result }
+    pub fn answer_last_line<const N: usize>(
+        &mut self,
+        replay: &mut Replay,
+        line: &OpenLine<N>,
+    ) -> usize
+        requires { (88 ≤ N) × (1 ≤ LINES) }
+        ensures { LastAnswered TEXT line.now replay.old self.new.text result }
     {
         match last_row(line) {
             Some(row) => answer_rows(replay, &[row], &mut self.answers, &mut self.text),

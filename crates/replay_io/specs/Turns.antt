@@ -17,13 +17,13 @@ pub record BlockRead (left left' : Option (List ℕ)) (count : ℕ) (block : Lis
 
 -- it is answered and written: the text of the answers to the lines that it ends, whatever line began before it; the group after them, and the
 -- line that it leaves open
-pub record BlockReplayed (block : List ℕ) (s s' : State) (written written' : Option (List ℕ)) : Type 0 where
+pub record BlockReplayed {n : ℕ} (block : List ℕ) (s s' : State n) (written written' : Option (List ℕ)) : Type 0 where
   pub text : (line : List ℕ) → Held line s.line → Appends written written' (texts (prints_from s.replay (numbers (ended line block))))
   pub group : (line : List ℕ) → Held line s.line → s'.replay ≡ group_after s.replay (numbers (ended line block))
   pub open_held : (line : List ℕ) → Held line s.line → Held (open_line line block) s'.line
 
 -- so is the line that the listing's end ends
-pub record LastReplayed (s : State) (written written' : Option (List ℕ)) : Type 0 where
+pub record LastReplayed {n : ℕ} (s : State n) (written written' : Option (List ℕ)) : Type 0 where
   pub text : (line : List ℕ) → Held line s.line → Appends written written' (texts (prints_from s.replay (numbers (last_line line))))
 
 -- THE PROMISE of a replay: a listing is read to its end, and what is written is its replay

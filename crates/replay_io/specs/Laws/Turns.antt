@@ -44,21 +44,21 @@ consumes_then (Some xs) (Some ys) (Some zs) a b x y = x ∙ ap (λ (t : List ℕ
 -- ---- a turn
 
 -- where no byte was read nothing is answered
-pub none_replayed : (s : State) (written : Option (List ℕ)) → BlockReplayed [] s s written written
+pub none_replayed : {n : ℕ} (s : State n) (written : Option (List ℕ)) → BlockReplayed [] s s written written
 unfolding ended open_line texts answers_from state_after
 none_replayed s written = record { text = λ line h. appends_nothing written; group = λ line h. refl; open_held = λ line h. h }
 
 -- ---- all turns
 
 -- the beginning of a listing is read, and the lines that end in it are answered
-pub record ReplayedSoFar (s : State) (left₀ left written₀ written : Option (List ℕ)) : Type 0 where
+pub record ReplayedSoFar {n : ℕ} (s : State n) (left₀ left written₀ written : Option (List ℕ)) : Type 0 where
   pub beginning : List ℕ
   pub read : Consumes left₀ left beginning
   pub text : Appends written₀ written (texts (prints_from None (numbers (ended [] beginning))))
   pub group : s.replay ≡ group_after None (numbers (ended [] beginning))
   pub open_held : Held (open_line [] beginning) s.line
 
-pub none_so_far : (s : State) (left written : Option (List ℕ)) → s.replay ≡ None → s.line.size ≡ 0 → ReplayedSoFar s left left written written
+pub none_so_far : {n : ℕ} (s : State n) (left written : Option (List ℕ)) → s.replay ≡ None → s.line.size ≡ 0 → ReplayedSoFar s left left written written
 unfolding ended open_line texts answers_from state_after
 none_so_far s left written none empty =
     record {
@@ -69,9 +69,9 @@ none_so_far s left written none empty =
       open_held = held_nothing s.line empty;
     }
 
-module _ {s : State} {left₀ left written₀ written : Option (List ℕ)} where
+module _ {n : ℕ} {s : State n} {left₀ left written₀ written : Option (List ℕ)} where
   -- a block more
-  pub further : {s' : State} {block : List ℕ} {left' written' : Option (List ℕ)} {count : ℕ}
+  pub further : {s' : State n} {block : List ℕ} {left' written' : Option (List ℕ)} {count : ℕ}
       → ReplayedSoFar s left₀ left written₀ written → BlockRead left left' count block → BlockReplayed (take count block) s s' written written'
       → ReplayedSoFar s' left₀ left' written₀ written'
   further {block = block} {left' = left'} {written' = written'} {count = count} so read done =
