@@ -1,16 +1,19 @@
 // Runs of steps. A step is one word: a leg times 2^32, and the sequence of the packet that is queued there; with leg 0 it is a poll. The step's
 // answer, one number, takes its place.
+// Kept (5, 6): each table is a parameter of its own, as C lends it and the calls that are timed take it.
 ghost use Rattle.std.specs.Prelude.{◌≤◌, length};
 ghost use Rattle.srt_protocol.specs.Cells.{output_size};
 ghost use Rattle.srt_group_shown.specs.Tables.{parts, tables};
 ghost use Rattle.srt_group_shown.specs.Ready.{Ready};
 
+use bench_made::data;
+use cell_set::CellSet;
 use srt_group::Group;
 use srt_group_collecting::collecting::MAX_VISITS;
 use srt_group_data_poll::calls;
 use srt_group_data_poll::calls::GroupDataPoll;
 use srt_group_data_poll::polls::poll_data_bounded;
-use srt_group_model::{Core, Data, Identity, Packet, Sending};
+use srt_group_model::{Core, Identity, Packet, Sending};
 use srt_group_queueing::calls as queueing_calls;
 use srt_group_queueing::queueing::queue_data;
 use srt_group_tables::history::HistoryRing;
@@ -38,19 +41,6 @@ pub struct Stepped {
 
 // The leg of a step, and its sequence.
 pub const LEG: u64 = 4294967296;
-
-// A packet of this sequence, its source time the same number.
-fn packet_of(sequence: u64) -> Data {
-    Data {
-        sequence,
-        count: 1,
-        message: 0,
-        timestamp: 0,
-        source: Timestamp(sequence),
-        cell: 0,
-        length: 0,
-    }
-}
 
 // The sequence of the packet that a poll gave.
 fn given(gave: Option<Packet>) -> u64 {
@@ -113,7 +103,7 @@ fn call(
         sources,
         store,
         leg,
-        packet_of(word % LEG),
+        data(word % LEG, 0, 0),
         payload,
     );
     Called {
@@ -159,7 +149,7 @@ fn step(
     sources: &[u64],
     store: &mut [u8],
     output: &mut [u8],
-    used: &mut [u64],
+    used: &mut CellSet,
     word: u64,
     payload: &[u8],
     time: u64,
@@ -209,7 +199,7 @@ fn step(
         store,
         used,
         leg,
-        packet_of(word % LEG),
+        data(word % LEG, 0, 0),
         payload,
     );
     Stepped {
@@ -231,7 +221,7 @@ pub fn step_each(
     sources: &[u64],
     store: &mut [u8],
     output: &mut [u8],
-    used: &mut [u64],
+    used: &mut CellSet,
     steps: &mut [u64],
     payload: &[u8],
     time: u64,

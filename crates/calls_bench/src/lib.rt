@@ -1,17 +1,18 @@
-// The calls under plain names, for bench/calls to time: `calls_bench_c` exports them. A measuring crate: no product links it. Nothing exported
-// has a `requires`: what a host lends is tested.
+// The calls under plain names, for bench/calls to time. A measuring crate: no product links it. Nothing exported has a `requires`: what a
+// host lends is tested.
+// Kept (5, 6): each table is a parameter of its own, as the measuring program lends it over the C interface.
 
 #![tactic(auto)]
 
-pub mod record; // record.rt: the record as a row of words
-
-use crate::record::{put_group, read_group};
 use bench_steps::steps::{call_each, step_each};
+use cell_set::WORDS;
 use srt_group::Group;
 use srt_group_refusals::refusals::LentGroup;
+use srt_group_words::record::{put_group, read_group};
 
 // The steps in turn by the public calls.
-pub fn calls_run(
+#[unsafe(no_mangle)]
+pub extern "C" fn calls_run(
     record: &mut [u64; 20],
     members: &mut [u64],
     pending: &mut [u64],
@@ -33,7 +34,8 @@ pub fn calls_run(
 }
 
 // The same by the forms for a valid state: 5 and 6 are tested once, before the first step. Answers their code.
-pub fn calls_run_valid(
+#[unsafe(no_mangle)]
+pub extern "C" fn calls_run_valid(
     record: &mut [u64; 20],
     members: &mut [u64],
     pending: &mut [u64],
@@ -53,7 +55,7 @@ pub fn calls_run_valid(
         sending,
         ring,
     } = group;
-    let mut used = [0u64; 32];
+    let mut used = [0; WORDS];
     let lent = LentGroup {
         group,
         members,

@@ -1,4 +1,5 @@
 // The set of cells under plain names, for bench/cells to time. A measuring crate: no product links it.
+// Kept (5, 6): each table is a parameter of its own, as the measuring program lends it over the C interface.
 
 #![tactic(auto)]
 
@@ -11,23 +12,22 @@ ghost use Rattle.srt_group_shown.specs.Ready.{Ready};
 ghost use Rattle.srt_group.specs.Made.{parts_of};
 ghost use Rattle.cell_bench.specs.Made.{group_of};
 
-use cell_set::{free, lowest_free, take};
+use bench_made::{core, data, sending};
+use cell_set::{free, lowest_free, of_words, of_words_mut, take};
 use srt_connection_members::pop_at;
 use srt_group::Group;
-use srt_group_members::accounts::NO_PACKETS;
-use srt_group_model::{Core, Counts, Data, Identity, Receiving, Sending, Visit};
+use srt_group_model::Identity;
 use srt_group_queueing::queueing::queue_data;
 use srt_group_tables::history::HistoryRing;
 use srt_protocol::error::outcome_number;
 use srt_protocol::received_payload::MAX_CELLS;
-use srt_protocol::time::Timestamp;
 
 // The lowest free cell; MAX_CELLS if there is none.
 #[unsafe(no_mangle)]
 pub extern "C" fn set_lowest(used: &[u64], cells: usize) -> usize
     requires { (length used.now ≡ set_size) × (cells ≤ max_cells) }
 {
-    let found = lowest_free(used, cells);
+    let found = lowest_free(of_words(used), cells);
     match found {
         Some(cell) => cell,
         None => MAX_CELLS,
@@ -38,52 +38,27 @@ pub extern "C" fn set_lowest(used: &[u64], cells: usize) -> usize
 pub extern "C" fn set_take(used: &mut [u64], cell: usize)
     requires { (length used.old ≡ set_size) × (cell < max_cells) }
 {
-    take(used, cell);
+    take(of_words_mut(used), cell);
 }
 
 #[unsafe(no_mangle)]
 pub extern "C" fn set_free(used: &mut [u64], cell: usize)
     requires { length used.old ≡ set_size }
 {
-    free(used, cell);
+    free(of_words_mut(used), cell);
 }
 
 // A Broadcast group of so many members, nothing held, nothing sent.
 fn made(members: usize) -> Group
     ensures { result ≡ group_of members }
 {
-    let core = Core {
-        mode: 0,
-        peer: 0,
-        counts: Counts {
-            members,
-            pending: 0,
-            waiting: 0,
-        },
-        receiving: Receiving {
-            based: 0,
-            base: 0,
-            skipped: 0,
-        },
-        visit: Visit {
-            continuation: 0,
-            round: 0,
-        },
-        own: NO_PACKETS,
-    };
     Group {
         identity: Identity {
             id: 1073741824,
             length: 0,
         },
-        core,
-        sending: Sending {
-            numbered: 0,
-            next: 0,
-            carried: 0,
-            carrier: 0,
-            gap: 0,
-        },
+        core: core(members, 0, 0),
+        sending: sending(),
         ring: HistoryRing {
             start: 0,
             length: 0,
@@ -110,15 +85,6 @@ pub extern "C" fn queue_one(
         (tables members.old pending.now waiting.now history.now sources.now) (length store.old) used.old }
 {
     let group = made(count);
-    let content = Data {
-        sequence,
-        count: 1,
-        message: 0,
-        timestamp: 0,
-        source: Timestamp(sequence),
-        cell: 0,
-        length: 0,
-    };
     let outcome = queue_data(
         group.identity,
         group.core,
@@ -130,9 +96,9 @@ pub extern "C" fn queue_one(
         history,
         sources,
         store,
-        used,
+        of_words_mut(used),
         id,
-        content,
+        data(sequence, 0, 0),
         payload,
     );
     outcome_number(outcome)
@@ -145,5 +111,5 @@ pub extern "C" fn unqueue_one(members: &mut [u64], used: &mut [u64], index: usiz
     requires used_len { length used.old ≡ set_size }
 {
     pop_at(members, index);
-    free(used, cell);
+    free(of_words_mut(used), cell);
 }

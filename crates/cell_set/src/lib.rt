@@ -1,8 +1,10 @@
 // A set of the store's cells, a bit to each in WORDS lent words: cell n is bit n % 64 of word n / 64.
+// Kept (5): a cell is a number in a lent row; a type with its bound would be made and unmade at each row.
 
 #![tactic(auto)]
 
 ghost use Rattle.std.specs.Prelude.{◌≡◌, [], ◌∷◌, ◌≤◌, ◌<◌, length, eqb};
+ghost use Rattle.std.specs.Borrow.{Lends, Array, u64, sem};
 ghost use Rattle.srt_protocol.specs.Cells.{max_cells};
 ghost use Rattle.cell_set.specs.Bits.{set_size, bit_at};
 ghost use Rattle.cell_set.specs.Marks.{Marking, Marks};
@@ -13,12 +15,31 @@ use srt_protocol::received_payload::MAX_CELLS;
 // The words of a set: 64 cells in each.
 pub const WORDS: usize = MAX_CELLS / 64;
 
+// A set in its words; their number is the type's.
+pub type CellSet = [u64; WORDS];
+
+// The words that a host lends, as the set that they are.
+pub fn of_words(words: &[u64]) -> &CellSet
+    requires { length words.now ≡ set_size }
+    ensures { result.now ≡ words.now }
+{
+    words.try_into().unwrap()
+}
+
+pub fn of_words_mut(words: &mut [u64]) -> &mut CellSet
+    requires { length words.old ≡ set_size }
+    ensures* writes_back { sem 𝓛 (Lends (Array u64 0) (Array u64 0) words.entry result (λ ws. ws)) }
+    ensures value { result.now ≡ words.old }
+{
+    words.as_mut_array().unwrap()
+}
+
 // A word whose cells are all taken.
 const FULL: u64 = 0xffff_ffff_ffff_ffff;
 
 #[tactic(auto, unfolding(crate::specs::Bits::bit, crate::specs::Bits::bit_at))]
-pub fn is_used(used: &[u64], cell: usize) -> bool
-    requires { (length used.now ≡ set_size) × (cell < max_cells) }
+pub fn is_used(used: &CellSet, cell: usize) -> bool
+    requires { cell < max_cells }
     ensures { result ≡ eqb (bit_at used.now cell) 1 }
 {
     let word = used[cell / 64];
@@ -26,8 +47,8 @@ pub fn is_used(used: &[u64], cell: usize) -> bool
 }
 
 // A cell is taken.
-pub fn take(used: &mut [u64], cell: usize)
-    requires { (length used.old ≡ set_size) × (cell < max_cells) }
+pub fn take(used: &mut CellSet, cell: usize)
+    requires { cell < max_cells }
     ensures { Taken cell used.old used.new }
 {
     let at = cell / 64;
@@ -35,8 +56,7 @@ pub fn take(used: &mut [u64], cell: usize)
 }
 
 // A cell is free again; a number that is no cell changes nothing.
-pub fn free(used: &mut [u64], cell: usize)
-    requires { length used.old ≡ set_size }
+pub fn free(used: &mut CellSet, cell: usize)
     ensures { Freed (cell ∷ []) used.old used.new }
 {
     if cell < MAX_CELLS {
@@ -47,7 +67,7 @@ pub fn free(used: &mut [u64], cell: usize)
 
 // Marks a cell in the pass of code 6: one that is beyond the store, or named before, is refused.
 #[tactic(auto, using(crate::specs::Laws::Marks::beyond_refused, crate::specs::Laws::Marks::again_refused, crate::specs::Laws::Marks::cell_marked))]
-pub fn mark(used: &mut [u64], cells: usize, cell: u64) -> bool
+pub fn mark(used: &mut CellSet, cells: usize, cell: u64) -> bool
     requires { Marking cells used.old }
     ensures { Marks cells (cell ∷ []) used.old result used.new }
 {
@@ -63,16 +83,14 @@ pub fn mark(used: &mut [u64], cells: usize, cell: u64) -> bool
 }
 
 // Every cell is free.
-pub fn clear(used: &mut [u64])
-    requires { length used.old ≡ set_size }
+pub fn clear(used: &mut CellSet)
     ensures { ShowsCells used.new [] }
 {
     used.fill(0);
 }
 
 // The first word that is not full, or WORDS.
-fn first_word(used: &[u64]) -> usize
-    requires { length used.now ≡ set_size }
+fn first_word(used: &CellSet) -> usize
     ensures { FirstWord used.now result }
 {
     used.iter().position(|word| *word != FULL).unwrap_or(WORDS)
@@ -80,8 +98,8 @@ fn first_word(used: &[u64]) -> usize
 
 // The lowest of so many cells that is free: where the trailing ones of the first word end that is not full.
 #[tactic(auto, using(crate::specs::Laws::Sets::ones_inside))]
-pub fn lowest_free(used: &[u64], cells: usize) -> Option<usize>
-    requires { (length used.now ≡ set_size) × (cells ≤ max_cells) }
+pub fn lowest_free(used: &CellSet, cells: usize) -> Option<usize>
+    requires { cells ≤ max_cells }
     ensures { LowestFree used.now cells result }
 {
     let at = first_word(used);

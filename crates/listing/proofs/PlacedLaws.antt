@@ -1,47 +1,17 @@
 -- Laws of a text placed in a buffer: its length, a text placed over the end of another, and a text that grows by one.
 use Prim.Native.Nat.{ℕ, suc, ◌+◌, ◌-◌, ◌<◌, ◌≤◌}
 use native.Mathlib.Omega.{arith}
-use native.Mathlib.Nat.{add-zero}
+use native.Mathlib.Nat.{zero-add}
 use native.Mathlib.Numerals.{add-one}
-use mathlib.Core.Bool.{true, false}
-use lib.Dec.{leb}
-use borrow.Author.Tests.{le-leb, lt-leb}
 use mathlib.Core.Path.{◌≡◌, refl, ap, sym, subst, ◌∙◌}
 use mathlib.Core.List.{List, [], ◌∷◌, ◌++◌, append_assoc}
-use lib.ListN.{length, take, drop, set, length-append, length-drop, length-set, take-append-drop}
-use lib.Seq.{append_snoc, drop-cons, drop-set-lt, get_or-set_same, take-set-le, length-take-le, take_at, drop-append-add, drop-drop, set_split}
-use Rattle.listing.specs.Placed.{placed, Placed, PlacedOrRefused}
-use Rattle.std.specs.Prelude.{Some, None}
+use lib.ListN.{length, take, drop, set, length-append, length-drop, length-set, drop_of_length-le}
+use lib.Seq.{append_snoc, drop-cons, drop-set-lt, get_or-set_same, take-set-le, length-take-le, take_at, drop-append-add, drop-drop, set_split, take_all}
+use Rattle.listing.specs.Placed.{placed, begun}
 
 pub append_nil : (s : List ℕ) → s ++ [] ≡ s
 append_nil [] = refl
 append_nil (byte ∷ s) = ap (λ (t : List ℕ). byte ∷ t) (append_nil s)
-
-pub length_placed : (buffer : List ℕ) (at : ℕ) (text : List ℕ) → at + length text ≤ length buffer → length (placed buffer at text) ≡ length buffer
-unfolding placed
-length_placed buffer at text h =
-    let inside : at ≤ length buffer = omega arith in
-    simp (length-append, length-drop, length-take-le at buffer inside) (omega arith)
-
--- a part of a buffer with a text in its place
-pub placed_part :
-    (buffer : List ℕ) (at end : ℕ) (text part : List ℕ) → end ≡ at + length text → part ≡ text
-    → take at buffer ++ (part ++ drop (end - at) (drop at buffer)) ≡ placed buffer at text
-unfolding placed
-placed_part buffer at end text part e f =
-    let behind : at + (end - at) ≡ at + length text = omega arith in
-    rw (f, drop-drop (end - at) at buffer, behind)
-
-pub placed_nothing : (buffer : List ℕ) (at : ℕ) → placed buffer at [] ≡ buffer
-unfolding placed
-placed_nothing buffer at = rw (add-zero at) (take-append-drop at buffer)
-
--- up to the end of the text stand the bytes before it, and the text
-pub upto_placed : (buffer : List ℕ) (at : ℕ) (text : List ℕ) → at ≤ length buffer → take (at + length text) (placed buffer at text) ≡ take at buffer ++ text
-unfolding placed
-upto_placed buffer at text h =
-    let e : length (take at buffer ++ text) ≡ at + length text = length-append (take at buffer) text ∙ ap (λ (n : ℕ). n + length text) (length-take-le at buffer h) in
-    rw (← append_assoc (take at buffer) text (drop (at + length text) buffer)) (take_at (take at buffer ++ text) (drop (at + length text) buffer) (at + length text) e)
 
 drop_longer : (t rest : List ℕ) (n : ℕ) → length t ≤ n → drop n (t ++ rest) ≡ drop (n - length t) rest
 drop_longer t rest n h =
@@ -66,24 +36,10 @@ placed_over buffer at s t u h g =
     behind ∙ (drop_longer t rest (length u) g ∙ (drop-drop (length u - length t) (at + length (s ++ t)) buffer ∙ ap (λ (n : ℕ). drop n buffer) place)) in
     rw (before, end) (simp append_assoc)
 
--- a text placed behind another
-pub placed_behind : (buffer : List ℕ) (at : ℕ) (s u : List ℕ) → at ≤ length buffer → placed (placed buffer at s) (at + length s) u ≡ placed buffer at (s ++ u)
-placed_behind buffer at s u h =
-    subst (λ (t : List ℕ). placed (placed buffer at t) (at + length s) u ≡ placed buffer at (s ++ u)) (append_nil s)
-    (placed_over buffer at s [] u h (omega arith))
-
 -- a store is a text of one byte
 pub set_placed : (buffer : List ℕ) (at byte : ℕ) → at < length buffer → set buffer at byte ≡ placed buffer at (byte ∷ [])
 unfolding placed
 set_placed buffer at byte h = set_split buffer at byte h ∙ rw (← add-one at)
-
--- a byte stored behind a text that is placed
-pub placed_byte_more :
-    (buffer : List ℕ) (at : ℕ) (text : List ℕ) (byte : ℕ) → at + length text < length buffer
-    → set (placed buffer at text) (at + length text) byte ≡ placed buffer at (text ++ (byte ∷ []))
-placed_byte_more buffer at text byte h =
-    let long : length (placed buffer at text) ≡ length buffer = length_placed buffer at text (omega arith) in
-    set_placed (placed buffer at text) (at + length text) byte (omega arith) ∙ placed_behind buffer at text (byte ∷ []) (omega arith)
 
 -- a text's last byte stored first, and the rest of the text placed before it
 pub placed_last_byte_first :
@@ -103,16 +59,47 @@ placed_last_byte_first buffer end text byte h g =
     rw (drop-cons (set buffer (end - 1) byte) (end - 1) 0 set_long, get_or-set_same buffer (end - 1) byte 0 (omega arith), drop-set-lt (suc (end - 1)) buffer (end - 1) byte (omega arith)) in
     rw (same, next, last, front, back) (ap (λ (rest : List ℕ). take start buffer ++ rest) (sym (append_snoc text byte (drop (suc (end - 1)) buffer))))
 
--- what is answered of a text that has room, and of one that has none
-pub text_placed :
-    (buffer : List ℕ) (at : ℕ) (text after : List ℕ) (end : ℕ) → at + length text ≤ length buffer
-    → Placed buffer at text after end → PlacedOrRefused buffer at text after (Some end)
-text_placed buffer at text after end h p =
-    let room : leb (at + length text) (length buffer) ≡ true = le-leb _ _ h in
-    record { bytes = rw room p.bytes; end_of = rw room (ap Some p.end_of) }
+placed_is : (buffer : List ℕ) (at : ℕ) (text : List ℕ) → take at buffer ++ (text ++ drop (at + length text) buffer) ≡ placed buffer at text
+unfolding placed
+placed_is buffer at text = refl
 
-pub text_refused :
-    (buffer : List ℕ) (at : ℕ) (text : List ℕ) → length buffer < at + length text → PlacedOrRefused buffer at text buffer None
-text_refused buffer at text h =
-    let no_room : leb (at + length text) (length buffer) ≡ false = lt-leb _ _ h in
-    record { bytes = rw no_room; end_of = rw no_room }
+-- a text at the start
+pub placed_begins : (buffer text : List ℕ) → placed buffer 0 text ≡ begun buffer text
+unfolding placed
+placed_begins buffer text = rw (zero-add (length text))
+
+-- a text behind the one at the start
+begun_more : (buffer s u : List ℕ) → placed (begun buffer s) (length s) u ≡ begun buffer (s ++ u)
+unfolding placed
+begun_more buffer s u =
+    let rest = drop (length s) buffer in
+    rw (
+      take_at s rest (length s) refl,
+      drop-append-add s rest (length u),
+      drop-drop (length u) (length s) buffer,
+      length-append s u,
+      append_assoc s u (drop (length s + length u) buffer),
+    )
+
+module _ (buffer out : List ℕ) (end : ℕ) (s : List ℕ) (inside : end ≤ length out) (begins : out ≡ begun buffer s) (e : end ≡ length s) where
+  -- the same where it is put at the start of what is left
+  pub begun_further :
+      (u part : List ℕ) → part ≡ begun (take (length out - end) (drop end out)) u
+      → take end out ++ (part ++ drop (length out - end) (drop end out)) ≡ begun buffer (s ++ u)
+  begun_further u part put =
+      let left = length-drop end out in
+      let behind : take end out ++ (part ++ drop (length out - end) (drop end out)) ≡ placed out end u =
+      rw (
+        put,
+        take_all (length out - end) (drop end out) (omega arith),
+        drop_of_length-le (drop end out) {i = length out - end} (omega arith),
+        append_nil (u ++ drop (length u) (drop end out)),
+        drop-drop (length u) end out,
+      ) (placed_is out end u) in
+      behind ∙ (ap (λ (n : ℕ). placed out n u) e ∙ ap (λ (t : List ℕ). placed t (length s) u) begins ∙ begun_more buffer s u)
+
+  -- a byte stored behind the text
+  pub begun_byte_more : (byte : ℕ) → end < length out → set out end byte ≡ begun buffer (s ++ (byte ∷ []))
+  begun_byte_more byte h =
+      set_placed out end byte h
+      ∙ (ap (λ (n : ℕ). placed out n (byte ∷ [])) e ∙ ap (λ (t : List ℕ). placed t (length s) (byte ∷ [])) begins ∙ begun_more buffer s (byte ∷ []))

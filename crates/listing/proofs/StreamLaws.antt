@@ -1,22 +1,22 @@
 -- Laws of the lines of a stream, byte by byte, of a line that a buffer holds, and of streams that come in blocks.
-use Prim.Native.Nat.{ℕ, suc, ◌+◌, ◌-◌, ◌<◌, ◌≤◌}
+use Prim.Native.Nat.{ℕ, suc, ◌+◌, ◌<◌, ◌≤◌}
 use native.Mathlib.Omega.{arith}
 use mathlib.Core.Bool.{true, false, true≢false}
 use mathlib.Core.Path.{◌≡◌, refl, subst, ap, sym, ◌∙◌}
 use mathlib.Core.List.{List, [], ◌∷◌, ◌++◌, append_assoc}
 use lib.Dec.{leb, eqb}
-use lib.ListN.{length, take, drop, length-append, drop_of_length-le}
+use lib.ListN.{length, take, drop}
 use lib.Seq.{append_snoc, length-take-le}
 use Rattle.std.specs.Prelude.{nat_eq, nat_lt, Some, None}
 use Rattle.std.specs.List.{position, position_or_len}
 use Rattle.std.proofs.lemmas.Option.{cond_some, none-some}
 use borrow.Author.Tests.{ltb-true, ltb-false, leb-true, leb-false}
 use Rattle.listing.proofs.Cases.{by_cases}
-use Rattle.listing.proofs.PlacedLaws.{append_nil, upto_placed, length_placed}
-use Rattle.listing.specs.Placed.{placed}
+use Rattle.listing.proofs.PlacedLaws.{append_nil}
 use Rattle.listing.specs.Stream.{lines, in_front, joined, has_feed, first_line, after_feed, ended, open_line, last_line}
 use Rattle.listing.specs.Laws.Stream.{lines_of_blocks}
 use Rattle.listing.specs.Held.{Held}
+use Rattle.listing.specs.declared.stream.OpenLine.{OpenLine}
 
 -- the place of a stream's first line feed, or its end where it has none
 pub record FeedIn (stream : List ℕ) (at : ℕ) : Type 0 where
@@ -72,33 +72,6 @@ first_line_all (byte ∷ stream) h = by_cases (eqb byte 10)
   where
     no_feed_here : eqb byte 10 ≡ true → ⊥
     no_feed_here t = let never : true ≡ false = rw t at h in let z : ◌≡◌ {A = ℕ} 0 1 = cc in omega arith
-
--- a line that a buffer holds, with bytes added to it
-module _ (buffer line bytes : List ℕ) (size : ℕ) (held : Held line buffer size) where
-  pub held_longer : length buffer < size → Held (line ++ bytes) buffer size
-  held_longer h =
-      let long = held.beyond h in
-      let more = length-append line bytes in
-      record { within = λ w. absurd (omega arith); beyond = λ w. omega arith }
-
-  pub held_overflow : size ≤ length buffer → length buffer - size < length bytes → Held (line ++ bytes) buffer (length buffer + 1)
-  held_overflow h g =
-      let here : length (take size buffer) ≡ length line = ap length (held.within h) in
-      let long = length-take-le size buffer h in
-      let more = length-append line bytes in
-      record { within = λ w. absurd (omega arith); beyond = λ w. omega arith }
-
-  pub held_append : size + length bytes ≤ length buffer → Held (line ++ bytes) (placed buffer size bytes) (size + length bytes)
-  held_append h =
-      let same = length_placed buffer size bytes h in
-      record {
-        within = λ w. upto_placed buffer size bytes (omega arith) ∙ ap (λ (s : List ℕ). s ++ bytes) (held.within (omega arith));
-        beyond = λ w. absurd (omega arith);
-      }
-
--- nothing is taken from a place past the end of a block
-pub past_the_end : (block : List ℕ) (from : ℕ) → length block < from → drop from block ≡ []
-past_the_end block from h = drop_of_length-le block {i = from} (omega arith)
 
 -- THE BLOCKS: lines that end in two blocks, one behind the other
 pub ended_append : (before a b : List ℕ) → ended before (a ++ b) ≡ ended before a ++ ended (open_line before a) b
@@ -185,17 +158,17 @@ ended_without_feed before (byte ∷ block) h = by_cases (eqb byte 10)
     let more = ended_without_feed (before ++ (byte ∷ [])) block (rw f at h) in
     (rw f more.0, rw f (more.1 ∙ append_snoc before byte block)))
 
--- an empty line is held by any buffer at size 0, and nothing else is
-pub held_nothing : (buffer : List ℕ) → Held [] buffer 0
-held_nothing buffer = record { within = λ h. refl; beyond = λ h. absurd (omega arith) }
+-- an empty line is held at size 0, and nothing else is
+pub held_nothing : {n : ℕ} (held : OpenLine n) → held.size ≡ 0 → Held [] held
+held_nothing held none = record { within = λ h. rw none; beyond = λ h. absurd (omega arith) }
 
-pub held_is_nothing : (line buffer : List ℕ) → Held line buffer 0 → line ≡ []
-held_is_nothing line buffer h = sym (h.within (omega arith))
+pub held_is_nothing : {n : ℕ} (line : List ℕ) (held : OpenLine n) → held.size ≡ 0 → Held line held → line ≡ []
+held_is_nothing line held none h = sym (h.within (omega arith)) ∙ rw none
 
 -- a line that is held at a larger size has a byte
-pub held_some : (line buffer : List ℕ) (size : ℕ) → 0 < size → Held line buffer size → 0 < length line
-held_some line buffer size some h = by_cases (leb size (length buffer))
+pub held_some : {n : ℕ} (line : List ℕ) (held : OpenLine n) → 0 < held.size → Held line held → 0 < length line
+held_some line held some h = by_cases (leb held.size (length held.bytes))
     (λ t.
-    let inside = leb-true size (length buffer) t in
-    omega (arith, ap length (h.within inside), length-take-le size buffer inside))
-    (λ f. let long = h.beyond (leb-false size (length buffer) f) in omega arith)
+    let inside = leb-true held.size (length held.bytes) t in
+    omega (arith, ap length (h.within inside), length-take-le held.size held.bytes inside))
+    (λ f. let long = h.beyond (leb-false held.size (length held.bytes) f) in omega arith)

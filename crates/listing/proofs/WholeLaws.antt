@@ -145,11 +145,6 @@ whole_line_begins count width stream h well =
       ap (λ (s : List ℕ). get_or s (count * width) 0) split ∙ get_or_at line 10 (after_feed stream) 0 (count * width) long,
     )
 
-pub begins_inside : (count width : ℕ) (stream : List ℕ) → begins_with_columns count width stream ≡ true → count * width ≤ length stream
-unfolding begins_with_columns
-begins_inside count width stream h =
-    leb-true (count * width) (length stream) (both (leb (count * width) (length stream)) (all_numbers (cut count width stream)) h).0
-
 -- what is known of a block's lines where the columns from a place on do not end at a line feed
 pub not_whole_here :
     (count width : ℕ) (stream : List ℕ)

@@ -1,43 +1,40 @@
--- How a buffer holds the bytes of a line that is not yet whole: up to its length, and of a longer line only that it is
--- longer. What the functions on lines from blocks have to do is said over the line that the buffer holds.
+-- How an open line holds the bytes of a line that is not yet whole: up to its room, and of a longer line only that it is
+-- longer. What the functions on lines from blocks have to do is said over the line that is held.
 use Rattle.std.specs.Prelude.{ℕ, ◌<◌, ◌≤◌, Bool, true, false, cond, ◌&&◌, ◌≡◌, List, ◌++◌, leb, length, take, replicate, Option, Result}
 use Rattle.std.specs.Option.{MatchOption}
 use denote.Ref.{Bor}
 use Rattle.listing.specs.Line.{well_formed, line_numbers, line_answer}
 use Rattle.listing.specs.Stream.{has_feed, first_line, after_feed}
 use Rattle.listing.specs.declared.MalformedLine.{MalformedLine}
-use Rattle.listing.specs.declared.Taken.{Taken}
+use Rattle.listing.specs.declared.stream.OpenLine.{OpenLine}
 
--- a buffer holds a line: a size within it counts the line's bytes, which it has at its start; a larger one says that the
--- line is longer than the buffer
-pub record Held (line buffer : List ℕ) (size : ℕ) : Type 0 where
-  pub within : size ≤ length buffer → take size buffer ≡ line
-  pub beyond : length buffer < size → length buffer < length line
+-- a line is held: a size within the room counts the line's bytes, which stand at the start; a larger one says that the line
+-- is longer than the room
+pub record Held {n : ℕ} (line : List ℕ) (held : OpenLine n) : Type 0 where
+  pub within : held.size ≤ length held.bytes → take held.size held.bytes ≡ line
+  pub beyond : length held.bytes < held.size → length held.bytes < length line
 
--- bytes are added to a line that a buffer holds
-pub record Appended (buffer : List ℕ) (size : ℕ) (bytes after : List ℕ) (grown : ℕ) : Type 0 where
-  pub same : length after ≡ length buffer
-  pub held : (line : List ℕ) → Held line buffer size → Held (line ++ bytes) after grown
+-- bytes are added to a line that is held
+abbrev pub Appended : {n : ℕ} → OpenLine n → List ℕ → OpenLine n → Type 0
+Appended held bytes after = (line : List ℕ) → Held line held → Held (line ++ bytes) after
 
--- a line is taken from a block, up to its line feed or the block's end, behind what a buffer holds
-pub record TakenFrom (block buffer : List ℕ) (size : ℕ) (after : List ℕ) (taken : Taken) : Type 0 where
-  pub same : length after ≡ length buffer
-  pub held : (line : List ℕ) → Held line buffer size → Held (line ++ first_line block) after taken.size
-  pub rest :
-      MatchOption taken.rest (has_feed block ≡ false) (λ rest. (has_feed block ≡ true) × (rest.now ≡ after_feed block))
+-- a line is taken from a block, up to its line feed or the block's end, behind what is held of it
+pub record TakenFrom {n : ℕ} (block : List ℕ) (held after : OpenLine n) (rest : Option (Bor (List ℕ))) : Type 0 where
+  pub holds : (line : List ℕ) → Held line held → Held (line ++ first_line block) after
+  pub behind : MatchOption rest (has_feed block ≡ false) (λ rest. (has_feed block ≡ true) × (rest.now ≡ after_feed block))
 
 -- what a line reads as that is malformed where it is longer than a buffer
 abbrev pub well_formed_within : ℕ → ℕ → ℕ → List ℕ → Bool
 well_formed_within most count width line = leb (length line) most && well_formed count width line
 
--- the line that a buffer holds is read
-pub record HeldRead (width : ℕ) (buffer : List ℕ) (size : ℕ) (numbers after : List ℕ) (answer : Result (Unit {0}) MalformedLine) : Type 0 where
+-- the line that is held is read
+pub record HeldRead {n : ℕ} (width : ℕ) (held : OpenLine n) (numbers after : List ℕ) (answer : Result (Unit {0}) MalformedLine) : Type 0 where
   pub form :
-      (line : List ℕ) → Held line buffer size
-      → answer ≡ line_answer (well_formed_within (length buffer) (length numbers) width line)
+      (line : List ℕ) → Held line held
+      → answer ≡ line_answer (well_formed_within n (length numbers) width line)
   pub put :
-      (line : List ℕ) → Held line buffer size
-      → after ≡ cond (leb (length line) (length buffer)) (line_numbers (length numbers) width line) (replicate (length numbers) 0)
+      (line : List ℕ) → Held line held
+      → after ≡ cond (leb (length line) n) (line_numbers (length numbers) width line) (replicate (length numbers) 0)
 
 -- a well-formed line with its line feed is read where it stands at a block's start; where none stands there, what the numbers
 -- then hold is free

@@ -1,4 +1,4 @@
--- What writing a text into a buffer does: the text stands from a place on, and every other byte stays. Without room for
+-- What writing a text into a buffer does: the text stands from its start on, and every other byte stays. Without room for
 -- the whole text nothing changes.
 use Rattle.std.specs.Prelude.{ℕ, ◌+◌, cond, ◌≡◌, List, ◌++◌, leb, length, take, drop, Option, Some, None}
 
@@ -6,12 +6,16 @@ use Rattle.std.specs.Prelude.{ℕ, ◌+◌, cond, ◌≡◌, List, ◌++◌, leb
 unfoldable pub placed : List ℕ → ℕ → List ℕ → List ℕ
 placed buffer at text = take at buffer ++ (text ++ drop (at + length text) buffer)
 
--- a text is put at a place that has room for it
-pub record Placed (buffer : List ℕ) (at : ℕ) (text after : List ℕ) (end : ℕ) : Type 0 where
-  pub bytes : after ≡ placed buffer at text
-  pub end_of : end ≡ at + length text
+-- a buffer with a text at its start
+abbrev pub begun : List ℕ → List ℕ → List ℕ
+begun buffer text = text ++ drop (length text) buffer
 
--- a text is put at a place, or refused where there is no room for it
-pub record PlacedOrRefused (buffer : List ℕ) (at : ℕ) (text after : List ℕ) (answer : Option ℕ) : Type 0 where
-  pub bytes : after ≡ cond (leb (at + length text) (length buffer)) (placed buffer at text) buffer
-  pub end_of : answer ≡ cond (leb (at + length text) (length buffer)) (Some (at + length text)) None
+-- a text is put at the start of a buffer that has room for it
+pub record Placed (buffer text after : List ℕ) (end : ℕ) : Type 0 where
+  pub bytes : after ≡ begun buffer text
+  pub end_of : end ≡ length text
+
+-- a text is put at the start of a buffer, or refused where there is no room for it
+pub record PlacedOrRefused (buffer text after : List ℕ) (answer : Option ℕ) : Type 0 where
+  pub bytes : after ≡ cond (leb (length text) (length buffer)) (begun buffer text) buffer
+  pub end_of : answer ≡ cond (leb (length text) (length buffer)) (Some (length text)) None

@@ -8,17 +8,9 @@ mod stream;
 mod writing;
 
 pub use reading::{read_column, read_line};
-pub use stream::{read_held_line, read_whole_line, take_line};
+pub use stream::{OpenLine, read_whole_line};
 pub use writing::write_line;
 
 // A line that does not read as numbers.
 #[derive(Clone, Copy, Debug)]
 pub struct MalformedLine;
-
-// What was taken of a line from a block: how many bytes the line now has in its buffer (more than the buffer's length where it
-// is longer), and the block behind its line feed, if it ended.
-#[derive(Clone, Copy)]
-pub struct Taken<'a> {
-    pub size: usize,
-    pub rest: Option<&'a [u8]>,
-}

@@ -16,6 +16,7 @@ fn leading_spaces(bytes: &[u8]) -> usize
 }
 
 // The number that digits alone read as, where it fits 64 bits.
+#[tactic(auto, using(crate::proofs::ColumnLaws::digits_at_start, crate::proofs::ColumnLaws::digits_at_digit, crate::proofs::ColumnLaws::digits_at_no_digit, crate::proofs::ColumnLaws::digits_at_too_large, crate::proofs::ColumnLaws::digits_at_end, crate::proofs::ColumnLaws::no_digits_at_end))]
 fn read_digits(bytes: &[u8]) -> Option<u64>
     ensures { result ≡ digits_read bytes.now }
 {
@@ -34,6 +35,7 @@ fn read_digits(bytes: &[u8]) -> Option<u64>
 }
 
 // The number that a column reads as: spaces, then one or more digits to its right edge.
+#[tactic(auto, unfolding(crate::specs::Column::column))]
 pub fn read_column(bytes: &[u8]) -> Option<u64>
     ensures { result ≡ column bytes.now }
 {
@@ -41,6 +43,7 @@ pub fn read_column(bytes: &[u8]) -> Option<u64>
 }
 
 // Reads the columns that the bytes begin with, one for each number, and answers where they end.
+#[tactic(auto, using(crate::proofs::LineLaws::columns_too_short, crate::proofs::LineLaws::columns_malformed, crate::proofs::LineLaws::columns_more, crate::proofs::LineLaws::values_more, crate::proofs::LineLaws::columns_done, crate::proofs::LineLaws::values_done, crate::proofs::LineLaws::no_columns))]
 pub fn read_columns(bytes: &[u8], width: usize, numbers: &mut [u64]) -> Option<usize>
     ensures { ColumnsRead width bytes.now numbers.old numbers.new result }
 {
@@ -57,6 +60,7 @@ pub fn read_columns(bytes: &[u8], width: usize, numbers: &mut [u64]) -> Option<u
 }
 
 // Reads a line that is exactly one column for each number. The numbers of a malformed line are 0.
+#[tactic(auto, using(crate::proofs::LineLaws::columns_end, crate::proofs::LineLaws::columns_refused, crate::proofs::LineLaws::well_formed_length, crate::proofs::LineLaws::not_well_formed, crate::proofs::LineLaws::malformed_line, crate::proofs::LineLaws::line_of_columns))]
 pub fn read_line(line: &[u8], width: usize, numbers: &mut [u64]) -> Result<(), MalformedLine>
     ensures { LineRead width line.now numbers.old numbers.new result }
 {

@@ -1,60 +1,84 @@
 // Lines from blocks.
-ghost use Rattle.std.specs.Prelude.{◌≡◌, ◌+◌, ◌≤◌, length};
+ghost use Rattle.std.specs.Prelude.{◌≡◌, eqb};
 ghost use Rattle.listing.specs.Held.{Appended, TakenFrom, HeldRead, WholeRead};
-ghost use Rattle.listing.specs.Placed.{placed};
 
+use crate::MalformedLine;
 use crate::reading::{read_columns, read_line};
-use crate::{MalformedLine, Taken};
 
-// Adds bytes to the line that a buffer holds. Of a line that is longer than the buffer only that is kept.
-fn append(buffer: &mut [u8], size: usize, bytes: &[u8]) -> usize
-    ensures { Appended buffer.old size bytes.now buffer.new result }
-{
-    if buffer.len() < size {
-        return size;
-    }
-    if buffer.len() - size < bytes.len() {
-        return buffer.len() + 1;
-    }
-    let end = size + bytes.len();
-    buffer[size..end].copy_from_slice(bytes);
-    end
-}
-
-// Takes a line from a block, up to its line feed or the block's end, behind what the buffer holds of it.
-pub fn take_line<'a>(block: &'a [u8], buffer: &mut [u8], size: usize) -> Taken<'a>
-    ensures { TakenFrom block.now buffer.old size buffer.new result }
-{
-    match block.iter().position(|byte| *byte == b'\n') {
-        Some(feed) => Taken {
-            size: append(buffer, size, &block[..feed]),
-            rest: Some(&block[feed + 1..]),
-        },
-        None => Taken {
-            size: append(buffer, size, block),
-            rest: None,
-        },
-    }
-}
-
-// Reads the line that a buffer holds. One that is longer than the buffer is malformed.
-pub fn read_held_line(
-    buffer: &[u8],
+// A line that is not yet whole: its bytes so far, which stand at the start, and how many they are. Of a line that is longer
+// than N only that is kept, by a larger size.
+#[derive(Clone, Copy)]
+pub struct OpenLine<const N: usize> {
+    bytes: [u8; N],
     size: usize,
-    width: usize,
-    numbers: &mut [u64],
-) -> Result<(), MalformedLine>
-    ensures { HeldRead width buffer.now size numbers.old numbers.new result }
-{
-    if buffer.len() < size {
-        numbers.fill(0);
-        return Err(MalformedLine);
+}
+
+impl<const N: usize> OpenLine<N> {
+    // No byte of a line.
+    pub fn new() -> Self
+        ensures { result.size ≡ 0 }
+    {
+        OpenLine {
+            bytes: [0; N],
+            size: 0,
+        }
     }
-    read_line(&buffer[..size], width, numbers)
+
+    // Whether it has no byte.
+    pub fn is_empty(&self) -> bool
+        ensures { result ≡ eqb self.now.size 0 }
+    {
+        self.size == 0
+    }
+
+    // Adds bytes.
+    fn append(&mut self, bytes: &[u8])
+        ensures { Appended self.old bytes.now self.new }
+    {
+        let room = &mut self.bytes[..];
+        if room.len() < self.size {
+            return;
+        }
+        if room.len() - self.size < bytes.len() {
+            self.size = room.len() + 1;
+            return;
+        }
+        let end = self.size + bytes.len();
+        room[self.size..end].copy_from_slice(bytes);
+        self.size = end;
+    }
+
+    // Takes a line from a block, up to its line feed or the block's end, and answers the block behind the line feed.
+    pub fn take<'a>(&mut self, block: &'a [u8]) -> Option<&'a [u8]>
+        ensures { TakenFrom block.now self.old self.new result }
+    {
+        match block.iter().position(|byte| *byte == b'\n') {
+            Some(feed) => {
+                self.append(&block[..feed]);
+                Some(&block[feed + 1..])
+            }
+            None => {
+                self.append(block);
+                None
+            }
+        }
+    }
+
+    // Reads the line. One that is longer than N is malformed.
+    pub fn read(&self, width: usize, numbers: &mut [u64]) -> Result<(), MalformedLine>
+        ensures { HeldRead width self.now numbers.old numbers.new result }
+    {
+        if N < self.size {
+            numbers.fill(0);
+            return Err(MalformedLine);
+        }
+        read_line(&self.bytes[..self.size], width, numbers)
+    }
 }
 
 // Reads a well-formed line where it stands at a block's start with its line feed, and answers the block behind it: no search
 // for the line feed and no copy. For any other line there is no answer.
+#[tactic(auto, using(crate::proofs::LineLaws::columns_end, crate::proofs::LineLaws::columns_refused, crate::proofs::WholeLaws::whole_found, crate::proofs::WholeLaws::whole_not_found))]
 pub fn read_whole_line<'a>(block: &'a [u8], width: usize, numbers: &mut [u64]) -> Option<&'a [u8]>
     ensures { WholeRead block.now width numbers.old numbers.new result }
 {

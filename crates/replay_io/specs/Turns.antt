@@ -5,8 +5,6 @@ use Rattle.std.specs.Io.KnownBytes.{Consumes, Appends, IsAtEnd}
 use Rattle.listing.specs.Stream.{ended, open_line, last_line}
 use Rattle.listing.specs.Held.{Held}
 use Rattle.listing_lines.specs.Text.{texts}
-use Rattle.srt_group_shown.specs.Tables.{Tables}
-use Rattle.srt_group_replay.specs.Lines.{standing}
 use Rattle.replay_rows.specs.Rows.{group_after, prints_from}
 use Rattle.replay_blocks.specs.Blocks.{replayed, numbers}
 use Rattle.replay_io.specs.declared.turns.State.{State}
@@ -19,17 +17,14 @@ pub record BlockRead (left left' : Option (List ℕ)) (count : ℕ) (block : Lis
 
 -- it is answered and written: the text of the answers to the lines that it ends, whatever line began before it; the group after them, and the
 -- line that it leaves open
-pub record BlockReplayed (block buffer : List ℕ) (s : State) (t : Tables) (s' : State) (t' : Tables) (buffer' : List ℕ) (written written' : Option (List ℕ)) : Type 0 where
-  pub text : (line : List ℕ) → Held line buffer s.size
-      → Appends written written' (texts (prints_from (standing s.made s.group t) (numbers (ended line block))))
-  pub group : (line : List ℕ) → Held line buffer s.size
-      → standing s'.made s'.group t' ≡ group_after (standing s.made s.group t) (numbers (ended line block))
-  pub held : (line : List ℕ) → Held line buffer s.size → Held (open_line line block) buffer' s'.size
+pub record BlockReplayed {n : ℕ} (block : List ℕ) (s s' : State n) (written written' : Option (List ℕ)) : Type 0 where
+  pub text : (line : List ℕ) → Held line s.line → Appends written written' (texts (prints_from s.replay (numbers (ended line block))))
+  pub group : (line : List ℕ) → Held line s.line → s'.replay ≡ group_after s.replay (numbers (ended line block))
+  pub open_held : (line : List ℕ) → Held line s.line → Held (open_line line block) s'.line
 
 -- so is the line that the listing's end ends
-pub record LastReplayed (buffer : List ℕ) (s : State) (t : Tables) (written written' : Option (List ℕ)) : Type 0 where
-  pub text : (line : List ℕ) → Held line buffer s.size
-      → Appends written written' (texts (prints_from (standing s.made s.group t) (numbers (last_line line))))
+pub record LastReplayed {n : ℕ} (s : State n) (written written' : Option (List ℕ)) : Type 0 where
+  pub text : (line : List ℕ) → Held line s.line → Appends written written' (texts (prints_from s.replay (numbers (last_line line))))
 
 -- THE PROMISE of a replay: a listing is read to its end, and what is written is its replay
 pub record ListingReplayed (left left' written written' : Option (List ℕ)) : Type 0 where

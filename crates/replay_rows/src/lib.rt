@@ -1,5 +1,5 @@
-// The lines of a replay listing over the group, in rows of words: inner code of the replay program, so its functions have a `requires`.
+// The lines of a replay listing over the group, in rows of numbers: inner code of the replay program, so its function has a `requires`.
 
 #![tactic(auto)]
 
-pub mod rows; // rows.rt: a row, and all rows
+pub mod rows; // rows.rt: all rows

@@ -1,11 +1,13 @@
 // Runs of sends. A step is one word: a leg times 2^32, and the sequence up to which that leg is acknowledged; with leg 0 it is a send of the
 // payload, at the time that the word says. The step's answer, one number, takes its place.
+// Kept (5, 6): each table is a parameter of its own, as C lends it and the calls that are timed take it.
 ghost use Rattle.std.specs.Prelude.{◌≤◌, length};
 ghost use Rattle.srt_group_model.specs.Sending.{list_size};
 ghost use Rattle.srt_group_shown.specs.Tables.{parts, tables};
 ghost use Rattle.srt_group_shown.specs.Ready.{Ready};
 
 use bench_steps::steps::{Called, LEG};
+use cell_set::CellSet;
 use srt_group::Group;
 use srt_group_model::{Core, Identity, Sending};
 use srt_group_queueing::calls as queueing_calls;
@@ -132,7 +134,7 @@ fn step(
     sources: &mut [u64],
     store: &mut [u8],
     list: &mut [u64],
-    used: &mut [u64],
+    used: &mut CellSet,
     word: u64,
     payload: &[u8],
 ) -> Stepped
@@ -213,7 +215,7 @@ pub fn step_each(
     sources: &mut [u64],
     store: &mut [u8],
     list: &mut [u64],
-    used: &mut [u64],
+    used: &mut CellSet,
     steps: &mut [u64],
     payload: &[u8],
 ) -> Moved

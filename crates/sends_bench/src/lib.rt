@@ -1,13 +1,15 @@
 // The sends under plain names, for bench/calls to time. A measuring crate: no product links it. Nothing exported has a `requires`: what a
 // host lends is tested.
+// Kept (5, 6): each table is a parameter of its own, as the measuring program lends it over the C interface.
 
 #![tactic(auto)]
 
-use calls_bench::record::{put_group, read_group};
+use cell_set::WORDS;
 use send_steps::steps::{call_each, step_each};
 use srt_group::Group;
 use srt_group_refusals::refusals::LentGroup;
 use srt_group_sending::list::SENT_LENGTH;
+use srt_group_words::record::{put_group, read_group};
 use srt_protocol::error::Error;
 
 // The steps of a run of sends in turn by the public calls.
@@ -56,7 +58,7 @@ pub extern "C" fn calls_sends_valid(
         sending,
         ring,
     } = group;
-    let mut used = [0u64; 32];
+    let mut used = [0; WORDS];
     let lent = LentGroup {
         group,
         members,

@@ -105,6 +105,7 @@ pub fn gives_up_at(leg: Leg, source: Timestamp) -> Option<Timestamp>
 
 // The sender once one more has gone out: its next sequence and its flight rise by one, and the oldest send time becomes the
 // time if the flight was empty.
+#[tactic(auto, using(srt_group_model::specs::Laws::Reason::when_true, srt_group_model::specs::Laws::Reason::when_false))]
 fn after_send(mut sender: Sender, time: Timestamp) -> Sender
     requires { sender.flight < sender.window }
     ensures { result ≡ after_send time.0 sender }
@@ -120,8 +121,10 @@ fn after_send(mut sender: Sender, time: Timestamp) -> Sender
     sender
 }
 
+// Kept (5): the three words of one call, which C hands over; only this function reads them all.
 // A send of `size` bytes at a sequence fails unless the leg can send, the sequence is its next, and the payload is within its
 // limit. The next sequence and the flight rise by one.
+#[tactic(auto, using(crate::specs::Laws::Answers::window_left, srt_group_model::specs::Laws::Reason::when_true, srt_group_model::specs::Laws::Reason::when_false), unfolding(srt_group_model::specs::Legs::send_shared_with_sequence))]
 pub fn send_shared_with_sequence(
     mut leg: Leg,
     time: Timestamp,
@@ -145,6 +148,7 @@ pub fn send_shared_with_sequence(
 }
 
 // Fails unless the flight is empty; sets the next sequence.
+#[tactic(auto, using(srt_group_model::specs::Laws::Reason::when_true, srt_group_model::specs::Laws::Reason::when_false), unfolding(srt_group_model::specs::Legs::synchronize_send_sequence))]
 pub fn synchronize_send_sequence(mut leg: Leg, sequence: u64) -> Option<Leg>
     ensures { result ≡ synchronize_send_sequence sequence leg }
 {
@@ -173,6 +177,7 @@ pub fn disconnect(mut leg: Leg) -> Leg
 }
 
 // A leg handed to an addition: one that is connected, or handed over disconnected, has connected and has a sender.
+#[tactic(auto, using(srt_group_model::specs::Laws::Reason::when_true, srt_group_model::specs::Laws::Reason::when_false))]
 pub fn handed_over(mut leg: Leg) -> Leg
     ensures { result ≡ handed leg }
 {
@@ -185,6 +190,7 @@ pub fn handed_over(mut leg: Leg) -> Leg
 }
 
 // The state that was read; a leg that is connected has its sender from then on.
+#[tactic(auto, using(srt_group_model::specs::Laws::Reason::when_true, srt_group_model::specs::Laws::Reason::when_false))]
 pub fn read_state(mut leg: Leg, state: u64) -> Leg
     ensures { result ≡ read_state state leg }
 {

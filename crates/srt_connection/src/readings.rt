@@ -1,4 +1,5 @@
 // Readings: document 01, "Fields of 3". A leg's field by its number, with its range (code 2) and its turn (code 32).
+// Kept (5): a reading's field and number are two words of the C call; a struct of them would be made there and taken apart here.
 ghost use Rattle.std.specs.Prelude.{◌≡◌};
 ghost use Rattle.srt_group_model.specs.Legs.{goes_back};
 ghost use Rattle.srt_connection.specs.Readings.{acknowledges, reading};
@@ -80,6 +81,7 @@ pub fn goes_back(leg: Leg, field: u64, number: u64) -> bool
 }
 
 // A reading: the leg with the number in its field, or 2, or 32.
+#[tactic(auto, using(srt_group_model::specs::Laws::Reason::when_true, srt_group_model::specs::Laws::Reason::when_false), unfolding(crate::specs::Readings::reading))]
 pub fn read(leg: Leg, field: u64, number: u64) -> Result<Leg, Error>
     ensures { result ≡ reading field number leg }
 {

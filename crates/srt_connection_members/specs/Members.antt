@@ -1,7 +1,7 @@
 -- The lent table of members: row i is the words from row-size * i on. `members_of n` is the list of the first n rows; the rows past it
 -- are free. A row that is changed is `change`, one that is appended `++`, one that is removed `without_place` of the model.
 use Rattle.srt_protocol.specs.Errors.{Outcome}
-use Rattle.std.specs.Prelude.{◌≡◌, List, [], ◌∷◌, ◌++◌, ℕ, ◌+◌, ◌-◌, ◌*◌, ◌≤◌, length, None, Option, Some}
+use Rattle.std.specs.Prelude.{get_or, ◌≡◌, List, [], ◌∷◌, ◌++◌, ℕ, ◌+◌, ◌-◌, ◌*◌, ◌≤◌, length, map}
 use Rattle.srt_protocol.specs.Errors.{if_accepted}
 use Rattle.srt_group_model.specs.Tools.{change, without_place, each}
 use Rattle.srt_group_model.specs.Calls.{enqueue}
@@ -28,6 +28,13 @@ member_at t i = member_of (row_at row_size t i)
 -- the first n members
 unfoldable pub members_of : ℕ → List ℕ → List Member
 members_of n t = tab n (member_at t)
+
+-- the members that these rows show
+abbrev pub members_in : List (List ℕ) → List Member
+members_in rows = map member_of rows
+
+abbrev pub member_in : List (List ℕ) → ℕ → Member
+member_in rows i = member_of (get_or rows i [])
 
 -- the table has a row i
 abbrev pub HasRow : ℕ → List ℕ → Type 0

@@ -1,5 +1,8 @@
 // The lent table of members, row by row. A row is lent as a part of the table, so that what is proved of a row holds of the
 // table: the row at the index is changed, and no other. Rows past the count of members are free.
+// Kept (5): the host lends the table as words through the C interface, so each function that takes an index needs that row there.
+// Kept (2, 3, 6): what changes members keeps the flat table and walks it by index: `as_chunks_mut` says nothing of the words after it, and
+// no function that lends a `&mut Row` out of a part of them gets a clause on how they stand when it comes back.
 
 #![tactic(auto)]
 
@@ -9,7 +12,7 @@ ghost use Rattle.srt_group_model.specs.Tools.{at_place, is_empty};
 ghost use Rattle.srt_group_model.specs.Members.{find};
 ghost use Rattle.srt_connection_queue.specs.Rows.{row_size, member_of, Kept, with_membership};
 ghost use Rattle.srt_connection_queue.specs.Queue.{popped, cleared};
-ghost use Rattle.srt_connection_members.specs.Members.{member_at, members_of, HasRow, new_member, Changed, PushedAt, PolledAt, Appended, Removed, ChangedAll};
+ghost use Rattle.srt_connection_members.specs.Members.{member_at, members_of, members_in, HasRow, new_member, Changed, PushedAt, PolledAt, Appended, Removed, ChangedAll};
 ghost use Rattle.srt_group_model.specs.Legs.{with_reservation, advance_receive_sequence, release_data_reservation, disconnect_leg};
 
 use srt_connection::legs::{disconnect, less};
@@ -17,8 +20,9 @@ use srt_connection_queue::queue::{
     LegPoll, clear, front, poll_event_for_group, pop, push, queue_is_empty,
 };
 use srt_connection_queue::rows::{
-    ROW, account, admitted, advance_receive_sequence, leg, link_state, member_state, membership,
-    put_account, put_leg, put_membership, put_reservation, receiver, reservation, sender,
+    ROW, Row, account, admitted, advance_receive_sequence, leg, link_state, member_id,
+    member_state, membership, put_account, put_leg, put_membership, put_reservation, receiver,
+    reservation, sender,
 };
 use srt_group_model::{Account, Event, Leg, Membership, Receiver, Sender};
 use srt_protocol::error::Error;
@@ -32,15 +36,23 @@ pub const MEMBERS_LENGTH: usize = MAX_MEMBERS * ROW;
 
 // ---- one row is read
 
-// The row at the index.
-#[tactic(auto, using(crate::specs::Laws::Members::lent_member, word_rows::specs::Laws::Rows::row_length))]
-fn row(members: &[u64], index: usize) -> &[u64]
-    requires { HasRow index members.now }
-    ensures long { length result.now ≡ row_size }
-    ensures shows { member_of result.now ≡ member_at members.now index }
+// The rows of the first `count` members.
+pub fn rows(members: &[u64], count: usize) -> &[Row]
+    requires { count * row_size ≤ length members.now }
+    ensures shows { members_in result.now ≡ members_of count members.now }
+    ensures long { length result.now ≡ count }
 {
-    let start = index * ROW;
-    &members[start..start + ROW]
+    let (rows, _) = members.as_chunks::<ROW>();
+    &rows[..count]
+}
+
+// The row at the index.
+pub fn row(members: &[u64], index: usize) -> &Row
+    requires { HasRow index members.now }
+    ensures { member_of result.now ≡ member_at members.now index }
+{
+    let (rows, _) = members.as_chunks::<ROW>();
+    &rows[index]
 }
 
 pub fn membership_at(members: &[u64], index: usize) -> Membership
@@ -126,64 +138,64 @@ pub fn put_membership_at(members: &mut [u64], index: usize, membership: Membersh
     requires { HasRow index members.old }
     ensures { Changed index (with_membership membership) members.old members.new }
 {
-    let start = index * ROW;
-    put_membership(&mut members[start..start + ROW], membership);
+    let (_, rest) = members.split_at_mut(index * ROW);
+    put_membership(rest.first_chunk_mut().unwrap(), membership);
 }
 
 pub fn put_leg_at(members: &mut [u64], index: usize, leg: Leg)
     requires { HasRow index members.old }
     ensures { Changed index (with_leg leg) members.old members.new }
 {
-    let start = index * ROW;
-    put_leg(&mut members[start..start + ROW], leg);
+    let (_, rest) = members.split_at_mut(index * ROW);
+    put_leg(rest.first_chunk_mut().unwrap(), leg);
 }
 
 pub fn put_account_at(members: &mut [u64], index: usize, account: Account)
     requires { HasRow index members.old }
     ensures { Changed index (on_membership (with_account account)) members.old members.new }
 {
-    let start = index * ROW;
-    put_account(&mut members[start..start + ROW], account);
+    let (_, rest) = members.split_at_mut(index * ROW);
+    put_account(rest.first_chunk_mut().unwrap(), account);
 }
 
 pub fn put_reservation_at(members: &mut [u64], index: usize, reserved: u64)
     requires { HasRow index members.old }
     ensures { Changed index (on_leg (with_reservation reserved)) members.old members.new }
 {
-    let start = index * ROW;
-    put_reservation(&mut members[start..start + ROW], reserved);
+    let (_, rest) = members.split_at_mut(index * ROW);
+    put_reservation(rest.first_chunk_mut().unwrap(), reserved);
 }
 
 pub fn pop_at(members: &mut [u64], index: usize)
     requires { HasRow index members.old }
     ensures { Changed index popped members.old members.new }
 {
-    let start = index * ROW;
-    pop(&mut members[start..start + ROW]);
+    let (_, rest) = members.split_at_mut(index * ROW);
+    pop(rest.first_chunk_mut().unwrap());
 }
 
 pub fn clear_at(members: &mut [u64], index: usize)
     requires { HasRow index members.old }
     ensures { Changed index cleared members.old members.new }
 {
-    let start = index * ROW;
-    clear(&mut members[start..start + ROW]);
+    let (_, rest) = members.split_at_mut(index * ROW);
+    clear(rest.first_chunk_mut().unwrap());
 }
 
 pub fn push_at(members: &mut [u64], index: usize, event: Event) -> Result<(), Error>
     requires { HasRow index members.old }
     ensures { PushedAt index event members.old result members.new }
 {
-    let start = index * ROW;
-    push(&mut members[start..start + ROW], event)
+    let (_, rest) = members.split_at_mut(index * ROW);
+    push(rest.first_chunk_mut().unwrap(), event)
 }
 
 pub fn poll_event_for_group_at(members: &mut [u64], index: usize, budget: u64) -> LegPoll
     requires { HasRow index members.old }
     ensures { PolledAt index budget members.old result members.new }
 {
-    let start = index * ROW;
-    poll_event_for_group(&mut members[start..start + ROW], budget)
+    let (_, rest) = members.split_at_mut(index * ROW);
+    poll_event_for_group(rest.first_chunk_mut().unwrap(), budget)
 }
 
 // ---- what the group does to one leg, or to every leg
@@ -193,8 +205,8 @@ pub fn advance_receive_sequence_at(members: &mut [u64], index: usize, sequence: 
     requires { HasRow index members.old }
     ensures { Changed index (on_leg (advance_receive_sequence sequence)) members.old members.new }
 {
-    let start = index * ROW;
-    advance_receive_sequence(&mut members[start..start + ROW], sequence);
+    let (_, rest) = members.split_at_mut(index * ROW);
+    advance_receive_sequence(rest.first_chunk_mut().unwrap(), sequence);
 }
 
 pub fn release_data_reservation_at(members: &mut [u64], index: usize, count: u64)
@@ -238,8 +250,7 @@ pub fn disconnect_all(members: &mut [u64], count: usize)
 // ---- rows are appended, removed and found
 
 // A member with an empty queue in a row.
-fn put_new_member(row: &mut [u64], membership: Membership, leg: Leg)
-    requires { length row.old ≡ row_size }
+fn put_new_member(row: &mut Row, membership: Membership, leg: Leg)
     ensures { Kept row.new (new_member membership leg) }
 {
     put_membership(row, membership);
@@ -252,8 +263,8 @@ pub fn append_member(members: &mut [u64], count: usize, membership: Membership, 
     requires { HasRow count members.old }
     ensures { Appended count (new_member membership leg) members.old members.new }
 {
-    let start = count * ROW;
-    put_new_member(&mut members[start..start + ROW], membership, leg);
+    let (_, rest) = members.split_at_mut(count * ROW);
+    put_new_member(rest.first_chunk_mut().unwrap(), membership, leg);
 }
 
 // Of the first `count` members the one at the index goes, with its queue; the later ones move down.
@@ -265,16 +276,9 @@ pub fn remove_member(members: &mut [u64], count: usize, index: usize)
     close_gap(members, index * ROW, count * ROW, ROW);
 }
 
-// The index of the member with that id, among the first `count`.
-#[tactic(auto, using(crate::specs::Laws::Members::found, crate::specs::Laws::Members::not_found))]
-pub fn find(members: &[u64], count: usize, id: u64) -> Option<usize>
-    requires { count * row_size ≤ length members.now }
-    ensures { result ≡ find id (members_of count members.now) }
+// The index of the member with that id.
+pub fn find(rows: &[Row], id: u64) -> Option<usize>
+    ensures { result ≡ find id (members_in rows.now) }
 {
-    for i in 0..count {
-        if members[i * ROW] == id {
-            return Some(i);
-        }
-    }
-    None
+    rows.iter().position(|row| member_id(row) == id)
 }

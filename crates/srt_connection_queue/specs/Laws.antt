@@ -3,3 +3,4 @@ pub mod Tab
 pub mod Row
 pub mod Rows
 pub mod Queue
+pub mod Chains

@@ -1,6 +1,6 @@
 -- A leg's queue of events, as a ring in its row, and document 01's "Polling".
 use Rattle.srt_protocol.specs.Errors.{Outcome}
-use Rattle.std.specs.Prelude.{◌≡◌, List, [], ◌∷◌, ℕ, ◌-◌, leb, eqb, length, drop, None, Ok, Option, Some}
+use Rattle.std.specs.Prelude.{◌≡◌, List, [], ◌∷◌, ℕ, ◌-◌, leb, eqb, length, drop, Ok}
 use Rattle.srt_protocol.specs.Errors.{refuse_if, if_accepted}
 use Rattle.srt_protocol.specs.declared.error.Error.TheVariants.{QueueFull}
 use Rattle.srt_group_model.specs.Tools.{if_true◌then◌else◌}

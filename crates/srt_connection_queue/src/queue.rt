@@ -4,7 +4,9 @@ ghost use Rattle.srt_group_model.specs.Tools.{at_place, is_empty};
 ghost use Rattle.srt_connection_queue.specs.Rows.{row_size, member_of, Kept};
 ghost use Rattle.srt_connection_queue.specs.Queue.{Pushed, Polled, popped, cleared, budget_after};
 
-use crate::rows::{FIRST_EVENT, MAX_QUEUED, Ring, event_part, put_event_part, put_ring, ring_of};
+use crate::rows::{
+    FIRST_EVENT, MAX_QUEUED, Ring, Row, event_part, put_event_part, put_ring, ring_of,
+};
 use srt_group_model::Event;
 use srt_protocol::error::Error;
 
@@ -18,8 +20,7 @@ pub enum LegPoll {
 }
 
 #[tactic(auto, using(crate::specs::Laws::Queue::length_is))]
-pub fn queue_length(row: &[u64]) -> u64
-    requires { length row.now ≡ row_size }
+pub fn queue_length(row: &Row) -> u64
     ensures { result ≡ length (member_of row.now).queue }
 {
     let ring = ring_of(row);
@@ -27,8 +28,7 @@ pub fn queue_length(row: &[u64]) -> u64
 }
 
 #[tactic(auto, using(crate::specs::Laws::Queue::empty_is))]
-pub fn queue_is_empty(row: &[u64]) -> bool
-    requires { length row.now ≡ row_size }
+pub fn queue_is_empty(row: &Row) -> bool
     ensures { result ≡ is_empty (member_of row.now).queue }
 {
     let ring = ring_of(row);
@@ -36,8 +36,7 @@ pub fn queue_is_empty(row: &[u64]) -> bool
 }
 
 #[tactic(auto, using(crate::specs::Laws::Queue::front_none, crate::specs::Laws::Queue::front_is))]
-pub fn front(row: &[u64]) -> Option<Event>
-    requires { length row.now ≡ row_size }
+pub fn front(row: &Row) -> Option<Event>
     ensures { result ≡ at_place 0 (member_of row.now).queue }
 {
     let ring = ring_of(row);
@@ -50,8 +49,7 @@ pub fn front(row: &[u64]) -> Option<Event>
 
 // The front event goes; an empty queue stays.
 #[tactic(auto, using(crate::specs::Laws::Queue::popped_empty, crate::specs::Laws::Queue::popped_is))]
-pub fn pop(row: &mut [u64])
-    requires { length row.old ≡ row_size }
+pub fn pop(row: &mut Row)
     ensures { Kept row.new (popped (member_of row.old)) }
 {
     let ring = ring_of(row);
@@ -65,8 +63,7 @@ pub fn pop(row: &mut [u64])
 
 // An event behind the others; a full queue refuses it (code 31), and stays.
 #[tactic(auto, using(crate::specs::Laws::Queue::push_accepted))]
-pub fn push(row: &mut [u64], event: Event) -> Result<(), Error>
-    requires { length row.old ≡ row_size }
+pub fn push(row: &mut Row, event: Event) -> Result<(), Error>
     ensures { Pushed (member_of row.old) event result row.new }
 {
     let ring = ring_of(row);
@@ -83,8 +80,7 @@ pub fn push(row: &mut [u64], event: Event) -> Result<(), Error>
 
 // The queue is dropped.
 #[tactic(auto, using(crate::specs::Laws::Queue::cleared_is))]
-pub fn clear(row: &mut [u64])
-    requires { length row.old ≡ row_size }
+pub fn clear(row: &mut Row)
     ensures { Kept row.new (cleared (member_of row.old)) }
 {
     put_ring(
@@ -97,6 +93,7 @@ pub fn clear(row: &mut [u64])
 }
 
 // What is left of a budget that is not spent, once this event was given: data lowers it by one.
+#[tactic(auto, using(srt_group_model::specs::Laws::Reason::when_true, srt_group_model::specs::Laws::Reason::when_false))]
 fn budget_after(event: Event, budget: u64) -> u64
     requires { 0 < budget }
     ensures { result ≡ budget_after event budget }
@@ -109,8 +106,7 @@ fn budget_after(event: Event, budget: u64) -> u64
 
 // One event of the leg. An empty queue gives nothing; with the budget spent and an event in front, the continuation is asked
 // for; else the front event is given and goes.
-pub fn poll_event_for_group(row: &mut [u64], budget: u64) -> LegPoll
-    requires { length row.old ≡ row_size }
+pub fn poll_event_for_group(row: &mut Row, budget: u64) -> LegPoll
     ensures { Polled (member_of row.old) budget result row.new }
 {
     let first = front(row);

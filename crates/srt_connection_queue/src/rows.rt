@@ -1,5 +1,6 @@
 // A member's row in the lent table: parts of nine words, in the order of the constants below. Words that a part does not use
 // are 0, those of the spare part apart. Every row of ROW words shows a member: there is no row that does not decode.
+// Kept (5): a part that is written is lent as a slice of the row, since an array lent out of such a slice is not followed back into the row.
 ghost use Rattle.std.specs.Prelude.{◌≡◌, ◌<◌, length};
 ghost use Rattle.srt_connection_queue.specs.Rows.{part_size, link_part, receiver_part, parts, row_size, part, put_part, membership_of, membership_words, link_part_of, link_part_words, sender_of, sender_words, receiver_of, receiver_in, ring_of, ring_in, event_of, event_words, member_of, Kept, with_membership, with_link_trip, with_sender, with_receiver};
 ghost use Rattle.srt_group_model.specs.State.{with_leg, on_leg, on_membership, with_account};
@@ -15,33 +16,26 @@ use srt_protocol::time::Timestamp;
 // The words of a part of a row.
 const PART: usize = 9;
 
-// The parts of a row, in their order: where each begins and ends.
+// A part that is read.
+type Part = [u64; PART];
+
+// The parts of a row, in their order.
 const MEMBERSHIP: usize = 0;
 
-const MEMBERSHIP_END: usize = MEMBERSHIP + PART;
-
 // The link and the round trip.
-const LINK: usize = MEMBERSHIP_END;
+const LINK: usize = MEMBERSHIP + 1;
 
-const LINK_END: usize = LINK + PART;
-
-const SENDER: usize = LINK_END;
-
-const SENDER_END: usize = SENDER + PART;
+const SENDER: usize = LINK + 1;
 
 // The receiver, and the ring's start and length.
-const RECEIVER: usize = SENDER_END;
-
-const RECEIVER_END: usize = RECEIVER + PART;
+const RECEIVER: usize = SENDER + 1;
 
 // Nine words for the fields that come next. No call reads them, so what they hold is free; a new member's row keeps what stood
 // there. A new field takes a word here, and whoever adds a member writes it. Row and table keep their lengths until it is full.
-const SPARE: usize = RECEIVER_END;
-
-const SPARE_END: usize = SPARE + PART;
+const SPARE: usize = RECEIVER + 1;
 
 // The first part that is an event of the queue; the others follow it.
-pub const FIRST_EVENT: u64 = (SPARE_END / PART) as u64;
+pub const FIRST_EVENT: u64 = (SPARE + 1) as u64;
 
 // The events that a queue can hold.
 pub const MAX_QUEUED: u64 = 16;
@@ -49,18 +43,23 @@ pub const MAX_QUEUED: u64 = 16;
 // The words of a row.
 pub const ROW: usize = (FIRST_EVENT + MAX_QUEUED) as usize * PART;
 
+// A member's row.
+pub type Row = [u64; ROW];
+
 // Words that are read or written alone.
-const STATE: usize = MEMBERSHIP + 2;
+const ID: usize = MEMBERSHIP * PART;
 
-const ADMITTED: usize = MEMBERSHIP + 3;
+const STATE: usize = MEMBERSHIP * PART + 2;
 
-const ACCOUNT: usize = MEMBERSHIP + 4;
+const ADMITTED: usize = MEMBERSHIP * PART + 3;
 
-const LINK_STATE: usize = LINK;
+const ACCOUNT: usize = MEMBERSHIP * PART + 4;
 
-const RESERVED: usize = RECEIVER + 3;
+const LINK_STATE: usize = LINK * PART;
 
-const ADVANCED: usize = RECEIVER + 4;
+const RESERVED: usize = RECEIVER * PART + 3;
+
+const ADVANCED: usize = RECEIVER * PART + 4;
 
 // The link's part of a row.
 #[derive(Clone, Copy)]
@@ -79,8 +78,7 @@ pub struct Ring {
 // ---- nine words: a pair of functions for each part. A trait for the pair takes as many lines, for its ghosts in each impl
 
 #[tactic(auto, unfolding(crate::specs::Rows::membership_of))]
-fn read_membership(words: &[u64]) -> Membership
-    requires { length words.now ≡ part_size }
+fn read_membership(words: &Part) -> Membership
     ensures { result ≡ membership_of words.now }
 {
     Membership {
@@ -113,8 +111,7 @@ fn write_membership(words: &mut [u64], membership: Membership)
 }
 
 #[tactic(auto, unfolding(crate::specs::Rows::link_part_of))]
-fn read_link_part(words: &[u64]) -> LinkPart
-    requires { length words.now ≡ part_size }
+fn read_link_part(words: &Part) -> LinkPart
     ensures { result ≡ link_part_of words.now }
 {
     LinkPart {
@@ -148,8 +145,7 @@ fn write_link_part(words: &mut [u64], part: LinkPart)
 }
 
 #[tactic(auto, unfolding(crate::specs::Rows::sender_of))]
-fn read_sender(words: &[u64]) -> Sender
-    requires { length words.now ≡ part_size }
+fn read_sender(words: &Part) -> Sender
     ensures { result ≡ sender_of words.now }
 {
     Sender {
@@ -179,8 +175,7 @@ fn write_sender(words: &mut [u64], sender: Sender)
 }
 
 #[tactic(auto, unfolding(crate::specs::Rows::receiver_of))]
-fn read_receiver(words: &[u64]) -> Receiver
-    requires { length words.now ≡ part_size }
+fn read_receiver(words: &Part) -> Receiver
     ensures { result ≡ receiver_of words.now }
 {
     Receiver {
@@ -205,8 +200,7 @@ fn write_receiver(words: &mut [u64], receiver: Receiver)
 }
 
 #[tactic(auto, unfolding(crate::specs::Rows::ring_of))]
-fn read_ring(words: &[u64]) -> Ring
-    requires { length words.now ≡ part_size }
+fn read_ring(words: &Part) -> Ring
     ensures { result ≡ ring_of words.now }
 {
     Ring {
@@ -225,8 +219,7 @@ fn write_ring(words: &mut [u64], ring: Ring)
 }
 
 #[tactic(auto, unfolding(crate::specs::Rows::event_of))]
-fn read_event(words: &[u64]) -> Event
-    requires { length words.now ≡ part_size }
+fn read_event(words: &Part) -> Event
     ensures { result ≡ event_of words.now }
 {
     Event {
@@ -262,39 +255,44 @@ fn write_event(words: &mut [u64], event: Event)
 
 // ---- the parts of a row
 
-fn link_part(row: &[u64]) -> LinkPart
-    requires { length row.now ≡ row_size }
-    ensures { result ≡ link_part_of (part row.now link_part) }
+#[tactic(auto, using(word_rows::specs::Laws::Rows::chunk_there))]
+fn part(row: &Row, place: usize) -> &Part
+    requires { place < parts }
+    ensures { result.now ≡ part row.now place }
 {
-    read_link_part(&row[LINK..LINK_END])
+    let (parts, _) = row.as_chunks::<PART>();
+    &parts[place]
 }
 
-pub fn ring_of(row: &[u64]) -> Ring
-    requires { length row.now ≡ row_size }
+fn link_part(row: &Row) -> LinkPart
+    ensures { result ≡ link_part_of (part row.now link_part) }
+{
+    read_link_part(part(row, LINK))
+}
+
+pub fn ring_of(row: &Row) -> Ring
     ensures { result ≡ ring_of (part row.now receiver_part) }
 {
-    read_ring(&row[RECEIVER..RECEIVER_END])
+    read_ring(part(row, RECEIVER))
 }
 
 #[tactic(auto, unfolding(word_rows::specs::Rows::row_at))]
-pub fn put_ring(row: &mut [u64], ring: Ring)
-    requires { length row.old ≡ row_size }
+pub fn put_ring(row: &mut Row, ring: Ring)
     ensures { row.new ≡ put_part row.old receiver_part (ring_in ring (part row.old receiver_part)) }
 {
-    write_ring(&mut row[RECEIVER..RECEIVER_END], ring);
+    write_ring(&mut row[RECEIVER * PART..(RECEIVER + 1) * PART], ring);
 }
 
 #[tactic(auto, using(word_rows::specs::Laws::Rows::row_part))]
-pub fn event_part(row: &[u64], place: usize) -> Event
-    requires { (length row.now ≡ row_size) × (place < parts) }
+pub fn event_part(row: &Row, place: usize) -> Event
+    requires { place < parts }
     ensures { result ≡ event_of (part row.now place) }
 {
-    let start = place * PART;
-    read_event(&row[start..start + PART])
+    read_event(part(row, place))
 }
 
-pub fn put_event_part(row: &mut [u64], place: usize, event: Event)
-    requires { (length row.old ≡ row_size) × (place < parts) }
+pub fn put_event_part(row: &mut Row, place: usize, event: Event)
+    requires { place < parts }
     ensures { row.new ≡ put_part row.old place (event_words event) }
 {
     let start = place * PART;
@@ -303,62 +301,59 @@ pub fn put_event_part(row: &mut [u64], place: usize, event: Event)
 
 // ---- a member's row
 
-pub fn membership(row: &[u64]) -> Membership
-    requires { length row.now ≡ row_size }
+#[tactic(auto, using(crate::specs::Laws::Rows::membership_read))]
+pub fn membership(row: &Row) -> Membership
     ensures { result ≡ (member_of row.now).membership }
 {
-    read_membership(&row[MEMBERSHIP..MEMBERSHIP_END])
+    read_membership(part(row, MEMBERSHIP))
 }
 
-#[tactic(auto, using(crate::specs::Laws::Rows::membership_put))]
-pub fn put_membership(row: &mut [u64], membership: Membership)
-    requires { length row.old ≡ row_size }
+pub fn put_membership(row: &mut Row, membership: Membership)
     ensures { Kept row.new (with_membership membership (member_of row.old)) }
 {
-    write_membership(&mut row[MEMBERSHIP..MEMBERSHIP_END], membership);
+    write_membership(
+        &mut row[MEMBERSHIP * PART..(MEMBERSHIP + 1) * PART],
+        membership,
+    );
 }
 
-#[tactic(auto, using(crate::specs::Laws::Rows::link_trip_put))]
-pub fn put_link_trip(row: &mut [u64], link: Link, trip: Trip)
-    requires { length row.old ≡ row_size }
+pub fn put_link_trip(row: &mut Row, link: Link, trip: Trip)
     ensures { Kept row.new (with_link_trip link trip (member_of row.old)) }
 {
-    write_link_part(&mut row[LINK..LINK_END], LinkPart { link, trip });
+    write_link_part(
+        &mut row[LINK * PART..(LINK + 1) * PART],
+        LinkPart { link, trip },
+    );
 }
 
-pub fn sender(row: &[u64]) -> Sender
-    requires { length row.now ≡ row_size }
+#[tactic(auto, using(crate::specs::Laws::Rows::sender_read))]
+pub fn sender(row: &Row) -> Sender
     ensures { result ≡ (member_of row.now).leg.sender }
 {
-    read_sender(&row[SENDER..SENDER_END])
+    read_sender(part(row, SENDER))
 }
 
-#[tactic(auto, using(crate::specs::Laws::Rows::sender_put))]
-pub fn put_sender(row: &mut [u64], sender: Sender)
-    requires { length row.old ≡ row_size }
+pub fn put_sender(row: &mut Row, sender: Sender)
     ensures { Kept row.new (with_sender sender (member_of row.old)) }
 {
-    write_sender(&mut row[SENDER..SENDER_END], sender);
+    write_sender(&mut row[SENDER * PART..(SENDER + 1) * PART], sender);
 }
 
-pub fn receiver(row: &[u64]) -> Receiver
-    requires { length row.now ≡ row_size }
+#[tactic(auto, using(crate::specs::Laws::Rows::receiver_read))]
+pub fn receiver(row: &Row) -> Receiver
     ensures { result ≡ (member_of row.now).leg.receiver }
 {
-    read_receiver(&row[RECEIVER..RECEIVER_END])
+    read_receiver(part(row, RECEIVER))
 }
 
-#[tactic(auto, using(crate::specs::Laws::Rows::receiver_put), unfolding(word_rows::specs::Rows::row_at))]
-pub fn put_receiver(row: &mut [u64], receiver: Receiver)
-    requires { length row.old ≡ row_size }
+pub fn put_receiver(row: &mut Row, receiver: Receiver)
     ensures { Kept row.new (with_receiver receiver (member_of row.old)) }
 {
-    write_receiver(&mut row[RECEIVER..RECEIVER_END], receiver);
+    write_receiver(&mut row[RECEIVER * PART..(RECEIVER + 1) * PART], receiver);
 }
 
 #[tactic(auto, using(crate::specs::Laws::Rows::leg_read))]
-pub fn leg(row: &[u64]) -> Leg
-    requires { length row.now ≡ row_size }
+pub fn leg(row: &Row) -> Leg
     ensures { result ≡ (member_of row.now).leg }
 {
     let part = link_part(row);
@@ -375,8 +370,7 @@ pub fn leg(row: &[u64]) -> Leg
 }
 
 #[tactic(auto, using(crate::specs::Laws::Rows::leg_put))]
-pub fn put_leg(row: &mut [u64], leg: Leg)
-    requires { length row.old ≡ row_size }
+pub fn put_leg(row: &mut Row, leg: Leg)
     ensures { Kept row.new (with_leg leg (member_of row.old)) }
 {
     put_link_trip(row, leg.link, leg.trip);
@@ -386,33 +380,36 @@ pub fn put_leg(row: &mut [u64], leg: Leg)
 
 // ---- one word of a row
 
+#[tactic(auto, using(crate::specs::Laws::Rows::id_word))]
+pub fn member_id(row: &Row) -> u64
+    ensures { result ≡ (member_of row.now).membership.id }
+{
+    row[ID]
+}
+
 #[tactic(auto, using(crate::specs::Laws::Rows::state_word))]
-pub fn member_state(row: &[u64]) -> u64
-    requires { length row.now ≡ row_size }
+pub fn member_state(row: &Row) -> u64
     ensures { result ≡ (member_of row.now).membership.state }
 {
     row[STATE]
 }
 
 #[tactic(auto, using(crate::specs::Laws::Rows::admitted_word))]
-pub fn admitted(row: &[u64]) -> u64
-    requires { length row.now ≡ row_size }
+pub fn admitted(row: &Row) -> u64
     ensures { result ≡ (member_of row.now).membership.admitted }
 {
     row[ADMITTED]
 }
 
 #[tactic(auto, using(crate::specs::Laws::Rows::link_state_word))]
-pub fn link_state(row: &[u64]) -> u64
-    requires { length row.now ≡ row_size }
+pub fn link_state(row: &Row) -> u64
     ensures { result ≡ (member_of row.now).leg.link.state }
 {
     row[LINK_STATE]
 }
 
 #[tactic(auto, using(crate::specs::Laws::Rows::account_word))]
-pub fn account(row: &[u64]) -> Account
-    requires { length row.now ≡ row_size }
+pub fn account(row: &Row) -> Account
     ensures { result ≡ (member_of row.now).membership.account }
 {
     Account {
@@ -420,30 +417,26 @@ pub fn account(row: &[u64]) -> Account
     }
 }
 
-pub fn put_account(row: &mut [u64], account: Account)
-    requires { length row.old ≡ row_size }
+pub fn put_account(row: &mut Row, account: Account)
     ensures { Kept row.new (on_membership (with_account account) (member_of row.old)) }
 {
     row[ACCOUNT] = account.reserved;
 }
 
 #[tactic(auto, using(crate::specs::Laws::Rows::reserved_word))]
-pub fn reservation(row: &[u64]) -> u64
-    requires { length row.now ≡ row_size }
+pub fn reservation(row: &Row) -> u64
     ensures { result ≡ (member_of row.now).leg.receiver.reserved }
 {
     row[RESERVED]
 }
 
-pub fn put_reservation(row: &mut [u64], reserved: u64)
-    requires { length row.old ≡ row_size }
+pub fn put_reservation(row: &mut Row, reserved: u64)
     ensures { Kept row.new (on_leg (with_reservation reserved) (member_of row.old)) }
 {
     row[RESERVED] = reserved;
 }
 
-pub fn advance_receive_sequence(row: &mut [u64], sequence: u64)
-    requires { length row.old ≡ row_size }
+pub fn advance_receive_sequence(row: &mut Row, sequence: u64)
     ensures { Kept row.new (on_leg (advance_receive_sequence sequence) (member_of row.old)) }
 {
     row[ADVANCED] = sequence;

@@ -43,9 +43,12 @@ addition_refused id weight l queue ms =
 
 -- ---- the call
 
--- the leg and the queue that the row shows
+-- the leg and the queue that a row shows
+abbrev pub call_of_member : (id weight : ℕ) → Member → Call
+call_of_member id weight m = call_add_member id weight m.leg m.queue
+
 abbrev pub call_of_row : (id weight : ℕ) → (row : List ℕ) → Call
-call_of_row id weight row = call_add_member id weight (member_at row 0).leg (member_at row 0).queue
+call_of_row id weight row = call_of_member id weight (member_at row 0)
 
 -- it is its definition after 5 and 6 of the group's own state, and the same cells are in use, over whatever it does not touch
 pub record StepsAdding (call : Call) (core : Core) (sending : Sending) (members : List ℕ) (answer : Added) (members' : List ℕ) : Type 0 where

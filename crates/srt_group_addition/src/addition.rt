@@ -6,7 +6,7 @@ ghost use Rattle.srt_connection_members.specs.Members.{members_size};
 ghost use Rattle.srt_group_addition.specs.Addition.{membership_at_addition, Joins, Adds};
 
 use srt_connection::legs::handed_over;
-use srt_connection_members::{append_member, membership_at};
+use srt_connection_members::{append_member, membership_at, rows};
 use srt_group_delivery::delivery::set_base;
 use srt_group_members::accounts::NO_PACKETS;
 use srt_group_members::admission::{Admission, admit_peer_group};
@@ -14,6 +14,14 @@ use srt_group_members::alignment::align_member_sequence;
 use srt_group_members::states::state_at_addition;
 use srt_group_model::{Collision, Core, Leg, Membership, Sending};
 use srt_protocol::error::Error;
+
+// A member that is to be added: its leg is the one that is handed over.
+#[derive(Clone, Copy)]
+pub struct NewMember {
+    pub id: u64,
+    pub weight: u64,
+    pub leg: Leg,
+}
 
 // The group's record after an addition, and how it ended.
 #[derive(Clone, Copy)]
@@ -40,16 +48,17 @@ fn membership_at_addition(id: u64, weight: u64, state: u64) -> Membership
 }
 
 // The member stands behind the others and, if its leg is connected, is admitted: it may set the base, and bind the group.
-fn join(core: Core, members: &mut [u64], id: u64, weight: u64, leg: Leg) -> Core
+fn join(core: Core, members: &mut [u64], member: NewMember) -> Core
     requires { (core.counts.members < max_members) × (members_size ≤ length members.old) }
-    ensures { Joins id weight leg core members.old result members.new }
+    ensures { Joins member.id member.weight member.leg core members.old result members.new }
 {
     let count = core.counts.members;
-    let state = state_at_addition(members, count, core.mode, leg);
+    let leg = member.leg;
+    let state = state_at_addition(rows(members, count), core.mode, leg);
     append_member(
         members,
         count,
-        membership_at_addition(id, weight, state),
+        membership_at_addition(member.id, member.weight, state),
         leg,
     );
     let before = Admission {
@@ -66,19 +75,19 @@ fn join(core: Core, members: &mut [u64], id: u64, weight: u64, leg: Leg) -> Core
 }
 
 // `add_member` once no code refuses it but 22.
+// Kept (5): the core is given back changed, the members are lent to be changed, and of sending the number is read.
 pub fn add_member_at_end(
     core: Core,
     sending: Sending,
     members: &mut [u64],
-    id: u64,
-    weight: u64,
-    leg: Leg,
+    member: NewMember,
 ) -> Added
     requires { (core.counts.members < max_members) × (members_size ≤ length members.old) }
-    ensures { Adds id weight leg core sending members.old result members.new }
+    ensures { Adds member.id member.weight member.leg core sending members.old result members.new }
 {
     let index = core.counts.members;
-    let after = join(core, members, id, weight, handed_over(leg));
+    let leg = handed_over(member.leg);
+    let after = join(core, members, NewMember { leg, ..member });
     let membership = membership_at(members, index);
     if membership.admitted != 1 {
         return Added {

@@ -1,4 +1,5 @@
 // `add_member` with its refusals, over the record and the lent tables: 5 and 6, and then what follows them.
+// Kept (5, 6): the host lends record and tables anew to each call; which are changed differs, and a struct of `&mut` needs a clause for each ghost name.
 ghost use Rattle.srt_protocol.specs.Errors.{outcome_number};
 ghost use Rattle.srt_group_model.specs.Guards.{no_answer};
 ghost use Rattle.srt_group_shown.specs.Tables.{tables};

@@ -1,7 +1,8 @@
 -- A replay of the history on a leg: one entry, and a loop over all of them.
 use Rattle.std.specs.Prelude.{◌≡◌, List, [], ◌∷◌, ℕ, ◌+◌, ◌*◌, ◌≤◌, Option}
 use Rattle.srt_protocol.specs.Cells.{overwritten}
-use Rattle.srt_group_model.specs.Tools.{if_some◌give◌otherwise◌, bit}
+use Rattle.srt_protocol.specs.Errors.{outcome_number}
+use Rattle.srt_group_model.specs.Tools.{if_true◌then◌else◌, if_some◌give◌otherwise◌}
 use Rattle.srt_group_model.specs.Legs.{send_shared_with_sequence}
 use Rattle.srt_group_model.specs.Sending.{sent_row_size, Sent}
 use Rattle.srt_group_model.specs.Lent.{list_rows}
@@ -30,7 +31,7 @@ pub record EntryReplayed (time id : ℕ) (e : Entry) (l : Leg) (sent : ℕ) (bef
       otherwise before)
 
 pub record EntriesReplayed (time id : ℕ) (es : List Entry) (l : Leg) (sent : ℕ) (before : List ℕ) (answer : Replayed) (after : List ℕ) : Type 0 where
+  pub outcome : outcome_number answer.outcome ≡ (if_true (replay_entries time id es l).whole then 0 else 28)
   pub leg : answer.leg ≡ (replay_entries time id es l).leg
-  pub whole : answer.whole ≡ bit (replay_entries time id es l).whole
   pub written : Wrote sent (replay_entries time id es l).sends before answer.sent after
   pub few : answer.sent ≤ sent + max_history

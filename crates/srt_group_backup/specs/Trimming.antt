@@ -18,13 +18,13 @@ front_after sequence history r =
     then false
     else sequence_before sequence (word_sequence (get_or history ((r.start + 0) % max_history) 0))
 
--- f is done to what sending moves, over arrays with these words and any source times
+-- f is done to what sending moves, over arrays with these words and any source times; the ring is no longer than it was
 pub record SendTrimmed (f : Send → Send) (history : List ℕ) (x : Sending) (r : HistoryRing) (answer : SendHistory) : Type 0 where
-  pub fits : answer.ring.length ≤ max_history
+  pub fits : answer.ring.length ≤ r.length
   pub is : (a : Arrays) → a.history ≡ history → send_of answer.sending answer.ring a ≡ f (send_of x r a)
 
 -- the group's history is trimmed by what its carrier says, and nothing else changes
 pub record TrimmedByCarrier (ms : List Member) (history : List ℕ) (x : Sending) (r : HistoryRing) (answer : SendHistory) : Type 0 where
-  pub fits : answer.ring.length ≤ max_history
+  pub fits : answer.ring.length ≤ r.length
   pub is : (s : State) (a : Arrays) → s.members ≡ ms → a.history ≡ history → s.send ≡ send_of x r a
       → trim_by_carrier s ≡ with_send (send_of answer.sending answer.ring a) s

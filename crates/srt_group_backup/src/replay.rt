@@ -1,26 +1,30 @@
 // The history is replayed on a leg that stands at its first sequence, each entry at its own sequence and with its own source
 // time, so that the receiver gets no hole and no packet is given up early.
+// Kept (5): how many rows the lent list still has room for differs from call to call; a type for it would be made at each and taken apart.
 ghost use Rattle.std.specs.Prelude.{◌≡◌, ◌+◌, ◌-◌, ◌*◌, ◌≤◌, ◌<◌, length};
 ghost use Rattle.srt_group_model.specs.Sending.{sent_row_size, max_sent, list_size};
 ghost use Rattle.srt_group_model.specs.Backup.{max_history};
-ghost use Rattle.srt_group_tables.specs.Ring.{arrays, Long, entries_of};
+ghost use Rattle.srt_group_tables.specs.Ring.{arrays, entries_of};
 ghost use Rattle.srt_group_backup.specs.Replay.{EntryReplayed, EntriesReplayed};
 
 use srt_connection::legs::send_shared_with_sequence;
 use srt_group_model::{Entry, Leg};
 use srt_group_sending::list::write_sent;
-use srt_group_tables::history::{HistoryRing, entry_at};
+use srt_group_tables::history::History;
+use srt_protocol::error::Error;
 use srt_protocol::time::Timestamp;
 
-// The leg after a replay, how many rows of the list are in use, and whether all entries were sent.
+// The leg after a replay, how many rows of the list are in use, and whether all entries were sent: the rows of those that were stay in
+// use after a refusal too.
 #[derive(Clone, Copy)]
 pub struct Replayed {
+    pub outcome: Result<(), Error>,
     pub leg: Leg,
     pub sent: usize,
-    pub whole: u64,
 }
 
 // One entry on a leg, with its row in the list if it was sent.
+#[tactic(auto, using(crate::specs::Laws::Replay::entry_failed))]
 fn replay_entry(
     leg: Leg,
     entry: Entry,
@@ -42,38 +46,36 @@ fn replay_entry(
 }
 
 // All entries, oldest first, up to one that fails.
+#[tactic(auto, using(crate::specs::Laws::Replay::replaying_start))]
 pub fn replay_entries(
     leg: Leg,
-    ring: HistoryRing,
-    history: &[u64],
-    sources: &[u64],
+    history: &History,
     time: Timestamp,
     id: u64,
     list: &mut [u64],
     sent: usize,
 ) -> Replayed
-    requires length_le_max_history { (ring.length ≤ max_history) × Long (arrays history.now sources.now) }
-    requires list_size_in_bounds { (list_size ≤ length list.old) × (sent ≤ max_sent - max_history) }
+    requires { (list_size ≤ length list.old) × (sent ≤ max_sent - max_history) }
     ensures { EntriesReplayed time.0 id
-        (entries_of ring (arrays history.now sources.now)) leg sent
+        (entries_of history.now.words.ring (arrays history.now.words.history.now history.now.sources.now)) leg sent
         list.old result list.new }
 {
     let mut here = leg;
-    for index in 0..ring.length {
-        let entry = entry_at(ring, history, sources, index);
+    for index in 0..history.words.ring.length {
+        let entry = history.entry_at(index);
         let result = replay_entry(here, entry, time, id, list, sent + index);
         let Some(after) = result else {
             return Replayed {
+                outcome: Err(Error::ReplayRefused),
                 leg: here,
                 sent: sent + index,
-                whole: 0,
             };
         };
         here = after;
     }
     Replayed {
+        outcome: Ok(()),
         leg: here,
-        sent: sent + ring.length,
-        whole: 1,
+        sent: sent + history.words.ring.length,
     }
 }

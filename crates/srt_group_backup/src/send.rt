@@ -1,4 +1,5 @@
 // The call's own payload on one member, and what is recorded of it.
+// Kept (5, 6): what changes members, history or list takes them one beside the other: of a struct of `&mut` each clause names every field (tried).
 ghost use Rattle.std.specs.Prelude.{◌≡◌, ◌+◌, ◌*◌, ◌≤◌, length};
 ghost use Rattle.srt_group_model.specs.Sending.{sent_row_size};
 ghost use Rattle.srt_group_model.specs.Backup.{max_history};
@@ -13,7 +14,7 @@ use srt_connection_members::{leg_at, membership_at, put_leg_at};
 use srt_group_model::{Entry, Leg, Sending};
 use srt_group_sending::broadcast::with_number_after;
 use srt_group_sending::list::{OWN_PAYLOAD, write_sent};
-use srt_group_tables::history::{HistoryRing, push_back, store};
+use srt_group_tables::history::{HistoryRing, HistoryWords, push_back, store};
 use srt_protocol::time::Timestamp;
 
 // A payload of `size` bytes on the member at an index, at a sequence: whether it was sent. If it was, the list has its row.
@@ -63,6 +64,9 @@ pub fn record_backup_send(
     let mut numbers = with_number_after(sending, entry.sequence);
     numbers.carried = 1;
     numbers.carrier = carrier;
-    let pushed = push_back(ring);
-    trim_backup_history(numbers, pushed, history, leg)
+    let pushed = HistoryWords {
+        ring: push_back(ring),
+        history,
+    };
+    trim_backup_history(numbers, &pushed, leg)
 }

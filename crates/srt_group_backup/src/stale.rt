@@ -1,17 +1,19 @@
 // A carrier that fell silent turns Unstable, so that a Standby member takes over.
+// Kept (5, 6): what changes members, history or list takes them one beside the other: of a struct of `&mut` each clause names every field (tried).
 ghost use Rattle.std.specs.Prelude.{◌≡◌, ◌&&◌, ◌*◌, ◌≤◌, max, length};
-ghost use Rattle.srt_group_model.specs.Tools.{any, place_of};
+ghost use Rattle.srt_group_model.specs.Tools.{any};
 ghost use Rattle.srt_group_model.specs.Members.{is_standby};
 ghost use Rattle.srt_group_model.specs.Backup.{stability_timeout, is_stale, demote_stale_backup_carrier};
 ghost use Rattle.srt_group_model.specs.Sound.{AllFit};
 ghost use Rattle.srt_connection_queue.specs.Rows.{row_size};
-ghost use Rattle.srt_connection_members.specs.Members.{member_at, members_of, HasRow};
+ghost use Rattle.srt_connection_members.specs.Members.{members_in, members_of};
 ghost use Rattle.srt_group_members.specs.Scan.{Became};
 ghost use Rattle.srt_group_backup.specs.Stale.{TripFit};
 
 use srt_connection::legs::has_sender;
-use srt_connection_members::leg_at;
-use srt_group_members::states::{UNSTABLE, first_active, is_standby_at, turn_at};
+use srt_connection_members::{leg_at, rows};
+use srt_connection_queue::rows::Row;
+use srt_group_members::states::{UNSTABLE, first_active, is_standby, turn_at};
 use srt_group_model::Leg;
 use srt_protocol::time::Timestamp;
 
@@ -25,6 +27,7 @@ fn larger(a: u64, b: u64) -> u64
 }
 
 // How long a carrier may be silent: twice the round trip and four times its variance, but not less than 60 ms.
+#[tactic(auto, unfolding(srt_group_model::specs::Backup::stability_timeout))]
 pub fn stability_timeout(leg: Leg) -> u64
     requires { TripFit leg }
     ensures { result ≡ stability_timeout leg }
@@ -35,6 +38,7 @@ pub fn stability_timeout(leg: Leg) -> u64
 
 // Data is outstanding, and the peer has been silent for longer than the timeout. Silence is counted from the oldest send or, if
 // that is later, from when the peer was last heard.
+#[tactic(auto, using(crate::specs::Laws::Stale::no_sender_not_stale, crate::specs::Laws::Stale::no_flight_not_stale, crate::specs::Laws::Stale::stale_by_silence))]
 pub fn is_stale(leg: Leg, time: Timestamp) -> bool
     requires { TripFit leg }
     ensures { result ≡ is_stale time.0 leg }
@@ -51,24 +55,11 @@ pub fn is_stale(leg: Leg, time: Timestamp) -> bool
     timeout < silence
 }
 
-fn first_standby(members: &[u64], count: usize) -> Option<usize>
-    requires { count * row_size ≤ length members.now }
-    ensures { result ≡ place_of is_standby (members_of count members.now) }
-{
-    for i in 0..count {
-        if is_standby_at(members, i) {
-            return Some(i);
-        }
-    }
-    None
-}
-
 // Whether a connected Standby member could take over.
-pub fn has_standby(members: &[u64], count: usize) -> bool
-    requires { count * row_size ≤ length members.now }
-    ensures { result ≡ any is_standby (members_of count members.now) }
+pub fn has_standby(rows: &[Row]) -> bool
+    ensures { result ≡ any is_standby (members_in rows.now) }
 {
-    first_standby(members, count).is_some()
+    rows.iter().any(is_standby)
 }
 
 // Its connection stays up: it requalifies once its flight has drained.
@@ -78,11 +69,11 @@ pub fn demote_stale_backup_carrier(members: &mut [u64], count: usize, time: Time
     ensures { Became count (demote_stale_backup_carrier time.0 (members_of count members.old))
         members.old members.new }
 {
-    let found = first_active(members, count);
+    let found = first_active(rows(members, count));
     let Some(index) = found else {
         return;
     };
-    if !has_standby(members, count) {
+    if !has_standby(rows(members, count)) {
         return;
     }
     if !is_stale(leg_at(members, index), time) {

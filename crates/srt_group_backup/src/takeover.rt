@@ -1,25 +1,24 @@
 // The take-over: a member that is to carry the next send first replays the flight of the carrier before it, as far as it is not
 // acknowledged, at the same sequences. One that cannot replay all of it is refused.
+// Kept (5, 6): what changes members, history or list takes them one beside the other: of a struct of `&mut` each clause names every field (tried).
 ghost use Rattle.std.specs.Prelude.{◌≡◌, ◌-◌, ◌*◌, ◌≤◌, ◌<◌, length};
-ghost use Rattle.srt_protocol.specs.Errors.{outcome_number};
-ghost use Rattle.srt_group_model.specs.Tools.{if_true◌then◌else◌, is_set};
 ghost use Rattle.srt_group_model.specs.Backup.{max_history, replay_on, replay_flight, take_over_backup_flight};
 ghost use Rattle.srt_group_model.specs.Sending.{max_sent, list_size};
 ghost use Rattle.srt_connection_queue.specs.Rows.{row_size};
 ghost use Rattle.srt_connection_members.specs.Members.{member_at, HasRow};
-ghost use Rattle.srt_group_tables.specs.Ring.{arrays, Long, entry_at, entries_of, send_of};
+ghost use Rattle.srt_group_tables.specs.Ring.{arrays, entry_at, entries_of, send_of};
 ghost use Rattle.srt_group_sending.specs.SentList.{send_tables};
 ghost use Rattle.srt_group_backup.specs.TakeOver.{HistoryIs, SendIs, FlightReplayed, CarrierAligned, TookOver};
 
 use crate::replay::replay_entries;
 use crate::trimming::trim_by_carrier;
 use srt_connection::legs::remaining_window_packets;
-use srt_connection_members::{leg_at, membership_at, put_leg_at};
+use srt_connection_members::{leg_at, membership_at, put_leg_at, rows};
 use srt_group_members::alignment::{align_leg, align_member_sequence};
 use srt_group_model::{Leg, Sending};
 use srt_group_sending::readiness::takes_over;
-use srt_group_tables::history::{HistoryRing, entry_at};
-use srt_protocol::error::{Error, outcome_number};
+use srt_group_tables::history::{History, HistoryRing, HistoryWords};
+use srt_protocol::error::Error;
 use srt_protocol::time::Timestamp;
 
 // Whether the flight was replayed, and how many rows of the list are in use.
@@ -38,36 +37,25 @@ pub struct TakenOver {
     pub sent: usize,
 }
 
-fn replay_outcome(whole: u64) -> Result<(), Error>
-    ensures { outcome_number result ≡ (if_true is_set whole then 0 else 28) }
-{
-    if whole != 0 {
-        return Ok(());
-    }
-    Err(Error::ReplayRefused)
-}
-
 // The flight on a leg that stands at its first sequence. The window must have room for one more than all: the next send.
+#[tactic(auto, using(crate::specs::Laws::TakeOver::no_room_to_replay, crate::specs::Laws::TakeOver::replayed_with_room))]
 pub fn replay_on(
     leg: Leg,
-    ring: HistoryRing,
-    history: &[u64],
-    sources: &[u64],
+    history: &History,
     members: &mut [u64],
     index: usize,
     list: &mut [u64],
     sent: usize,
     time: Timestamp,
 ) -> Flight
-    requires length_le_max_history { (ring.length ≤ max_history) × Long (arrays history.now sources.now) }
     requires has_row { HasRow index members.old }
     requires list_size_in_bounds { (list_size ≤ length list.old) × (sent ≤ max_sent - max_history) }
     ensures { FlightReplayed (replay_on time.0 index (member_at members.old index) leg)
-        (HistoryIs (entries_of ring (arrays history.now sources.now))) sent
+        (HistoryIs (entries_of history.now.words.ring (arrays history.now.words.history.now history.now.sources.now))) sent
         (send_tables members.old list.old) result
         (send_tables members.new list.new) }
 {
-    let entries = ring.length as u64;
+    let entries = history.words.ring.length as u64;
     if remaining_window_packets(leg) <= entries {
         put_leg_at(members, index, leg);
         return Flight {
@@ -77,11 +65,12 @@ pub fn replay_on(
     }
     let membership = membership_at(members, index);
     let id = membership.id;
-    let played = replay_entries(leg, ring, history, sources, time, id, list, sent);
+    let played = replay_entries(leg, history, time, id, list, sent);
+    let outcome = played.outcome;
     let after = played.leg;
     put_leg_at(members, index, after);
     Flight {
-        outcome: replay_outcome(played.whole),
+        outcome,
         sent: played.sent,
     }
 }
@@ -89,22 +78,19 @@ pub fn replay_on(
 // The flight on the member at an index, once its leg is brought to the first sequence.
 pub fn replay_flight(
     sending: Sending,
-    ring: HistoryRing,
-    history: &[u64],
-    sources: &[u64],
+    history: &History,
     members: &mut [u64],
     index: usize,
     list: &mut [u64],
     sent: usize,
     time: Timestamp,
 ) -> Flight
-    requires length_le_max_history { (ring.length ≤ max_history) × Long (arrays history.now sources.now) }
     requires has_row { HasRow index members.old }
     requires list_size_in_bounds { (list_size ≤ length list.old) × (sent ≤ max_sent - max_history) }
     ensures { FlightReplayed
         (replay_flight time.0 index (member_at members.old index)
-        (entry_at ring (arrays history.now sources.now) 0))
-        (SendIs (send_of sending ring (arrays history.now sources.now))) sent
+        (entry_at history.now.words.ring (arrays history.now.words.history.now history.now.sources.now) 0))
+        (SendIs (send_of sending history.now.words.ring (arrays history.now.words.history.now history.now.sources.now))) sent
         (send_tables members.old list.old) result
         (send_tables members.new list.new) }
 {
@@ -114,7 +100,7 @@ pub fn replay_flight(
             sent,
         };
     }
-    let first = entry_at(ring, history, sources, 0);
+    let first = history.entry_at(0);
     let result = align_leg(leg_at(members, index), first.sequence);
     let Some(leg) = result else {
         return Flight {
@@ -122,12 +108,11 @@ pub fn replay_flight(
             sent,
         };
     };
-    replay_on(
-        leg, ring, history, sources, members, index, list, sent, time,
-    )
+    replay_on(leg, history, members, index, list, sent, time)
 }
 
 // With nothing to replay the leg is aligned to the group's send number, once there is one.
+#[tactic(auto, using(crate::specs::Laws::TakeOver::carrier_not_aligned, crate::specs::Laws::TakeOver::carrier_aligned))]
 pub fn align_carrier(
     sending: Sending,
     members: &mut [u64],
@@ -147,11 +132,10 @@ pub fn align_carrier(
 }
 
 // The member at an index is made ready to carry the next send.
+#[tactic(auto, using(crate::specs::Laws::TakeOver::no_take_over))]
 pub fn take_over_backup_flight(
     sending: Sending,
-    ring: HistoryRing,
-    history: &[u64],
-    sources: &[u64],
+    history: &History,
     members: &mut [u64],
     count: usize,
     index: usize,
@@ -159,11 +143,10 @@ pub fn take_over_backup_flight(
     sent: usize,
     time: Timestamp,
 ) -> TakenOver
-    requires length_le_max_history { (ring.length ≤ max_history) × Long (arrays history.now sources.now) }
     requires index_lt_count { (index < count) × (count * row_size ≤ length members.old) }
     requires list_size_in_bounds { (list_size ≤ length list.old) × (sent ≤ max_sent - max_history) }
-    ensures { TookOver (take_over_backup_flight time.0 index) count sending ring
-        (arrays history.now sources.now) sent
+    ensures { TookOver (take_over_backup_flight time.0 index) count sending history.now.words.ring
+        (arrays history.now.words.history.now history.now.sources.now) sent
         (send_tables members.old list.old) result
         (send_tables members.new list.new) }
 {
@@ -174,12 +157,12 @@ pub fn take_over_backup_flight(
         return TakenOver {
             outcome,
             sending,
-            ring,
+            ring: history.words.ring,
             sent,
         };
     }
     // Acknowledgements may have arrived since the carrier's last send.
-    let trimmed = trim_by_carrier(sending, ring, history, members, count);
+    let trimmed = trim_by_carrier(sending, &history.words, rows(members, count));
     let numbers = trimmed.sending;
     let left = trimmed.ring;
     if left.length == 0 {
@@ -191,9 +174,14 @@ pub fn take_over_backup_flight(
             sent,
         };
     }
-    let flight = replay_flight(
-        numbers, left, history, sources, members, index, list, sent, time,
-    );
+    let rest = History {
+        words: HistoryWords {
+            ring: left,
+            history: history.words.history,
+        },
+        sources: history.sources,
+    };
+    let flight = replay_flight(numbers, &rest, members, index, list, sent, time);
     let outcome = flight.outcome;
     TakenOver {
         outcome,

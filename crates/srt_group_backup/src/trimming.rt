@@ -1,16 +1,16 @@
 // The Backup history without what the carrier's peer acknowledged, and whether it still reaches back to the oldest send that is
 // not acknowledged: a full history loses its oldest entry.
-ghost use Rattle.std.specs.Prelude.{◌≡◌, ◌*◌, ◌≤◌, length};
+ghost use Rattle.std.specs.Prelude.{◌≡◌};
 ghost use Rattle.srt_group_model.specs.Tools.{bit};
-ghost use Rattle.srt_group_model.specs.Backup.{max_history, trim_backup_history};
-ghost use Rattle.srt_connection_queue.specs.Rows.{row_size};
-ghost use Rattle.srt_connection_members.specs.Members.{members_of};
+ghost use Rattle.srt_group_model.specs.Backup.{trim_backup_history};
+ghost use Rattle.srt_connection_members.specs.Members.{members_in};
 ghost use Rattle.srt_group_backup.specs.Trimming.{front_after, SendTrimmed, TrimmedByCarrier};
 
 use srt_connection::legs::{has_sender, oldest_unacked_sequence};
-use srt_connection_members::{find, leg_at};
+use srt_connection_members::find;
+use srt_connection_queue::rows::{Row, leg};
 use srt_group_model::{Leg, Sending};
-use srt_group_tables::history::{HistoryRing, drop_before, sequence_at};
+use srt_group_tables::history::{HistoryRing, HistoryWords};
 use srt_protocol::srt_packet::word_before;
 
 // The numbers of sending and the ring of the history, as a call leaves them.
@@ -21,35 +21,36 @@ pub struct SendHistory {
 }
 
 // Whether the oldest entry is after a sequence: older ones were lost.
-fn starts_after(ring: HistoryRing, history: &[u64], oldest: u64) -> u64
-    requires { length history.now ≡ max_history }
-    ensures { result ≡ bit (front_after oldest history.now ring) }
+#[tactic(auto, using(crate::specs::Laws::Trimming::none_after, crate::specs::Laws::Trimming::first_after, crate::specs::Laws::Trimming::first_not_after))]
+fn starts_after(history: &HistoryWords, oldest: u64) -> u64
+    ensures { result ≡ bit (front_after oldest history.now.history.now history.now.ring) }
 {
-    if ring.length == 0 {
+    if history.ring.length == 0 {
         return 0;
     }
-    if word_before(oldest, sequence_at(ring, history, 0)) {
+    if word_before(oldest, history.sequence_at(0)) {
         return 1;
     }
     0
 }
 
 // What the carrier's leg has had acknowledged is dropped.
-pub fn trim_backup_history(
-    mut sending: Sending,
-    ring: HistoryRing,
-    history: &[u64],
-    leg: Leg,
-) -> SendHistory
-    requires { (ring.length ≤ max_history) × (length history.now ≡ max_history) }
-    ensures { SendTrimmed (trim_backup_history leg) history.now sending ring result }
+pub fn trim_backup_history(mut sending: Sending, history: &HistoryWords, leg: Leg) -> SendHistory
+    ensures { SendTrimmed (trim_backup_history leg) history.now.history.now sending history.now.ring result }
 {
     if !has_sender(leg) {
-        return SendHistory { sending, ring };
+        return SendHistory {
+            sending,
+            ring: history.ring,
+        };
     }
     let oldest = oldest_unacked_sequence(leg);
-    let left = drop_before(ring, history, oldest);
-    sending.gap = starts_after(left, history, oldest);
+    let left = history.drop_before(oldest);
+    let rest = HistoryWords {
+        ring: left,
+        history: history.history,
+    };
+    sending.gap = starts_after(&rest, oldest);
     SendHistory {
         sending,
         ring: left,
@@ -57,24 +58,21 @@ pub fn trim_backup_history(
 }
 
 // By what the carrier's leg says, if the group has a carrier that is a member.
-pub fn trim_by_carrier(
-    sending: Sending,
-    ring: HistoryRing,
-    history: &[u64],
-    members: &[u64],
-    count: usize,
-) -> SendHistory
-    requires length_le_max_history { (ring.length ≤ max_history) × (length history.now ≡ max_history) }
-    requires row_size_in_bounds { count * row_size ≤ length members.now }
-    ensures { TrimmedByCarrier (members_of count members.now) history.now sending ring result }
+pub fn trim_by_carrier(sending: Sending, history: &HistoryWords, rows: &[Row]) -> SendHistory
+    ensures { TrimmedByCarrier (members_in rows.now) history.now.history.now sending history.now.ring result }
 {
     if sending.carried == 0 {
-        return SendHistory { sending, ring };
+        return SendHistory {
+            sending,
+            ring: history.ring,
+        };
     }
-    let found = find(members, count, sending.carrier);
+    let found = find(rows, sending.carrier);
     let Some(index) = found else {
-        return SendHistory { sending, ring };
+        return SendHistory {
+            sending,
+            ring: history.ring,
+        };
     };
-    let leg = leg_at(members, index);
-    trim_backup_history(sending, ring, history, leg)
+    trim_backup_history(sending, history, leg(&rows[index]))
 }

@@ -1,5 +1,6 @@
 // One Backup send. A carrier that fell silent is demoted first; a member that takes over from another carrier replays the flight that
 // is not acknowledged, so that the receiver gets no hole; after a failed send another member is promoted, and tried once.
+// Kept (5, 6): what changes members, history or list takes them one beside the other: of a struct of `&mut` each clause names every field (tried).
 ghost use Rattle.std.specs.Prelude.{◌-◌, ◌≤◌, ◌<◌};
 ghost use Rattle.srt_group_model.specs.Sending.{max_sent};
 ghost use Rattle.srt_group_model.specs.Backup.{max_history, send_at_place, send_backup};
@@ -10,7 +11,8 @@ ghost use Rattle.srt_group_carrier.specs.Lendable.{backup_tables, Lendable, Send
 ghost use Rattle.srt_group_carrier.specs.Flows.{every, InMode, BackupFlows};
 ghost use Rattle.srt_group_backup_send.specs.BackupSend.{on_carrier};
 
-use srt_connection_members::sender_at;
+use cell_set::CellSet;
+use srt_connection_members::{row, rows, sender_at};
 use srt_group_backup::send::send_on;
 use srt_group_carrier::carrier::{ready_members, take_over};
 use srt_group_carrier::promotion::send_after_promotion;
@@ -18,7 +20,7 @@ use srt_group_carrier::recording::{BackupSend, keep_sent};
 use srt_group_members::states::first_active;
 use srt_group_model::Sending;
 use srt_group_sending::broadcast::sequence_for_send;
-use srt_group_tables::history::HistoryRing;
+use srt_group_tables::history::{History, HistoryRing, HistoryWords};
 use srt_protocol::error::Error;
 use srt_protocol::time::Timestamp;
 
@@ -33,7 +35,7 @@ fn send_at_place(
     index: usize,
     list: &mut [u64],
     sent: usize,
-    used: &mut [u64],
+    used: &mut CellSet,
     time: Timestamp,
     size: u64,
     cell: u64,
@@ -44,7 +46,7 @@ fn send_at_place(
         (backup_tables members.old history.old sources.old list.old used.old) result
         (backup_tables members.new history.new sources.new list.new used.new) }
 {
-    let sequence = sequence_for_send(members, sending, index);
+    let sequence = sequence_for_send(row(members, index), sending);
     let sender = sender_at(members, index);
     if sender.next != sequence {
         return BackupSend {
@@ -75,7 +77,7 @@ fn send_on_carrier(
     count: usize,
     index: usize,
     list: &mut [u64],
-    used: &mut [u64],
+    used: &mut CellSet,
     time: Timestamp,
     size: u64,
     cell: u64,
@@ -87,9 +89,9 @@ fn send_on_carrier(
         (backup_tables members.old history.old sources.old list.old used.old) result
         (backup_tables members.new history.new sources.new list.new used.new) }
 {
-    let taken = take_over(
-        sending, ring, history, sources, members, count, index, list, 0, used, time,
-    );
+    let words = HistoryWords { ring, history };
+    let flight = History { words, sources };
+    let taken = take_over(sending, &flight, members, count, index, list, 0, used, time);
     let outcome = taken.outcome;
     let numbers = taken.sending;
     let left = taken.ring;
@@ -117,7 +119,7 @@ pub fn send_backup(
     members: &mut [u64],
     count: usize,
     list: &mut [u64],
-    used: &mut [u64],
+    used: &mut CellSet,
     time: Timestamp,
     size: u64,
     cell: u64,
@@ -130,7 +132,7 @@ pub fn send_backup(
         (backup_tables members.new history.new sources.new list.new used.new) }
 {
     ready_members(members, count, mode, time);
-    let found = first_active(members, count);
+    let found = first_active(rows(members, count));
     let Some(index) = found else {
         return BackupSend {
             outcome: Err(Error::NoActiveMember),

@@ -1,4 +1,5 @@
 // What a poll answers, in words: document 01's values.
+// Kept (1, 5): C has no bool with a packet beside it, and lends rows that may be longer.
 ghost use Rattle.std.specs.Prelude.{◌≡◌, ◌≤◌, length};
 ghost use Rattle.srt_protocol.specs.Cells.{overwritten};
 ghost use Rattle.srt_group_model.specs.Tools.{is_set};

@@ -1,4 +1,5 @@
 // `poll_data_bounded` and `poll_data`.
+// Kept (5, 6): C lends each table by its name and length (docs/TABLES.md), so each is a parameter of its own.
 ghost use Rattle.std.specs.Prelude.{false, ◌≤◌, length};
 ghost use Rattle.srt_protocol.specs.Cells.{output_size};
 ghost use Rattle.srt_group_model.specs.Lent.{call_poll_data, call_poll_data_bounded};
@@ -7,6 +8,7 @@ ghost use Rattle.srt_group_shown.specs.Ready.{lending};
 ghost use Rattle.srt_group_words.specs.Words.{in_words, words, PromisedWords, ReadyWords, PerformsWords};
 
 use crate::answers::put_poll;
+use cell_set::{WORDS, of_words_mut};
 use srt_group_collecting::collecting::MAX_VISITS;
 use srt_group_data_poll::polls;
 use srt_group_words::answers::{POLLED, put};
@@ -54,7 +56,7 @@ pub extern "C" fn srt_group_valid_poll_data_bounded(
         sources,
         store,
         output,
-        used,
+        of_words_mut(used),
         Timestamp(time),
         max_events,
     );
@@ -92,7 +94,7 @@ pub extern "C" fn srt_group_raw_poll_data_bounded(
     if answer.len() < POLLED {
         return 5;
     }
-    let mut used = [0u64; 32];
+    let mut used = [0; WORDS];
     let code = begin_poll(
         record,
         members,

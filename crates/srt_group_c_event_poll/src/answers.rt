@@ -1,4 +1,5 @@
 // What an event poll answers, in words: document 01's values.
+// Kept (5): C lends rows that may be longer.
 ghost use Rattle.std.specs.Prelude.{◌≡◌, ◌≤◌, length};
 ghost use Rattle.srt_protocol.specs.Cells.{overwritten};
 ghost use Rattle.srt_group_model.specs.Guards.{polled};

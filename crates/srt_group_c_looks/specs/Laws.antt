@@ -1,3 +1,3 @@
 -- What is proved. A reader who trusts the checker need not read it.
-pub mod Answers
+pub mod Look
 pub mod Listed

@@ -1,3 +1,4 @@
+pub mod Look
 pub mod Listed
 -- What is proved.
 pub mod Laws

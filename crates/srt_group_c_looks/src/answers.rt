@@ -1,8 +1,8 @@
 // What a look answers, in words: its values, or 0 where it is refused or there is none.
-ghost use Rattle.std.specs.Prelude.{◌≡◌, ◌∷◌, [], ◌≤◌, length};
-ghost use Rattle.srt_group_looks.specs.Looks.{number_code, number_answer, optional_code, optional_answer, truth_code, truth_answer};
-ghost use Rattle.srt_group_looks.specs.Looks.{member_code, member_answer, members_code, rows_filled};
+ghost use Rattle.std.specs.Prelude.{◌≡◌, ◌≤◌, Some, length};
+ghost use Rattle.srt_group_model.specs.Guards.{Answer, shown, number, optional, truth, one_member};
 ghost use Rattle.srt_group_words.specs.Words.{in_words, Said};
+ghost use Rattle.srt_group_c_looks.specs.Look.{given_code, given_answer};
 
 use srt_group_collecting::collecting::flag;
 use srt_group_model::MemberShown;
@@ -15,101 +15,86 @@ pub const SHOWN: usize = 1;
 // The words of a member: id, weight, label, the leg's state, admitted, reserved, the collision's expected and actual peer group.
 pub const MEMBER: usize = 8;
 
-// A number.
-pub fn put_number(answer: &mut [u64], given: Result<u64, Error>) -> u32
-    requires { 1 ≤ length answer.old }
-    ensures { Said (number_code given) (in_words 1 (number_answer given) 0) result answer.old answer.new }
-{
-    match given {
-        Ok(n) => {
-            put(answer, [n]);
-            0
-        }
-        Err(error) => {
-            put(answer, [0]);
-            u32::from(error)
-        }
+// What a look gives, as so many numbers.
+pub trait InWords<const N: usize>: Copy {
+    ghost answer: { Self → Answer };
+
+    fn numbers(self) -> [u64; N]
+        ensures { result ≡ in_words N (answer self) 0 };
+}
+
+impl InWords<SHOWN> for u64 {
+    ghost answer = { λ n. shown (number n) };
+
+    #[tactic(auto, unfolding(srt_group_words::specs::Words::in_words, srt_group_words::specs::Words::zeros, srt_group_model::specs::Answers::values_of, srt_group_model::specs::Answers::shown_values))]
+    fn numbers(self) -> [u64; SHOWN] {
+        [self]
+    }
+}
+
+// How many rows of a list were filled.
+impl InWords<SHOWN> for usize {
+    ghost answer = { λ n. shown (number n) };
+
+    #[tactic(auto, unfolding(srt_group_words::specs::Words::in_words, srt_group_words::specs::Words::zeros, srt_group_model::specs::Answers::values_of, srt_group_model::specs::Answers::shown_values))]
+    fn numbers(self) -> [u64; SHOWN] {
+        [self as u64]
     }
 }
 
 // A number, or 0 where there is none: no such number is 0.
-pub fn put_optional(answer: &mut [u64], given: Result<Option<u64>, Error>) -> u32
-    requires { 1 ≤ length answer.old }
-    ensures { Said (optional_code given) (in_words 1 (optional_answer given) 0) result answer.old answer.new }
-{
-    match given {
-        Ok(number) => {
-            put(answer, [number.unwrap_or(0)]);
-            0
-        }
-        Err(error) => {
-            put(answer, [0]);
-            u32::from(error)
-        }
+impl InWords<SHOWN> for Option<u64> {
+    ghost answer = { λ n. shown (optional n) };
+
+    #[tactic(auto, using(crate::specs::Laws::Look::optional_word))]
+    fn numbers(self) -> [u64; SHOWN] {
+        [self.unwrap_or(0)]
     }
 }
 
-// A flag.
-pub fn put_truth(answer: &mut [u64], given: Result<bool, Error>) -> u32
-    requires { 1 ≤ length answer.old }
-    ensures { Said (truth_code given) (in_words 1 (truth_answer given) 0) result answer.old answer.new }
-{
-    match given {
-        Ok(b) => {
-            put(answer, [flag(b)]);
-            0
-        }
-        Err(error) => {
-            put(answer, [0]);
-            u32::from(error)
-        }
+impl InWords<SHOWN> for bool {
+    ghost answer = { λ b. shown (truth b) };
+
+    #[tactic(auto, unfolding(srt_group_words::specs::Words::in_words, srt_group_words::specs::Words::zeros, srt_group_model::specs::Answers::values_of, srt_group_model::specs::Answers::shown_values))]
+    fn numbers(self) -> [u64; SHOWN] {
+        [flag(self)]
     }
 }
 
-// A member.
-pub fn put_member(answer: &mut [u64], given: Result<MemberShown, Error>) -> u32
-    requires { 8 ≤ length answer.old }
-    ensures { Said (member_code given) (in_words 8 (member_answer given) 0) result answer.old answer.new }
-{
-    match given {
-        Ok(shown) => {
-            let membership = shown.membership;
-            let collision = membership.collision;
-            let account = membership.account;
-            put(
-                answer,
-                [
-                    membership.id,
-                    membership.weight,
-                    membership.state,
-                    shown.connection,
-                    membership.admitted,
-                    account.reserved,
-                    collision.expected,
-                    collision.actual,
-                ],
-            );
-            0
-        }
-        Err(error) => {
-            put(answer, [0; 8]);
-            u32::from(error)
-        }
+impl InWords<MEMBER> for MemberShown {
+    ghost answer = { λ m. shown (one_member (Some m)) };
+
+    #[tactic(auto, unfolding(srt_group_words::specs::Words::in_words, srt_group_words::specs::Words::zeros, srt_group_model::specs::Answers::values_of, srt_group_model::specs::Answers::shown_values))]
+    fn numbers(self) -> [u64; MEMBER] {
+        let membership = self.membership;
+        let collision = membership.collision;
+        let account = membership.account;
+        [
+            membership.id,
+            membership.weight,
+            membership.state,
+            self.connection,
+            membership.admitted,
+            account.reserved,
+            collision.expected,
+            collision.actual,
+        ]
     }
 }
 
-// How many rows of the list were filled.
-pub fn put_listed(answer: &mut [u64], given: Result<usize, Error>) -> u32
-    requires { 1 ≤ length answer.old }
-    ensures { Said (members_code given) (rows_filled given ∷ []) result answer.old answer.new }
+// What is given over the first words of the row, and its code.
+#[tactic(auto, using(crate::specs::Laws::Look::says_given))]
+pub fn put_given<const N: usize, T: InWords<N>>(answer: &mut [u64], given: Result<T, Error>) -> u32
+    requires { N ≤ length answer.old }
+    ensures { Said (given_code given) (in_words N (given_answer T.answer given) 0) result answer.old answer.new }
 {
     match given {
-        Ok(rows) => {
-            put(answer, [rows as u64]);
+        Ok(value) => {
+            put(answer, value.numbers());
             0
         }
         Err(error) => {
-            put(answer, [0]);
+            put(answer, [0; N]);
             u32::from(error)
         }
     }

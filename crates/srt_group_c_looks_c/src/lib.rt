@@ -1,5 +1,4 @@
-// The calls that only look, exported for C: those of `srt_group_c_looks` with their clauses again, since a crate that another one uses is no
-// static library.
+// The calls that only look, exported for C: each is `look` of `srt_group_c_looks` with what it shows.
 
 #![tactic(auto)]
 

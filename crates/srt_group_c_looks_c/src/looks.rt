@@ -1,4 +1,5 @@
 // The looks at the group. Each is a function of its own, since C calls it by its name.
+// Kept (2, 5, 6): C calls each look by its name, and lends each table by its own name and length.
 ghost use Rattle.std.specs.Prelude.{false};
 ghost use Rattle.srt_group_model.specs.Lent.{call_look, look_group_id, look_mode, look_peer_group_id, look_skipped_receive_packets};
 ghost use Rattle.srt_group_model.specs.Lent.{look_has_pending_data, look_has_receive_continuation, look_time_until_send};
@@ -6,7 +7,9 @@ ghost use Rattle.srt_group_shown.specs.Tables.{tables};
 ghost use Rattle.srt_group_refusals.specs.Promised.{nothing_lent};
 ghost use Rattle.srt_group_words.specs.Words.{in_words, words, PromisedWords};
 
-use srt_group_c_looks::looks;
+use srt_group_c_looks::look::look;
+use srt_group_looks::looks;
+use srt_protocol::time::Timestamp;
 
 // The group's id.
 #[unsafe(no_mangle)]
@@ -27,7 +30,16 @@ pub extern "C" fn srt_group_raw_group_id(
         (tables members.now pending.now waiting.now history.now sources.now)
         nothing_lent answer.new) }
 {
-    looks::srt_group_raw_group_id(record, members, pending, waiting, history, sources, answer)
+    look(
+        record,
+        members,
+        pending,
+        waiting,
+        history,
+        sources,
+        answer,
+        looks::group_id,
+    )
 }
 
 // 0 for Broadcast, 1 for Backup.
@@ -49,7 +61,16 @@ pub extern "C" fn srt_group_raw_mode(
         (tables members.now pending.now waiting.now history.now sources.now)
         nothing_lent answer.new) }
 {
-    looks::srt_group_raw_mode(record, members, pending, waiting, history, sources, answer)
+    look(
+        record,
+        members,
+        pending,
+        waiting,
+        history,
+        sources,
+        answer,
+        looks::mode,
+    )
 }
 
 // The peer group that the group is bound to, or 0.
@@ -71,7 +92,16 @@ pub extern "C" fn srt_group_raw_peer_group_id(
         (tables members.now pending.now waiting.now history.now sources.now)
         nothing_lent answer.new) }
 {
-    looks::srt_group_raw_peer_group_id(record, members, pending, waiting, history, sources, answer)
+    look(
+        record,
+        members,
+        pending,
+        waiting,
+        history,
+        sources,
+        answer,
+        looks::peer_group_id,
+    )
 }
 
 // How many packets were skipped for good.
@@ -93,8 +123,15 @@ pub extern "C" fn srt_group_raw_skipped_receive_packets(
         (tables members.now pending.now waiting.now history.now sources.now)
         nothing_lent answer.new) }
 {
-    looks::srt_group_raw_skipped_receive_packets(
-        record, members, pending, waiting, history, sources, answer,
+    look(
+        record,
+        members,
+        pending,
+        waiting,
+        history,
+        sources,
+        answer,
+        looks::skipped_receive_packets,
     )
 }
 
@@ -117,8 +154,15 @@ pub extern "C" fn srt_group_raw_has_pending_data(
         (tables members.now pending.now waiting.now history.now sources.now)
         nothing_lent answer.new) }
 {
-    looks::srt_group_raw_has_pending_data(
-        record, members, pending, waiting, history, sources, answer,
+    look(
+        record,
+        members,
+        pending,
+        waiting,
+        history,
+        sources,
+        answer,
+        looks::has_pending_data,
     )
 }
 
@@ -141,8 +185,15 @@ pub extern "C" fn srt_group_raw_has_receive_continuation(
         (tables members.now pending.now waiting.now history.now sources.now)
         nothing_lent answer.new) }
 {
-    looks::srt_group_raw_has_receive_continuation(
-        record, members, pending, waiting, history, sources, answer,
+    look(
+        record,
+        members,
+        pending,
+        waiting,
+        history,
+        sources,
+        answer,
+        looks::has_receive_continuation,
     )
 }
 
@@ -166,7 +217,14 @@ pub extern "C" fn srt_group_raw_time_until_send(
         (tables members.now pending.now waiting.now history.now sources.now)
         nothing_lent answer.new) }
 {
-    looks::srt_group_raw_time_until_send(
-        record, members, pending, waiting, history, sources, time, answer,
+    look(
+        record,
+        members,
+        pending,
+        waiting,
+        history,
+        sources,
+        answer,
+        |lent| looks::time_until_send(lent, Timestamp(time)),
     )
 }

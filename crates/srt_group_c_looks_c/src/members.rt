@@ -1,4 +1,6 @@
 // The looks at members. Each is a function of its own, since C calls it by its name.
+// Kept (2, 5, 6): C calls each look by its name, and lends each table by its own name and length.
+// `members` fills a lent list too, so it is no `look`: a closure that kept the list would have no value of it after the call.
 ghost use Rattle.std.specs.Prelude.{false};
 ghost use Rattle.srt_group_model.specs.Lent.{call_look, look_member, look_backup_stability_timeout_micros};
 ghost use Rattle.srt_group_shown.specs.Tables.{tables};
@@ -6,7 +8,11 @@ ghost use Rattle.srt_group_refusals.specs.Promised.{nothing_lent};
 ghost use Rattle.srt_group_words.specs.Words.{in_words, words, PromisedWords};
 ghost use Rattle.srt_group_c_looks.specs.Listed.{ListsWords};
 
-use srt_group_c_looks::members;
+use srt_group_c_looks::answers::{SHOWN, put_given};
+use srt_group_c_looks::look::look;
+use srt_group_looks::{member, members};
+use srt_group_refusals::refusals::LentGroup;
+use srt_group_words::record::{RECORD, read_group};
 
 // A member: its id, weight, label, its leg's state, whether it was admitted, its reserved sum, and its collision's expected and actual peer group.
 #[unsafe(no_mangle)]
@@ -28,8 +34,15 @@ pub extern "C" fn srt_group_raw_member(
         (tables members.now pending.now waiting.now history.now sources.now)
         nothing_lent answer.new) }
 {
-    members::srt_group_raw_member(
-        record, members, pending, waiting, history, sources, id, answer,
+    look(
+        record,
+        members,
+        pending,
+        waiting,
+        history,
+        sources,
+        answer,
+        |lent| member::member(lent, id),
     )
 }
 
@@ -53,8 +66,15 @@ pub extern "C" fn srt_group_raw_backup_stability_timeout_micros(
         (tables members.now pending.now waiting.now history.now sources.now)
         nothing_lent answer.new) }
 {
-    members::srt_group_raw_backup_stability_timeout_micros(
-        record, members, pending, waiting, history, sources, id, answer,
+    look(
+        record,
+        members,
+        pending,
+        waiting,
+        history,
+        sources,
+        answer,
+        |lent| member::backup_stability_timeout_micros(lent, id),
     )
 }
 
@@ -77,7 +97,20 @@ pub extern "C" fn srt_group_raw_members(
         (tables members.now pending.now waiting.now history.now sources.now)
         nothing_lent answer.new) list.old list.new }
 {
-    members::srt_group_raw_members(
-        record, members, pending, waiting, history, sources, list, answer,
-    )
+    if record.len() < RECORD {
+        return 5;
+    }
+    if answer.len() < SHOWN {
+        return 5;
+    }
+    let lent = LentGroup {
+        group: read_group(record),
+        members,
+        pending,
+        waiting,
+        history,
+        sources,
+    };
+    let given = members::members(&lent, list);
+    put_given(answer, given)
 }

@@ -1,4 +1,5 @@
 // `mark_member_broken`, `refresh_member_states` and `disconnect`.
+// Kept (5, 6): C lends each table by its name and length (docs/TABLES.md), so each is a parameter of its own.
 ghost use Rattle.std.specs.Prelude.{false, [], length};
 ghost use Rattle.srt_group_model.specs.Lent.{call_mark_member_broken, call_refresh_member_states, call_disconnect};
 ghost use Rattle.srt_group_shown.specs.Tables.{tables};
@@ -6,6 +7,7 @@ ghost use Rattle.srt_group_shown.specs.Ready.{storing};
 ghost use Rattle.srt_group_refusals.specs.Promised.{nothing_lent};
 ghost use Rattle.srt_group_words.specs.Words.{silent, words, PromisedWords, ReadyWords, PerformsWords};
 
+use cell_set::of_words;
 use srt_group_member_states::{broken, calls, forms};
 use srt_group_words::record::{
     RECORD, put_back, put_back_core, read_core, read_group, read_identity, read_ring, read_sending,
@@ -83,7 +85,7 @@ pub extern "C" fn srt_group_valid_mark_member_broken(
         history,
         sources,
         store,
-        used,
+        of_words(used),
         id,
     );
     outcome_number(done)
@@ -152,7 +154,7 @@ pub extern "C" fn srt_group_valid_refresh_member_states(
         history,
         sources,
         store,
-        used,
+        of_words(used),
     );
     put_back_core(record, core, Ok(()))
 }
@@ -227,7 +229,7 @@ pub extern "C" fn srt_group_valid_disconnect(
         history,
         sources,
         store,
-        used,
+        of_words(used),
         Timestamp(time),
     );
     0

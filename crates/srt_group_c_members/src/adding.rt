@@ -1,4 +1,5 @@
 // `add_member`.
+// Kept (5, 6): C lends each table by its name and length (docs/TABLES.md), so each is a parameter of its own.
 ghost use Rattle.std.specs.Prelude.{[], length};
 ghost use Rattle.srt_connection_members.specs.Members.{HasRow};
 ghost use Rattle.srt_group_shown.specs.Tables.{tables};
@@ -7,6 +8,7 @@ ghost use Rattle.srt_group_refusals.specs.Promised.{nothing_lent, row_short};
 ghost use Rattle.srt_group_addition.specs.Handed.{call_of_row};
 ghost use Rattle.srt_group_words.specs.Words.{silent, words, PromisedWords, ReadyWords, PerformsWords};
 
+use cell_set::of_words;
 use srt_group_addition::{calls, handed};
 use srt_group_words::record::{
     RECORD, put_back, put_back_core, read_core, read_group, read_identity, read_ring, read_sending,
@@ -89,7 +91,7 @@ pub extern "C" fn srt_group_valid_add_member(
         history,
         sources,
         store,
-        used,
+        of_words(used),
         row,
         id,
         weight,

@@ -1,4 +1,5 @@
 // `remove_member` and `remove_member_connection`.
+// Kept (5, 6): C lends each table by its name and length (docs/TABLES.md), so each is a parameter of its own.
 ghost use Rattle.std.specs.Prelude.{false, [], length};
 ghost use Rattle.srt_group_model.specs.Lent.{call_remove_member_connection};
 ghost use Rattle.srt_connection_members.specs.Members.{HasRow};
@@ -8,6 +9,7 @@ ghost use Rattle.srt_group_refusals.specs.Promised.{nothing_lent};
 ghost use Rattle.srt_group_words.specs.Words.{silent, words, PromisedWords, ReadyWords, PerformsWords};
 ghost use Rattle.srt_group_c_members.specs.LegBack.{PromisedLegBack, PerformsLegBack};
 
+use cell_set::of_words_mut;
 use srt_group_removal::{calls, connection};
 use srt_group_words::record::{
     RECORD, put_back, put_back_core, read_core, read_group, read_identity, read_ring, read_sending,
@@ -83,7 +85,7 @@ pub extern "C" fn srt_group_valid_remove_member(
         history,
         sources,
         store,
-        used,
+        of_words_mut(used),
         id,
     );
     put_back_core(record, removed.core, removed.outcome)
@@ -162,7 +164,7 @@ pub extern "C" fn srt_group_valid_remove_member_connection(
         sources,
         store,
         row,
-        used,
+        of_words_mut(used),
         id,
     );
     put_back_core(record, removed.core, removed.outcome)

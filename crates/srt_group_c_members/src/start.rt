@@ -1,8 +1,9 @@
 // A group's start.
+// Kept (5, 6): C lends each table by its name and length (docs/TABLES.md), so each is a parameter of its own.
 ghost use Rattle.srt_group_shown.specs.Tables.{tables};
 ghost use Rattle.srt_group_words.specs.Words.{PromisedNewWords, BeginsValid};
 
-use cell_set::WORDS;
+use cell_set::{WORDS, of_words_mut};
 use srt_group::Group;
 use srt_group_words::begin::begin_stored;
 use srt_group_words::record::{RECORD, put_group};
@@ -52,6 +53,13 @@ pub extern "C" fn srt_group_valid_begin(
         return 5;
     }
     begin_stored(
-        record, members, pending, waiting, history, sources, store, used,
+        record,
+        members,
+        pending,
+        waiting,
+        history,
+        sources,
+        store,
+        of_words_mut(used),
     )
 }

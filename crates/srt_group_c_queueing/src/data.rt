@@ -1,4 +1,5 @@
 // `queue_data` of the stand-in leg.
+// Kept (5, 6): C lends each table by its name and length (docs/TABLES.md), so each is a parameter of its own.
 ghost use Rattle.std.specs.Prelude.{false, [], length};
 ghost use Rattle.srt_group_model.specs.Lent.{call_queue_data};
 ghost use Rattle.srt_group_shown.specs.Tables.{tables};
@@ -6,6 +7,7 @@ ghost use Rattle.srt_group_shown.specs.Ready.{storing};
 ghost use Rattle.srt_group_words.specs.Words.{silent, words, PromisedWords, ReadyWords, PerformsWords};
 ghost use Rattle.srt_group_c_queueing.specs.Queued.{queued};
 
+use cell_set::{WORDS, of_words_mut};
 use srt_group_model::Data;
 use srt_group_queueing::queueing;
 use srt_group_words::begin::begin_stored;
@@ -54,7 +56,7 @@ pub extern "C" fn srt_group_valid_queue_data(
         history,
         sources,
         store,
-        used,
+        of_words_mut(used),
         id,
         Data {
             sequence,
@@ -100,7 +102,7 @@ pub extern "C" fn srt_group_raw_queue_data(
     if record.len() < RECORD {
         return 5;
     }
-    let mut used = [0u64; 32];
+    let mut used = [0; WORDS];
     let code = begin_stored(
         record,
         members,

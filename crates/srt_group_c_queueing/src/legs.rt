@@ -1,4 +1,5 @@
 // `queue_event` and `read_leg` of the stand-in leg.
+// Kept (5, 6): C lends each table by its name and length (docs/TABLES.md), so each is a parameter of its own.
 ghost use Rattle.std.specs.Prelude.{false, [], length};
 ghost use Rattle.srt_group_model.specs.Lent.{call_queue_event, call_read_leg};
 ghost use Rattle.srt_group_shown.specs.Tables.{tables};
@@ -6,6 +7,7 @@ ghost use Rattle.srt_group_shown.specs.Ready.{storing};
 ghost use Rattle.srt_group_refusals.specs.Promised.{nothing_lent};
 ghost use Rattle.srt_group_words.specs.Words.{silent, words, PromisedWords, ReadyWords, PerformsWords};
 
+use cell_set::of_words;
 use srt_group_queueing::{calls, events, readings};
 use srt_group_words::record::{
     RECORD, read_core, read_group, read_identity, read_ring, read_sending,
@@ -88,7 +90,7 @@ pub extern "C" fn srt_group_valid_queue_event(
         history,
         sources,
         store,
-        used,
+        of_words(used),
         id,
         kind,
         reason,
@@ -172,7 +174,7 @@ pub extern "C" fn srt_group_valid_read_leg(
         history,
         sources,
         store,
-        used,
+        of_words(used),
         id,
         field,
         number,

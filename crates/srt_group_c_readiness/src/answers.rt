@@ -5,7 +5,7 @@ ghost use Rattle.srt_group_looks.specs.Looks.{truth_code, truth_answer};
 ghost use Rattle.srt_group_words.specs.Record.{record_size, group_of, with_sent};
 ghost use Rattle.srt_group_words.specs.Words.{in_words, PutSaid};
 
-use srt_group_c_looks::answers::put_truth;
+use srt_group_c_looks::answers::put_given;
 use srt_group_collecting::collecting::flag;
 use srt_group_send::readiness::Readiness;
 use srt_group_send_calls::calls::GroupReady;
@@ -13,6 +13,7 @@ use srt_group_words::answers::put;
 use srt_group_words::record::{put_group, put_sent};
 
 // The record that a readiness test leaves, and its answer.
+#[tactic(auto, using(srt_group_c_looks::specs::Laws::Look::said_truth))]
 pub fn put_tested(record: &mut [u64], answer: &mut [u64], tested: GroupReady) -> u32
     requires { (record_size ≤ length «record».old) × (1 ≤ length answer.old) }
     ensures { PutSaid tested.group (truth_code tested.answer) (in_words 1 (truth_answer tested.answer) 0)
@@ -21,7 +22,7 @@ pub fn put_tested(record: &mut [u64], answer: &mut [u64], tested: GroupReady) ->
     let after = tested.group;
     let given = tested.answer;
     put_group(record, after);
-    put_truth(answer, given)
+    put_given(answer, given)
 }
 
 // The same of a valid state, which is not refused: 0.

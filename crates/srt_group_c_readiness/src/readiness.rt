@@ -1,4 +1,5 @@
 // `can_send` and `can_send_with_pacing`.
+// Kept (5, 6): C lends each table by its name and length (docs/TABLES.md), so each is a parameter of its own.
 ghost use Rattle.std.specs.Prelude.{false, ◌≤◌, length};
 ghost use Rattle.srt_group_model.specs.Lent.{call_can_send, call_can_send_with_pacing};
 ghost use Rattle.srt_group_shown.specs.Tables.{tables};
@@ -7,6 +8,7 @@ ghost use Rattle.srt_group_refusals.specs.Promised.{nothing_lent};
 ghost use Rattle.srt_group_words.specs.Words.{in_words, words, PromisedWords, ReadyWords, PerformsWords};
 
 use crate::answers::{put_readiness, put_tested};
+use cell_set::of_words_mut;
 use srt_group_c_looks::answers::SHOWN;
 use srt_group_send::valid;
 use srt_group_send_calls::calls;
@@ -88,7 +90,7 @@ pub extern "C" fn srt_group_valid_can_send(
         history,
         sources,
         store,
-        used,
+        of_words_mut(used),
     );
     put_readiness(record, answer, tested)
 }
@@ -169,7 +171,7 @@ pub extern "C" fn srt_group_valid_can_send_with_pacing(
         history,
         sources,
         store,
-        used,
+        of_words_mut(used),
         Timestamp(time),
     );
     put_readiness(record, answer, tested)

@@ -1,4 +1,5 @@
 // `send` and `send_shared`.
+// Kept (5, 6): C lends each table by its name and length (docs/TABLES.md), so each is a parameter of its own.
 ghost use Rattle.std.specs.Prelude.{false, ◌≤◌, length};
 ghost use Rattle.srt_group_model.specs.Sending.{list_size};
 ghost use Rattle.srt_group_model.specs.Lent.{call_send};
@@ -7,6 +8,7 @@ ghost use Rattle.srt_group_shown.specs.Ready.{sending_into};
 ghost use Rattle.srt_group_words.specs.Words.{sent_words, words, PromisedWords, ReadyWords, PerformsWords};
 
 use crate::answers::{SENT, put_send};
+use cell_set::{WORDS, of_words_mut};
 use srt_group_send::sending;
 use srt_group_sending::list::SENT_LENGTH;
 use srt_group_words::answers::put;
@@ -53,7 +55,7 @@ pub extern "C" fn srt_group_valid_send(
         sources,
         store,
         list,
-        used,
+        of_words_mut(used),
         Timestamp(time),
         payload,
     );
@@ -94,7 +96,7 @@ pub extern "C" fn srt_group_raw_send(
         put(answer, [0, 0]);
         return 5;
     }
-    let mut used = [0u64; 32];
+    let mut used = [0; WORDS];
     let code = begin_stored(
         record,
         members,

@@ -1,5 +1,6 @@
 // Who carries. Before a send a carrier that fell silent is demoted; after one that failed another member is promoted; and who carries in
 // another's place replays the flight that is not acknowledged, so that the receiver gets no hole.
+// Kept (5, 6): what changes members, history or list takes them one beside the other: of a struct of `&mut` each clause names every field (tried).
 ghost use Rattle.std.specs.Prelude.{◌-◌, ◌*◌, ◌≤◌, ◌<◌, length};
 ghost use Rattle.srt_group_model.specs.Tools.{change};
 ghost use Rattle.srt_group_model.specs.Members.{promote_backup_member, promote_if_none};
@@ -16,12 +17,13 @@ ghost use Rattle.srt_group_carrier.specs.Freeing.{TrimFollows};
 ghost use Rattle.srt_group_carrier.specs.Lendable.{backup_tables, Sendable};
 
 use crate::freeing::free_dropped;
+use cell_set::CellSet;
 use srt_group_backup::stale::demote_stale_backup_carrier;
 use srt_group_backup::takeover::{TakenOver, take_over_backup_flight};
 use srt_group_members::promotion::{promote_backup_member, promote_if_none};
 use srt_group_model::Sending;
 use srt_group_sending::broadcast::mark_send_failure_at;
-use srt_group_tables::history::HistoryRing;
+use srt_group_tables::history::History;
 use srt_protocol::time::Timestamp;
 
 // The carrier is demoted if it fell silent, and another is promoted if no member is active then.
@@ -50,31 +52,27 @@ pub fn promote_after_failure(members: &mut [u64], count: usize, index: usize)
 // The take-over, with the cells of the entries that its trim dropped free again.
 pub fn take_over(
     sending: Sending,
-    ring: HistoryRing,
-    history: &[u64],
-    sources: &[u64],
+    history: &History,
     members: &mut [u64],
     count: usize,
     index: usize,
     list: &mut [u64],
     sent: usize,
-    used: &mut [u64],
+    used: &mut CellSet,
     time: Timestamp,
 ) -> TakenOver
-    requires sendable { Sendable count index ring (backup_tables members.old history.now sources.now list.old used.old) }
+    requires sendable { Sendable count index history.now.words.ring (backup_tables members.old history.now.words.history.now history.now.sources.now list.old used.old) }
     requires sent_bound { sent ≤ max_sent - max_history }
-    ensures took_over { TookOver (take_over_backup_flight time.0 index) count sending ring
-        (arrays history.now sources.now) sent
+    ensures took_over { TookOver (take_over_backup_flight time.0 index) count sending history.now.words.ring
+        (arrays history.now.words.history.now history.now.sources.now) sent
         (send_tables members.old list.old) result
         (send_tables members.new list.new) }
     ensures trim_follows { TrimFollows
-        (entries_of ring (arrays history.now sources.now)) used.old
-        (entries_of result.ring (arrays history.now sources.now)) used.new }
+        (entries_of history.now.words.ring (arrays history.now.words.history.now history.now.sources.now)) used.old
+        (entries_of result.ring (arrays history.now.words.history.now history.now.sources.now)) used.new }
 {
-    let taken = take_over_backup_flight(
-        sending, ring, history, sources, members, count, index, list, sent, time,
-    );
+    let taken = take_over_backup_flight(sending, history, members, count, index, list, sent, time);
     let left = taken.ring;
-    free_dropped(ring, left.length, history, used);
+    free_dropped(&history.words, left.length, used);
     taken
 }

@@ -1,4 +1,5 @@
 // After a failed send another member is promoted, and tried once with the same sequence.
+// Kept (5, 6): what changes members, history or list takes them one beside the other: of a struct of `&mut` each clause names every field (tried).
 ghost use Rattle.std.specs.Prelude.{◌-◌, ◌≤◌};
 ghost use Rattle.srt_group_model.specs.Sending.{max_sent};
 ghost use Rattle.srt_group_model.specs.Backup.{max_history, send_after_promotion};
@@ -9,10 +10,12 @@ ghost use Rattle.srt_group_carrier.specs.Flows.{on_promoted, every, BackupFlows}
 
 use crate::carrier::{promote_after_failure, take_over};
 use crate::recording::{BackupSend, keep_sent};
+use cell_set::CellSet;
+use srt_connection_members::rows;
 use srt_group_backup::send::send_on;
 use srt_group_members::states::first_active;
 use srt_group_model::Sending;
-use srt_group_tables::history::HistoryRing;
+use srt_group_tables::history::{History, HistoryRing, HistoryWords};
 use srt_protocol::error::Error;
 use srt_protocol::time::Timestamp;
 
@@ -27,7 +30,7 @@ fn send_on_promoted(
     index: usize,
     list: &mut [u64],
     sent: usize,
-    used: &mut [u64],
+    used: &mut CellSet,
     time: Timestamp,
     size: u64,
     cell: u64,
@@ -39,8 +42,10 @@ fn send_on_promoted(
         (backup_tables members.old history.old sources.old list.old used.old) result
         (backup_tables members.new history.new sources.new list.new used.new) }
 {
+    let words = HistoryWords { ring, history };
+    let flight = History { words, sources };
     let taken = take_over(
-        sending, ring, history, sources, members, count, index, list, sent, used, time,
+        sending, &flight, members, count, index, list, sent, used, time,
     );
     let outcome = taken.outcome;
     let numbers = taken.sending;
@@ -78,7 +83,7 @@ pub fn send_after_promotion(
     index: usize,
     list: &mut [u64],
     sent: usize,
-    used: &mut [u64],
+    used: &mut CellSet,
     time: Timestamp,
     size: u64,
     cell: u64,
@@ -92,7 +97,7 @@ pub fn send_after_promotion(
         (backup_tables members.new history.new sources.new list.new used.new) }
 {
     promote_after_failure(members, count, index);
-    let found = first_active(members, count);
+    let found = first_active(rows(members, count));
     let Some(promoted) = found else {
         return BackupSend {
             outcome: Err(Error::AllBackupFailed),

@@ -1,6 +1,6 @@
 // A payload that was sent joins the history in its cell, until its carrier's peer acknowledges it.
-ghost use Rattle.std.specs.Prelude.{◌≡◌, ◌≤◌, ◌<◌, length};
-ghost use Rattle.cell_set.specs.Bits.{set_size};
+// Kept (5, 6): what changes members, history or list takes them one beside the other: of a struct of `&mut` each clause names every field (tried).
+ghost use Rattle.std.specs.Prelude.{◌≤◌, ◌<◌};
 ghost use Rattle.srt_group_model.specs.Sending.{max_sent};
 ghost use Rattle.srt_group_model.specs.Backup.{max_history};
 ghost use Rattle.srt_connection_members.specs.Members.{member_at, HasRow};
@@ -10,12 +10,12 @@ ghost use Rattle.srt_group_carrier.specs.Freeing.{SendFollows};
 ghost use Rattle.srt_group_carrier.specs.Recording.{Kept};
 
 use crate::freeing::free_dropped;
-use cell_set::take;
+use cell_set::{CellSet, take};
 use srt_connection_members::{leg_at, membership_at};
 use srt_group_backup::send::record_backup_send;
 use srt_group_backup::trimming::SendHistory;
 use srt_group_model::{Entry, Leg, Sending};
-use srt_group_tables::history::{HistoryRing, MAX_HISTORY, push_back};
+use srt_group_tables::history::{HistoryRing, HistoryWords, MAX_HISTORY, push_back};
 use srt_protocol::error::Error;
 use srt_protocol::time::Timestamp;
 
@@ -35,14 +35,13 @@ pub fn remember_send(
     ring: HistoryRing,
     history: &mut [u64],
     sources: &mut [u64],
-    used: &mut [u64],
+    used: &mut CellSet,
     entry: Entry,
     leg: Leg,
     carrier: u64,
 ) -> SendHistory
     requires length_le_max_history { (ring.length ≤ max_history) × Long (arrays history.old sources.old) }
     requires packs { Packs entry.sequence entry.cell entry.length }
-    requires used_len { length used.old ≡ set_size }
     ensures send_recorded { SendRecorded leg carrier entry sending ring
         (arrays history.old sources.old) result
         (arrays history.new sources.new) }
@@ -50,12 +49,16 @@ pub fn remember_send(
         (entries_of ring (arrays history.old sources.old)) used.old
         (entries_of result.ring (arrays history.new sources.new)) used.new }
 {
-    free_dropped(ring, MAX_HISTORY - 1, history, used);
+    let before = HistoryWords { ring, history };
+    free_dropped(&before, MAX_HISTORY - 1, used);
     take(used, entry.cell as usize);
     let kept = record_backup_send(sending, ring, history, sources, entry, leg, carrier);
     let left = kept.ring;
-    let pushed = push_back(ring);
-    free_dropped(pushed, left.length, history, used);
+    let pushed = HistoryWords {
+        ring: push_back(ring),
+        history,
+    };
+    free_dropped(&pushed, left.length, used);
     kept
 }
 
@@ -68,7 +71,7 @@ pub fn keep_sent(
     members: &[u64],
     index: usize,
     sent: usize,
-    used: &mut [u64],
+    used: &mut CellSet,
     time: Timestamp,
     size: u64,
     cell: u64,
@@ -77,7 +80,7 @@ pub fn keep_sent(
     requires has_row { HasRow index members.now }
     requires length_le_max_history { (ring.length ≤ max_history) × Long (arrays history.old sources.old) }
     requires packs { Packs sequence cell size }
-    requires used_len { (length used.old ≡ set_size) × (sent < max_sent) }
+    requires sent_lt_max_sent { sent < max_sent }
     ensures { Kept time.0 size cell sequence (member_at members.now index) sending ring sent
         (arrays history.old sources.old) used.old result
         (arrays history.new sources.new) used.new }

@@ -1,5 +1,6 @@
 // The events of the legs, in turn: a packet is held or discarded, another event waits to be given. One visit takes one event; a
 // poll visits until there is something to give, and before it skips a gap until every queue is empty.
+// Kept (5, 6): a step that moves tables takes them one beside the other: a struct of `&mut` asks for loans that a call does not need, and for a clause to each field, that its slice is still the caller's (tried); what holds of them is one fact, `Usable`.
 ghost use Rattle.std.specs.Prelude.{◌≡◌, true, false, ◌&&◌, ◌||◌, ◌+◌, ◌*◌, ◌%◌, ◌≤◌, ◌<◌, eqb, length};
 ghost use Rattle.srt_protocol.specs.Sequence.{sequence_before};
 ghost use Rattle.srt_group_model.specs.Tools.{is_set, bit, flagged, if_some◌give◌otherwise◌};
@@ -17,16 +18,16 @@ ghost use Rattle.srt_group_tables.specs.Waitings.{waiting_size};
 ghost use Rattle.srt_group_shown.specs.Tables.{receive_tables};
 ghost use Rattle.cell_set.specs.Sets.{Freed};
 ghost use Rattle.cell_set.specs.Shows.{freed_by};
-ghost use Rattle.cell_set.specs.Bits.{set_size};
 ghost use Rattle.srt_group_collecting.specs.Leaves.{Usable};
 ghost use Rattle.srt_group_collecting.specs.Follows.{Follows};
 ghost use Rattle.srt_group_collecting.specs.Collect.{receive_of, Holdable, Retained, broken_by, Reported};
 ghost use Rattle.srt_group_collecting.specs.Gather.{Shows, HeldVisit, Gathers, Empties};
 ghost use Rattle.srt_group_collecting.specs.Visit.{freed_by_event, Collectable, Collected, Visits, Collects};
 
-use cell_set::free;
+use cell_set::{CellSet, free};
 use srt_connection_members::{
-    account_at, membership_at, poll_event_for_group_at, put_account_at, release_data_reservation_at,
+    account_at, membership_at, poll_event_for_group_at, put_account_at,
+    release_data_reservation_at, rows,
 };
 use srt_connection_queue::queue::LegPoll;
 use srt_group_members::accounts;
@@ -40,6 +41,7 @@ use srt_protocol::srt_packet::word_before;
 // What a visit leaves: whether an event was taken off a queue, the group's numbers, and what is left of the budget.
 #[derive(Clone, Copy)]
 pub struct Visited {
+    // Kept (1): as a `bool` beside a record that goes by value, one cost 50 ns a poll (tried).
     pub took: u64,
     pub core: Core,
     pub budget: u64,
@@ -48,6 +50,7 @@ pub struct Visited {
 // Visits until something is held, under way: whether more of them follow.
 #[derive(Clone, Copy)]
 struct Visiting {
+    // Kept (1): a word, as in `Visited`.
     more: u64,
     core: Core,
     budget: u64,
@@ -56,6 +59,7 @@ struct Visiting {
 // What visits until the queues are empty leave: whether they ended so.
 #[derive(Clone, Copy)]
 pub struct Emptied {
+    // Kept (1): a word, as in `Visited`.
     pub emptied: u64,
     pub core: Core,
     pub budget: u64,
@@ -72,18 +76,17 @@ pub struct Gathered {
 pub const MAX_VISITS: usize = 64;
 
 // A flag's word.
+#[tactic(auto, using(crate::specs::Laws::Gather::word_of_flag))]
 pub fn flag(set: bool) -> u64
     ensures { result ≡ bit set }
 {
-    if set {
-        return 1;
-    }
-    0
+    u64::from(set)
 }
 
 // ---- a packet is held or discarded
 
 // Whether a sequence is before the base.
+#[tactic(auto, using(crate::specs::Laws::Collect::late_based, crate::specs::Laws::Collect::late_unbased))]
 fn is_late(receiving: Receiving, sequence: u64) -> bool
     ensures { result ≡ (if_some flagged (is_set receiving.based) receiving.base
         give (λ base. sequence_before sequence base) otherwise false) }
@@ -106,6 +109,8 @@ fn reserve_at(members: &mut [u64], index: usize, count: u64)
 }
 
 // Whether the packet of a sequence is held already.
+// Kept (6): held packets are an index ring and rows by their cells, so that no count cuts a slice of the table.
+#[tactic(auto, using(srt_group_members::specs::Laws::Scan::any_found))]
 pub fn is_held(pending: &[u64], held: usize, sequence: u64) -> bool
     requires pending_size_in_bounds { (pending_size ≤ length pending.now) × (held ≤ max_pending) }
     requires pending_value { ascends (packets held pending.now) ≡ true }
@@ -115,6 +120,7 @@ pub fn is_held(pending: &[u64], held: usize, sequence: u64) -> bool
 }
 
 // A packet is discarded if it is late or its sequence is held.
+#[tactic(auto, using(crate::specs::Laws::Collect::discarded_late, crate::specs::Laws::Collect::discarded_if_held))]
 fn is_discarded(core: Core, pending: &[u64], packet: Packet) -> bool
     requires pending_size_in_bounds { (pending_size ≤ length pending.now) × (core.counts.pending ≤ max_pending) }
     requires pending_value { ascends (packets core.counts.pending pending.now) ≡ true }
@@ -128,17 +134,17 @@ fn is_discarded(core: Core, pending: &[u64], packet: Packet) -> bool
 }
 
 // The packet of the member at an index is held, and its reservation with it, or discarded, and the leg released.
+#[tactic(auto, using(crate::specs::Laws::Collect::discarded, crate::specs::Laws::Collect::held, crate::specs::Laws::Collect::not_held, crate::specs::Laws::Used::held_kept))]
 fn retain_group_packet(
     mut core: Core,
     members: &mut [u64],
     pending: &mut [u64],
-    used: &mut [u64],
+    used: &mut CellSet,
     index: usize,
     packet: Packet,
 ) -> Core
     requires has_row { HasRow index members.old }
     requires holdable { Holdable core.counts.pending pending.old packet (member_at members.old index) }
-    requires used_len { length used.old ≡ set_size }
     ensures retained { Retained index packet core members.old pending.old
         result members.new pending.new }
     ensures freed { Freed (freed_by packet (receive_of core pending.old))
@@ -161,6 +167,8 @@ fn retain_group_packet(
 // ---- an event is reported
 
 // An error or a disconnect breaks its member and, in Backup, promotes another, even if one is Active.
+// Kept (1): the kind is the word of the row that C lends and of the event that waits, read here and in `collect_member_event`; an enum would be made and undone at once.
+#[tactic(auto, using(crate::specs::Laws::Collect::not_broken, crate::specs::Laws::Collect::broken_alone, crate::specs::Laws::Collect::broken_promoted))]
 fn break_member(members: &mut [u64], count: usize, mode: u64, kind: u64, index: usize)
     requires { (HasRow index members.old) × (count * row_size ≤ length members.old) }
     ensures { Became count (broken_by mode kind index (members_of count members.old))
@@ -177,6 +185,7 @@ fn break_member(members: &mut [u64], count: usize, mode: u64, kind: u64, index: 
 }
 
 // An event that is no data waits to be given.
+#[tactic(auto, using(crate::specs::Laws::Collect::reported))]
 fn report_event(
     mut core: Core,
     members: &mut [u64],
@@ -222,13 +231,12 @@ fn collect_member_event(
     members: &mut [u64],
     pending: &mut [u64],
     waiting: &mut [u64],
-    used: &mut [u64],
+    used: &mut CellSet,
     index: usize,
     id: u64,
     event: Event,
 ) -> Core
-    requires collectable { Collectable index id event core (receive_tables members.old pending.old waiting.old) }
-    requires used_len { length used.old ≡ set_size }
+    requires { Collectable index id event core (receive_tables members.old pending.old waiting.old) }
     ensures collected { Collected index id event core
         (receive_tables members.old pending.old waiting.old) result
         (receive_tables members.new pending.new waiting.new) }
@@ -258,13 +266,12 @@ fn take_front(
     members: &mut [u64],
     pending: &mut [u64],
     waiting: &mut [u64],
-    used: &mut [u64],
+    used: &mut CellSet,
     index: usize,
     budget: u64,
 ) -> Visited
     requires usable { Usable core (receive_tables members.old pending.old waiting.old) }
     requires index_lt_members { (index < core.counts.members) × (core.counts.waiting < max_waiting) }
-    requires used_len { length used.old ≡ set_size }
     ensures visits { Visits (core.counts.waiting + 1) (take_front index (member_at members.old index)) core budget
         (receive_tables members.old pending.old waiting.old) result
         (receive_tables members.new pending.new waiting.new) }
@@ -312,24 +319,24 @@ fn take_front(
 }
 
 // One event of the legs: of the first member in turn that has one.
+#[tactic(auto, using(crate::specs::Laws::Turn::in_turn_inside))]
 pub fn collect_one_event(
     core: Core,
     members: &mut [u64],
     pending: &mut [u64],
     waiting: &mut [u64],
-    used: &mut [u64],
+    used: &mut CellSet,
     budget: u64,
 ) -> Visited
     requires usable { Usable core (receive_tables members.old pending.old waiting.old) }
     requires waiting_lt_max_waiting { core.counts.waiting < max_waiting }
-    requires used_len { length used.old ≡ set_size }
     ensures collects { Collects (core.counts.waiting + 1) collect_one_event core budget
         (receive_tables members.old pending.old waiting.old) result
         (receive_tables members.new pending.new waiting.new) }
     ensures follows { Follows core members.old pending.old used.old
         result.core members.new pending.new used.new }
 {
-    let found = in_turn(members, core.counts.members, core.visit.round);
+    let found = in_turn(rows(members, core.counts.members), core.visit.round);
     let Some(index) = found else {
         return Visited {
             took: 0,
@@ -343,6 +350,7 @@ pub fn collect_one_event(
 // ---- visits until there is something to give
 
 // A packet is held, an event waits, or the continuation is asked for.
+#[tactic(auto, using(crate::specs::Laws::Gather::pends_held, crate::specs::Laws::Gather::pends_waiting, crate::specs::Laws::Gather::pends_continuing))]
 pub fn has_pending_data(core: Core) -> bool
     ensures { Shows has_pending_data core result }
 {
@@ -356,6 +364,7 @@ pub fn has_pending_data(core: Core) -> bool
 }
 
 // The continuation is asked for as well.
+#[tactic(auto, using(crate::specs::Laws::Gather::asked_as_well, crate::specs::Laws::Gather::not_asked))]
 fn or_continue(core: Core, asked: bool) -> Core
     requires { core.visit.continuation ≤ 1 }
     ensures { result ≡ continued (bit (is_set core.visit.continuation || asked)) core }
@@ -374,16 +383,16 @@ fn ends_with_none_held(visits: usize, held: usize) -> bool
 }
 
 // One visit, unless an event waits, with so many left behind it.
+#[tactic(auto, using(crate::specs::Laws::Gather::held_waits, crate::specs::Laws::Used::follows_continued))]
 fn visit_until_held(
     before: Visiting,
     members: &mut [u64],
     pending: &mut [u64],
     waiting: &mut [u64],
-    used: &mut [u64],
+    used: &mut CellSet,
     visits: usize,
 ) -> Visiting
-    requires usable { Usable before.core (receive_tables members.old pending.old waiting.old) }
-    requires used_len { length used.old ≡ set_size }
+    requires { Usable before.core (receive_tables members.old pending.old waiting.old) }
     ensures held_visit { HeldVisit visits before
         (receive_tables members.old pending.old waiting.old) result
         (receive_tables members.new pending.new waiting.new) }
@@ -419,16 +428,16 @@ fn visit_until_held(
 
 // Visits until there is something to give or no event is left; none while an event waits. After the last of them with nothing
 // held the continuation is asked for.
+#[tactic(auto, using(crate::specs::Laws::Gather::holding_start, crate::specs::Laws::Follows::follows_same))]
 pub fn collect_until_held(
     core: Core,
     members: &mut [u64],
     pending: &mut [u64],
     waiting: &mut [u64],
-    used: &mut [u64],
+    used: &mut CellSet,
     budget: u64,
 ) -> Gathered
-    requires usable { Usable core (receive_tables members.old pending.old waiting.old) }
-    requires used_len { length used.old ≡ set_size }
+    requires { Usable core (receive_tables members.old pending.old waiting.old) }
     ensures gathers { Gathers core budget
         (receive_tables members.old pending.old waiting.old) result
         (receive_tables members.new pending.new waiting.new) }
@@ -474,18 +483,19 @@ fn is_settled(core: Core, pending: &[u64], sequence: u64) -> bool
 
 // Visits until the sequence is held, the continuation is asked for or every queue is empty. Only where the queues ended
 // empty is a gap skipped.
+// Kept (2): it shares one call with `collect_until_held`: what ends it is asked before a visit, there after one, and each has a last question of its own; closures for these are longer than the loop.
+#[tactic(auto, using(crate::specs::Laws::Gather::emptying_start, crate::specs::Laws::Follows::follows_same))]
 pub fn collect_until_empty(
     core: Core,
     members: &mut [u64],
     pending: &mut [u64],
     waiting: &mut [u64],
-    used: &mut [u64],
+    used: &mut CellSet,
     budget: u64,
     sequence: u64,
 ) -> Emptied
     requires usable { Usable core (receive_tables members.old pending.old waiting.old) }
     requires waiting_value { core.counts.waiting ≡ 0 }
-    requires used_len { length used.old ≡ set_size }
     ensures empties { Empties sequence core budget
         (receive_tables members.old pending.old waiting.old) result
         (receive_tables members.new pending.new waiting.new) }

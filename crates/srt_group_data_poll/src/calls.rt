@@ -1,4 +1,5 @@
 // `poll_data_bounded` with its refusals, over the record and the lent tables: 5 and 6, and then the form for a valid state.
+// Kept (5, 6): the host lends record and tables anew to each call; which are changed differs, and a struct of `&mut` needs a clause for each ghost name (tried).
 ghost use Rattle.srt_group_model.specs.Lent.{call_poll_data_bounded, call_poll_data};
 ghost use Rattle.srt_group_shown.specs.Tables.{tables};
 ghost use Rattle.srt_group_shown.specs.Ready.{lending};
@@ -7,6 +8,7 @@ ghost use Rattle.srt_group_refusals.specs.Promised.{showing, Promised};
 ghost use Rattle.srt_group_data_poll.specs.Answers.{data_number, data_answer};
 
 use crate::polls;
+use cell_set::{CellSet, WORDS};
 use srt_group::Group;
 use srt_group_collecting::collecting::MAX_VISITS;
 use srt_group_model::Packet;
@@ -18,6 +20,7 @@ use srt_protocol::time::Timestamp;
 #[derive(Clone, Copy)]
 pub struct GroupDataPoll {
     pub packet: Option<Packet>,
+    // Kept (1): as a `bool` beside a record that goes by value it cost 50 ns a poll (tried).
     pub continuation: u64,
 }
 
@@ -54,7 +57,7 @@ pub fn poll_data_bounded(
         sending,
         ring,
     } = group;
-    let mut used = [0u64; 32];
+    let mut used: CellSet = [0; WORDS];
     let lent = LentGroup {
         group,
         members,

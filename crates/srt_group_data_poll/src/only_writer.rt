@@ -1,10 +1,12 @@
 // A caller that is the only writer: packets are queued and polled for, and nothing is tested again from call to call.
+// Kept (5, 6): the host lends record and tables anew to each call; which are changed differs, and a struct of `&mut` needs a clause for each ghost name (tried).
 ghost use Rattle.std.specs.Prelude.{◌≤◌, length};
 ghost use Rattle.srt_protocol.specs.Cells.{output_size};
 ghost use Rattle.srt_group_shown.specs.Tables.{parts, tables};
 ghost use Rattle.srt_group_shown.specs.Ready.{Ready};
 
 use crate::polls::poll_data_bounded;
+use cell_set::CellSet;
 use srt_group_model::{Core, Data, Identity, Sending};
 use srt_group_polls::polls::DataPoll;
 use srt_group_queueing::queueing::queue_data;
@@ -24,7 +26,7 @@ pub fn queue_and_poll(
     sources: &[u64],
     store: &mut [u8],
     output: &mut [u8],
-    used: &mut [u64],
+    used: &mut CellSet,
     id: u64,
     content: Data,
     payload: &[u8],

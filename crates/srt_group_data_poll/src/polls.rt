@@ -1,4 +1,5 @@
 // `poll_data_bounded` for a valid state: the poll, the payload of the packet that it gives, and the set of used cells after it.
+// Kept (5, 6): the host lends record and tables anew to each call; which are changed differs, and a struct of `&mut` needs a clause for each ghost name (tried).
 ghost use Rattle.std.specs.Prelude.{◌≡◌, ◌≤◌, length};
 ghost use Rattle.srt_group_model.specs.Lent.{call_poll_data_bounded, written_out};
 ghost use Rattle.srt_protocol.specs.Cells.{output_size};
@@ -6,6 +7,7 @@ ghost use Rattle.srt_group_shown.specs.Tables.{parts, tables};
 ghost use Rattle.srt_group_shown.specs.Ready.{Ready, lending, Performs};
 ghost use Rattle.srt_group_data_poll.specs.Polling.{Writable, answer_of};
 
+use cell_set::CellSet;
 use srt_group_model::{Core, Identity, Packet, Sending};
 use srt_group_polls::polls;
 use srt_group_polls::polls::DataPoll;
@@ -14,6 +16,7 @@ use srt_protocol::received_payload::copy_payload;
 use srt_protocol::time::Timestamp;
 
 // The payload of a packet that is given, from byte 12 of the output on.
+#[tactic(auto, using(crate::specs::Laws::Polling::wrote_none))]
 pub fn write_payload(store: &[u8], output: &mut [u8], gave: Option<Packet>)
     requires { Writable gave (length store.now) (length output.old) }
     ensures { output.new ≡ written_out gave store.now output.old }
@@ -39,7 +42,7 @@ pub fn poll_data_bounded(
     sources: &[u64],
     store: &[u8],
     output: &mut [u8],
-    used: &mut [u64],
+    used: &mut CellSet,
     time: Timestamp,
     max_events: usize,
 ) -> DataPoll

@@ -1,11 +1,12 @@
 // The give-up test, delivery and the skip: a packet at the base is given, its run passed, and what the run covers released; a gap
 // is passed over once the leg of the nearest held packet gives up on it.
+// Kept (5, 6): a step that moves tables takes them one beside the other: a struct of `&mut` asks for loans that a call does not need, and for a clause to each field, that its slice is still the caller's (tried); what holds of them is one fact, `Deliverable`.
 ghost use Rattle.std.specs.Prelude.{◌≡◌, List, [], ◌∷◌, ℕ, ◌+◌, ◌-◌, ◌*◌, ◌≤◌, ◌<◌, min, length};
 ghost use Rattle.srt_protocol.specs.Sequence.{sequence_distance};
 ghost use Rattle.srt_group_model.specs.Legs.{largest_64};
 ghost use Rattle.srt_group_model.specs.Delivery.{leg_gives_up, gap_given_up, deliver, give_waiting};
 ghost use Rattle.srt_group_model.specs.Tools.{is_set, flagged};
-ghost use Rattle.srt_connection_members.specs.Members.{members_of, HasRow, Changed};
+ghost use Rattle.srt_connection_members.specs.Members.{members_in, HasRow, Changed};
 ghost use Rattle.srt_connection_queue.specs.Rows.{row_size};
 ghost use Rattle.srt_group_tables.specs.Packets.{pending_size, packet_at, packets_between};
 ghost use Rattle.srt_group_tables.specs.Covered.{Within, packets_at};
@@ -13,15 +14,19 @@ ghost use Rattle.srt_group_tables.specs.Waitings.{waiting_size};
 ghost use Rattle.srt_group_shown.specs.Shown.{Rest, shown};
 ghost use Rattle.srt_group_shown.specs.Tables.{receive_tables};
 ghost use Rattle.cell_set.specs.Sets.{Freed};
-ghost use Rattle.cell_set.specs.Bits.{set_size};
 ghost use Rattle.srt_group_model.specs.Sound.{pending_cells};
 ghost use Rattle.srt_group_model.specs.Validity.{max_waiting, max_pending};
 ghost use Rattle.srt_group_collecting.specs.Follows.{Follows};
 ghost use Rattle.srt_group_delivery.specs.Delivery.{Deliverable, HeldAt, leg_given_up, release_member, Released, Delivered};
 ghost use Rattle.srt_group_delivery.specs.Poll.{Polls, Skips, Bases};
 
-use cell_set::free;
+use cell_set::{CellSet, free};
 use srt_connection::legs;
+use srt_connection_members::{
+    account_at, advance_receive_sequence_of_all, find, put_account_at, release_data_reservation_at,
+    rows,
+};
+use srt_connection_queue::rows::{Row, leg};
 use srt_group_members::accounts;
 use srt_group_members::states::all_disconnected;
 use srt_group_model::{Core, Leg, Packet, Waiting};
@@ -47,33 +52,31 @@ pub struct Poll {
 // ---- the give-up test
 
 // Whether a leg has given up by a time on a packet of that source time.
+#[tactic(auto, using(crate::specs::Laws::Delivery::given_up_from, crate::specs::Laws::Delivery::never_given_up))]
 fn leg_given_up(leg: Leg, source: Timestamp, time: Timestamp) -> bool
     ensures { result ≡ leg_given_up time.0 source.0 leg }
 {
     let deadline = legs::gives_up_at(leg, source);
     match deadline {
-        Some(moment) => moment.0 <= time.0,
+        Some(moment) => moment <= time,
         None => false,
     }
 }
 
 // The leg of the packet's member gives up on it; where that member is gone, the first leg.
-fn leg_gives_up(members: &[u64], count: usize, packet: Packet, time: Timestamp) -> bool
-    requires { count * row_size ≤ length members.now }
-    ensures { result ≡ leg_gives_up time.0 packet (members_of count members.now) }
+#[tactic(auto, using(crate::specs::Laws::Delivery::leg_asked, crate::specs::Laws::Delivery::no_leg_asked))]
+fn leg_gives_up(rows: &[Row], packet: Packet, time: Timestamp) -> bool
+    ensures { result ≡ leg_gives_up time.0 packet (members_in rows.now) }
 {
-    let source = packet.content.source;
-    let found = srt_connection_members::find(members, count, packet.member);
-    if let Some(index) = found {
-        return leg_given_up(srt_connection_members::leg_at(members, index), source, time);
-    }
-    if count == 0 {
+    let asked = find(rows, packet.member).unwrap_or(0);
+    let Some(row) = rows.get(asked) else {
         return false;
-    }
-    leg_given_up(srt_connection_members::leg_at(members, 0), source, time)
+    };
+    leg_given_up(leg(row), packet.content.source, time)
 }
 
 // A gap is given up if all legs are disconnected, or if the nearest held packet's leg gives up on it.
+#[tactic(auto, using(crate::specs::Laws::Delivery::nothing_held, crate::specs::Laws::Delivery::all_gone))]
 pub fn gap_given_up(core: Core, members: &[u64], pending: &[u64], time: Timestamp) -> bool
     requires { Deliverable core members.now pending.now }
     ensures { (others : Rest) (waiting : List ℕ)
@@ -84,12 +87,12 @@ pub fn gap_given_up(core: Core, members: &[u64], pending: &[u64], time: Timestam
     let Some(at) = nearest else {
         return false;
     };
-    let count = core.counts.members;
-    if all_disconnected(members, count) {
+    let rows = rows(members, core.counts.members);
+    if all_disconnected(rows) {
         return true;
     }
     let nearest_held = pending::packet(pending, at);
-    leg_gives_up(members, count, nearest_held, time)
+    leg_gives_up(rows, nearest_held, time)
 }
 
 // ---- reservations
@@ -99,15 +102,13 @@ fn release_at(members: &mut [u64], index: usize, count: u64)
     requires { HasRow index members.old }
     ensures { Changed index (release_member count) members.old members.new }
 {
-    let account = accounts::release_packet(
-        srt_connection_members::account_at(members, index),
-        count,
-    );
-    srt_connection_members::put_account_at(members, index, account);
-    srt_connection_members::release_data_reservation_at(members, index, count);
+    let account = accounts::release_packet(account_at(members, index), count);
+    put_account_at(members, index, account);
+    release_data_reservation_at(members, index, count);
 }
 
 // A packet's count goes off the group's own sum, or off its member's and its leg's; where that member is gone, off none.
+#[tactic(auto, using(crate::specs::Laws::Delivery::released_own, crate::specs::Laws::Delivery::released_nowhere, crate::specs::Laws::Delivery::released_member, crate::specs::Laws::Delivery::found_has_row))]
 fn release_pending_reservation(mut core: Core, members: &mut [u64], packet: Packet) -> Core
     requires { core.counts.members * row_size ≤ length members.old }
     ensures { Released (packet ∷ []) core members.old result members.new }
@@ -118,8 +119,7 @@ fn release_pending_reservation(mut core: Core, members: &mut [u64], packet: Pack
         core.own = own;
         return core;
     }
-    let count = core.counts.members;
-    let found = srt_connection_members::find(members, count, packet.member);
+    let found = find(rows(members, core.counts.members), packet.member);
     let Some(index) = found else {
         return core;
     };
@@ -132,12 +132,11 @@ fn release_held(
     core: Core,
     members: &mut [u64],
     pending: &[u64],
-    used: &mut [u64],
+    used: &mut CellSet,
     at: usize,
 ) -> Core
     requires row_size_in_bounds { core.counts.members * row_size ≤ length members.old }
     requires pending_size_in_bounds { (pending_size ≤ length pending.now) × (at < max_pending) }
-    requires used_len { length used.old ≡ set_size }
     ensures released { Released (packet_at pending.now at ∷ []) core members.old result members.new }
     ensures freed { Freed (pending_cells (packet_at pending.now at ∷ [])) used.old used.new }
 {
@@ -152,13 +151,12 @@ fn release_range(
     mut core: Core,
     members: &mut [u64],
     pending: &[u64],
-    used: &mut [u64],
+    used: &mut CellSet,
     from: usize,
     end: usize,
 ) -> Core
     requires row_size_in_bounds { core.counts.members * row_size ≤ length members.old }
     requires pending_size_in_bounds { (pending_size ≤ length pending.now) × (from ≤ end) × (end ≤ max_pending) }
-    requires used_len { length used.old ≡ set_size }
     ensures released { Released (packets_between from end pending.now) core members.old result members.new }
     ensures freed { Freed (pending_cells (packets_between from end pending.now)) used.old used.new }
 {
@@ -173,12 +171,11 @@ fn release_covered(
     core: Core,
     members: &mut [u64],
     pending: &[u64],
-    used: &mut [u64],
+    used: &mut CellSet,
     covered: Covered,
 ) -> Core
     requires deliverable { Deliverable core members.old pending.now }
     requires within { Within core.counts.pending covered }
-    requires used_len { length used.old ≡ set_size }
     ensures released { Released (packets_at covered pending.now) core members.old result members.new }
     ensures freed { Freed (pending_cells (packets_at covered pending.now)) used.old used.new }
 {
@@ -197,14 +194,13 @@ fn deliver_packet(
     core: Core,
     members: &mut [u64],
     pending: &mut [u64],
-    used: &mut [u64],
+    used: &mut CellSet,
     base: u64,
     at: usize,
     packet: Packet,
 ) -> Core
     requires deliverable { Deliverable core members.old pending.old }
     requires held_at { HeldAt pending.old core.counts.pending base at }
-    requires used_len { length used.old ≡ set_size }
     ensures delivered { Delivered base packet core members.old pending.old
         result members.new pending.new }
     ensures follows { Follows core members.old pending.old used.old
@@ -216,7 +212,7 @@ fn deliver_packet(
     let mut after = release_covered(core, members, pending, used, covered);
     let next = word_further(base, run);
     let count = after.counts.members;
-    srt_connection_members::advance_receive_sequence_of_all(members, count, next);
+    advance_receive_sequence_of_all(members, count, next);
     let left = pending::remove_covered(pending, held, covered);
     after.counts.pending = left;
     after.receiving.based = 1;
@@ -225,15 +221,15 @@ fn deliver_packet(
 }
 
 // The packet at the base, if it is held, is delivered.
+#[tactic(auto, using(crate::specs::Laws::Poll::found_in_table, srt_group_collecting::specs::Laws::Follows::follows_same))]
 pub fn deliver(
     core: Core,
     members: &mut [u64],
     pending: &mut [u64],
-    used: &mut [u64],
+    used: &mut CellSet,
     base: u64,
 ) -> Poll
-    requires deliverable { Deliverable core members.old pending.old }
-    requires used_len { length used.old ≡ set_size }
+    requires { Deliverable core members.old pending.old }
     ensures by_index { (waiting : List ℕ) → Polls (deliver base) core
         (receive_tables members.old pending.old waiting) result
         (receive_tables members.new pending.new waiting) }
@@ -276,21 +272,11 @@ pub fn give_waiting(mut core: Core, waiting: &mut [u64]) -> Poll
     }
 }
 
-// A total and what is added to it, up to the largest that 64 bits hold.
-fn saturating_add(total: u64, more: u64) -> u64
-    ensures { result ≡ min (total + more) largest_64 }
-{
-    if more <= u64::MAX - total {
-        return total + more;
-    }
-    u64::MAX
-}
-
 // The skipped total, once the base has gone from `base` ahead to `next`.
 fn skipped_after(skipped: u64, base: u64, next: u64) -> u64
     ensures { result ≡ min (skipped + sequence_distance base next) largest_64 }
 {
-    saturating_add(skipped, word_distance(base, next))
+    skipped.saturating_add(word_distance(base, next))
 }
 
 // The base goes from `base` ahead to `next`, and the skipped total rises by the distance.

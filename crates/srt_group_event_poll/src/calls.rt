@@ -1,4 +1,5 @@
 // `poll_event` with its refusals, over the record and the lent tables: 5 and 6, and then the form for a valid state.
+// Kept (5, 6): the host lends record and tables anew to each call; which are changed differs, and a struct of `&mut` needs a clause for each ghost name (tried).
 ghost use Rattle.srt_group_model.specs.Lent.{call_poll_event};
 ghost use Rattle.srt_group_shown.specs.Tables.{tables};
 ghost use Rattle.srt_group_shown.specs.Ready.{lending};
@@ -7,6 +8,7 @@ ghost use Rattle.srt_group_refusals.specs.Promised.{showing, Promised};
 ghost use Rattle.srt_group_event_poll.specs.Answers.{event_number, event_answer};
 
 use crate::polls;
+use cell_set::{CellSet, WORDS};
 use srt_group::Group;
 use srt_group_delivery::delivery::GroupEvent;
 use srt_group_refusals::refusals::LentGroup;
@@ -45,7 +47,7 @@ pub fn poll_event(
         sending,
         ring,
     } = group;
-    let mut used = [0u64; 32];
+    let mut used: CellSet = [0; WORDS];
     let lent = LentGroup {
         group,
         members,

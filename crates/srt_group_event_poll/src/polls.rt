@@ -1,4 +1,5 @@
 // `poll_event` for a valid state: the poll, the payload if it gives a packet, and the set of used cells after it.
+// Kept (5, 6): the host lends record and tables anew to each call; which are changed differs, and a struct of `&mut` needs a clause for each ghost name (tried).
 ghost use Rattle.std.specs.Prelude.{◌≡◌, ◌≤◌, length};
 ghost use Rattle.srt_group_model.specs.Lent.{call_poll_event};
 ghost use Rattle.srt_protocol.specs.Cells.{output_size};
@@ -6,6 +7,7 @@ ghost use Rattle.srt_group_shown.specs.Tables.{parts, tables};
 ghost use Rattle.srt_group_shown.specs.Ready.{Ready, lending, Performs};
 ghost use Rattle.srt_group_event_poll.specs.Polling.{packet_in, answer_of};
 
+use cell_set::CellSet;
 use srt_group_data_poll::polls::write_payload;
 use srt_group_delivery::delivery::{GroupEvent, Poll};
 use srt_group_model::{Core, Identity, Packet, Sending};
@@ -14,6 +16,7 @@ use srt_group_tables::history::HistoryRing;
 use srt_protocol::time::Timestamp;
 
 // The packet, if that is what an event poll gives.
+#[tactic(auto, using(crate::specs::Laws::Polling::none_in_nothing, crate::specs::Laws::Polling::none_in_event, crate::specs::Laws::Polling::one_in_packet))]
 fn packet_in(gave: Option<GroupEvent>) -> Option<Packet>
     ensures { result ≡ packet_in gave }
 {
@@ -39,7 +42,7 @@ pub fn poll_event(
     sources: &[u64],
     store: &[u8],
     output: &mut [u8],
-    used: &mut [u64],
+    used: &mut CellSet,
     time: Timestamp,
 ) -> Poll
     requires ready { Ready (parts identity core sending ring)

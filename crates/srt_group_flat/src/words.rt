@@ -1,5 +1,6 @@
 // The answers of a data poll and of a send in words. An answer that holds an enum cannot be handed on from a call that is lent its
 // record by reference, so each case is told by a word. The words are laid out as C has them: those calls are exported.
+// Kept (1): C has no Result and no Option, so a code, a flag and a packet stand side by side.
 ghost use Rattle.std.specs.Prelude.{Ok};
 ghost use Rattle.srt_group_flat.specs.Words.{Says, SaysSent};
 

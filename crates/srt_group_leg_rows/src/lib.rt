@@ -29,10 +29,7 @@ pub const UNKNOWN_LEG: u64 = 3;
 pub fn state_of(legs: &[LegRow], id: u64) -> u64
     ensures { result ≡ state_among id legs.now }
 {
-    for row in legs {
-        if row.id == id {
-            return row.state;
-        }
-    }
-    UNKNOWN_LEG
+    legs.iter()
+        .find(|row| row.id == id)
+        .map_or(UNKNOWN_LEG, |row| row.state)
 }

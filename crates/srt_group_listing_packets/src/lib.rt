@@ -4,4 +4,3 @@
 #![tactic(auto)]
 
 pub mod packets; // packets.rt: verbs 4, 5 and 6
-pub mod telling; // telling.rt: which of them a line asks for

@@ -1,19 +1,15 @@
 // The verbs that queue a packet, poll for one and send one.
-ghost use Rattle.std.specs.Prelude.{◌≡◌, ◌≤◌, length};
-ghost use Rattle.srt_protocol.specs.Cells.{output_size};
-ghost use Rattle.srt_group_model.specs.Sending.{list_size};
+// Kept (5): the group stands in an Option beside the memory (srt_group_replay), so a struct of both would be made and taken apart at each line.
+ghost use Rattle.std.specs.Prelude.{◌≡◌};
 ghost use Rattle.srt_group_model.specs.Listing.{column};
-ghost use Rattle.srt_group_shown.specs.Tables.{tables};
-ghost use Rattle.srt_group_shown.specs.Ready.{Ready};
-ghost use Rattle.srt_group.specs.Made.{parts_of};
 ghost use Rattle.srt_group_traces.specs.VerbCalls.{data_of_line, queueing, polling, sending};
-ghost use Rattle.srt_group_listing.specs.Telling.{Eight, numbers_of, packet_line, sent_line, Tells};
+ghost use Rattle.srt_group_listing.specs.Telling.{ReadyFor, numbers_of, packet_line, sent_line, Tells, TellsByte};
 
 use srt_group::Group;
 use srt_group_collecting::collecting::MAX_VISITS;
 use srt_group_data_poll::polls::poll_data_bounded;
 use srt_group_listing::members::outcome_line;
-use srt_group_listing::{Printed, Told};
+use srt_group_listing::{Line, Memory, Printed, Told};
 use srt_group_model::{Data, Packet};
 use srt_group_queueing::queueing::queue_data;
 use srt_group_send::sending;
@@ -21,8 +17,7 @@ use srt_protocol::error::Error;
 use srt_protocol::time::Timestamp;
 
 // The packet of verb 4.
-fn data_of_line(line: &[u64]) -> Data
-    requires { Eight line.now }
+fn data_of_line(line: &Line) -> Data
     ensures { result ≡ data_of_line line.now }
 {
     Data {
@@ -36,46 +31,30 @@ fn data_of_line(line: &[u64]) -> Data
     }
 }
 
-// Verb 4, where its byte is one: a packet is queued at a leg.
-pub fn queue(
-    group: Group,
-    members: &mut [u64],
-    pending: &[u64],
-    waiting: &[u64],
-    history: &[u64],
-    sources: &[u64],
-    store: &mut [u8],
-    used: &mut [u64],
-    line: &[u64],
-) -> Told
-    requires ready { Ready (parts_of group)
-        (tables members.old pending.now waiting.now history.now sources.now) (length store.old) used.old }
-    requires eight { Eight line.now × (column 5 line.now ≤ 255) }
-    ensures { Tells 4 (queueing line.now) group
-        (tables members.old pending.now waiting.now history.now sources.now)
-        (length store.old) result
-        (tables members.new pending.now waiting.now history.now sources.now)
-        used.new }
+// Verb 4: a packet is queued at a leg. A byte above 255 is refused.
+pub fn queue(memory: &mut Memory, group: Group, line: &Line) -> Told
+    requires { ReadyFor group memory.old }
+    ensures { TellsByte (column 5 line.now) 4 (queueing line.now) group memory.old result memory.new }
 {
-    let Group {
-        identity,
-        core,
-        sending,
-        ring,
-    } = group;
+    if 255 < line[5] {
+        return Told {
+            group,
+            line: outcome_line(4, Err(Error::OutOfRange)),
+        };
+    }
     let payload = [line[5] as u8];
     let outcome = queue_data(
-        identity,
-        core,
-        sending,
-        ring,
-        members,
-        pending,
-        waiting,
-        history,
-        sources,
-        store,
-        used,
+        group.identity,
+        group.core,
+        group.sending,
+        group.ring,
+        &mut memory.members,
+        &memory.pending,
+        &memory.waiting,
+        &memory.history,
+        &memory.sources,
+        &mut memory.store,
+        &mut memory.used,
         line[1],
         data_of_line(line),
         &payload,
@@ -111,60 +90,33 @@ fn packet_line(gave: Option<Packet>, skipped: u64) -> Printed
 }
 
 // Verb 5: a poll for data.
-pub fn poll(
-    group: Group,
-    members: &mut [u64],
-    pending: &mut [u64],
-    waiting: &mut [u64],
-    history: &[u64],
-    sources: &[u64],
-    store: &[u8],
-    output: &mut [u8],
-    used: &mut [u64],
-    line: &[u64],
-) -> Told
-    requires ready { Ready (parts_of group)
-        (tables members.old pending.old waiting.old history.now sources.now) (length store.now) used.old }
-    requires output_len { length output.old ≡ output_size }
-    requires eight { Eight line.now }
-    ensures { Tells 5 (polling line.now) group
-        (tables members.old pending.old waiting.old history.now sources.now)
-        (length store.now) result
-        (tables members.new pending.new waiting.new history.now sources.now)
-        used.new }
+pub fn poll(memory: &mut Memory, group: Group, line: &Line) -> Told
+    requires { ReadyFor group memory.old }
+    ensures { Tells 5 (polling line.now) group memory.old result memory.new }
 {
-    let Group {
-        identity,
-        core,
-        sending,
-        ring,
-    } = group;
     let polled = poll_data_bounded(
-        identity,
-        core,
-        sending,
-        ring,
-        members,
-        pending,
-        waiting,
-        history,
-        sources,
-        store,
-        output,
-        used,
+        group.identity,
+        group.core,
+        group.sending,
+        group.ring,
+        &mut memory.members,
+        &mut memory.pending,
+        &mut memory.waiting,
+        &memory.history,
+        &memory.sources,
+        &memory.store,
+        &mut memory.output,
+        &mut memory.used,
         Timestamp(line[1]),
         MAX_VISITS,
     );
     let after = polled.core;
-    let gave = polled.gave;
     Told {
         group: Group {
-            identity,
             core: after,
-            sending,
-            ring,
+            ..group
         },
-        line: packet_line(gave, after.receiving.skipped),
+        line: packet_line(polled.gave, after.receiving.skipped),
     }
 }
 
@@ -181,74 +133,45 @@ fn sent_line(answer: Result<usize, Error>) -> Printed
             count: 0,
             skipped: 0,
         },
-        Err(error) => Printed {
-            verb: 6,
-            code: u32::from(error) as u64,
-            leg: 0,
-            sequence: 0,
-            count: 0,
-            skipped: 0,
-        },
+        Err(error) => outcome_line(6, Err(error)),
     }
 }
 
-// Verb 6, where its byte is one: a packet is sent.
-pub fn send(
-    group: Group,
-    members: &mut [u64],
-    pending: &[u64],
-    waiting: &[u64],
-    history: &mut [u64],
-    sources: &mut [u64],
-    store: &mut [u8],
-    list: &mut [u64],
-    used: &mut [u64],
-    line: &[u64],
-) -> Told
-    requires ready { Ready (parts_of group)
-        (tables members.old pending.now waiting.now history.old sources.old) (length store.old) used.old }
-    requires list_len { length list.old ≡ list_size }
-    requires eight { Eight line.now × (column 1 line.now ≤ 255) }
-    ensures { Tells 6 (sending line.now) group
-        (tables members.old pending.now waiting.now history.old sources.old)
-        (length store.old) result
-        (tables members.new pending.now waiting.now history.new sources.new)
-        used.new }
+// Verb 6: a packet is sent. A byte above 255 is refused.
+pub fn send(memory: &mut Memory, group: Group, line: &Line) -> Told
+    requires { ReadyFor group memory.old }
+    ensures { TellsByte (column 1 line.now) 6 (sending line.now) group memory.old result memory.new }
 {
-    let Group {
-        identity,
-        core,
-        sending,
-        ring,
-    } = group;
+    if 255 < line[1] {
+        return Told {
+            group,
+            line: outcome_line(6, Err(Error::OutOfRange)),
+        };
+    }
     let payload = [line[1] as u8];
     let sent = sending::send(
-        identity,
-        core,
-        sending,
-        ring,
-        members,
-        pending,
-        waiting,
-        history,
-        sources,
-        store,
-        list,
-        used,
+        group.identity,
+        group.core,
+        group.sending,
+        group.ring,
+        &mut memory.members,
+        &memory.pending,
+        &memory.waiting,
+        &mut memory.history,
+        &mut memory.sources,
+        &mut memory.store,
+        &mut memory.list,
+        &mut memory.used,
         Timestamp(line[2]),
         &payload,
     );
-    let after = sent.core;
-    let numbers = sent.sending;
-    let left = sent.ring;
-    let answer = sent.answer;
     Told {
         group: Group {
-            identity,
-            core: after,
-            sending: numbers,
-            ring: left,
+            identity: group.identity,
+            core: sent.core,
+            sending: sent.sending,
+            ring: sent.ring,
         },
-        line: sent_line(answer),
+        line: sent_line(sent.answer),
     }
 }

@@ -4,11 +4,15 @@ use Rattle.srt_group_model.specs.declared.MemberShown.{MemberShown}
 use Rattle.std.specs.Prelude.{◌≡◌, Bool, true, false, List, ℕ, ◌*◌, ltb, length, Err, None, Ok, Option, Result, Some}
 use Rattle.srt_protocol.specs.Errors.{error_number}
 use Rattle.srt_protocol.specs.Cells.{overwritten}
+use Rattle.srt_group_model.specs.Tools.{first_such}
+use Rattle.srt_group_model.specs.Members.{has_id}
 use Rattle.srt_group_model.specs.Validity.{max_members}
-use Rattle.srt_group_model.specs.Guards.{Answer, no_answer, shown, number, optional, truth, one_member}
-use Rattle.srt_group_model.specs.Lent.{Look, look_members, call_look}
+use Rattle.srt_group_model.specs.Guards.{Answer, no_answer, shown, number, optional, truth, one_member, about_member}
+use Rattle.srt_group_model.specs.Lent.{Look, look_members, looking, call_look}
 use Rattle.srt_group_model.specs.Answers.{values_of}
-use Rattle.srt_group_shown.specs.Tables.{Parts, Tables}
+use Rattle.srt_connection_queue.specs.Rows.{member_of}
+use Rattle.srt_group_shown.specs.Tables.{Parts, Tables, state_of}
+use Rattle.srt_group_backup.specs.Stale.{TripFit}
 use Rattle.srt_group_refusals.specs.Promised.{nothing_lent, showing, Promised}
 
 -- with a table too short 5; else code and answer are those of the look's definition. The record, the tables stay as they were.
@@ -50,6 +54,16 @@ member_code (Err e) = error_number e
 abbrev pub member_answer : Result MemberShown Error → Answer
 member_answer (Ok m) = shown (one_member (Some m))
 member_answer (Err e) = no_answer
+
+-- ---- a look at one member: the row that shows it, or the refusal of every such look
+
+pub record RowFound (id : ℕ) (p : Parts) (t : Tables) (row : List ℕ) : Type 0 where
+  pub looks : (look : Look) → (looking look).about ≡ about_member id → Looked look p t 0 (shown ((looking look).shows (state_of p t)))
+  pub is : first_such (has_id id) (state_of p t).members ≡ Some (member_of row)
+  pub trip : TripFit (member_of row).leg
+
+pub record LooksRefused (id : ℕ) (p : Parts) (t : Tables) (e : Error) : Type 0 where
+  pub looks : (look : Look) → (looking look).about ≡ about_member id → Looked look p t (error_number e) no_answer
 
 -- ---- `members`: its answer stands in the lent list
 

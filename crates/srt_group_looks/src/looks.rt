@@ -5,6 +5,7 @@ ghost use Rattle.srt_group.specs.Made.{parts_of};
 ghost use Rattle.srt_group_refusals.specs.LentGroup.{tables_of};
 ghost use Rattle.srt_group_looks.specs.Looks.{Looked, number_code, number_answer, optional_code, optional_answer, truth_code, truth_answer};
 
+use srt_connection_members::rows;
 use srt_group_collecting::collecting;
 use srt_group_refusals::refusals::LentGroup;
 use srt_group_sending::readiness::group_time_until_send;
@@ -30,6 +31,7 @@ pub fn mode(lent: &LentGroup) -> Result<u64, Error>
 }
 
 // The peer group that the group is bound to, if it is.
+#[tactic(auto, using(crate::specs::Laws::Looks::no_peer_shown))]
 pub fn peer_group_id(lent: &LentGroup) -> Result<Option<u64>, Error>
     ensures { Looked look_peer_group_id (parts_of lent.now.group) (tables_of lent.now)
         (optional_code result) (optional_answer result) }
@@ -74,5 +76,6 @@ pub fn time_until_send(lent: &LentGroup, time: Timestamp) -> Result<u64, Error>
         (number_code result) (number_answer result) }
 {
     lent.begin()?;
-    Ok(group_time_until_send(lent.members, lent.group.core.counts.members, time))
+    let rows = rows(lent.members, lent.group.core.counts.members);
+    Ok(group_time_until_send(rows, time))
 }

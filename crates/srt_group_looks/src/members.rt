@@ -4,14 +4,15 @@ ghost use Rattle.srt_protocol.specs.Cells.{overwritten};
 ghost use Rattle.srt_group_model.specs.Tools.{each};
 ghost use Rattle.srt_group_model.specs.Calls.{member_shown};
 ghost use Rattle.srt_group_model.specs.Answers.{member_values, all_values};
-ghost use Rattle.srt_connection_queue.specs.Rows.{row_size};
-ghost use Rattle.srt_connection_members.specs.Members.{member_at, members_of, HasRow};
+ghost use Rattle.srt_connection_queue.specs.Rows.{member_of};
+ghost use Rattle.srt_connection_members.specs.Members.{members_in};
 ghost use Rattle.srt_group.specs.Made.{parts_of};
 ghost use Rattle.srt_group_refusals.specs.LentGroup.{tables_of};
 ghost use Rattle.srt_group_looks.specs.Looks.{member_row_size, ListsMembers};
 
-use crate::member::shown_at;
-use srt_connection_members::MAX_MEMBERS;
+use crate::member::shown;
+use srt_connection_members::{MAX_MEMBERS, rows};
+use srt_connection_queue::rows::Row;
 use srt_group_model::{Core, MemberShown};
 use srt_group_refusals::refusals::LentGroup;
 use srt_protocol::error::Error;
@@ -38,31 +39,28 @@ fn write_row(row: &mut [u64], shown: MemberShown)
     ]);
 }
 
-// The row of the member at an index.
-fn list_member(members: &[u64], index: usize, list: &mut [u64])
-    requires has_row { HasRow index members.now }
-    requires member_row_size_in_bounds { index * member_row_size + member_row_size ≤ length list.old }
+// The member in a row is written as the list's row at the index.
+fn list_member(row: &Row, index: usize, list: &mut [u64])
+    requires { index * member_row_size + member_row_size ≤ length list.old }
     ensures { list.new
-        ≡ overwritten (index * member_row_size) (member_values (member_shown (member_at members.now index))) list.old }
+        ≡ overwritten (index * member_row_size) (member_values (member_shown (member_of row.now))) list.old }
 {
-    let shown = shown_at(members, index);
     let start = index * MEMBER_WORDS;
-    write_row(&mut list[start..start + MEMBER_WORDS], shown);
+    write_row(&mut list[start..start + MEMBER_WORDS], shown(row));
 }
 
-// The rows of the first `count` members.
-fn list_members(members: &[u64], count: usize, list: &mut [u64])
-    requires row_size_in_bounds { count * row_size ≤ length members.now }
-    requires member_row_size_in_bounds { count * member_row_size ≤ length list.old }
-    ensures { list.new
-        ≡ overwritten 0 (all_values (each member_shown (members_of count members.now))) list.old }
+#[tactic(auto, using(crate::specs::Laws::Members::row_written, crate::specs::Laws::Members::all_written))]
+fn list_members(rows: &[Row], list: &mut [u64])
+    requires { length rows.now * member_row_size ≤ length list.old }
+    ensures { list.new ≡ overwritten 0 (all_values (each member_shown (members_in rows.now))) list.old }
 {
-    for i in 0..count {
-        list_member(members, i, list);
+    for (index, row) in rows.iter().enumerate() {
+        list_member(row, index, list);
     }
 }
 
 // All members. A list shorter than 64 rows is 5.
+#[tactic(auto, using(crate::specs::Laws::Members::list_too_short))]
 pub fn members(lent: &LentGroup, list: &mut [u64]) -> Result<usize, Error>
     ensures { ListsMembers (parts_of lent.now.group) (tables_of lent.now)
         list.old result list.new }
@@ -72,6 +70,6 @@ pub fn members(lent: &LentGroup, list: &mut [u64]) -> Result<usize, Error>
     }
     lent.begin()?;
     let count = lent.group.core.counts.members;
-    list_members(lent.members, count, list);
+    list_members(rows(lent.members, count), list);
     Ok(count)
 }

@@ -1,4 +1,5 @@
 // `mark_member_broken`: a member turns Broken, and nobody is promoted by it.
+// Kept (5, 6): the host lends record and tables anew to each call; which are changed differs, and a struct of `&mut` needs a clause for each ghost name.
 ghost use Rattle.std.specs.Prelude.{◌*◌, ◌≤◌, length};
 ghost use Rattle.srt_protocol.specs.Errors.{outcome_number};
 ghost use Rattle.srt_group_model.specs.Guards.{no_answer};
@@ -8,8 +9,9 @@ ghost use Rattle.srt_group_shown.specs.Tables.{parts, tables};
 ghost use Rattle.srt_group_shown.specs.Ready.{Ready, storing, Performs};
 ghost use Rattle.srt_group_shown.specs.Steps.{StepsOver};
 
+use cell_set::CellSet;
 use srt_connection::legs::LARGEST_32;
-use srt_connection_members::find;
+use srt_connection_members::{find, rows};
 use srt_group_members::states::{BROKEN, turn_at};
 use srt_group_model::{Core, Identity, Sending};
 use srt_group_tables::history::HistoryRing;
@@ -23,7 +25,7 @@ pub fn turn_broken(core: Core, members: &mut [u64], id: u64) -> Result<(), Error
     if LARGEST_32 < id {
         return Err(Error::OutOfRange);
     }
-    let found = find(members, core.counts.members, id);
+    let found = find(rows(members, core.counts.members), id);
     let Some(index) = found else {
         return Err(Error::UnknownMember);
     };
@@ -43,7 +45,7 @@ pub fn mark_member_broken(
     history: &[u64],
     sources: &[u64],
     store: &[u8],
-    used: &[u64],
+    used: &CellSet,
     id: u64,
 ) -> Result<(), Error>
     requires { Ready (parts identity core sending ring)

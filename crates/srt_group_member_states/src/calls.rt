@@ -1,4 +1,5 @@
 // The calls that change the members' states with their refusals, over the record and the lent tables: 5 and 6, and then what follows them.
+// Kept (5, 6): the host lends record and tables anew to each call; which are changed differs, and a struct of `&mut` needs a clause for each ghost name.
 ghost use Rattle.srt_protocol.specs.Errors.{outcome_number};
 ghost use Rattle.srt_group_model.specs.Guards.{no_answer};
 ghost use Rattle.srt_group_model.specs.Lent.{call_mark_member_broken, call_refresh_member_states, call_disconnect};

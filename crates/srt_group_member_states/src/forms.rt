@@ -1,11 +1,13 @@
 // `refresh_member_states` and `disconnect` for a valid state. The cells in use stay the same; the store is lent for its length, over which
 // the state is valid.
+// Kept (5, 6): the host lends record and tables anew to each call; which are changed differs, and a struct of `&mut` needs a clause for each ghost name.
 ghost use Rattle.std.specs.Prelude.{length};
 ghost use Rattle.srt_group_model.specs.Guards.{no_answer};
 ghost use Rattle.srt_group_model.specs.Lent.{call_refresh_member_states, call_disconnect};
 ghost use Rattle.srt_group_shown.specs.Tables.{parts, tables};
 ghost use Rattle.srt_group_shown.specs.Ready.{Ready, storing, Performs};
 
+use cell_set::CellSet;
 use srt_connection_members::disconnect_all;
 use srt_group_model::{Core, Identity, Sending};
 use srt_group_polls::refresh::refresh_states;
@@ -24,7 +26,7 @@ pub fn refresh_member_states(
     history: &[u64],
     sources: &[u64],
     store: &[u8],
-    used: &[u64],
+    used: &CellSet,
 ) -> Core
     requires { Ready (parts identity core sending ring)
         (tables members.old pending.now waiting.now history.now sources.now) (length store.now) used.now }
@@ -49,7 +51,7 @@ pub fn disconnect(
     history: &[u64],
     sources: &[u64],
     store: &[u8],
-    used: &[u64],
+    used: &CellSet,
     time: Timestamp,
 )
     requires { Ready (parts identity core sending ring)

@@ -1,6 +1,6 @@
 -- Admission to the peer group, member after member.
-use Rattle.std.specs.Prelude.{◌≡◌, ◌||◌, List, [], ◌∷◌, ℕ, eqb, None, Option}
-use Rattle.srt_group_model.specs.Tools.{if_true◌then◌else◌, or_else, is_set, flagged, each}
+use Rattle.std.specs.Prelude.{◌≡◌, ◌||◌, List, [], ◌∷◌, ℕ, eqb, None}
+use Rattle.srt_group_model.specs.Tools.{if_true◌then◌else◌, or_else, each}
 use Rattle.srt_group_model.specs.State.{with_admitted, with_collision}
 use Rattle.srt_group_model.specs.Legs.{peer_initial_sequence}
 use Rattle.srt_group_model.specs.Members.{base_after, peer_after, admit_peer_group}

@@ -1,6 +1,6 @@
 -- Loops over the rows of the lent table: what is left of the members from a place on, the first that passes a test, and what a
 -- call makes of the members.
-use Rattle.std.specs.Prelude.{◌≡◌, Bool, true, false, List, ℕ, length, None, Option, Some, is_some}
+use Rattle.std.specs.Prelude.{◌≡◌, Bool, List, ℕ, length, Option, is_some}
 use Rattle.srt_group_model.specs.Tools.{if_some◌give◌otherwise◌}
 use Rattle.srt_group_model.specs.State.{Member}
 use Rattle.srt_group_model.specs.Legs.{is_disconnected}

@@ -1,15 +1,18 @@
 // Admission of the members whose handshake completed since the last look. As in the Rust, the first of them fixes the receive base
 // before it is compared, and the first peer group that one answers from binds the group.
+//
+// Kept (5, 6): what changes members takes the host's words (no heap) and the count of rows in use; of `as_chunks_mut` nothing is said of what the words end as.
 ghost use Rattle.std.specs.Prelude.{◌≡◌, ◌*◌, ◌≤◌, length, eqb};
 ghost use Rattle.srt_group_model.specs.Tools.{if_true◌then◌else◌};
 ghost use Rattle.srt_group_model.specs.Members.{arrives};
-ghost use Rattle.srt_connection_queue.specs.Rows.{row_size};
-ghost use Rattle.srt_connection_members.specs.Members.{member_at, HasRow};
+ghost use Rattle.srt_connection_queue.specs.Rows.{row_size, member_of};
+ghost use Rattle.srt_connection_members.specs.Members.{HasRow};
 ghost use Rattle.srt_group_members.specs.Admission.{membership_after, Answered, AdmittedAt, Admitted};
 
-use crate::states::{BROKEN, is_connected_at};
+use crate::states::{BROKEN, leg_connected};
 use srt_connection::legs::peer_initial_sequence;
-use srt_connection_members::{leg_at, membership_at, put_membership_at};
+use srt_connection_members::{put_membership_at, row};
+use srt_connection_queue::rows::{Row, leg, membership};
 use srt_group_model::{Collision, Leg, Membership};
 
 // The peer group that the group is bound to, 0 while it is not, and the base if the members that arrived gave one.
@@ -20,20 +23,15 @@ pub struct Admission {
 }
 
 // Not admitted yet, not Broken, and connected.
-pub fn arrives_at(members: &[u64], index: usize) -> bool
-    requires { HasRow index members.now }
-    ensures { result ≡ arrives (member_at members.now index) }
+#[tactic(auto, unfolding(srt_group_model::specs::Members::arrives))]
+fn arrives(row: &Row) -> bool
+    ensures { result ≡ arrives (member_of row.now) }
 {
-    let membership = membership_at(members, index);
-    if membership.admitted != 0 {
-        return false;
-    }
-    if membership.state == BROKEN {
-        return false;
-    }
-    is_connected_at(members, index)
+    let membership = membership(row);
+    (membership.admitted == 0) & ((membership.state != BROKEN) & leg_connected(row))
 }
 
+#[tactic(auto, using(srt_group_model::specs::Laws::Reason::when_true, srt_group_model::specs::Laws::Reason::when_false))]
 fn bound_peer(peer: u64, actual: u64) -> u64
     ensures { result ≡ (if_true eqb peer 0 then actual else peer) }
 {
@@ -44,6 +42,7 @@ fn bound_peer(peer: u64, actual: u64) -> u64
 }
 
 // What an arriving leg adds: a base and a peer group, each if there was none.
+#[tactic(auto, using(crate::specs::Laws::Admission::answered_as))]
 fn answered(before: Admission, leg: Leg) -> Admission
     ensures { Answered before leg result }
 {
@@ -54,6 +53,7 @@ fn answered(before: Admission, leg: Leg) -> Admission
 }
 
 // A member that answers from no group, or from that one, is admitted; from another, it is Broken, and the collision stays.
+#[tactic(auto, using(srt_group_model::specs::Laws::Reason::when_true, srt_group_model::specs::Laws::Reason::when_false), unfolding(crate::specs::Admission::membership_after))]
 fn membership_after(mut membership: Membership, peer: u64, actual: u64) -> Membership
     ensures { result ≡ membership_after peer actual membership }
 {
@@ -79,18 +79,20 @@ pub fn admit_peer_group(members: &mut [u64], index: usize, before: Admission) ->
     requires { HasRow index members.old }
     ensures { AdmittedAt index members.old before result members.new }
 {
-    if !arrives_at(members, index) {
+    let row = row(members, index);
+    if !arrives(row) {
         return before;
     }
-    let leg = leg_at(members, index);
+    let leg = leg(row);
     let after = answered(before, leg);
-    let membership = membership_after(membership_at(members, index), after.peer, leg.link.peer);
+    let membership = membership_after(membership(row), after.peer, leg.link.peer);
     put_membership_at(members, index, membership);
     after
 }
 
 // In one pass: a member that arrives while the group is not bound either binds it or answers from no group, so what a later
 // member binds the group to does not change what becomes of it.
+#[tactic(auto, using(crate::specs::Laws::Admission::admitting_start, crate::specs::Laws::Admission::admitting_done))]
 pub fn admit_connected_peer_groups(members: &mut [u64], count: usize, peer: u64) -> Admission
     requires { count * row_size ≤ length members.old }
     ensures { Admitted count peer members.old result members.new }

@@ -1,57 +1,47 @@
 // Alignment of a member's send sequence with the group's, so that what it sends next has the group's number.
+//
+// Kept (5, 6): what changes members takes the host's words (no heap) and the count of rows in use; of `as_chunks_mut` nothing is said of what the words end as.
 ghost use Rattle.std.specs.Prelude.{◌≡◌, ◌&&◌, ◌*◌, ◌≤◌, length, eqb};
-ghost use Rattle.srt_group_model.specs.Tools.{is_set, flagged, place_of};
+ghost use Rattle.std.specs.Option.{option_map};
+ghost use Rattle.srt_group_model.specs.Tools.{first_such};
 ghost use Rattle.srt_group_model.specs.Legs.{has_sender};
 ghost use Rattle.srt_group_model.specs.Members.{alignment_source, align_leg, align_member_sequence};
-ghost use Rattle.srt_connection_queue.specs.Rows.{row_size};
-ghost use Rattle.srt_connection_members.specs.Members.{member_at, members_of, HasRow};
+ghost use Rattle.srt_connection_queue.specs.Rows.{row_size, member_of};
+ghost use Rattle.srt_connection_members.specs.Members.{members_of, members_in, HasRow};
 ghost use Rattle.srt_group_members.specs.Scan.{Tried};
 ghost use Rattle.srt_group_members.specs.Alignment.{is_other_sender, AlignedAt};
 
-use crate::states::is_connected_at;
+use crate::states::leg_connected;
 use srt_connection::legs::synchronize_send_sequence;
-use srt_connection_members::{leg_at, membership_at, put_leg_at, sender_at};
+use srt_connection_members::{leg_at, put_leg_at, row, rows};
+use srt_connection_queue::rows::{Row, membership, sender};
 use srt_group_model::Leg;
 
 // Another member than the one with the id, connected and with a sender.
-fn is_other_sender_at(members: &[u64], index: usize, id: u64) -> bool
-    requires { HasRow index members.now }
-    ensures { result ≡ is_other_sender id (member_at members.now index) }
+#[tactic(auto, unfolding(crate::specs::Alignment::is_other_sender))]
+fn is_other_sender(row: &Row, id: u64) -> bool
+    ensures { result ≡ is_other_sender id (member_of row.now) }
 {
-    let membership = membership_at(members, index);
-    if membership.id == id {
-        return false;
-    }
-    if !is_connected_at(members, index) {
-        return false;
-    }
-    let sender = sender_at(members, index);
-    sender.started == 1
+    (membership(row).id != id) & (leg_connected(row) & (sender(row).started == 1))
 }
 
-fn first_other_sender(members: &[u64], count: usize, id: u64) -> Option<usize>
-    requires { count * row_size ≤ length members.now }
-    ensures { result ≡ place_of (is_other_sender id) (members_of count members.now) }
+fn first_other_sender(rows: &[Row], id: u64) -> Option<&Row>
+    ensures { option_map (λ row. member_of row.now) result
+        ≡ first_such (is_other_sender id) (members_in rows.now) }
 {
-    for i in 0..count {
-        if is_other_sender_at(members, i, id) {
-            return Some(i);
-        }
-    }
-    None
+    rows.iter().find(|row| is_other_sender(row, id))
 }
 
 // The group's send number, else the next number of the first other connected leg, in order of addition.
-pub fn alignment_source(members: &[u64], count: usize, number: Option<u64>, id: u64) -> Option<u64>
-    requires { count * row_size ≤ length members.now }
-    ensures { result ≡ alignment_source number id (members_of count members.now) }
+#[tactic(auto, using(crate::specs::Laws::Alignment::source_numbered, crate::specs::Laws::Alignment::source_none))]
+pub fn alignment_source(rows: &[Row], number: Option<u64>, id: u64) -> Option<u64>
+    ensures { result ≡ alignment_source number id (members_in rows.now) }
 {
     if number.is_some() {
         return number;
     }
-    let index = first_other_sender(members, count, id)?;
-    let sender = sender_at(members, index);
-    Some(sender.next)
+    let row = first_other_sender(rows, id)?;
+    Some(sender(row).next)
 }
 
 // Whether the leg's next number is the sequence.
@@ -61,6 +51,7 @@ fn sends_next(leg: Leg, sequence: u64) -> bool
     leg.sender.started == 1 && leg.sender.next == sequence
 }
 
+#[tactic(auto, using(srt_group_model::specs::Laws::Reason::when_true, srt_group_model::specs::Laws::Reason::when_false), unfolding(srt_group_model::specs::Members::align_leg))]
 pub fn align_leg(leg: Leg, sequence: u64) -> Option<Leg>
     ensures { result ≡ align_leg sequence leg }
 {
@@ -97,8 +88,8 @@ pub fn align_member_sequence(
     if count <= index {
         return false;
     }
-    let membership = membership_at(members, index);
-    let source = alignment_source(members, count, number, membership.id);
+    let membership = membership(row(members, index));
+    let source = alignment_source(rows(members, count), number, membership.id);
     let Some(sequence) = source else {
         return true;
     };

@@ -1,66 +1,65 @@
 // Promotion in Backup: of the connected Standby members the one with the highest weight, then with the lowest id.
-ghost use Rattle.std.specs.Prelude.{◌≡◌, ◌*◌, ◌≤◌, length};
-ghost use Rattle.srt_connection_queue.specs.Rows.{row_size};
-ghost use Rattle.srt_connection_members.specs.Members.{member_at, members_of, HasRow};
+//
+// Kept (5, 6): what changes members takes the host's words (no heap) and the count of rows in use; of `as_chunks_mut` nothing is said of what the words end as.
+ghost use Rattle.std.specs.Prelude.{◌≡◌, ◌*◌, ◌≤◌, ◌<◌, length, IfSome};
+ghost use Rattle.srt_connection_queue.specs.Rows.{row_size, member_of};
+ghost use Rattle.srt_connection_members.specs.Members.{members_of, members_in};
 ghost use Rattle.srt_group_model.specs.Members.{outranks, promotion, promote_backup_member, promote_if_none};
 ghost use Rattle.srt_group_members.specs.Scan.{Became};
-ghost use Rattle.srt_group_members.specs.Rank.{RowFound, first_with};
+ghost use Rattle.srt_group_members.specs.Rank.{first_with};
 
-use crate::states::{ACTIVE, has_active_member, is_backup, is_standby_at, turn_at};
-use srt_connection_members::membership_at;
+use crate::states::{ACTIVE, has_active_member, is_backup, is_standby, turn_at};
+use srt_connection_members::rows;
+use srt_connection_queue::rows::{Row, membership};
 
-fn outranks_at(members: &[u64], a: usize, b: usize) -> bool
-    requires has_row { HasRow a members.now }
-    requires has_row_2 { HasRow b members.now }
-    ensures { result ≡ outranks (member_at members.now a) (member_at members.now b) }
+#[tactic(auto, unfolding(srt_group_model::specs::Members::outranks))]
+fn outranks(a: &Row, b: &Row) -> bool
+    ensures { result ≡ outranks (member_of a.now) (member_of b.now) }
 {
-    let first = membership_at(members, a);
-    let second = membership_at(members, b);
-    if second.weight < first.weight {
-        return true;
-    }
-    if first.weight != second.weight {
-        return false;
-    }
-    first.id < second.id
+    let first = membership(a);
+    let second = membership(b);
+    (second.weight < first.weight) | ((first.weight == second.weight) & (first.id < second.id))
 }
 
 // The first in rank of the member at the index and of the first among those behind it.
-fn first_in_rank_with(members: &[u64], index: usize, best: Option<usize>) -> Option<usize>
-    requires has_row { HasRow index members.now }
-    requires row_found { RowFound best members.now }
-    ensures { result ≡ first_with members.now index best }
+#[tactic(auto, using(crate::specs::Laws::Rank::first_unless_standby, crate::specs::Laws::Rank::first_alone, crate::specs::Laws::Rank::first_still, crate::specs::Laws::Rank::first_now))]
+fn first_in_rank_with(rows: &[Row], index: usize, best: Option<usize>) -> Option<usize>
+    requires has_row { index < length rows.now }
+    requires row_found { IfSome best (λ first. first < length rows.now) }
+    ensures { result ≡ first_with rows.now index best }
 {
-    if !is_standby_at(members, index) {
+    let row = &rows[index];
+    if !is_standby(row) {
         return best;
     }
     let Some(first) = best else {
         return Some(index);
     };
-    if outranks_at(members, first, index) {
+    if outranks(&rows[first], row) {
         return best;
     }
     Some(index)
 }
 
 // The index of the member that is promoted.
-pub fn promotion(members: &[u64], count: usize) -> Option<usize>
-    requires { count * row_size ≤ length members.now }
-    ensures { result ≡ promotion (members_of count members.now) }
+#[tactic(auto, using(crate::specs::Laws::Rank::ranking_start, crate::specs::Laws::Rank::ranking_row, crate::specs::Laws::Rank::ranking_done))]
+pub fn promotion(rows: &[Row]) -> Option<usize>
+    ensures { result ≡ promotion (members_in rows.now) }
 {
     let mut best = None;
-    for index in (0..count).rev() {
-        best = first_in_rank_with(members, index, best);
+    for index in (0..rows.len()).rev() {
+        best = first_in_rank_with(rows, index, best);
     }
     best
 }
 
+#[tactic(auto, using(crate::specs::Laws::Rank::promoted, crate::specs::Laws::Rank::promoted_none, crate::specs::Laws::Rank::promotion_below))]
 pub fn promote_backup_member(members: &mut [u64], count: usize)
     requires { count * row_size ≤ length members.old }
     ensures { Became count (promote_backup_member (members_of count members.old))
         members.old members.new }
 {
-    let found = promotion(members, count);
+    let found = promotion(rows(members, count));
     let Some(index) = found else {
         return;
     };
@@ -68,6 +67,7 @@ pub fn promote_backup_member(members: &mut [u64], count: usize)
 }
 
 // In Backup, if no member is active.
+#[tactic(auto, using(crate::specs::Laws::Rank::promoted_not_in_backup, crate::specs::Laws::Rank::promoted_not_needed, crate::specs::Laws::Rank::promoted_if_none))]
 pub fn promote_if_none(members: &mut [u64], count: usize, mode: u64)
     requires { count * row_size ≤ length members.old }
     ensures { Became count (promote_if_none mode (members_of count members.old))
@@ -76,7 +76,7 @@ pub fn promote_if_none(members: &mut [u64], count: usize, mode: u64)
     if !is_backup(mode) {
         return;
     }
-    if has_active_member(members, count) {
+    if has_active_member(rows(members, count)) {
         return;
     }
     promote_backup_member(members, count);

@@ -1,10 +1,12 @@
 // The refresh of the members' states: what is left of `refresh_pending_states` and `refresh_states` after admission.
+//
+// Kept (5, 6): what changes members takes the host's words (no heap) and the count of rows in use; of `as_chunks_mut` nothing is said of what the words end as.
 ghost use Rattle.std.specs.Prelude.{◌≡◌, ◌*◌, ◌≤◌, ◌<◌, length};
 ghost use Rattle.srt_group_model.specs.Tools.{is_set, flagged, each};
 ghost use Rattle.srt_group_model.specs.Members.{at_each_place, settle, requalify, break_disconnected};
 ghost use Rattle.srt_group_model.specs.Members.{settle_members, requalify_members};
-ghost use Rattle.srt_connection_queue.specs.Rows.{row_size};
-ghost use Rattle.srt_connection_members.specs.Members.{member_at, members_of, HasRow, Changed};
+ghost use Rattle.srt_connection_queue.specs.Rows.{row_size, member_of};
+ghost use Rattle.srt_connection_members.specs.Members.{members_of, members_in, HasRow, Changed};
 ghost use Rattle.srt_group_members.specs.Scan.{Became};
 ghost use Rattle.srt_group_members.specs.Refresh.{settles, settled_state, requalifies, requalified_state};
 
@@ -12,20 +14,29 @@ use crate::alignment::align_member_sequence;
 use crate::promotion::promote_if_none;
 use crate::states::{
     ACTIVE, BROKEN, PENDING, STANDBY, UNSTABLE, has_active_member, is_backup, is_connected_in,
-    is_disconnected_at, turn_at,
+    leg_disconnected, turn_at,
 };
 use srt_connection::legs::can_send;
-use srt_connection_members::{leg_at, membership_at};
+use srt_connection_members::{row, rows};
+use srt_connection_queue::rows::{Row, leg, member_state};
+
+// What its steps are told of the group: the mode, and the send number, if there is one.
+#[derive(Clone, Copy)]
+pub struct Refresh {
+    pub mode: u64,
+    pub number: Option<u64>,
+}
 
 // ---- Pending members
 
-fn settles_at(members: &[u64], index: usize) -> bool
-    requires { HasRow index members.now }
-    ensures { result ≡ settles (member_at members.now index) }
+#[tactic(auto, unfolding(crate::specs::Refresh::settles))]
+fn settles(row: &Row) -> bool
+    ensures { result ≡ settles (member_of row.now) }
 {
-    is_connected_in(members, index, PENDING)
+    is_connected_in(row, PENDING)
 }
 
+#[tactic(auto, using(srt_group_model::specs::Laws::Reason::when_true, srt_group_model::specs::Laws::Reason::when_false), unfolding(crate::specs::Refresh::settled_state))]
 fn settled_state(mode: u64) -> u64
     ensures { result ≡ settled_state mode }
 {
@@ -36,116 +47,124 @@ fn settled_state(mode: u64) -> u64
 }
 
 // A Pending member that has connected turns Active, in Backup Standby, if it can be aligned.
-fn settle_at(members: &mut [u64], count: usize, mode: u64, number: Option<u64>, index: usize)
+#[tactic(auto, using(crate::specs::Laws::Refresh::turn_left_out, crate::specs::Laws::Refresh::turn_refused, crate::specs::Laws::Refresh::turn_made), unfolding(srt_group_model::specs::Members::settle, crate::specs::Refresh::settles, crate::specs::Refresh::settled_state))]
+fn settle_at(members: &mut [u64], count: usize, refresh: Refresh, index: usize)
     requires row_size_in_bounds { count * row_size ≤ length members.old }
     requires index_lt_count { index < count }
     ensures { Became count
-        (settle mode number index (members_of count members.old))
+        (settle refresh.mode refresh.number index (members_of count members.old))
         members.old members.new }
 {
-    if !settles_at(members, index) {
+    if !settles(row(members, index)) {
         return;
     }
-    if !align_member_sequence(members, count, number, index) {
+    if !align_member_sequence(members, count, refresh.number, index) {
         return;
     }
-    turn_at(members, index, settled_state(mode));
+    turn_at(members, index, settled_state(refresh.mode));
 }
 
-fn settle_pending_members(members: &mut [u64], count: usize, mode: u64, number: Option<u64>)
+#[tactic(auto, using(crate::specs::Laws::Refresh::stepping_start, crate::specs::Laws::Refresh::stepping_on, crate::specs::Laws::Refresh::stepping_done))]
+fn settle_pending_members(members: &mut [u64], count: usize, refresh: Refresh)
     requires { count * row_size ≤ length members.old }
     ensures { Became count
-        (at_each_place (settle mode number) (members_of count members.old))
+        (at_each_place (settle refresh.mode refresh.number) (members_of count members.old))
         members.old members.new }
 {
     for i in 0..count {
-        settle_at(members, count, mode, number, i);
+        settle_at(members, count, refresh, i);
     }
 }
 
 // What is left of `refresh_pending_states` after admission.
-pub fn settle_members(members: &mut [u64], count: usize, mode: u64, number: Option<u64>)
+#[tactic(auto, using(crate::specs::Laws::Refresh::settled))]
+pub fn settle_members(members: &mut [u64], count: usize, refresh: Refresh)
     requires { count * row_size ≤ length members.old }
     ensures { Became count
-        (settle_members mode number (members_of count members.old))
+        (settle_members refresh.mode refresh.number (members_of count members.old))
         members.old members.new }
 {
-    settle_pending_members(members, count, mode, number);
-    promote_if_none(members, count, mode);
+    settle_pending_members(members, count, refresh);
+    promote_if_none(members, count, refresh.mode);
 }
 
 // ---- Unstable members
 
-fn requalifies_at(members: &[u64], index: usize) -> bool
-    requires { HasRow index members.now }
-    ensures { result ≡ requalifies (member_at members.now index) }
+#[tactic(auto, using(crate::specs::Laws::Refresh::stays_unstable, crate::specs::Laws::Refresh::requalifies_if_sending))]
+fn requalifies(row: &Row) -> bool
+    ensures { result ≡ requalifies (member_of row.now) }
 {
-    if !is_connected_in(members, index, UNSTABLE) {
+    if !is_connected_in(row, UNSTABLE) {
         return false;
     }
-    can_send(leg_at(members, index))
+    can_send(leg(row))
 }
 
 // Active, but in Backup only one is: Standby if another is active.
-fn requalified_state(members: &[u64], count: usize, mode: u64) -> u64
-    requires { count * row_size ≤ length members.now }
-    ensures { result ≡ requalified_state mode (members_of count members.now) }
+#[tactic(auto, using(srt_group_model::specs::Laws::Reason::when_true, srt_group_model::specs::Laws::Reason::when_false), unfolding(crate::specs::Refresh::requalified_state))]
+fn requalified_state(rows: &[Row], mode: u64) -> u64
+    ensures { result ≡ requalified_state mode (members_in rows.now) }
 {
     if !is_backup(mode) {
         return ACTIVE;
     }
-    if has_active_member(members, count) {
+    if has_active_member(rows) {
         return STANDBY;
     }
     ACTIVE
 }
 
 // An Unstable member that can send again requalifies, if it can be aligned.
-fn requalify_at(members: &mut [u64], count: usize, mode: u64, number: Option<u64>, index: usize)
+// Kept (2): this and `settle_at`, with their loops, as one over a trait of test and state is as long, by the two impls with their ghosts.
+#[tactic(auto, using(crate::specs::Laws::Refresh::turn_left_out, crate::specs::Laws::Refresh::turn_refused, crate::specs::Laws::Refresh::turn_made), unfolding(srt_group_model::specs::Members::requalify, crate::specs::Refresh::requalifies, crate::specs::Refresh::requalified_state))]
+fn requalify_at(members: &mut [u64], count: usize, refresh: Refresh, index: usize)
     requires row_size_in_bounds { count * row_size ≤ length members.old }
     requires index_lt_count { index < count }
     ensures { Became count
-        (requalify mode number index (members_of count members.old))
+        (requalify refresh.mode refresh.number index (members_of count members.old))
         members.old members.new }
 {
-    if !requalifies_at(members, index) {
+    if !requalifies(row(members, index)) {
         return;
     }
-    if !align_member_sequence(members, count, number, index) {
+    if !align_member_sequence(members, count, refresh.number, index) {
         return;
     }
-    let state = requalified_state(members, count, mode);
+    let state = requalified_state(rows(members, count), refresh.mode);
     turn_at(members, index, state);
 }
 
-fn requalify_unstable_members(members: &mut [u64], count: usize, mode: u64, number: Option<u64>)
+#[tactic(auto, using(crate::specs::Laws::Refresh::stepping_start, crate::specs::Laws::Refresh::stepping_on, crate::specs::Laws::Refresh::stepping_done))]
+fn requalify_unstable_members(members: &mut [u64], count: usize, refresh: Refresh)
     requires { count * row_size ≤ length members.old }
     ensures { Became count
-        (at_each_place (requalify mode number) (members_of count members.old))
+        (at_each_place (requalify refresh.mode refresh.number) (members_of count members.old))
         members.old members.new }
 {
     for i in 0..count {
-        requalify_at(members, count, mode, number, i);
+        requalify_at(members, count, refresh, i);
     }
 }
 
 // ---- disconnected members
 
+#[tactic(auto, using(crate::specs::Laws::Refresh::broken_already, crate::specs::Laws::Refresh::not_broken, crate::specs::Laws::Refresh::broken_now))]
 fn break_disconnected_at(members: &mut [u64], index: usize)
     requires { HasRow index members.old }
     ensures { Changed index break_disconnected members.old members.new }
 {
-    let membership = membership_at(members, index);
-    if membership.state == BROKEN {
+    let row = row(members, index);
+    if member_state(row) == BROKEN {
         return;
     }
-    if !is_disconnected_at(members, index) {
+    if !leg_disconnected(row) {
         return;
     }
     turn_at(members, index, BROKEN);
 }
 
 // Each member whose leg is disconnected turns Broken.
+#[tactic(auto, using(crate::specs::Laws::Refresh::became_each, srt_connection_members::specs::Laws::Members::changing_done))]
 pub fn break_disconnected(members: &mut [u64], count: usize)
     requires { count * row_size ≤ length members.old }
     ensures { Became count
@@ -158,13 +177,14 @@ pub fn break_disconnected(members: &mut [u64], count: usize)
 }
 
 // What is left of `refresh_states` after `refresh_pending_states`.
-pub fn requalify_members(members: &mut [u64], count: usize, mode: u64, number: Option<u64>)
+#[tactic(auto, using(crate::specs::Laws::Refresh::requalified))]
+pub fn requalify_members(members: &mut [u64], count: usize, refresh: Refresh)
     requires { count * row_size ≤ length members.old }
     ensures { Became count
-        (requalify_members mode number (members_of count members.old))
+        (requalify_members refresh.mode refresh.number (members_of count members.old))
         members.old members.new }
 {
     break_disconnected(members, count);
-    requalify_unstable_members(members, count, mode, number);
-    promote_if_none(members, count, mode);
+    requalify_unstable_members(members, count, refresh);
+    promote_if_none(members, count, refresh.mode);
 }

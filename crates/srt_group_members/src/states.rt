@@ -1,7 +1,7 @@
 // What state a member is in. A test reads the few words of a row that it needs.
 ghost use Rattle.std.specs.Prelude.{◌≡◌, ◌&&◌, ◌*◌, ◌≤◌, length};
-ghost use Rattle.srt_connection_queue.specs.Rows.{row_size};
-ghost use Rattle.srt_connection_members.specs.Members.{member_at, members_of, HasRow, Changed};
+ghost use Rattle.srt_connection_queue.specs.Rows.{member_of};
+ghost use Rattle.srt_connection_members.specs.Members.{members_in, HasRow, Changed};
 ghost use Rattle.srt_group_model.specs.State.{is_backup, turned};
 ghost use Rattle.srt_group_model.specs.Legs.{is_connected, is_disconnected};
 ghost use Rattle.srt_group_model.specs.Tools.{all};
@@ -10,7 +10,8 @@ ghost use Rattle.srt_group_model.specs.Calls.{state_at_addition};
 ghost use Rattle.srt_group_members.specs.Scan.{leg_disconnected};
 
 use srt_connection::legs::{is_connected, is_disconnected};
-use srt_connection_members::{leg_at, membership_at, put_membership_at};
+use srt_connection_members::{membership_at, put_membership_at};
+use srt_connection_queue::rows::{Row, leg, membership};
 use srt_group_model::Leg;
 
 // `GroupMemberState` as the numbers that a row holds.
@@ -25,6 +26,7 @@ pub const UNSTABLE: u64 = 3;
 pub const BROKEN: u64 = 4;
 
 // The mode is 0 in Broadcast and 1 in Backup.
+// Kept (1): it is the word of the record that C lends, and an enum of it would be this test again at each call.
 pub fn is_backup(mode: u64) -> bool
     ensures { result ≡ is_backup mode }
 {
@@ -33,44 +35,40 @@ pub fn is_backup(mode: u64) -> bool
 
 // ---- one row
 
-pub fn is_connected_at(members: &[u64], index: usize) -> bool
-    requires { HasRow index members.now }
-    ensures { result ≡ is_connected (member_at members.now index).leg }
+pub fn leg_connected(row: &Row) -> bool
+    ensures { result ≡ is_connected (member_of row.now).leg }
 {
-    is_connected(leg_at(members, index))
+    is_connected(leg(row))
 }
 
-pub fn is_disconnected_at(members: &[u64], index: usize) -> bool
-    requires { HasRow index members.now }
-    ensures { result ≡ leg_disconnected (member_at members.now index) }
+pub fn leg_disconnected(row: &Row) -> bool
+    ensures { result ≡ leg_disconnected (member_of row.now) }
 {
-    is_disconnected(leg_at(members, index))
+    is_disconnected(leg(row))
 }
 
 // In that state, and connected.
-pub fn is_connected_in(members: &[u64], index: usize, state: u64) -> bool
-    requires { HasRow index members.now }
-    ensures { result ≡ (in_state state (member_at members.now index)
-        && is_connected (member_at members.now index).leg) }
+pub fn is_connected_in(row: &Row, state: u64) -> bool
+    ensures { result ≡ (in_state state (member_of row.now) && is_connected (member_of row.now).leg) }
 {
-    let membership = membership_at(members, index);
-    membership.state == state && is_connected_at(members, index)
+    membership(row).state == state && leg_connected(row)
 }
 
-pub fn is_active_at(members: &[u64], index: usize) -> bool
-    requires { HasRow index members.now }
-    ensures { result ≡ is_active (member_at members.now index) }
+#[tactic(auto, unfolding(srt_group_model::specs::Members::is_active))]
+pub fn is_active(row: &Row) -> bool
+    ensures { result ≡ is_active (member_of row.now) }
 {
-    is_connected_in(members, index, ACTIVE)
+    is_connected_in(row, ACTIVE)
 }
 
-pub fn is_standby_at(members: &[u64], index: usize) -> bool
-    requires { HasRow index members.now }
-    ensures { result ≡ is_standby (member_at members.now index) }
+#[tactic(auto, unfolding(srt_group_model::specs::Members::is_standby))]
+pub fn is_standby(row: &Row) -> bool
+    ensures { result ≡ is_standby (member_of row.now) }
 {
-    is_connected_in(members, index, STANDBY)
+    is_connected_in(row, STANDBY)
 }
 
+// Kept (5): it changes a row of the host's words (no heap), and a row lent to be changed leaves the table unsaid.
 pub fn turn_at(members: &mut [u64], index: usize, state: u64)
     requires { HasRow index members.old }
     ensures { Changed index (turned state) members.old members.new }
@@ -80,45 +78,32 @@ pub fn turn_at(members: &mut [u64], index: usize, state: u64)
     put_membership_at(members, index, membership);
 }
 
-// ---- the first `count` rows
+// ---- the rows
 
 // The index of the first member that is active.
-pub fn first_active(members: &[u64], count: usize) -> Option<usize>
-    requires { count * row_size ≤ length members.now }
-    ensures { result ≡ first_active (members_of count members.now) }
+pub fn first_active(rows: &[Row]) -> Option<usize>
+    ensures { result ≡ first_active (members_in rows.now) }
 {
-    for i in 0..count {
-        if is_active_at(members, i) {
-            return Some(i);
-        }
-    }
-    None
+    rows.iter().position(is_active)
 }
 
-pub fn has_active_member(members: &[u64], count: usize) -> bool
-    requires { count * row_size ≤ length members.now }
-    ensures { result ≡ has_active_member (members_of count members.now) }
+pub fn has_active_member(rows: &[Row]) -> bool
+    ensures { result ≡ has_active_member (members_in rows.now) }
 {
-    first_active(members, count).is_some()
+    rows.iter().any(is_active)
 }
 
 // Whether every leg is disconnected; true with no members.
-pub fn all_disconnected(members: &[u64], count: usize) -> bool
-    requires { count * row_size ≤ length members.now }
-    ensures { result ≡ all (λ m. is_disconnected m.leg) (members_of count members.now) }
+pub fn all_disconnected(rows: &[Row]) -> bool
+    ensures { result ≡ all (λ m. is_disconnected m.leg) (members_in rows.now) }
 {
-    for i in 0..count {
-        if !is_disconnected_at(members, i) {
-            return false;
-        }
-    }
-    true
+    rows.iter().all(leg_disconnected)
 }
 
 // The state of a member at its addition. A leg that is not connected cannot be the one that sends.
-pub fn state_at_addition(members: &[u64], count: usize, mode: u64, leg: Leg) -> u64
-    requires { count * row_size ≤ length members.now }
-    ensures { result ≡ state_at_addition mode leg (members_of count members.now) }
+#[tactic(auto, using(srt_group_model::specs::Laws::Reason::when_true, srt_group_model::specs::Laws::Reason::when_false), unfolding(srt_group_model::specs::Calls::state_at_addition))]
+pub fn state_at_addition(rows: &[Row], mode: u64, leg: Leg) -> u64
+    ensures { result ≡ state_at_addition mode leg (members_in rows.now) }
 {
     if !is_connected(leg) {
         if is_backup(mode) {
@@ -129,7 +114,7 @@ pub fn state_at_addition(members: &[u64], count: usize, mode: u64, leg: Leg) -> 
     if !is_backup(mode) {
         return ACTIVE;
     }
-    if has_active_member(members, count) {
+    if has_active_member(rows) {
         return STANDBY;
     }
     ACTIVE

@@ -165,6 +165,7 @@ pub struct Identity {
 #[derive(Clone, Copy)]
 pub struct Receiving {
     // next_receive_sequence, the base, and whether it is set
+    // Kept (1): a C host lends the record as words, and whatever it lends has to be readable.
     pub based: u64,
     pub base: u64,
     // skipped_receive_packets
@@ -176,9 +177,11 @@ pub struct Receiving {
 #[derive(Clone, Copy)]
 pub struct Sending {
     // next_send_sequence, and whether it is set
+    // Kept (1): a C host lends the record as words; `next_send_sequence` gives the option.
     pub numbered: u64,
     pub next: u64,
     // backup_carrier, and whether there is one
+    // Kept (1): a C host lends the record as words.
     pub carried: u64,
     pub carrier: u64,
     // backup_history_gap
@@ -201,6 +204,7 @@ impl Sending {
 #[derive(Clone, Copy)]
 pub struct Visit {
     // receive_continuation
+    // Kept (1): a C host lends the record as words; a `bool` here cost 50 ns a poll (docs/DECISIONS.md).
     pub continuation: u64,
     // next_event_member
     pub round: usize,

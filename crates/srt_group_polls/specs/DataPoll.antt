@@ -1,8 +1,7 @@
 -- A data poll makes event polls until one gives no event. The loop's invariant says that what is left of the definition, from here,
 -- gives what the whole gives from the start. Over every log and budget, and every rest of the state that the event polls are promised over.
-use Rattle.std.specs.Prelude.{◌≡◌, true, false, List, ℕ, length, None, Option, Some}
+use Rattle.std.specs.Prelude.{◌≡◌, List, ℕ, length, None, Option, Some}
 use Rattle.srt_group_model.specs.declared.Core.{Core}
-use Rattle.srt_group_model.specs.declared.Packet.{Packet}
 use Rattle.srt_group_model.specs.Tools.{is_set}
 use Rattle.srt_group_model.specs.Run.{Mark, Run}
 use Rattle.srt_group_model.specs.Polls.{pass_events}
@@ -11,7 +10,6 @@ use Rattle.srt_group_shown.specs.Shown.{Rest, shown}
 use Rattle.srt_group_shown.specs.Tables.{ReceiveTables}
 use Rattle.srt_group_delivery.specs.declared.delivery.Poll.{Poll}
 use Rattle.srt_group_polls.specs.declared.polls.DataPoll.{DataPoll}
-use Rattle.srt_group_polls.specs.declared.polls.Passed.{Passed}
 use Rattle.srt_group_collecting.specs.Leaves.{Usable, under_way}
 use Rattle.srt_group_delivery.specs.Poll.{polled_of}
 
@@ -38,11 +36,14 @@ pub record PollsData (among : Rest → Type 0) (f : Run → model_polls.DataPoll
 abbrev pub spent_at : Core → DataPoll
 spent_at core = record { gave = None; continuation = 1; core = core }
 
--- an event poll gave an event, and the next is made, or it gave none, and the data poll ends with it
-pub record Passes (poll : Poll) (r : Passed) : Type 0 where
-  pub core_same : r.answer.core ≡ poll.core
-  pub spent : is_set r.event ≡ true → r.answer ≡ spent_at poll.core
-  pub later : is_set r.event ≡ true → (run : Run) (rest : model_polls.DataPoll) → pass_events (polled_of poll.gave) run rest ≡ rest
-  pub ended : is_set r.event ≡ false → (run : Run) (rest : model_polls.DataPoll)
+-- the data poll ends with this event poll, which gave no event
+pub record Ends (poll : Poll) (answer : DataPoll) : Type 0 where
+  pub core_same : answer.core ≡ poll.core
+  pub ended : (run : Run) (rest : model_polls.DataPoll)
       → run.state.visit.continuation ≡ poll.core.visit.continuation
-      → pass_events (polled_of poll.gave) run rest ≡ record { gave = r.answer.gave; continuation = is_set r.answer.continuation; run = run }
+      → pass_events (polled_of poll.gave) run rest ≡ record { gave = answer.gave; continuation = is_set answer.continuation; run = run }
+
+-- an event poll gave an event, and the next is made, or it gave none, and the data poll ends with it
+abbrev pub Passes : Poll → Option DataPoll → Type 0
+Passes poll None = (run : Run) (rest : model_polls.DataPoll) → pass_events (polled_of poll.gave) run rest ≡ rest
+Passes poll (Some answer) = Ends poll answer

@@ -1,9 +1,8 @@
 // The polls: what is collected is given in order, a waiting event first.
-ghost use Rattle.std.specs.Prelude.{◌≡◌, ℕ, ◌≤◌, min, length};
+// Kept (5, 6): a step that moves tables takes them one beside the other: a struct of `&mut` asks for loans that a call does not need, and for a clause to each field, that its slice is still the caller's (tried); what holds of them is one fact, `Usable`.
+ghost use Rattle.std.specs.Prelude.{◌≡◌, ℕ, ◌≤◌};
 ghost use Rattle.srt_group_model.specs.Sound.{SendingFit};
-ghost use Rattle.srt_group_model.specs.Delivery.{max_visits};
 ghost use Rattle.srt_group_model.specs.Polls.{poll_event, poll_until_data, poll_data_bounded};
-ghost use Rattle.cell_set.specs.Bits.{set_size};
 ghost use Rattle.srt_group_shown.specs.Tables.{receive_tables};
 ghost use Rattle.srt_group_collecting.specs.Leaves.{sends, Usable};
 ghost use Rattle.srt_group_collecting.specs.Follows.{Follows};
@@ -14,6 +13,8 @@ ghost use Rattle.srt_group_skip.specs.Skip.{PollsFrom};
 
 use crate::refresh::{refresh_all_states, refresh_pending_states};
 use crate::straight::{Straight, give_straight, next_straight};
+use cell_set::CellSet;
+use srt_connection_members::rows;
 use srt_group_collecting::collecting::{
     Gathered, MAX_VISITS, collect_until_held, flag, has_pending_data,
 };
@@ -28,15 +29,9 @@ use srt_protocol::time::Timestamp;
 #[derive(Clone, Copy)]
 pub struct DataPoll {
     pub gave: Option<Packet>,
+    // Kept (1): as a `bool` beside a record that goes by value it cost 50 ns a poll (tried).
     pub continuation: u64,
     pub core: Core,
-}
-
-// Whether an event poll gave an event, and the data poll that ends with it.
-#[derive(Clone, Copy)]
-struct Passed {
-    event: u64,
-    answer: DataPoll,
 }
 
 // The packets that one event poll collects, at most.
@@ -51,13 +46,12 @@ fn give_next(
     members: &mut [u64],
     pending: &mut [u64],
     waiting: &mut [u64],
-    used: &mut [u64],
+    used: &mut CellSet,
     time: Timestamp,
     quiet: bool,
 ) -> Poll
     requires usable { Usable gathered.core (receive_tables members.old pending.old waiting.old) }
     requires sending_fit { SendingFit sending }
-    requires used_len { length used.old ≡ set_size }
     requires known { gathered.core.counts.waiting ≤ 0 → Known quiet gathered.core members.old }
     ensures polls_from { PollsFrom (sends sending) (give_next time.0) gathered.core gathered.budget
         (receive_tables members.old pending.old waiting.old) result
@@ -92,13 +86,12 @@ fn poll_collecting(
     members: &mut [u64],
     pending: &mut [u64],
     waiting: &mut [u64],
-    used: &mut [u64],
+    used: &mut CellSet,
     time: Timestamp,
     quiet: bool,
 ) -> Poll
     requires usable { Usable core (receive_tables members.old pending.old waiting.old) }
     requires sending_fit { SendingFit sending }
-    requires used_len { length used.old ≡ set_size }
     requires known { Known quiet core members.old }
     ensures by_index { (budget : ℕ) → PollsFrom (sends sending) (poll_event time.0) core budget
         (receive_tables members.old pending.old waiting.old) result
@@ -118,25 +111,25 @@ fn poll_collecting(
 }
 
 // A packet that is next in turn and at the base is given straight; else the legs are visited.
+#[tactic(auto, using(srt_group_delivery::specs::Laws::Delivery::deliverable))]
 pub fn poll_event(
     core: Core,
     sending: Sending,
     members: &mut [u64],
     pending: &mut [u64],
     waiting: &mut [u64],
-    used: &mut [u64],
+    used: &mut CellSet,
     time: Timestamp,
 ) -> Poll
     requires usable { Usable core (receive_tables members.old pending.old waiting.old) }
     requires sending_fit { SendingFit sending }
-    requires used_len { length used.old ≡ set_size }
     ensures by_index { (budget : ℕ) → PollsFrom (sends sending) (poll_event time.0) core budget
         (receive_tables members.old pending.old waiting.old) result
         (receive_tables members.new pending.new waiting.new) }
     ensures follows { Follows core members.old pending.old used.old
         result.core members.new pending.new used.new }
 {
-    let quiet = is_quiet(members, core.counts.members, core.mode);
+    let quiet = is_quiet(rows(members, core.counts.members), core.mode);
     let next = next_straight(core, members, pending, quiet);
     if let Some(Straight { index, packet }) = next {
         return give_straight(core, members, used, index, packet);
@@ -146,87 +139,61 @@ pub fn poll_event(
 
 // ---- the data poll
 
-// An event is passed over: with no event poll left there is no packet, and the continuation is asked for.
-fn pass_event(poll: Poll) -> Passed
+// What the data poll gives if it ends with this event poll; an event is passed over.
+#[tactic(auto, using(crate::specs::Laws::DataPoll::event_passed))]
+fn pass_event(poll: Poll) -> Option<DataPoll>
     ensures { Passes poll result }
 {
     let core = poll.core;
-    let gave = poll.gave;
-    let Some(given) = gave else {
-        return Passed {
-            event: 0,
-            answer: DataPoll {
-                gave: None,
-                continuation: core.visit.continuation,
-                core,
-            },
-        };
+    let Some(given) = poll.gave else {
+        return Some(DataPoll {
+            gave: None,
+            continuation: core.visit.continuation,
+            core,
+        });
     };
     match given {
-        GroupEvent::Event(_) => Passed {
-            event: 1,
-            answer: DataPoll {
-                gave: None,
-                continuation: 1,
-                core,
-            },
-        },
-        GroupEvent::Packet(packet) => Passed {
-            event: 0,
-            answer: DataPoll {
-                gave: Some(packet),
-                continuation: 0,
-                core,
-            },
-        },
+        GroupEvent::Event(_) => None,
+        GroupEvent::Packet(packet) => Some(DataPoll {
+            gave: Some(packet),
+            continuation: 0,
+            core,
+        }),
     }
 }
 
-// Event polls until one gives no event, at most so many.
+// Event polls until one gives no event, at most so many; after the last there is no packet, and the continuation is asked for.
 fn poll_until_data(
     core: Core,
     sending: Sending,
     members: &mut [u64],
     pending: &mut [u64],
     waiting: &mut [u64],
-    used: &mut [u64],
+    used: &mut CellSet,
     time: Timestamp,
     visits: usize,
 ) -> DataPoll
     requires usable { Usable core (receive_tables members.old pending.old waiting.old) }
     requires sending_fit { SendingFit sending }
-    requires used_len { length used.old ≡ set_size }
     ensures polls_data { PollsData (sends sending) (poll_until_data time.0 visits) core
         (receive_tables members.old pending.old waiting.old) result
         (receive_tables members.new pending.new waiting.new) }
     ensures follows { Follows core members.old pending.old used.old
         result.core members.new pending.new used.new }
 {
-    let mut answer = DataPoll {
-        gave: None,
-        continuation: 1,
-        core,
-    };
+    let mut here = core;
     for _visit in 0..visits {
-        let here = answer.core;
         let poll = poll_event(here, sending, members, pending, waiting, used, time);
-        let passed = pass_event(poll);
-        answer = passed.answer;
-        if passed.event == 0 {
+        if let Some(answer) = pass_event(poll) {
             return answer;
         }
+        here = poll.core;
     }
-    answer
-}
-
-// As many event polls as events may be passed over, but no more than the polls of one call.
-fn visits_allowed(max_events: usize) -> usize
-    ensures { result ≡ min max_events max_visits }
-{
-    if MAX_VISITS < max_events {
-        return MAX_VISITS;
+    DataPoll {
+        gave: None,
+        continuation: 1,
+        core: here,
     }
-    max_events
 }
 
 // A packet, passing over at most so many events; with none allowed there is no packet, and nothing changes.
@@ -236,13 +203,12 @@ pub fn poll_data_bounded(
     members: &mut [u64],
     pending: &mut [u64],
     waiting: &mut [u64],
-    used: &mut [u64],
+    used: &mut CellSet,
     time: Timestamp,
     max_events: usize,
 ) -> DataPoll
     requires usable { Usable core (receive_tables members.old pending.old waiting.old) }
     requires sending_fit { SendingFit sending }
-    requires used_len { length used.old ≡ set_size }
     ensures polls_data { PollsData (sends sending) (poll_data_bounded time.0 max_events) core
         (receive_tables members.old pending.old waiting.old) result
         (receive_tables members.new pending.new waiting.new) }
@@ -257,6 +223,6 @@ pub fn poll_data_bounded(
             core,
         };
     }
-    let visits = visits_allowed(max_events);
+    let visits = max_events.min(MAX_VISITS);
     poll_until_data(core, sending, members, pending, waiting, used, time, visits)
 }

@@ -1,14 +1,17 @@
 // The refresh of the members' states: members that arrived are admitted, which may set the base and bind the group; then Pending
 // members settle, and Unstable ones requalify. Where a refresh would change nothing none of this is gone through. From the Rust's
 // `admit_connected_peer_groups`, `refresh_pending_states`, `refresh_states`.
+// Kept (5): a refresh changes the members, which are the host's words (no heap); a struct with the count would be made again for each call, since the record goes on by value.
 ghost use Rattle.std.specs.Prelude.{◌*◌, ◌≤◌, length};
 ghost use Rattle.srt_group_model.specs.Run.{admit_connected_peer_groups, refresh_pending_states, refresh_states};
 ghost use Rattle.srt_connection_queue.specs.Rows.{row_size};
 ghost use Rattle.srt_group_collecting.specs.Leaves.{every, sends};
 ghost use Rattle.srt_group_polls.specs.Refresh.{Refreshes};
 
+use srt_connection_members::rows;
 use srt_group_delivery::delivery::set_base;
 use srt_group_members::quiet::is_quiet;
+use srt_group_members::refresh::Refresh;
 use srt_group_members::{admission, refresh};
 use srt_group_model::{Core, Sending};
 
@@ -32,7 +35,11 @@ pub fn refresh_pending_states(core: Core, sending: Sending, members: &mut [u64])
 {
     let after = admit_connected_peer_groups(core, members);
     let count = after.counts.members;
-    refresh::settle_members(members, count, after.mode, sending.next_send_sequence());
+    let told = Refresh {
+        mode: after.mode,
+        number: sending.next_send_sequence(),
+    };
+    refresh::settle_members(members, count, told);
     after
 }
 
@@ -44,7 +51,11 @@ pub fn refresh_all_states(core: Core, sending: Sending, members: &mut [u64]) -> 
 {
     let after = refresh_pending_states(core, sending, members);
     let count = after.counts.members;
-    refresh::requalify_members(members, count, after.mode, sending.next_send_sequence());
+    let told = Refresh {
+        mode: after.mode,
+        number: sending.next_send_sequence(),
+    };
+    refresh::requalify_members(members, count, told);
     after
 }
 
@@ -54,7 +65,7 @@ pub fn refresh_states(core: Core, sending: Sending, members: &mut [u64]) -> Core
     ensures { Refreshes (sends sending) refresh_states core
         members.old result members.new }
 {
-    if is_quiet(members, core.counts.members, core.mode) {
+    if is_quiet(rows(members, core.counts.members), core.mode) {
         return core;
     }
     refresh_all_states(core, sending, members)

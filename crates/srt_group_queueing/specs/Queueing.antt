@@ -10,18 +10,16 @@ use Rattle.srt_group_model.specs.Calls.{enqueue, data_event}
 use Rattle.srt_group_model.specs.declared.Data.{Data}
 use Rattle.srt_connection_queue.specs.Queue.{push_outcome}
 use Rattle.srt_connection_members.specs.Members.{member_at, HasRow, Changed}
-use Rattle.cell_set.specs.Bits.{set_size}
 use Rattle.cell_set.specs.Sets.{Taken}
 
 -- ---- the member at an index, once a cell is found
 
-pub record Enqueueable (index cell : ℕ) (d : Data) (size : ℕ) (members : List ℕ) (store used : ℕ) : Type 0 where
+pub record Enqueueable (index cell : ℕ) (d : Data) (size : ℕ) (members : List ℕ) (store : ℕ) : Type 0 where
   pub there : HasRow index members
   pub room : (member_at members index).leg.receiver.reserved + d.count < 2 ^ 64
   pub one_cell : cell_size ≤ store
   pub cell_there : cell < cells_of store
   pub payload : size ≤ cell_size
-  pub words : used ≡ set_size
 
 -- the packet is queued and its count reserved
 abbrev pub with_data : (cell size : ℕ) → Data → Member → Member

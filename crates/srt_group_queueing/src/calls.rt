@@ -1,4 +1,5 @@
 // The stand-in's calls with their refusals, over the record and the lent tables: 5 and 6, and then what follows them.
+// Kept (5, 6): the host lends record and tables anew to each call; which are changed differs, and a struct of `&mut` needs a clause for each ghost name.
 ghost use Rattle.srt_protocol.specs.Errors.{outcome_number};
 ghost use Rattle.srt_group_model.specs.Guards.{no_answer};
 ghost use Rattle.srt_group_model.specs.Lent.{call_queue_data, call_queue_event, call_read_leg};
@@ -10,6 +11,7 @@ ghost use Rattle.srt_group_refusals.specs.Promised.{nothing_lent, showing, Promi
 use crate::events::push_event;
 use crate::queueing;
 use crate::readings::put_reading;
+use cell_set::WORDS;
 use srt_group::Group;
 use srt_group_model::Data;
 use srt_group_refusals::refusals::LentGroup;
@@ -41,7 +43,7 @@ pub fn queue_data(
         sending,
         ring,
     } = group;
-    let mut used = [0u64; 32];
+    let mut used = [0; WORDS];
     let lent = LentGroup {
         group,
         members,

@@ -1,4 +1,5 @@
 // `queue_event` of the stand-in leg: a lifecycle event into a leg's queue.
+// Kept (5, 6): the host lends record and tables anew to each call; which are changed differs, and a struct of `&mut` needs a clause for each ghost name.
 ghost use Rattle.std.specs.Prelude.{◌≡◌, ◌||◌, ◌*◌, ◌≤◌, eqb, length};
 ghost use Rattle.srt_protocol.specs.Errors.{outcome_number};
 ghost use Rattle.srt_group_model.specs.Legs.{largest_32};
@@ -11,12 +12,15 @@ ghost use Rattle.srt_group_shown.specs.Tables.{parts, tables};
 ghost use Rattle.srt_group_shown.specs.Ready.{Ready, storing, Performs};
 ghost use Rattle.srt_group_shown.specs.Steps.{StepsOver};
 
+use cell_set::CellSet;
 use srt_connection::legs::LARGEST_32;
-use srt_connection_members::{find, push_at};
+use srt_connection_members::{find, push_at, rows};
 use srt_group_model::{Core, Data, Event, Identity, Sending};
 use srt_group_tables::history::HistoryRing;
 use srt_protocol::error::{Error, outcome_number};
 use srt_protocol::time::Timestamp;
+
+// Kept (1): the kind is tested here and stands in the row as the word it is; nothing matches on it, so an enum would be made and undone at once.
 
 // 2: an id, a kind (0 is data, which is queued with its payload) or a reason out of range.
 fn event_unfit(id: u64, kind: u64, reason: u64) -> bool
@@ -58,7 +62,7 @@ pub fn push_event(
     if event_unfit(id, kind, reason) {
         return Err(Error::OutOfRange);
     }
-    let found = find(members, core.counts.members, id);
+    let found = find(rows(members, core.counts.members), id);
     let Some(index) = found else {
         return Err(Error::UnknownMember);
     };
@@ -77,7 +81,7 @@ pub fn queue_event(
     history: &[u64],
     sources: &[u64],
     store: &[u8],
-    used: &[u64],
+    used: &CellSet,
     id: u64,
     kind: u64,
     reason: u64,

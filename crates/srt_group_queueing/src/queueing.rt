@@ -1,4 +1,5 @@
 // `queue_data` of the stand-in leg: a packet into a leg's queue, its payload into the lowest free cell of the store.
+// Kept (5, 6): the host lends record and tables anew to each call; which are changed differs, and a struct of `&mut` needs a clause for each ghost name.
 ghost use Rattle.std.specs.Prelude.{◌≡◌, ◌+◌, ◌^◌, ◌<◌, length};
 ghost use Rattle.srt_protocol.specs.Errors.{outcome_number};
 ghost use Rattle.srt_group_model.specs.State.{on_leg};
@@ -11,15 +12,16 @@ ghost use Rattle.srt_group_shown.specs.Tables.{parts, tables};
 ghost use Rattle.srt_group_shown.specs.Ready.{Ready, storing, Performs};
 ghost use Rattle.srt_group_queueing.specs.Queueing.{Enqueueable, Enqueues};
 
-use cell_set::{lowest_free, take};
+use cell_set::{CellSet, lowest_free, take};
 use srt_connection::legs::{LARGEST_16, LARGEST_32, LARGEST_SEQUENCE};
-use srt_connection_members::{find, push_at, put_reservation_at, reservation_at};
+use srt_connection_members::{find, push_at, put_reservation_at, reservation_at, rows};
 use srt_group_model::{Core, Data, Event, Identity, Sending};
 use srt_group_tables::history::HistoryRing;
 use srt_protocol::error::{Error, outcome_number};
 use srt_protocol::received_payload::{CELL, cells_of, put_payload};
 
 // 2: an id or a field of the packet out of range.
+#[tactic(auto, unfolding(srt_group_model::specs::Calls::data_unfit, srt_group_model::specs::Validity::data_words, srt_group_model::specs::Validity::any_above, srt_group_model::specs::Tools::any))]
 fn data_unfit(id: u64, content: Data) -> bool
     ensures { result ≡ data_unfit id content }
 {
@@ -65,13 +67,13 @@ fn reserve_leg_at(members: &mut [u64], index: usize, count: u64)
 fn enqueue(
     members: &mut [u64],
     store: &mut [u8],
-    used: &mut [u64],
+    used: &mut CellSet,
     index: usize,
     cell: usize,
     content: Data,
     payload: &[u8],
 ) -> Result<(), Error>
-    requires { Enqueueable index cell content (length payload.now) members.old (length store.old) (length used.old) }
+    requires { Enqueueable index cell content (length payload.now) members.old (length store.old) }
     ensures { Enqueues index cell content payload.now
         members.old store.old used.old result
         members.new store.new used.new }
@@ -96,7 +98,7 @@ pub fn queue_data(
     history: &[u64],
     sources: &[u64],
     store: &mut [u8],
-    used: &mut [u64],
+    used: &mut CellSet,
     id: u64,
     content: Data,
     payload: &[u8],
@@ -112,7 +114,7 @@ pub fn queue_data(
     if data_unfit(id, content) {
         return Err(Error::OutOfRange);
     }
-    let found = find(members, core.counts.members, id);
+    let found = find(rows(members, core.counts.members), id);
     let Some(index) = found else {
         return Err(Error::UnknownMember);
     };

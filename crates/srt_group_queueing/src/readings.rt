@@ -1,4 +1,5 @@
 // `read_leg` of the stand-in leg: a number into a field of a leg.
+// Kept (5, 6): the host lends record and tables anew to each call; which are changed differs, and a struct of `&mut` needs a clause for each ghost name.
 ghost use Rattle.std.specs.Prelude.{◌≡◌, ◌||◌, ◌*◌, ◌≤◌, length};
 ghost use Rattle.srt_protocol.specs.Errors.{outcome_number};
 ghost use Rattle.srt_group_model.specs.Legs.{largest_32};
@@ -11,12 +12,15 @@ ghost use Rattle.srt_group_shown.specs.Tables.{parts, tables};
 ghost use Rattle.srt_group_shown.specs.Ready.{Ready, storing, Performs};
 ghost use Rattle.srt_group_shown.specs.Steps.{StepsOver};
 
+use cell_set::CellSet;
 use srt_connection::legs::LARGEST_32;
 use srt_connection::readings::{goes_back, read_field, reading_out_of_range};
-use srt_connection_members::{find, leg_at, put_leg_at};
+use srt_connection_members::{find, leg_at, put_leg_at, rows};
 use srt_group_model::{Core, Identity, Sending};
 use srt_group_tables::history::HistoryRing;
 use srt_protocol::error::{Error, outcome_number};
+
+// Kept (1): the field is only handed on to srt_connection's readings, which follow document 01's table of fields by number.
 
 // 2: an id, a field or a number out of range.
 fn reading_unfit(id: u64, field: u64, number: u64) -> bool
@@ -39,7 +43,7 @@ pub fn put_reading(
     if reading_unfit(id, field, number) {
         return Err(Error::OutOfRange);
     }
-    let found = find(members, core.counts.members, id);
+    let found = find(rows(members, core.counts.members), id);
     let Some(index) = found else {
         return Err(Error::UnknownMember);
     };
@@ -63,7 +67,7 @@ pub fn read_leg(
     history: &[u64],
     sources: &[u64],
     store: &[u8],
-    used: &[u64],
+    used: &CellSet,
     id: u64,
     field: u64,
     number: u64,

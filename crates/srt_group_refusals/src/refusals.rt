@@ -1,15 +1,15 @@
 // The refusals that the public calls share: 5, a lent table too short for its rows or a store that does not fit, and 6, a state that
 // breaks a rule.
-ghost use Rattle.std.specs.Prelude.{◌≡◌, not, ◌&&◌, ◌||◌, ◌≤◌, eqb, ltb, length};
+ghost use Rattle.std.specs.Prelude.{◌≡◌, not, ◌&&◌, ◌||◌, ◌≤◌, eqb, ltb};
 ghost use Rattle.srt_protocol.specs.Cells.{cell_size, max_cells, cells_of};
 ghost use Rattle.srt_group_model.specs.Tools.{if_true◌then◌else◌};
-ghost use Rattle.cell_set.specs.Bits.{set_size};
 ghost use Rattle.srt_group_shown.specs.Tables.{state_of, Long};
 ghost use Rattle.srt_group_state.specs.Tested.{Tested};
 ghost use Rattle.srt_group.specs.Made.{parts_of};
 ghost use Rattle.srt_group_refusals.specs.LentGroup.{tables_of};
 ghost use Rattle.srt_group_refusals.specs.Begins.{are_short, begun, BeginsStored, BeginsPoll};
 
+use cell_set::{CellSet, WORDS};
 use srt_connection_members::MEMBERS_LENGTH;
 use srt_group::Group;
 use srt_group_state::validity::is_invalid;
@@ -29,7 +29,8 @@ fn store_unfit(store: usize, given: usize) -> bool
 // The cells of a call that is lent no store: those of the length given at the start, else the most that there can be.
 #[tactic(auto, using(crate::specs::Laws::Begins::none_given, crate::specs::Laws::Begins::some_given))]
 fn cells_given(given: usize) -> usize
-    ensures { (result ≡ (if_true eqb given 0 then max_cells else cells_of given)) × (result ≤ max_cells) }
+    ensures is { result ≡ (if_true eqb given 0 then max_cells else cells_of given) }
+    ensures few { result ≤ max_cells }
 {
     if given == 0 {
         return MAX_CELLS;
@@ -50,6 +51,7 @@ pub struct LentGroup<'a> {
 
 impl LentGroup<'_> {
     // 5: a table has fewer words than its rows take, or one of the history's two is not 512 long.
+    #[tactic(auto, unfolding(crate::specs::Begins::are_short))]
     fn is_short(&self) -> bool
         ensures { result ≡ are_short (tables_of self.now) }
     {
@@ -60,11 +62,11 @@ impl LentGroup<'_> {
             | (self.sources.len() != MAX_HISTORY)
     }
 
+    // Kept (5): a number of cells is a plain count, made of the store's length in each call; a type of it would be taken apart at once.
     // 6: the state breaks a rule over so many cells. Where it breaks none, the set shows which are in use, whatever it held.
-    fn is_broken(&self, cells: usize, used: &mut [u64]) -> bool
+    fn is_broken(&self, cells: usize, used: &mut CellSet) -> bool
         requires long { Long (tables_of self.now) }
         requires cells { cells ≤ max_cells }
-        requires used { length used.old ≡ set_size }
         ensures { Tested cells (state_of (parts_of self.now.group) (tables_of self.now)) result used.new }
     {
         let Group {
@@ -89,6 +91,7 @@ impl LentGroup<'_> {
     }
 
     // 5 or 6 of a call that is lent no store; or it goes on.
+    #[tactic(auto, unfolding(srt_group_model::specs::Calls::cells_given))]
     pub fn begin(&self) -> Result<(), Error>
         ensures { result ≡ begun (parts_of self.now.group) (tables_of self.now) }
     {
@@ -96,7 +99,7 @@ impl LentGroup<'_> {
             return Err(Error::InsufficientBuffer);
         }
         let cells = cells_given(self.group.identity.length);
-        let mut used = [0u64; 32];
+        let mut used = [0; WORDS];
         let broken = self.is_broken(cells, &mut used);
         if broken {
             Err(Error::InvalidState)
@@ -106,8 +109,8 @@ impl LentGroup<'_> {
     }
 
     // 5 or 6 of a call that is lent a store of so many bytes; or it goes on, and the set shows which cells are in use, whatever it held.
-    pub fn begin_stored(&self, store: usize, used: &mut [u64]) -> Result<(), Error>
-        requires { length used.old ≡ set_size }
+    #[tactic(auto, using(crate::specs::Laws::Begins::begins_unfit, crate::specs::Laws::Begins::begins_invalid), unfolding(srt_group_model::specs::Calls::store_unfit))]
+    pub fn begin_stored(&self, store: usize, used: &mut CellSet) -> Result<(), Error>
         ensures { BeginsStored (parts_of self.now.group) (tables_of self.now) store result used.new }
     {
         if self.is_short() {
@@ -124,8 +127,7 @@ impl LentGroup<'_> {
     }
 
     // The same of a poll, which is lent an output of so many bytes too: 5 first if it has no room for a head and a payload.
-    pub fn begin_poll(&self, store: usize, output: usize, used: &mut [u64]) -> Result<(), Error>
-        requires { length used.old ≡ set_size }
+    pub fn begin_poll(&self, store: usize, output: usize, used: &mut CellSet) -> Result<(), Error>
         ensures { BeginsPoll (parts_of self.now.group) (tables_of self.now) store output result used.new }
     {
         if output < OUTPUT {

@@ -1,5 +1,6 @@
 // `remove_member_connection` and `remove_member` with their refusals, over the record and the lent tables: 5 and 6, and then what follows
 // them.
+// Kept (5, 6): the host lends record and tables anew to each call; which are changed differs, and a struct of `&mut` needs a clause for each ghost name.
 ghost use Rattle.srt_protocol.specs.Errors.{outcome_number};
 ghost use Rattle.srt_group_model.specs.Lent.{call_remove_member_connection};
 ghost use Rattle.srt_group_shown.specs.Tables.{tables};
@@ -8,6 +9,7 @@ ghost use Rattle.srt_group_refusals.specs.Promised.{nothing_lent, showing, Promi
 ghost use Rattle.srt_group_removal.specs.Connection.{RowAfter, given_back, PromisedDropping};
 
 use crate::connection::remove_named;
+use cell_set::WORDS;
 use srt_connection_queue::rows::ROW;
 use srt_group::Group;
 use srt_group_refusals::refusals::LentGroup;
@@ -60,7 +62,7 @@ pub fn remove_member_connection(
             outcome: Err(error),
         };
     }
-    let mut used = [0u64; 32];
+    let mut used = [0; WORDS];
     let removed = remove_named(group.core, members, pending, row, &mut used, id);
     let after = removed.core;
     let outcome = removed.outcome;

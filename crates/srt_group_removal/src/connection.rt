@@ -1,9 +1,9 @@
 // `remove_member_connection` and `remove_member` after 5 and 6, and their forms for a valid state. The leg is given back in a lent row
 // of the members' table.
-ghost use Rattle.std.specs.Prelude.{◌≡◌, length};
+// Kept (5, 6): the host lends record and tables anew to each call; which are changed differs, and a struct of `&mut` needs a clause for each ghost name.
+ghost use Rattle.std.specs.Prelude.{length};
 ghost use Rattle.srt_protocol.specs.Errors.{outcome_number};
 ghost use Rattle.srt_group_model.specs.Lent.{call_remove_member_connection};
-ghost use Rattle.cell_set.specs.Bits.{set_size};
 ghost use Rattle.srt_connection_members.specs.Members.{HasRow};
 ghost use Rattle.srt_group_shown.specs.Tables.{parts, tables};
 ghost use Rattle.srt_group_shown.specs.Ready.{Ready, storing, Performs};
@@ -11,8 +11,9 @@ ghost use Rattle.srt_group_collecting.specs.Follows.{Follows};
 ghost use Rattle.srt_group_removal.specs.Connection.{AnyRemovable, GivesBack, RowAfter, given_back, StepsRemoval, PerformsDropping};
 
 use crate::removal::remove_member_at;
+use cell_set::CellSet;
 use srt_connection::legs::LARGEST_32;
-use srt_connection_members::{clear_at, find, put_leg_at};
+use srt_connection_members::{clear_at, find, put_leg_at, rows};
 use srt_group_model::{Core, Identity, Leg, Sending};
 use srt_group_tables::history::HistoryRing;
 use srt_protocol::error::{Error, outcome_number};
@@ -24,6 +25,8 @@ pub struct Removal {
     pub outcome: Result<(), Error>,
 }
 
+// The host's row may be longer than a row, and what lies behind it stays: so it is changed as a table of rows.
+
 // A leg into the first of the lent rows, with an empty queue. The row's membership stays: it is not the leg's.
 fn give_back(row: &mut [u64], leg: Leg)
     requires { HasRow 0 row.old }
@@ -34,17 +37,17 @@ fn give_back(row: &mut [u64], leg: Leg)
 }
 
 // `remove_member_connection` after 5 and 6: 2 or 3, or the member is removed and its leg stands in the row.
+#[tactic(auto, using(crate::specs::Laws::Connection::unfit_removal, crate::specs::Laws::Connection::unknown_removal, crate::specs::Laws::Connection::named_removed, srt_connection_members::specs::Laws::Members::found_below))]
 pub fn remove_named(
     core: Core,
     members: &mut [u64],
     pending: &mut [u64],
     row: &mut [u64],
-    used: &mut [u64],
+    used: &mut CellSet,
     id: u64,
 ) -> Removal
     requires any_removable { AnyRemovable core members.old pending.old }
     requires has_row { HasRow 0 row.old }
-    requires used_len { length used.old ≡ set_size }
     ensures steps_removal { StepsRemoval id core members.old pending.old
         result members.new pending.new row.new }
     ensures row_after { RowAfter result.outcome row.old row.new }
@@ -57,7 +60,7 @@ pub fn remove_named(
             outcome: Err(Error::OutOfRange),
         };
     }
-    let found = find(members, core.counts.members, id);
+    let found = find(rows(members, core.counts.members), id);
     let Some(index) = found else {
         return Removal {
             core,
@@ -87,7 +90,7 @@ pub fn remove_member_connection(
     sources: &[u64],
     store: &[u8],
     row: &mut [u64],
-    used: &mut [u64],
+    used: &mut CellSet,
     id: u64,
 ) -> Removal
     requires ready { Ready (parts identity core sending ring)
@@ -116,7 +119,7 @@ pub fn remove_member(
     history: &[u64],
     sources: &[u64],
     store: &[u8],
-    used: &mut [u64],
+    used: &mut CellSet,
     id: u64,
 ) -> Removal
     requires { Ready (parts identity core sending ring)

@@ -1,21 +1,19 @@
 // The queue of a member that is removed: its cells become free.
-ghost use Rattle.std.specs.Prelude.{◌≡◌, length};
 ghost use Rattle.srt_group_model.specs.Cells.{queue_cells};
 ghost use Rattle.cell_set.specs.Sets.{Freed};
-ghost use Rattle.cell_set.specs.Bits.{set_size};
-ghost use Rattle.srt_connection_queue.specs.Rows.{row_size, member_of};
+ghost use Rattle.srt_connection_queue.specs.Rows.{member_of};
 ghost use Rattle.srt_connection_members.specs.Members.{member_at, HasRow};
 ghost use Rattle.srt_group_state.specs.Cells.{event_cells};
 
-use cell_set::free;
+use cell_set::{CellSet, free};
+use srt_connection_members::row;
 use srt_connection_queue::queue::queue_length;
-use srt_connection_queue::rows::ROW;
+use srt_connection_queue::rows::Row;
 use srt_group_model::Event;
 use srt_group_state::cells::queued_event;
 
 // Frees the cell of a queued event: only data has one.
-fn free_event(used: &mut [u64], event: Event)
-    requires { length used.old ≡ set_size }
+fn free_event(used: &mut CellSet, event: Event)
     ensures { Freed (event_cells event) used.old used.new }
 {
     if event.kind == 0 {
@@ -25,9 +23,8 @@ fn free_event(used: &mut [u64], event: Event)
 }
 
 // Frees the cells of a member's queue.
-fn free_queue(row: &[u64], used: &mut [u64])
-    requires row_len { length row.now ≡ row_size }
-    requires used_len { length used.old ≡ set_size }
+#[tactic(auto, using(crate::specs::Laws::Queue::freeing_start))]
+fn free_queue(row: &Row, used: &mut CellSet)
     ensures { Freed (queue_cells (member_of row.now)) used.old used.new }
 {
     let count = queue_length(row);
@@ -37,11 +34,11 @@ fn free_queue(row: &[u64], used: &mut [u64])
     }
 }
 
-pub fn free_queue_at(members: &[u64], used: &mut [u64], index: usize)
-    requires has_row { HasRow index members.now }
-    requires used_len { length used.old ≡ set_size }
+#[tactic(auto, using(crate::specs::Laws::Queue::freed_as))]
+// Kept (5): what removes a member takes the host's words (no heap), and lends the row to read.
+pub fn free_queue_at(members: &[u64], used: &mut CellSet, index: usize)
+    requires { HasRow index members.now }
     ensures { Freed (queue_cells (member_at members.now index)) used.old used.new }
 {
-    let start = index * ROW;
-    free_queue(&members[start..start + ROW], used);
+    free_queue(row(members, index), used);
 }

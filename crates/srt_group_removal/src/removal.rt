@@ -1,11 +1,13 @@
 // A member is taken out, and its leg given back.
-ghost use Rattle.std.specs.Prelude.{◌≡◌, ◌-◌, min, length};
-ghost use Rattle.cell_set.specs.Bits.{set_size};
+// Kept (5): the core goes by value, and the tables are lent to change: a struct of `&mut` fields, tried, needs a clause for each ghost name.
+ghost use Rattle.std.specs.Prelude.{◌≡◌, ◌-◌, min};
 ghost use Rattle.srt_group_collecting.specs.Follows.{Follows};
 ghost use Rattle.srt_group_removal.specs.Removal.{Removable, TakesOut, Removes};
 
 use crate::queue::free_queue_at;
 use crate::retirement::{bound_group_owned_pending, retirement_base};
+use cell_set::CellSet;
+use srt_connection_members::rows;
 use srt_group_members::accounts;
 use srt_group_members::removal::largest_window;
 use srt_group_model::{Core, Leg};
@@ -30,15 +32,15 @@ fn lowered(round: usize, left: usize) -> usize
 }
 
 // The member at the index goes, with its queue, whose cells are free; its held packets become the group's own.
+#[tactic(auto, using(crate::specs::Laws::Removal::taken_all))]
 fn take_out(
     mut core: Core,
     members: &mut [u64],
     pending: &mut [u64],
-    used: &mut [u64],
+    used: &mut CellSet,
     index: usize,
 ) -> Core
-    requires removable { Removable index core members.old pending.old }
-    requires used_len { length used.old ≡ set_size }
+    requires { Removable index core members.old pending.old }
     ensures takes_out { TakesOut index core members.old pending.old
         result members.new pending.new }
     ensures follows { Follows core members.old pending.old used.old
@@ -65,11 +67,10 @@ pub fn remove_member_at(
     core: Core,
     members: &mut [u64],
     pending: &mut [u64],
-    used: &mut [u64],
+    used: &mut CellSet,
     index: usize,
 ) -> Removed
-    requires removable { Removable index core members.old pending.old }
-    requires used_len { length used.old ≡ set_size }
+    requires { Removable index core members.old pending.old }
     ensures removes { Removes index core members.old pending.old
         result members.new pending.new }
     ensures follows { Follows core members.old pending.old used.old
@@ -79,7 +80,7 @@ pub fn remove_member_at(
     let window = leg.receiver.window;
     let taken = take_out(core, members, pending, used, index);
     let left = taken.counts.members;
-    let limit = largest_window(members, left, window);
+    let limit = largest_window(rows(members, left), window);
     let base = retirement_base(taken, pending);
     let after = bound_group_owned_pending(taken, pending, used, limit, base);
     leg.receiver.reserved = 0;

@@ -1,22 +1,22 @@
 // Retirement: while the counts of the group's own packets exceed a limit, the one farthest ahead of a base is retired.
-ghost use Rattle.std.specs.Prelude.{◌≡◌, List, ℕ, ◌≤◌, ◌<◌, length};
+// Kept (5): `Held` is of the core, which goes by value, and of the table lent to change: as a struct, tried, it needs a clause for the ghost name.
+ghost use Rattle.std.specs.Prelude.{◌≡◌, List, ℕ, ◌≤◌, ◌<◌};
 ghost use Rattle.srt_group_model.specs.Legs.{largest_sequence};
 ghost use Rattle.srt_group_model.specs.Removal.{bound_group_owned_pending, retirement_base};
 ghost use Rattle.srt_group_tables.specs.Packets.{packet_at};
 ghost use Rattle.srt_group_shown.specs.Shown.{Rest, shown};
-ghost use Rattle.cell_set.specs.Bits.{set_size};
 ghost use Rattle.srt_group_removal.specs.Retire.{Held, Retires, Retired, FollowsHeld, is_reached, Reachable, RetiresDownward};
 
-use cell_set::free;
+use cell_set::{CellSet, free};
 use srt_group_members::accounts;
 use srt_group_model::{Core, Packet};
 use srt_group_tables::pending;
 
 // The packet at a place is taken out: its cell is free, and the group's own sum falls by its count.
-fn retire_at(mut core: Core, pending: &mut [u64], used: &mut [u64], at: usize) -> Core
+#[tactic(auto, using(crate::specs::Laws::Retire::retired_one))]
+fn retire_at(mut core: Core, pending: &mut [u64], used: &mut CellSet, at: usize) -> Core
     requires held { Held core pending.old }
     requires at_lt_pending { at < core.counts.pending }
-    requires used_len { length used.old ≡ set_size }
     ensures retired { Retired (packet_at pending.old at) core pending.old
         result pending.new }
     ensures follows_held { FollowsHeld core pending.old used.old
@@ -35,6 +35,7 @@ fn retire_at(mut core: Core, pending: &mut [u64], used: &mut [u64], at: usize) -
 }
 
 // Whether a packet is the group's own and in a walk's reach: of all packets, or of those below the base.
+#[tactic(auto, unfolding(crate::specs::Retire::is_reached))]
 fn is_reached(packet: Packet, base: u64, all: bool) -> bool
     ensures { result ≡ is_reached base all packet }
 {
@@ -46,13 +47,12 @@ fn is_reached(packet: Packet, base: u64, all: bool) -> bool
 fn retire_downward(
     mut core: Core,
     pending: &mut [u64],
-    used: &mut [u64],
+    used: &mut CellSet,
     limit: u64,
     base: u64,
     all: bool,
 ) -> Core
     requires held { Held core pending.old }
-    requires used_len { length used.old ≡ set_size }
     requires reachable { Reachable limit base all core pending.old }
     ensures retires_downward { RetiresDownward limit base all core pending.old result pending.new }
     ensures follows_held { FollowsHeld core pending.old used.old
@@ -75,12 +75,11 @@ fn retire_downward(
 pub fn bound_group_owned_pending(
     core: Core,
     pending: &mut [u64],
-    used: &mut [u64],
+    used: &mut CellSet,
     limit: u64,
     base: u64,
 ) -> Core
     requires held { Held core pending.old }
-    requires used_len { length used.old ≡ set_size }
     requires base_le_largest_sequence { base ≤ largest_sequence }
     ensures retires { Retires (bound_group_owned_pending core.counts.pending limit base) core pending.old
         result pending.new }
@@ -92,6 +91,7 @@ pub fn bound_group_owned_pending(
 }
 
 // Where distances are taken from: the base; while none is set, the nearest held packet.
+#[tactic(auto, using(crate::specs::Laws::Retire::based_there, crate::specs::Laws::Retire::based_nowhere, crate::specs::Laws::Retire::based_nearest, crate::specs::Laws::Retire::based_low, srt_group_tables::specs::Laws::PacketLaws::at_in_use))]
 pub fn retirement_base(core: Core, pending: &[u64]) -> u64
     requires { Held core pending.now }
     ensures value { (others : Rest) (members waiting : List ℕ)

@@ -1,3 +1,4 @@
 pub mod Lines
+pub mod Told
 -- What is proved.
 pub mod Laws

@@ -2,12 +2,18 @@
 use Rattle.std.specs.Prelude.{◌≡◌, List, ℕ, ◌%◌, ◌<◌, length, get_or}
 use Rattle.srt_group_model.specs.Members.{id_of}
 use Rattle.srt_group_model.specs.Validity.{max_members}
-use Rattle.srt_connection_members.specs.Members.{member_at}
+use Rattle.srt_group_model.specs.State.{Member}
+use Rattle.srt_connection_members.specs.Members.{member_in}
+use Rattle.word_rows.specs.Tab.{tab}
 
--- ---- the ids of a table's members
+-- ---- the members that rows show, and their ids
 
-abbrev pub id_at : List ℕ → ℕ → ℕ
-id_at t i = id_of (member_at t i)
+abbrev pub id_at : List (List ℕ) → ℕ → ℕ
+id_at rows i = id_of (member_in rows i)
+
+-- the first n of them
+abbrev pub members_upto : ℕ → List (List ℕ) → List Member
+members_upto n rows = tab n (member_in rows)
 
 -- ---- the table of places
 
@@ -20,6 +26,6 @@ abbrev pub nobody : ℕ
 nobody = max_members
 
 -- the place of every id before this member's is taken
-pub record TakenBefore (t : List ℕ) (index : ℕ) (table : List ℕ) : Type 0 where
+pub record TakenBefore (rows : List (List ℕ)) (index : ℕ) (table : List ℕ) : Type 0 where
   pub long : length table ≡ places
-  pub taken : (k : ℕ) → k < index → get_or table (id_at t k % places) 0 ≡ nobody → ⊥
+  pub taken : (k : ℕ) → k < index → get_or table (id_at rows k % places) 0 ≡ nobody → ⊥

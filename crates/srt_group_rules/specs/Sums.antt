@@ -10,10 +10,10 @@ use Rattle.srt_group_model.specs.Validity.{max_members, is_held_for, queued_coun
 use Rattle.srt_group_model.specs.declared.Account.{Account}
 use Rattle.srt_group_model.specs.declared.Event.{Event}
 use Rattle.srt_group_model.specs.declared.Packet.{Packet}
-use Rattle.srt_connection_members.specs.Members.{member_at, members_of}
+use Rattle.srt_connection_members.specs.Members.{member_in}
 use Rattle.srt_group_tables.specs.Packets.{packet_at, packets}
 use Rattle.word_rows.specs.Tab.{tab}
-use Rattle.srt_group_rules.specs.Ids.{id_at}
+use Rattle.srt_group_rules.specs.Ids.{id_at, members_upto}
 
 -- ---- definitions
 
@@ -48,20 +48,20 @@ accounts_wrong ms ps own =
 abbrev pub account_at : List Account → ℕ → Account
 account_at accounts i = get_or accounts i no_packets
 
-pub record Adding (t : List ℕ) (count : ℕ) (pending : List ℕ) (at : ℕ) (accounts : List Account) : Type 0 where
+pub record Adding (t : List (List ℕ)) (count : ℕ) (pending : List ℕ) (at : ℕ) (accounts : List Account) : Type 0 where
   pub long : length accounts ≡ 65
-  pub reserved : (k : ℕ) → k < at → is_unreserved (members_of count t) (packet_at pending k) ≡ false
+  pub reserved : (k : ℕ) → k < at → is_unreserved (members_upto count t) (packet_at pending k) ≡ false
   pub own : account_at accounts own_place ≡ account_of is_owned (packets at pending)
   pub held : (i : ℕ) → i < count → account_at accounts i ≡ account_of (is_held_for (id_at t i)) (packets at pending)
 
 -- ---- the comparison
 
 -- the account of a member, by its index, is another than it keeps
-abbrev pub member_differs : (t : List ℕ) (accounts : List Account) → ℕ → Bool
-member_differs t accounts i = differs (account_at accounts i) (member_at t i)
+abbrev pub member_differs : (t : List (List ℕ)) (accounts : List Account) → ℕ → Bool
+member_differs t accounts i = differs (account_at accounts i) (member_in t i)
 
 abbrev pub index_of : ℕ → ℕ
 index_of i = i
 
-unfoldable pub accounts_differ : (t : List ℕ) (accounts : List Account) → ℕ → Bool
+unfoldable pub accounts_differ : (t : List (List ℕ)) (accounts : List Account) → ℕ → Bool
 accounts_differ t accounts count = any (member_differs t accounts) (tab count index_of)

@@ -19,6 +19,7 @@ pub fn sequence_too_large(sequence: u64) -> bool
     LARGEST_SEQUENCE < sequence
 }
 
+#[tactic(auto, using(srt_group_model::specs::Laws::Reason::or_assoc, srt_group_model::specs::Laws::Reason::or_no), unfolding(srt_group_model::specs::Validity::leg_sequence_too_large))]
 pub fn leg_sequence_too_large(leg: Leg) -> bool
     ensures { result ≡ leg_sequence_too_large leg }
 {
@@ -29,6 +30,7 @@ pub fn leg_sequence_too_large(leg: Leg) -> bool
 
 // ---- a field above its range
 
+#[tactic(auto, using(srt_group_model::specs::Laws::Reason::or_assoc, srt_group_model::specs::Laws::Reason::or_no, crate::specs::Laws::Rules::no_word_above), unfolding(srt_group_model::specs::Tools::any, srt_group_model::specs::Validity::any_above, srt_group_model::specs::Validity::data_words, srt_group_model::specs::Validity::data_out_of_range))]
 pub fn data_out_of_range(content: Data) -> bool
     ensures { result ≡ data_out_of_range content }
 {
@@ -40,6 +42,7 @@ pub fn data_out_of_range(content: Data) -> bool
 }
 
 // A flight is 0 without a sender.
+#[tactic(auto, using(srt_group_model::specs::Laws::Reason::when_true, srt_group_model::specs::Laws::Reason::when_false), unfolding(crate::specs::Rules::flight_out_of_range))]
 fn flight_out_of_range(sender: Sender) -> bool
     ensures { result ≡ flight_out_of_range sender }
 {
@@ -66,6 +69,7 @@ pub fn leg_out_of_range(leg: Leg) -> bool
 }
 
 // A member without its leg and its queue.
+#[tactic(auto, using(srt_group_model::specs::Laws::Reason::or_assoc, srt_group_model::specs::Laws::Reason::or_no), unfolding(srt_group_model::specs::Tools::any, srt_group_model::specs::Validity::any_above, srt_group_model::specs::Validity::membership_words, srt_group_model::specs::Validity::membership_out_of_range))]
 pub fn membership_out_of_range(membership: Membership) -> bool
     ensures { result ≡ membership_out_of_range membership }
 {
@@ -77,12 +81,14 @@ pub fn membership_out_of_range(membership: Membership) -> bool
         | (LARGEST_32 < membership.collision.actual)
 }
 
+#[tactic(auto, using(srt_group_model::specs::Laws::Reason::or_assoc, srt_group_model::specs::Laws::Reason::or_no), unfolding(srt_group_model::specs::Tools::any, srt_group_model::specs::Validity::any_above, srt_group_model::specs::Validity::packet_words, srt_group_model::specs::Validity::packet_out_of_range))]
 pub fn packet_out_of_range(packet: Packet) -> bool
     ensures { result ≡ packet_out_of_range packet }
 {
     (LARGEST_32 < packet.member) | (1 < packet.owned) | data_out_of_range(packet.content)
 }
 
+#[tactic(auto, using(srt_group_model::specs::Laws::Reason::or_assoc, srt_group_model::specs::Laws::Reason::or_no, crate::specs::Laws::Rules::no_word_above), unfolding(srt_group_model::specs::Tools::any, srt_group_model::specs::Validity::any_above, srt_group_model::specs::Validity::entry_words, srt_group_model::specs::Validity::entry_out_of_range))]
 pub fn entry_out_of_range(entry: Entry) -> bool
     ensures { result ≡ entry_out_of_range entry }
 {
@@ -90,6 +96,7 @@ pub fn entry_out_of_range(entry: Entry) -> bool
 }
 
 // Data does not wait.
+#[tactic(auto, using(srt_group_model::specs::Laws::Reason::or_assoc, srt_group_model::specs::Laws::Reason::or_no), unfolding(srt_group_model::specs::Tools::any, srt_group_model::specs::Validity::any_above, srt_group_model::specs::Validity::waiting_words, srt_group_model::specs::Validity::waiting_out_of_range))]
 pub fn waiting_out_of_range(event: Waiting) -> bool
     ensures { result ≡ waiting_out_of_range event }
 {

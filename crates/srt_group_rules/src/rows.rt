@@ -12,7 +12,7 @@ use crate::ranges::{
     packet_out_of_range, sequence_too_large, waiting_out_of_range,
 };
 use srt_connection::legs::LARGEST_32;
-use srt_connection_queue::rows::{FIRST_EVENT, MAX_QUEUED, Ring, event_part};
+use srt_connection_queue::rows::{FIRST_EVENT, MAX_QUEUED, Ring, Row, event_part};
 use srt_group_model::{Entry, Event, Leg, Packet};
 use srt_group_tables::waiting::waiting_event;
 
@@ -32,8 +32,9 @@ pub fn event_breaks_rule(event: Event) -> bool
 }
 
 // The event so many places after the front.
-pub fn queue_event(row: &[u64], ring: Ring, at: u64) -> Event
-    requires { (length row.now ≡ row_size) × (at < max_queued) }
+#[tactic(auto, unfolding(srt_connection_queue::specs::Rows::event_in))]
+pub fn queue_event(row: &Row, ring: Ring, at: u64) -> Event
+    requires { at < max_queued }
     ensures { result ≡ event_in row.now ((ring.start + at) % max_queued) }
 {
     let slot = (FIRST_EVENT + (ring.start % MAX_QUEUED + at) % MAX_QUEUED) as usize;
@@ -60,6 +61,8 @@ pub fn packet_breaks_rule(packet: Packet) -> bool
 
 // ---- waiting events
 
+#[tactic(auto, using(crate::specs::Laws::Walks::passed_all))]
+// Kept (6): the waiting events are read at an index of the host's words, as their table's crate reads them.
 pub fn waiting_breaks_rule(waiting: &[u64], count: usize) -> bool
     requires { (waiting_size ≤ length waiting.now) × (count ≤ max_waiting) }
     ensures { result ≡ any waiting_out_of_range (waitings count waiting.now) }

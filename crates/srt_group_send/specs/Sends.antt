@@ -1,6 +1,6 @@
 -- A send in either mode, over the lent tables: what its parts may rely on, and what they leave.
-use Rattle.std.specs.Prelude.{◌≡◌, List, ℕ, ◌≤◌, ◌<◌, length, IfOk}
-use Rattle.srt_protocol.specs.Cells.{cell_size, cells_of}
+use Rattle.std.specs.Prelude.{◌≡◌, true, false, List, ℕ, ◌≤◌, ◌<◌, length, IfOk, None, Option, Some, MatchOption}
+use Rattle.srt_protocol.specs.Cells.{cell_size, max_cells, cells_of}
 use Rattle.srt_group_model.specs.Tools.{if_true◌then◌else◌}
 use Rattle.srt_group_model.specs.State.{State, is_backup}
 use Rattle.srt_group_model.specs.Run.{start, refresh_states}
@@ -12,7 +12,7 @@ use Rattle.srt_group_model.specs.declared.Core.{Core}
 use Rattle.srt_group_model.specs.declared.Identity.{Identity}
 use Rattle.srt_group_model.specs.declared.Sending.{Sending}
 use Rattle.srt_group_tables.specs.declared.history.HistoryRing.{HistoryRing}
-use Rattle.srt_group_tables.specs.Ring.{Long, entries_of}
+use Rattle.srt_group_tables.specs.Ring.{Long, cells_in_word, entries_of}
 use Rattle.srt_group_sending.specs.SentList.{Wrote}
 use Rattle.srt_group_carrier.specs.Freeing.{SendFollows}
 use Rattle.srt_group_carrier.specs.Lendable.{BackupTables, arrays_in}
@@ -25,6 +25,15 @@ use Rattle.srt_group_send.specs.declared.sending.GroupSend.{GroupSend}
 -- the send of the mode
 abbrev pub by_mode : (mode time size cell : ℕ) → State → Flow
 by_mode mode time size cell s = if_true is_backup mode then send_backup time size cell s else send_broadcast time size s
+
+-- the cell of a send; where it takes none, the model's names a number that is no cell
+abbrev pub cell_or_none : Option ℕ → ℕ
+cell_or_none None = max_cells
+cell_or_none (Some cell) = cell
+
+-- a Backup send takes a cell, and a Broadcast send none
+abbrev pub CellByMode : ℕ → Option ℕ → Type 0
+CellByMode mode cell = MatchOption cell (is_backup mode ≡ false) (λ k. (is_backup mode ≡ true) × (k < cells_in_word))
 
 -- the state that these parts show, with an identity, held packets and waiting events, which no send moves
 abbrev pub sending_state : Core → Sending → HistoryRing → BackupTables → Identity → (pending waiting : List ℕ) → State

@@ -1,13 +1,14 @@
 // The readiness tests: `can_send` and `can_send_with_pacing` after 5 and 6. They refresh the members' states and, in Backup, trim the
 // history by what the carrier's peer has acknowledged, so that cells may get free.
-ghost use Rattle.std.specs.Prelude.{◌≡◌, ◌*◌, ◌≤◌, length};
-ghost use Rattle.srt_group_model.specs.Backup.{max_history};
+// Kept (5): core, sending and ring are given back changed, the members lent to be changed; a struct of them would be built and taken apart at once.
+ghost use Rattle.std.specs.Prelude.{◌*◌, ◌≤◌, length};
 ghost use Rattle.srt_group_model.specs.Lent.{call_can_send, call_can_send_with_pacing};
 ghost use Rattle.srt_connection_queue.specs.Rows.{row_size};
 ghost use Rattle.srt_group_sending.specs.Readiness.{pacing_in};
-ghost use Rattle.cell_set.specs.Bits.{set_size};
 ghost use Rattle.srt_group_send.specs.Readiness.{Tests, TrimmedReady, Testable};
 
+use cell_set::CellSet;
+use srt_connection_members::rows;
 use srt_group_backup::trimming::trim_by_carrier;
 use srt_group_carrier::carrier::ready_members;
 use srt_group_carrier::freeing::free_dropped;
@@ -15,7 +16,7 @@ use srt_group_members::states::is_backup;
 use srt_group_model::{Core, Sending};
 use srt_group_polls::refresh::refresh_states;
 use srt_group_sending::readiness::{backup_send_ready, broadcast_send_ready};
-use srt_group_tables::history::HistoryRing;
+use srt_group_tables::history::{HistoryRing, HistoryWords};
 use srt_protocol::time::Timestamp;
 
 // Whether a send could go, and the parts of the record as the test leaves them.
@@ -31,23 +32,25 @@ pub struct Readiness {
 fn trim_and_test(
     core: Core,
     sending: Sending,
-    ring: HistoryRing,
+    history: &HistoryWords,
     members: &[u64],
-    history: &[u64],
-    used: &mut [u64],
+    used: &mut CellSet,
     pacing: Option<Timestamp>,
 ) -> Readiness
-    requires length_le_max_history { (ring.length ≤ max_history) × (length history.now ≡ max_history) }
-    requires row_size_in_bounds { (core.counts.members * row_size ≤ length members.now) × (length used.old ≡ set_size) }
-    ensures { TrimmedReady (pacing_in pacing) core sending ring members.now history.now used.old result
+    requires { core.counts.members * row_size ≤ length members.now }
+    ensures { TrimmedReady (pacing_in pacing) core sending history.now.ring members.now history.now.history.now used.old result
         used.new }
 {
-    let count = core.counts.members;
-    let trimmed = trim_by_carrier(sending, ring, history, members, count);
+    let rows = rows(members, core.counts.members);
+    let trimmed = trim_by_carrier(sending, history, rows);
     let numbers = trimmed.sending;
     let left = trimmed.ring;
-    free_dropped(ring, left.length, history, used);
-    let ready = backup_send_ready(members, count, numbers, left, history, pacing);
+    free_dropped(history, left.length, used);
+    let rest = HistoryWords {
+        ring: left,
+        history: history.history,
+    };
+    let ready = backup_send_ready(rows, numbers, &rest, pacing);
     Readiness {
         ready,
         core,
@@ -60,25 +63,24 @@ fn trim_and_test(
 pub fn can_send(
     core: Core,
     sending: Sending,
-    ring: HistoryRing,
+    history: &HistoryWords,
     members: &mut [u64],
-    history: &[u64],
-    used: &mut [u64],
+    used: &mut CellSet,
 ) -> Readiness
-    requires { Testable core sending ring members.old history.now (length used.old) }
-    ensures { Tests call_can_send core sending ring members.old history.now used.old result
+    requires { Testable core sending history.now.ring members.old history.now.history.now }
+    ensures { Tests call_can_send core sending history.now.ring members.old history.now.history.now used.old result
         members.new used.new }
 {
     let after = refresh_states(core, sending, members);
     if is_backup(core.mode) {
-        return trim_and_test(after, sending, ring, members, history, used, None);
+        return trim_and_test(after, sending, history, members, used, None);
     }
-    let ready = broadcast_send_ready(members, after.counts.members, None);
+    let ready = broadcast_send_ready(rows(members, after.counts.members), None);
     Readiness {
         ready,
         core: after,
         sending,
-        ring,
+        ring: history.ring,
     }
 }
 
@@ -86,28 +88,27 @@ pub fn can_send(
 pub fn can_send_with_pacing(
     core: Core,
     sending: Sending,
-    ring: HistoryRing,
+    history: &HistoryWords,
     members: &mut [u64],
-    history: &[u64],
-    used: &mut [u64],
+    used: &mut CellSet,
     time: Timestamp,
 ) -> Readiness
-    requires { Testable core sending ring members.old history.now (length used.old) }
-    ensures { Tests (call_can_send_with_pacing time.0) core sending ring members.old history.now
-        used.old result members.new used.new }
+    requires { Testable core sending history.now.ring members.old history.now.history.now }
+    ensures { Tests (call_can_send_with_pacing time.0) core sending history.now.ring members.old
+        history.now.history.now used.old result members.new used.new }
 {
     let after = refresh_states(core, sending, members);
     let pacing = Some(time);
     let mode = core.mode;
     if is_backup(mode) {
         ready_members(members, after.counts.members, mode, time);
-        return trim_and_test(after, sending, ring, members, history, used, pacing);
+        return trim_and_test(after, sending, history, members, used, pacing);
     }
-    let ready = broadcast_send_ready(members, after.counts.members, pacing);
+    let ready = broadcast_send_ready(rows(members, after.counts.members), pacing);
     Readiness {
         ready,
         core: after,
         sending,
-        ring,
+        ring: history.ring,
     }
 }

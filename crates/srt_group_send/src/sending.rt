@@ -1,5 +1,6 @@
 // `send` for a valid state. The members' states are refreshed first; then the payload's size is tested once, against the first active
 // leg, since a payload that is too large for every leg says nothing of a leg's health; then the send is the mode's.
+// Kept (5, 6): what changes members, history or list takes them one beside the other: of a struct of `&mut` each clause names every field (tried).
 ghost use Rattle.std.specs.Prelude.{◌≡◌, true, ◌*◌, ◌≤◌, ◌<◌, length, is_ok, Ok};
 ghost use Rattle.std.specs.Result.{result_and};
 ghost use Rattle.srt_protocol.specs.Cells.{cell_size, cells_of, overwritten};
@@ -9,14 +10,15 @@ ghost use Rattle.srt_group_model.specs.Sending.{list_size, send_broadcast};
 ghost use Rattle.srt_group_model.specs.Backup.{send_backup};
 ghost use Rattle.srt_group_model.specs.Validity.{max_members};
 ghost use Rattle.srt_connection_members.specs.Members.{members_of};
-ghost use Rattle.srt_group_tables.specs.Ring.{arrays, cells_in_word, lengths_in_word, send_of};
+ghost use Rattle.srt_group_tables.specs.Ring.{arrays, lengths_in_word, send_of};
 ghost use Rattle.srt_group_carrier.specs.Lendable.{backup_tables, Lendable, NumbersFit};
 ghost use Rattle.srt_group_carrier.specs.Flows.{InMode, BackupFlows};
 ghost use Rattle.srt_group_shown.specs.Tables.{parts, tables};
 ghost use Rattle.srt_group_shown.specs.Ready.{Ready, sending_into};
-ghost use Rattle.srt_group_send.specs.Sends.{by_mode, FitShown, FlowMade, Storable, Sends};
+ghost use Rattle.srt_group_send.specs.Sends.{by_mode, cell_or_none, CellByMode, FitShown, FlowMade, Storable, Sends};
 
-use cell_set::lowest_free;
+use cell_set::{CellSet, lowest_free};
+use srt_connection_members::rows;
 use srt_group_backup_send::sends::send_backup;
 use srt_group_carrier::recording::BackupSend;
 use srt_group_members::states::is_backup;
@@ -25,7 +27,7 @@ use srt_group_polls::refresh::refresh_states;
 use srt_group_sending::broadcast::{above_limit, send_broadcast};
 use srt_group_tables::history::HistoryRing;
 use srt_protocol::error::Error;
-use srt_protocol::received_payload::{CELL, MAX_CELLS, cells_of, put_payload};
+use srt_protocol::received_payload::{CELL, cells_of, put_payload};
 use srt_protocol::time::Timestamp;
 
 // On how many legs the payload was sent, or why not; how many rows of the list are filled, by a refused send too; and what a send leaves of
@@ -50,7 +52,7 @@ fn legs_sent(outcome: Result<(), Error>, mode: u64, rows: usize) -> Result<usize
     Ok(rows)
 }
 
-// The send of the mode: on every active leg, or on the carrier.
+// The send of the mode: on every active leg, or on the carrier, whose payload is kept in the cell.
 fn send_mode(
     mode: u64,
     sending: Sending,
@@ -60,32 +62,43 @@ fn send_mode(
     members: &mut [u64],
     count: usize,
     list: &mut [u64],
-    used: &mut [u64],
+    used: &mut CellSet,
     time: Timestamp,
     size: u64,
-    cell: u64,
+    cell: Option<usize>,
 ) -> BackupSend
     requires lendable { Lendable count ring (backup_tables members.old history.old sources.old list.old used.old) }
     requires numbers_fit { NumbersFit (send_of sending ring (arrays history.old sources.old)) (members_of count members.old) }
-    requires count_le_max_members { (count ≤ max_members) × ((is_backup mode ≡ true → cell < cells_in_word) × (size < lengths_in_word)) }
-    ensures { BackupFlows (InMode mode) (by_mode mode time.0 size cell) cell count sending ring 0
+    requires count_le_max_members { (count ≤ max_members) × (CellByMode mode cell × (size < lengths_in_word)) }
+    ensures { BackupFlows (InMode mode) (by_mode mode time.0 size (cell_or_none cell)) (cell_or_none cell) count sending ring 0
         (backup_tables members.old history.old sources.old list.old used.old) result
         (backup_tables members.new history.new sources.new list.new used.new) }
 {
-    if is_backup(mode) {
-        return send_backup(
-            mode, sending, ring, history, sources, members, count, list, used, time, size, cell,
-        );
-    }
-    let sent = send_broadcast(sending, members, count, list, time, size);
-    let outcome = sent.outcome;
-    let numbers = sent.sending;
-    BackupSend {
-        outcome,
-        sending: numbers,
+    let Some(taken) = cell else {
+        let sent = send_broadcast(sending, members, count, list, time, size);
+        let outcome = sent.outcome;
+        let numbers = sent.sending;
+        return BackupSend {
+            outcome,
+            sending: numbers,
+            ring,
+            sent: sent.sent,
+        };
+    };
+    send_backup(
+        mode,
+        sending,
         ring,
-        sent: sent.sent,
-    }
+        history,
+        sources,
+        members,
+        count,
+        list,
+        used,
+        time,
+        size,
+        taken as u64,
+    )
 }
 
 // The refresh, 23, and the send of the mode.
@@ -97,21 +110,21 @@ fn refresh_and_send(
     sources: &mut [u64],
     members: &mut [u64],
     list: &mut [u64],
-    used: &mut [u64],
+    used: &mut CellSet,
     time: Timestamp,
     size: u64,
-    cell: u64,
+    cell: Option<usize>,
 ) -> GroupSend
     requires lendable { Lendable core.counts.members ring (backup_tables members.old history.old sources.old list.old used.old) }
     requires fit_shown { FitShown core sending ring (backup_tables members.old history.old sources.old list.old used.old) }
-    requires members_le_max_members { (core.counts.members ≤ max_members) × ((is_backup core.mode ≡ true → cell < cells_in_word) × (size < lengths_in_word)) }
-    ensures { FlowMade cell time.0 size core sending ring
+    requires members_le_max_members { (core.counts.members ≤ max_members) × (CellByMode core.mode cell × (size < lengths_in_word)) }
+    ensures { FlowMade (cell_or_none cell) time.0 size core sending ring
         (backup_tables members.old history.old sources.old list.old used.old) result
         (backup_tables members.new history.new sources.new list.new used.new) }
 {
     let after = refresh_states(core, sending, members);
     let count = after.counts.members;
-    if above_limit(members, count, size) {
+    if above_limit(rows(members, count), size) {
         return GroupSend {
             answer: Err(Error::PayloadAboveLimit),
             rows: 0,
@@ -161,7 +174,7 @@ pub fn send(
     sources: &mut [u64],
     store: &mut [u8],
     list: &mut [u64],
-    used: &mut [u64],
+    used: &mut CellSet,
     time: Timestamp,
     payload: &[u8],
 ) -> GroupSend
@@ -185,9 +198,8 @@ pub fn send(
     }
     let size = payload.len() as u64;
     if !is_backup(core.mode) {
-        let no_cell = MAX_CELLS as u64;
         return refresh_and_send(
-            core, sending, ring, history, sources, members, list, used, time, size, no_cell,
+            core, sending, ring, history, sources, members, list, used, time, size, None,
         );
     }
     let lowest = lowest_free(used, cells_of(store.len()));
@@ -211,7 +223,7 @@ pub fn send(
         used,
         time,
         size,
-        cell as u64,
+        Some(cell),
     );
     let answer = sent.answer;
     store_sent(store, cell, payload, answer);

@@ -1,4 +1,5 @@
 // The readiness tests for a valid state. The store is lent for its length, over which the state is valid.
+// Kept (5, 6): C lends each table by its own name and length (docs/TABLES.md), and `Ready` speaks of them all.
 ghost use Rattle.std.specs.Prelude.{length};
 ghost use Rattle.srt_group_model.specs.Guards.{shown, truth};
 ghost use Rattle.srt_group_model.specs.Lent.{call_can_send, call_can_send_with_pacing};
@@ -7,8 +8,9 @@ ghost use Rattle.srt_group_shown.specs.Ready.{Ready, storing, Performs};
 
 use crate::readiness;
 use crate::readiness::Readiness;
+use cell_set::CellSet;
 use srt_group_model::{Core, Identity, Sending};
-use srt_group_tables::history::HistoryRing;
+use srt_group_tables::history::{HistoryRing, HistoryWords};
 use srt_protocol::time::Timestamp;
 
 // `can_send` for a valid state, of which `used` shows the cells in use.
@@ -23,7 +25,7 @@ pub fn can_send(
     history: &[u64],
     sources: &[u64],
     store: &[u8],
-    used: &mut [u64],
+    used: &mut CellSet,
 ) -> Readiness
     requires { Ready (parts identity core sending ring)
         (tables members.old pending.now waiting.now history.now sources.now) (length store.now) used.old }
@@ -33,7 +35,8 @@ pub fn can_send(
         (tables members.new pending.now waiting.now history.now sources.now)
         (storing store.now) used.new }
 {
-    readiness::can_send(core, sending, ring, members, history, used)
+    let words = HistoryWords { ring, history };
+    readiness::can_send(core, sending, &words, members, used)
 }
 
 // `can_send_with_pacing` for a valid state.
@@ -48,7 +51,7 @@ pub fn can_send_with_pacing(
     history: &[u64],
     sources: &[u64],
     store: &[u8],
-    used: &mut [u64],
+    used: &mut CellSet,
     time: Timestamp,
 ) -> Readiness
     requires { Ready (parts identity core sending ring)
@@ -59,5 +62,6 @@ pub fn can_send_with_pacing(
         (tables members.new pending.now waiting.now history.now sources.now)
         (storing store.now) used.new }
 {
-    readiness::can_send_with_pacing(core, sending, ring, members, history, used, time)
+    let words = HistoryWords { ring, history };
+    readiness::can_send_with_pacing(core, sending, &words, members, used, time)
 }

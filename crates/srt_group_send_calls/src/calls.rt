@@ -1,4 +1,5 @@
 // `send` and the readiness tests with their refusals, over the record and the lent tables: 5 and 6, and then what follows them.
+// Kept (5, 6): the host lends record and tables anew to each call; which are changed differs, and a struct of `&mut` needs a clause for each ghost name (tried).
 ghost use Rattle.srt_group_model.specs.Lent.{call_send, call_can_send, call_can_send_with_pacing};
 ghost use Rattle.srt_group_looks.specs.Looks.{truth_code, truth_answer};
 ghost use Rattle.srt_group_shown.specs.Tables.{tables};
@@ -7,10 +8,12 @@ ghost use Rattle.srt_group.specs.Made.{parts_of};
 ghost use Rattle.srt_group_refusals.specs.Promised.{nothing_lent, showing, Promised};
 ghost use Rattle.srt_group_send.specs.Answers.{send_number, send_answer};
 
+use cell_set::WORDS;
 use srt_group::Group;
 use srt_group_refusals::refusals::LentGroup;
 use srt_group_send::{readiness, sending};
 use srt_group_sending::list::SENT_LENGTH;
+use srt_group_tables::history::HistoryWords;
 use srt_protocol::error::Error;
 use srt_protocol::time::Timestamp;
 
@@ -55,7 +58,7 @@ pub fn send(
             rows: 0,
         };
     }
-    let mut used = [0u64; 32];
+    let mut used = [0u64; WORDS];
     let lent = LentGroup {
         group,
         members,
@@ -163,8 +166,9 @@ pub fn can_send(
             answer: Err(error),
         };
     }
-    let mut used = [0u64; 32];
-    let tested = readiness::can_send(core, sending, ring, members, history, &mut used);
+    let words = HistoryWords { ring, history };
+    let mut used = [0u64; WORDS];
+    let tested = readiness::can_send(core, sending, &words, members, &mut used);
     let after = tested.core;
     let numbers = tested.sending;
     let left = tested.ring;
@@ -217,10 +221,9 @@ pub fn can_send_with_pacing(
             answer: Err(error),
         };
     }
-    let mut used = [0u64; 32];
-    let told = readiness::can_send_with_pacing(
-        core, sending, ring, members, history, &mut used, time,
-    );
+    let words = HistoryWords { ring, history };
+    let mut used = [0u64; WORDS];
+    let told = readiness::can_send_with_pacing(core, sending, &words, members, &mut used, time);
     let after = told.core;
     let numbers = told.sending;
     let left = told.ring;

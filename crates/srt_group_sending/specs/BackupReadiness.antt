@@ -6,7 +6,6 @@ use Rattle.srt_group_model.specs.Legs.{remaining_window_packets}
 use Rattle.srt_group_model.specs.Backup.{max_history, backup_member_ready, backup_send_ready}
 use Rattle.srt_group_model.specs.declared.Leg.{Leg}
 use Rattle.srt_group_model.specs.declared.Sending.{Sending}
-use Rattle.srt_connection_members.specs.Members.{members_of}
 use Rattle.srt_group_tables.specs.Ring.{Arrays, word_sequence, send_of}
 use Rattle.srt_group_tables.specs.declared.history.HistoryRing.{HistoryRing}
 
@@ -48,6 +47,6 @@ pub record MemberReady (time : Option ℕ) (x : Sending) (r : HistoryRing) (hist
       → answer ≡ backup_member_ready time (send_of x r a) m
 
 -- the model's answer for every state with these members, these numbers and this history
-pub record BackupReady (n : ℕ) (time : Option ℕ) (x : Sending) (r : HistoryRing) (history t : List ℕ) (answer : Bool) : Type 0 where
-  pub is : (s : State) (a : Arrays) → a.history ≡ history → s.members ≡ members_of n t
+pub record BackupReady (time : Option ℕ) (x : Sending) (r : HistoryRing) (history : List ℕ) (ms : List Member) (answer : Bool) : Type 0 where
+  pub is : (s : State) (a : Arrays) → a.history ≡ history → s.members ≡ ms
       → s.send ≡ send_of x r a → answer ≡ backup_send_ready time s

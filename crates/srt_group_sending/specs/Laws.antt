@@ -1,5 +1,6 @@
 -- What is proved. A reader who trusts the checker need not read it.
 pub mod SentList
+pub mod Rows
 pub mod Broadcast
 pub mod Readiness
 pub mod BackupReadiness

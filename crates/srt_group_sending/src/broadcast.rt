@@ -1,5 +1,6 @@
 // A send in Broadcast: the same payload at the same sequence on every active leg. A leg that fails is marked, and the others are
 // tried all the same.
+// Kept (5, 6): what changes members, history or list takes them one beside the other: of a struct of `&mut` each clause names every field (tried).
 ghost use Rattle.std.specs.Prelude.{◌≡◌, not, ◌&&◌, ◌*◌, ◌≤◌, ◌<◌, length};
 ghost use Rattle.srt_protocol.specs.Sequence.{sequence_further};
 ghost use Rattle.srt_group_model.specs.Tools.{such_that};
@@ -7,16 +8,17 @@ ghost use Rattle.srt_group_model.specs.Legs.{is_connected, can_send};
 ghost use Rattle.srt_group_model.specs.Members.{is_active};
 ghost use Rattle.srt_group_model.specs.Sending.{max_sent, list_size, mark_send_failure, above_limit, sequence_mismatch};
 ghost use Rattle.srt_group_model.specs.Validity.{max_members};
-ghost use Rattle.srt_connection_queue.specs.Rows.{row_size};
-ghost use Rattle.srt_connection_members.specs.Members.{member_at, members_of, HasRow, Changed};
+ghost use Rattle.srt_connection_queue.specs.Rows.{row_size, member_of};
+ghost use Rattle.srt_connection_members.specs.Members.{members_in, HasRow, Changed};
 ghost use Rattle.srt_group_sending.specs.SentList.{send_tables};
 ghost use Rattle.srt_group_sending.specs.Broadcast.{number_for_send, is_mismatched, AttemptedAt, Attempted, SentBroadcast};
 ghost use Rattle.srt_group_model.specs.State.{with_number};
 
 use crate::list::{OWN_PAYLOAD, write_sent};
 use srt_connection::legs::{can_send, is_connected, send_shared_with_sequence};
-use srt_connection_members::{leg_at, membership_at, put_leg_at, sender_at};
-use srt_group_members::states::{BROKEN, UNSTABLE, first_active, is_active_at, turn_at};
+use srt_connection_members::{leg_at, membership_at, put_leg_at, row, rows};
+use srt_connection_queue::rows::{Row, leg, sender};
+use srt_group_members::states::{BROKEN, UNSTABLE, first_active, is_active, turn_at};
 use srt_group_model::{Leg, Sending};
 use srt_protocol::error::Error;
 use srt_protocol::srt_packet::word_further;
@@ -40,6 +42,7 @@ fn has_full_window(leg: Leg) -> bool
 }
 
 // A full window opens again once the peer acknowledges; any other failure is for good.
+#[tactic(auto, using(crate::specs::Laws::Broadcast::marked_unstable, crate::specs::Laws::Broadcast::marked_broken))]
 pub fn mark_send_failure_at(members: &mut [u64], index: usize)
     requires { HasRow index members.old }
     ensures { Changed index mark_send_failure members.old members.new }
@@ -54,53 +57,40 @@ pub fn mark_send_failure_at(members: &mut [u64], index: usize)
 // ---- before anything is sent
 
 // Whether the payload is above the limit of the first active leg.
-pub fn above_limit(members: &[u64], count: usize, size: u64) -> bool
-    requires { count * row_size ≤ length members.now }
-    ensures { result ≡ above_limit size (members_of count members.now) }
+pub fn above_limit(rows: &[Row], size: u64) -> bool
+    ensures { result ≡ above_limit size (members_in rows.now) }
 {
-    let first = first_active(members, count);
+    let first = first_active(rows);
     let Some(index) = first else {
         return false;
     };
-    let leg = leg_at(members, index);
-    leg.link.limit < size
+    leg(&rows[index]).link.limit < size
 }
 
-// The group's send number, else the next number of the leg at the index.
-pub fn sequence_for_send(members: &[u64], sending: Sending, index: usize) -> u64
-    requires { HasRow index members.now }
-    ensures { result ≡ number_for_send sending (member_at members.now index) }
+// The group's send number, else the next number of the member's leg.
+#[tactic(auto, using(crate::specs::Laws::Broadcast::numbered_number, crate::specs::Laws::Broadcast::leg_number))]
+pub fn sequence_for_send(row: &Row, sending: Sending) -> u64
+    ensures { result ≡ number_for_send sending (member_of row.now) }
 {
     if sending.numbered != 0 {
         return sending.next;
     }
-    let sender = sender_at(members, index);
-    sender.next
+    sender(row).next
 }
 
 // Active, and not at the sequence.
-fn is_mismatched_at(members: &[u64], index: usize, sequence: u64) -> bool
-    requires { HasRow index members.now }
-    ensures { result ≡ is_mismatched sequence (member_at members.now index) }
+#[tactic(auto, unfolding(crate::specs::Broadcast::is_mismatched))]
+fn is_mismatched(row: &Row, sequence: u64) -> bool
+    ensures { result ≡ is_mismatched sequence (member_of row.now) }
 {
-    if !is_active_at(members, index) {
-        return false;
-    }
-    let sender = sender_at(members, index);
-    sender.next != sequence
+    is_active(row) && sender(row).next != sequence
 }
 
 // Whether an active leg is not at the sequence.
-pub fn sequence_mismatch(members: &[u64], count: usize, sequence: u64) -> bool
-    requires { count * row_size ≤ length members.now }
-    ensures { result ≡ sequence_mismatch sequence (such_that is_active (members_of count members.now)) }
+pub fn sequence_mismatch(rows: &[Row], sequence: u64) -> bool
+    ensures { result ≡ sequence_mismatch sequence (such_that is_active (members_in rows.now)) }
 {
-    for i in 0..count {
-        if is_mismatched_at(members, i, sequence) {
-            return true;
-        }
-    }
-    false
+    rows.iter().any(|row| is_mismatched(row, sequence))
 }
 
 // ---- the attempts
@@ -122,21 +112,22 @@ fn attempt_send_at(
         (send_tables members.old list.old) result
         (send_tables members.new list.new) }
 {
-    if !is_active_at(members, index) {
+    if !is_active(row(members, index)) {
         return sent;
     }
     let result = send_shared_with_sequence(leg_at(members, index), time, size, sequence);
-    let Some(leg) = result else {
+    let Some(after) = result else {
         mark_send_failure_at(members, index);
         return sent;
     };
     let membership = membership_at(members, index);
-    put_leg_at(members, index, leg);
+    put_leg_at(members, index, after);
     write_sent(list, sent, membership.id, sequence, OWN_PAYLOAD, time, time);
     sent + 1
 }
 
 // An attempt on every active member: how many were successful.
+#[tactic(auto, using(crate::specs::Laws::Broadcast::attempting_done))]
 fn attempt_sends(
     members: &mut [u64],
     count: usize,
@@ -182,7 +173,7 @@ pub fn send_broadcast(
         (send_tables members.old list.old) result
         (send_tables members.new list.new) }
 {
-    let found = first_active(members, count);
+    let found = first_active(rows(members, count));
     let Some(first) = found else {
         return BroadcastSend {
             outcome: Err(Error::NoActiveMember),
@@ -190,8 +181,8 @@ pub fn send_broadcast(
             sent: 0,
         };
     };
-    let sequence = sequence_for_send(members, sending, first);
-    if sequence_mismatch(members, count, sequence) {
+    let sequence = sequence_for_send(row(members, first), sending);
+    if sequence_mismatch(rows(members, count), sequence) {
         return BroadcastSend {
             outcome: Err(Error::SequenceMismatch),
             sending,

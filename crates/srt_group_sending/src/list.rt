@@ -1,5 +1,6 @@
 // The lent list of sends: rows of five words, one for each successful send in its order. The rows behind the last send, and the
 // words behind all rows, stay as they were.
+// Kept (6): the list is the words that a host lends; `count` is the row to write, and the rows behind it stay as they were.
 ghost use Rattle.std.specs.Prelude.{◌≡◌, [], ◌∷◌, ◌+◌, ◌*◌, ◌≤◌, length};
 ghost use Rattle.srt_group_model.specs.Sending.{sent_row_size};
 ghost use Rattle.srt_group_sending.specs.SentList.{sent_row, sent_words, Wrote};

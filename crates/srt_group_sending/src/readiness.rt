@@ -1,9 +1,9 @@
 // Whether and when a send can go.
-ghost use Rattle.std.specs.Prelude.{◌≡◌, ◌*◌, ◌≤◌, length};
+ghost use Rattle.std.specs.Prelude.{◌≡◌};
 ghost use Rattle.srt_group_model.specs.Tools.{any};
-ghost use Rattle.srt_group_model.specs.Backup.{max_history, ready_to_send, group_time_until_send};
-ghost use Rattle.srt_connection_queue.specs.Rows.{row_size};
-ghost use Rattle.srt_connection_members.specs.Members.{member_at, members_of, HasRow};
+ghost use Rattle.srt_group_model.specs.Backup.{ready_to_send, group_time_until_send};
+ghost use Rattle.srt_connection_queue.specs.Rows.{member_of};
+ghost use Rattle.srt_connection_members.specs.Members.{members_in};
 ghost use Rattle.srt_group_sending.specs.Readiness.{pacing_in, sends_now, may_carry, least_with};
 ghost use Rattle.srt_group_sending.specs.BackupReadiness.{is_other_carrier, send_number, front_sequence, replay_length, replay_sequence, gap_allows};
 ghost use Rattle.srt_group_sending.specs.BackupReadiness.{stands_at, could_take_over, MemberReady, BackupReady};
@@ -11,11 +11,11 @@ ghost use Rattle.srt_group_sending.specs.BackupReadiness.{stands_at, could_take_
 use srt_connection::legs::{
     can_send, can_send_with_pacing, remaining_window_packets, time_until_send,
 };
-use srt_connection_members::{leg_at, membership_at};
+use srt_connection_queue::rows::{Row, leg, membership};
 use srt_group_members::promotion::promotion;
-use srt_group_members::states::{ACTIVE, STANDBY, first_active, is_active_at};
+use srt_group_members::states::{ACTIVE, STANDBY, first_active, is_active};
 use srt_group_model::{Leg, Sending};
-use srt_group_tables::history::{HistoryRing, sequence_at};
+use srt_group_tables::history::HistoryWords;
 use srt_protocol::time::Timestamp;
 
 // The wait of a group with no member that could send, in microseconds.
@@ -32,28 +32,22 @@ fn ready_to_send(leg: Leg, pacing: Option<Timestamp>) -> bool
     }
 }
 
-fn sends_now_at(members: &[u64], index: usize, pacing: Option<Timestamp>) -> bool
-    requires { HasRow index members.now }
-    ensures { result ≡ sends_now (pacing_in pacing) (member_at members.now index) }
+fn sends_now(row: &Row, pacing: Option<Timestamp>) -> bool
+    ensures { result ≡ sends_now (pacing_in pacing) (member_of row.now) }
 {
-    is_active_at(members, index) && ready_to_send(leg_at(members, index), pacing)
+    is_active(row) && ready_to_send(leg(row), pacing)
 }
 
-pub fn broadcast_send_ready(members: &[u64], count: usize, pacing: Option<Timestamp>) -> bool
-    requires { count * row_size ≤ length members.now }
-    ensures { result ≡ any (sends_now (pacing_in pacing)) (members_of count members.now) }
+pub fn broadcast_send_ready(rows: &[Row], pacing: Option<Timestamp>) -> bool
+    ensures { result ≡ any (sends_now (pacing_in pacing)) (members_in rows.now) }
 {
-    for i in 0..count {
-        if sends_now_at(members, i, pacing) {
-            return true;
-        }
-    }
-    false
+    rows.iter().any(|row| sends_now(row, pacing))
 }
 
 // ---- how long until a send
 
 // Active or Standby: one that sends, or that could take over.
+#[tactic(auto, using(crate::specs::Laws::Readiness::active_carries, crate::specs::Laws::Readiness::standby_carries))]
 fn may_carry(state: u64) -> bool
     ensures { result ≡ may_carry state }
 {
@@ -63,21 +57,16 @@ fn may_carry(state: u64) -> bool
     state == STANDBY
 }
 
-// The least of the wait of the member at the index, if it is Active or Standby, and of the least of those behind it.
-fn least_wait_with(
-    members: &[u64],
-    index: usize,
-    time: Timestamp,
-    least: Option<u64>,
-) -> Option<u64>
-    requires { HasRow index members.now }
-    ensures { result ≡ least_with time.0 (member_at members.now index) (least) }
+// The least of the wait of a member, if it is Active or Standby, and of the least of those behind it.
+#[tactic(auto, using(crate::specs::Laws::Readiness::least_without, crate::specs::Laws::Readiness::least_alone, crate::specs::Laws::Readiness::least_now, crate::specs::Laws::Readiness::least_before))]
+fn least_wait_with(row: &Row, time: Timestamp, least: Option<u64>) -> Option<u64>
+    ensures { result ≡ least_with time.0 (member_of row.now) least }
 {
-    let membership = membership_at(members, index);
+    let membership = membership(row);
     if !may_carry(membership.state) {
         return least;
     }
-    let wait = time_until_send(leg_at(members, index), time);
+    let wait = time_until_send(leg(row), time);
     let Some(other) = least else {
         return Some(wait);
     };
@@ -88,13 +77,13 @@ fn least_wait_with(
 }
 
 // The least time until a send of the Active and Standby members.
-pub fn group_time_until_send(members: &[u64], count: usize, time: Timestamp) -> u64
-    requires { count * row_size ≤ length members.now }
-    ensures { result ≡ group_time_until_send time.0 (members_of count members.now) }
+#[tactic(auto, using(crate::specs::Laws::Readiness::least_start, crate::specs::Laws::Readiness::wait_none, crate::specs::Laws::Readiness::wait_least))]
+pub fn group_time_until_send(rows: &[Row], time: Timestamp) -> u64
+    ensures { result ≡ group_time_until_send time.0 (members_in rows.now) }
 {
     let mut least = None;
-    for index in (0..count).rev() {
-        least = least_wait_with(members, index, time, least);
+    for index in (0..rows.len()).rev() {
+        least = least_wait_with(&rows[index], time, least);
     }
     let Some(wait) = least else {
         return NO_MEMBER_WAIT;
@@ -105,6 +94,7 @@ pub fn group_time_until_send(members: &[u64], count: usize, time: Timestamp) -> 
 // ---- Backup: whether the next send could go, with the take-over that it would make
 
 // Another member carried the last send.
+#[tactic(auto, using(crate::specs::Laws::BackupReadiness::no_carrier, crate::specs::Laws::BackupReadiness::other_carrier))]
 pub fn takes_over(sending: Sending, id: u64) -> bool
     ensures { result ≡ is_other_carrier id sending }
 {
@@ -115,25 +105,25 @@ pub fn takes_over(sending: Sending, id: u64) -> bool
 }
 
 // The sequence of the oldest entry of the history.
-fn front_sequence(ring: HistoryRing, history: &[u64]) -> Option<u64>
-    requires { length history.now ≡ max_history }
-    ensures { result ≡ front_sequence ring history.now }
+#[tactic(auto, using(crate::specs::Laws::BackupReadiness::front_missing, crate::specs::Laws::BackupReadiness::front_there))]
+fn front_sequence(history: &HistoryWords) -> Option<u64>
+    ensures { result ≡ front_sequence history.now.ring history.now.history.now }
 {
-    if ring.length == 0 {
+    if history.ring.length == 0 {
         return None;
     }
-    Some(sequence_at(ring, history, 0))
+    Some(history.sequence_at(0))
 }
 
 // The sequence at which a leg has to stand: that of the first entry that it would replay, else the group's send number.
-fn replay_sequence(takes: bool, sending: Sending, ring: HistoryRing, history: &[u64]) -> Option<u64>
-    requires { length history.now ≡ max_history }
-    ensures { result ≡ replay_sequence takes sending ring history.now }
+#[tactic(auto, using(crate::specs::Laws::BackupReadiness::no_replay, crate::specs::Laws::BackupReadiness::nothing_to_replay, crate::specs::Laws::BackupReadiness::replay_from))]
+fn replay_sequence(takes: bool, sending: Sending, history: &HistoryWords) -> Option<u64>
+    ensures { result ≡ replay_sequence takes sending history.now.ring history.now.history.now }
 {
     if !takes {
         return sending.next_send_sequence();
     }
-    let front = front_sequence(ring, history);
+    let front = front_sequence(history);
     let Some(sequence) = front else {
         return sending.next_send_sequence();
     };
@@ -141,6 +131,7 @@ fn replay_sequence(takes: bool, sending: Sending, ring: HistoryRing, history: &[
 }
 
 // A history that lost entries cannot be replayed.
+#[tactic(auto, using(crate::specs::Laws::BackupReadiness::allows_without, crate::specs::Laws::BackupReadiness::allows_none, crate::specs::Laws::BackupReadiness::allows_whole))]
 fn gap_allows(takes: bool, replay: usize, gap: u64) -> bool
     ensures { result ≡ gap_allows takes replay gap }
 {
@@ -154,6 +145,7 @@ fn gap_allows(takes: bool, replay: usize, gap: u64) -> bool
 }
 
 // Whether the leg stands at the sequence, or can be brought there because nothing of it is in flight.
+#[tactic(auto, using(crate::specs::Laws::BackupReadiness::stands_anywhere, crate::specs::Laws::BackupReadiness::stands_there, crate::specs::Laws::BackupReadiness::stands_elsewhere))]
 fn stands_at(leg: Leg, sequence: Option<u64>) -> bool
     ensures { result ≡ stands_at sequence leg }
 {
@@ -167,80 +159,75 @@ fn stands_at(leg: Leg, sequence: Option<u64>) -> bool
 }
 
 // How many entries a leg would replay.
-fn replay_length(takes: bool, ring: HistoryRing) -> usize
-    ensures { result ≡ replay_length takes ring }
+#[tactic(auto, using(crate::specs::Laws::BackupReadiness::replays_all, crate::specs::Laws::BackupReadiness::replays_none))]
+fn replay_length(takes: bool, history: &HistoryWords) -> usize
+    ensures { result ≡ replay_length takes history.now.ring }
 {
     if takes {
-        return ring.length;
+        return history.ring.length;
     }
     0
 }
 
 // Whether a leg that can send could make the take-over, with room for the send behind it.
-fn could_take_over(leg: Leg, id: u64, sending: Sending, ring: HistoryRing, history: &[u64]) -> bool
-    requires { length history.now ≡ max_history }
-    ensures { result ≡ could_take_over id sending ring history.now leg }
+#[tactic(auto, using(crate::specs::Laws::BackupReadiness::gap_refuses, crate::specs::Laws::BackupReadiness::window_refuses, crate::specs::Laws::BackupReadiness::stands_decides))]
+fn could_take_over(leg: Leg, id: u64, sending: Sending, history: &HistoryWords) -> bool
+    ensures { result ≡ could_take_over id sending history.now.ring history.now.history.now leg }
 {
     let takes = takes_over(sending, id);
-    let replay = replay_length(takes, ring);
+    let replay = replay_length(takes, history);
     if !gap_allows(takes, replay, sending.gap) {
         return false;
     }
     if remaining_window_packets(leg) <= replay as u64 {
         return false;
     }
-    let sequence = replay_sequence(takes, sending, ring, history);
+    let sequence = replay_sequence(takes, sending, history);
     stands_at(leg, sequence)
 }
 
-// Whether the member at the index could carry the next send.
+// Whether a member could carry the next send.
+#[tactic(auto, using(crate::specs::Laws::BackupReadiness::cannot_send_yet, crate::specs::Laws::BackupReadiness::has_no_sender, crate::specs::Laws::BackupReadiness::ready_if_takes_over))]
 pub fn backup_member_ready(
-    members: &[u64],
-    index: usize,
+    row: &Row,
     sending: Sending,
-    ring: HistoryRing,
-    history: &[u64],
+    history: &HistoryWords,
     pacing: Option<Timestamp>,
 ) -> bool
-    requires has_row { HasRow index members.now }
-    requires history_len { length history.now ≡ max_history }
-    ensures { MemberReady (pacing_in pacing) sending ring history.now
-        (member_at members.now index) result }
+    ensures { MemberReady (pacing_in pacing) sending history.now.ring history.now.history.now
+        (member_of row.now) result }
 {
-    let leg = leg_at(members, index);
+    let leg = leg(row);
     if !ready_to_send(leg, pacing) {
         return false;
     }
     if leg.sender.started != 1 {
         return false;
     }
-    let membership = membership_at(members, index);
-    could_take_over(leg, membership.id, sending, ring, history)
+    let membership = membership(row);
+    could_take_over(leg, membership.id, sending, history)
 }
 
 // Whether the first active member could carry the next send or, if its window is full, the one that would be promoted.
 pub fn backup_send_ready(
-    members: &[u64],
-    count: usize,
+    rows: &[Row],
     sending: Sending,
-    ring: HistoryRing,
-    history: &[u64],
+    history: &HistoryWords,
     pacing: Option<Timestamp>,
 ) -> bool
-    requires row_size_in_bounds { count * row_size ≤ length members.now }
-    requires history_len { length history.now ≡ max_history }
-    ensures { BackupReady count (pacing_in pacing) sending ring history.now members.now result }
+    ensures { BackupReady (pacing_in pacing) sending history.now.ring history.now.history.now (members_in rows.now) result }
 {
-    let found = first_active(members, count);
+    let found = first_active(rows);
     let Some(index) = found else {
         return false;
     };
-    if can_send(leg_at(members, index)) {
-        return backup_member_ready(members, index, sending, ring, history, pacing);
+    let row = &rows[index];
+    if can_send(leg(row)) {
+        return backup_member_ready(row, sending, history, pacing);
     }
-    let standby = promotion(members, count);
+    let standby = promotion(rows);
     let Some(promoted) = standby else {
         return false;
     };
-    backup_member_ready(members, promoted, sending, ring, history, pacing)
+    backup_member_ready(&rows[promoted], sending, history, pacing)
 }

@@ -1,10 +1,10 @@
 // The skip: when a missing packet is passed over for good. A gap is skipped once it is given up and every queue was found empty.
+// Kept (5, 6): a step that moves tables takes them one beside the other: a struct of `&mut` asks for loans that a call does not need, and for a clause to each field, that its slice is still the caller's (tried); what holds of them is one fact, `Usable` or `Deliverable`.
 ghost use Rattle.std.specs.Prelude.{◌≡◌, List, ℕ, length};
 ghost use Rattle.srt_group_model.specs.Tools.{is_set};
 ghost use Rattle.srt_group_model.specs.State.{State};
 ghost use Rattle.srt_group_model.specs.Delivery.{skip_nearest, skip_after, base_stays, skip_given_up_gap};
 ghost use Rattle.srt_group_model.specs.Polls.{deliver_nearest, deliver_next};
-ghost use Rattle.cell_set.specs.Bits.{set_size};
 ghost use Rattle.srt_group_shown.specs.Shown.{Rest, shown};
 ghost use Rattle.srt_group_shown.specs.Tables.{receive_tables};
 ghost use Rattle.srt_group_collecting.specs.Leaves.{every, Usable};
@@ -13,6 +13,7 @@ ghost use Rattle.srt_group_collecting.specs.Follows.{Follows};
 ghost use Rattle.srt_group_delivery.specs.Poll.{Polls};
 ghost use Rattle.srt_group_skip.specs.Skip.{PollsFrom};
 
+use cell_set::CellSet;
 use srt_group_collecting::collecting::{Emptied, collect_until_empty, is_held};
 use srt_group_delivery::delivery::{Poll, deliver, gap_given_up, give_waiting, set_base, skip_to};
 use srt_group_model::Core;
@@ -22,15 +23,15 @@ use srt_protocol::time::Timestamp;
 // ---- the skip
 
 // The nearest held packet becomes the base, the distance counts as skipped, and the packet is delivered.
+#[tactic(auto, using(srt_group_collecting::specs::Laws::Follows::follows_same))]
 fn skip_to_nearest(
     core: Core,
     members: &mut [u64],
     pending: &mut [u64],
-    used: &mut [u64],
+    used: &mut CellSet,
     base: u64,
 ) -> Poll
-    requires deliverable { Deliverable core members.old pending.old }
-    requires used_len { length used.old ≡ set_size }
+    requires { Deliverable core members.old pending.old }
     ensures by_index { (waiting : List ℕ) (tested : State) (time : ℕ) → Polls (skip_nearest tested time base) core
         (receive_tables members.old pending.old waiting) result
         (receive_tables members.new pending.new waiting) }
@@ -49,16 +50,16 @@ fn skip_to_nearest(
 }
 
 // What is given after the queues were collected: a waiting event first. The gap is skipped only if they ended empty.
+#[tactic(auto, using(srt_group_delivery::specs::Laws::Delivery::deliverable))]
 fn skip_after(
     collected: Emptied,
     members: &mut [u64],
     pending: &mut [u64],
     waiting: &mut [u64],
-    used: &mut [u64],
+    used: &mut CellSet,
     base: u64,
 ) -> Poll
-    requires usable { Usable collected.core (receive_tables members.old pending.old waiting.old) }
-    requires used_len { length used.old ≡ set_size }
+    requires { Usable collected.core (receive_tables members.old pending.old waiting.old) }
     ensures polls { (tested : State) (time : ℕ) → Polls
         (λ run. skip_after time tested base (record { emptied = is_set collected.emptied; run = run })) collected.core
         (receive_tables members.old pending.old waiting.old) result
@@ -77,6 +78,7 @@ fn skip_after(
 }
 
 // The base stays where it is if it is held, if the continuation is asked for, or while the gap is not given up.
+#[tactic(auto, using(crate::specs::Laws::Skip::stays_held, crate::specs::Laws::Skip::stays_continuing, crate::specs::Laws::Skip::stays_until_given_up))]
 fn base_stays(core: Core, members: &[u64], pending: &[u64], time: Timestamp, base: u64) -> bool
     requires { Deliverable core members.now pending.now }
     ensures { (others : Rest) (waiting : List ℕ)
@@ -92,19 +94,19 @@ fn base_stays(core: Core, members: &[u64], pending: &[u64], time: Timestamp, bas
 }
 
 // The give-up test is made once, before the queues are collected: what they bring does not take it back.
+#[tactic(auto, using(srt_group_delivery::specs::Laws::Delivery::deliverable))]
 fn skip_given_up_gap(
     core: Core,
     members: &mut [u64],
     pending: &mut [u64],
     waiting: &mut [u64],
-    used: &mut [u64],
+    used: &mut CellSet,
     time: Timestamp,
     base: u64,
     budget: u64,
 ) -> Poll
     requires usable { Usable core (receive_tables members.old pending.old waiting.old) }
     requires waiting_value { core.counts.waiting ≡ 0 }
-    requires used_len { length used.old ≡ set_size }
     ensures polls_from { PollsFrom every (skip_given_up_gap time.0 base) core budget
         (receive_tables members.old pending.old waiting.old) result
         (receive_tables members.new pending.new waiting.new) }
@@ -121,9 +123,9 @@ fn skip_given_up_gap(
 // ---- the packet at the base
 
 // The nearest held packet sets the base, and is delivered.
-fn deliver_nearest(core: Core, members: &mut [u64], pending: &mut [u64], used: &mut [u64]) -> Poll
-    requires deliverable { Deliverable core members.old pending.old }
-    requires used_len { length used.old ≡ set_size }
+#[tactic(auto, using(srt_group_collecting::specs::Laws::Follows::follows_same))]
+fn deliver_nearest(core: Core, members: &mut [u64], pending: &mut [u64], used: &mut CellSet) -> Poll
+    requires { Deliverable core members.old pending.old }
     ensures by_index { (waiting : List ℕ) → Polls deliver_nearest core
         (receive_tables members.old pending.old waiting) result
         (receive_tables members.new pending.new waiting) }
@@ -142,18 +144,18 @@ fn deliver_nearest(core: Core, members: &mut [u64], pending: &mut [u64], used: &
 }
 
 // The packet at the base; while none is set, the nearest packet sets it.
+#[tactic(auto, using(srt_group_delivery::specs::Laws::Delivery::deliverable))]
 pub fn deliver_next(
     core: Core,
     members: &mut [u64],
     pending: &mut [u64],
     waiting: &mut [u64],
-    used: &mut [u64],
+    used: &mut CellSet,
     time: Timestamp,
     budget: u64,
 ) -> Poll
     requires usable { Usable core (receive_tables members.old pending.old waiting.old) }
     requires waiting_value { core.counts.waiting ≡ 0 }
-    requires used_len { length used.old ≡ set_size }
     ensures polls_from { PollsFrom every (deliver_next time.0) core budget
         (receive_tables members.old pending.old waiting.old) result
         (receive_tables members.new pending.new waiting.new) }

@@ -6,15 +6,15 @@ ghost use Rattle.cell_set.specs.Marks.{Marking, Marks};
 ghost use Rattle.srt_connection_queue.specs.Rows.{row_size, member_of};
 ghost use Rattle.srt_group_state.specs.Cells.{event_cells};
 
-use cell_set::mark;
-use srt_connection_queue::rows::{MAX_QUEUED, ring_of};
+use cell_set::{CellSet, mark};
+use srt_connection_queue::rows::{MAX_QUEUED, Row, ring_of};
 use srt_group_model::Event;
 use srt_group_rules::rows::queue_event;
 
 // The event so many places after the front of a queue.
 #[tactic(auto, using(crate::specs::Laws::Cells::event_read))]
-pub fn queued_event(row: &[u64], index: u64) -> Event
-    requires { (length row.now ≡ row_size) × (index < length (member_of row.now).queue) }
+pub fn queued_event(row: &Row, index: u64) -> Event
+    requires { index < length (member_of row.now).queue }
     ensures { at_place index (member_of row.now).queue ≡ Some result }
 {
     let ring = ring_of(row);
@@ -22,8 +22,9 @@ pub fn queued_event(row: &[u64], index: u64) -> Event
 }
 
 // Marks the cell of a queued event: only data has one.
+// Kept (5): see passes.rt.
 #[tactic(auto, using(crate::specs::Laws::Cells::no_data_passed, crate::specs::Laws::Cells::data_marked))]
-pub fn mark_event(used: &mut [u64], cells: usize, event: Event) -> bool
+pub fn mark_event(used: &mut CellSet, cells: usize, event: Event) -> bool
     requires { Marking cells used.old }
     ensures { Marks cells (event_cells event) used.old result used.new }
 {

@@ -1,6 +1,8 @@
 // Document 01's code 6 in one pass over each lent table and one over the history: each row is read once, tested by itself and against the
 // rows before it, and the cell that it names is marked. The held packets go before the members: each is added to the account of its
 // member, or to that of the group, and then each member is compared with its own.
+// Kept (5, 6): this is the test of what lent words hold, so nothing is known of them yet: a `History` states the very bounds that the pass
+// tests, and the set's marking is what each call of it changes.
 ghost use Rattle.std.specs.Prelude.{◌≡◌, false, ◌++◌, ◌*◌, ◌≤◌, length};
 ghost use Rattle.srt_group_model.specs.Tools.{each};
 ghost use Rattle.srt_group_model.specs.Members.{id_of};
@@ -9,18 +11,19 @@ ghost use Rattle.srt_group_model.specs.Sound.{pending_cells, history_cells};
 ghost use Rattle.srt_group_model.specs.Validity.{max_members, max_pending, one_twice};
 ghost use Rattle.cell_set.specs.Marks.{Marking};
 ghost use Rattle.srt_connection_queue.specs.Rows.{row_size, member_of};
-ghost use Rattle.srt_connection_members.specs.Members.{members_of, members_size};
+ghost use Rattle.srt_connection_members.specs.Members.{members_of, members_in, members_size};
 ghost use Rattle.srt_group_tables.specs.Packets.{pending_size, packets};
 ghost use Rattle.srt_group_tables.specs.Ring.{Long, arrays, entries_of};
 ghost use Rattle.srt_group_rules.specs.Rules.{history_breaks_rule};
 ghost use Rattle.srt_group_state.specs.Passes.{Passes, PlacesPacket, QueueGood, MemberGood, RowsGood, TablesGood};
 
 use crate::cells::mark_event;
-use cell_set::mark;
-use srt_connection_queue::rows::{MAX_QUEUED, ROW, leg, membership, ring_of};
+use cell_set::{CellSet, mark};
+use srt_connection_members::rows;
+use srt_connection_queue::rows::{MAX_QUEUED, Row, leg, membership, ring_of};
 use srt_group_members::accounts::{NO_PACKETS, is_unlike, reserve_packet};
 use srt_group_model::{Account, Counts, Packet};
-use srt_group_rules::ids::{NOBODY, id_twice};
+use srt_group_rules::ids::{NOBODY, PLACES, id_twice};
 use srt_group_rules::ranges::membership_out_of_range;
 use srt_group_rules::rows::{
     entry_breaks_rule, event_breaks_rule, leg_breaks_rule, packet_breaks_rule, queue_event,
@@ -33,9 +36,8 @@ use srt_group_tables::pending::packet;
 
 // A leg's queue, whose data count for as many as are reserved. A queue of more than MAX_QUEUED events is not walked: its ring has no
 // place for them.
-fn queue_breaks_rule(row: &[u64], reserved: u64, cells: usize, used: &mut [u64]) -> bool
-    requires row_len { length row.now ≡ row_size }
-    requires marking { Marking cells used.old }
+fn queue_breaks_rule(row: &Row, reserved: u64, cells: usize, used: &mut CellSet) -> bool
+    requires { Marking cells used.old }
     ensures { Passes cells (QueueGood reserved (member_of row.now).queue) (queue_cells (member_of row.now))
         used.old result used.new }
 {
@@ -59,9 +61,8 @@ fn queue_breaks_rule(row: &[u64], reserved: u64, cells: usize, used: &mut [u64])
 }
 
 // A member's row, whose held packets have this account: its leg reserves what they count and what is queued.
-fn member_breaks_rule(row: &[u64], held: Account, cells: usize, used: &mut [u64]) -> bool
-    requires row_len { length row.now ≡ row_size }
-    requires marking { Marking cells used.old }
+fn member_breaks_rule(row: &Row, held: Account, cells: usize, used: &mut CellSet) -> bool
+    requires { Marking cells used.old }
     ensures { Passes cells (MemberGood held (member_of row.now)) (queue_cells (member_of row.now))
         used.old result used.new }
 {
@@ -82,18 +83,17 @@ fn member_breaks_rule(row: &[u64], held: Account, cells: usize, used: &mut [u64]
 // The place of the account that a packet is added to, if the packet breaks no rule, its sequence is not below `lowest`, and its cell
 // can be marked.
 fn place_packet(
-    members: &[u64],
-    count: usize,
-    table: &[u8; 64],
+    rows: &[Row],
+    table: &[u8; PLACES],
     packet: Packet,
     lowest: u64,
     cells: usize,
-    used: &mut [u64],
+    used: &mut CellSet,
 ) -> Option<usize>
-    requires row_size_in_bounds { (count * row_size ≤ length members.now) × (count ≤ max_members) }
-    requires members_value { one_twice (each id_of (members_of count members.now)) ≡ false }
+    requires few { length rows.now ≤ max_members }
+    requires distinct { one_twice (each id_of (members_in rows.now)) ≡ false }
     requires marking { Marking cells used.old }
-    ensures { PlacesPacket cells (members_of count members.now) lowest packet used.old result used.new }
+    ensures { PlacesPacket cells (members_in rows.now) lowest packet used.old result used.new }
 {
     if packet_breaks_rule(packet) | (packet.content.sequence < lowest) {
         return None;
@@ -101,25 +101,24 @@ fn place_packet(
     if !mark(used, cells, packet.content.cell) {
         return None;
     }
-    account_place(members, count, table, packet)
+    account_place(rows, table, packet)
 }
 
 fn rows_break_rule(
     own: Account,
-    members: &[u64],
-    count: usize,
-    table: &[u8; 64],
+    rows: &[Row],
+    table: &[u8; PLACES],
     pending: &[u64],
     held: usize,
     cells: usize,
-    used: &mut [u64],
+    used: &mut CellSet,
 ) -> bool
-    requires row_size_in_bounds { (count * row_size ≤ length members.now) × (count ≤ max_members) }
-    requires members_value { one_twice (each id_of (members_of count members.now)) ≡ false }
+    requires few { length rows.now ≤ max_members }
+    requires distinct { one_twice (each id_of (members_in rows.now)) ≡ false }
     requires pending_size_in_bounds { (pending_size ≤ length pending.now) × (held ≤ max_pending) }
     requires marking { Marking cells used.old }
-    ensures { Passes cells (RowsGood (members_of count members.now) (packets held pending.now) own)
-        (pending_cells (packets held pending.now) ++ queued_cells (members_of count members.now))
+    ensures { Passes cells (RowsGood (members_in rows.now) (packets held pending.now) own)
+        (pending_cells (packets held pending.now) ++ queued_cells (members_in rows.now))
         used.old result used.new }
 {
     let none = NO_PACKETS;
@@ -127,7 +126,7 @@ fn rows_break_rule(
     let mut lowest: u64 = 0;
     for at in 0..held {
         let next = packet(pending, at);
-        let found = place_packet(members, count, table, next, lowest, cells, used);
+        let found = place_packet(rows, table, next, lowest, cells, used);
         let Some(place) = found else {
             return true; // no account takes it
         };
@@ -138,10 +137,8 @@ fn rows_break_rule(
     if is_unlike(own, accounts[OWN_PLACE]) {
         return true;
     }
-    for index in 0..count {
-        let start = index * ROW;
-        let account = accounts[index];
-        if member_breaks_rule(&members[start..start + ROW], account, cells, used) {
+    for (index, row) in rows.iter().enumerate() {
+        if member_breaks_rule(row, accounts[index], cells, used) {
             return true;
         }
     }
@@ -155,7 +152,7 @@ pub fn tables_break_rule(
     members: &[u64],
     pending: &[u64],
     cells: usize,
-    used: &mut [u64],
+    used: &mut CellSet,
 ) -> bool
     requires members_size_in_bounds { (members_size ≤ length members.now) × (counts.members ≤ max_members) }
     requires pending_size_in_bounds { (pending_size ≤ length pending.now) × (counts.pending ≤ max_pending) }
@@ -165,20 +162,12 @@ pub fn tables_break_rule(
         (pending_cells (packets counts.pending pending.now) ++ queued_cells (members_of counts.members members.now))
         used.old result used.new }
 {
-    let mut table = [NOBODY; 64];
-    if id_twice(members, counts.members, &mut table) {
+    let rows = rows(members, counts.members);
+    let mut table = [NOBODY; PLACES];
+    if id_twice(rows, &mut table) {
         return true;
     }
-    rows_break_rule(
-        own,
-        members,
-        counts.members,
-        &table,
-        pending,
-        counts.pending,
-        cells,
-        used,
-    )
+    rows_break_rule(own, rows, &table, pending, counts.pending, cells, used)
 }
 
 // ---- the history
@@ -189,7 +178,7 @@ pub fn history_breaks_rule(
     history: &[u64],
     sources: &[u64],
     cells: usize,
-    used: &mut [u64],
+    used: &mut CellSet,
 ) -> bool
     requires long { Long (arrays history.now sources.now) }
     requires marking { Marking cells used.old }

@@ -1,4 +1,6 @@
 // Document 01's code 6, "the lent state breaks a rule". The history is read only where it has entries.
+// Kept (5, 6): code 6 is what makes a lent group a valid one: before it the parts are words that the host lends through C, and a struct of
+// them with their bounds is made after it.
 ghost use Rattle.std.specs.Prelude.{◌≡◌, not, ◌≤◌, length};
 ghost use Rattle.srt_group_model.specs.Validity.{any_above};
 ghost use Rattle.srt_protocol.specs.Handshake.{has_group_mask};
@@ -13,7 +15,7 @@ ghost use Rattle.srt_group_state.specs.Tested.{Tested};
 ghost use Rattle.srt_group_state.specs.Outside.{core_counts, words_out_of_range, numbers_break_rule};
 
 use crate::passes::{history_breaks_rule, tables_break_rule};
-use cell_set::clear;
+use cell_set::{CellSet, clear};
 use srt_connection::legs::{LARGEST_32, LARGEST_SEQUENCE};
 use srt_connection_members::MAX_MEMBERS;
 use srt_group_model::{Core, Identity, Sending};
@@ -83,11 +85,11 @@ pub fn is_invalid(
     history: &[u64],
     sources: &[u64],
     cells: usize,
-    used: &mut [u64],
+    used: &mut CellSet,
 ) -> bool
     requires members_size_in_bounds { (members_size ≤ length members.now) × ((pending_size ≤ length pending.now) × (waiting_size ≤ length waiting.now)) }
     requires long { Long (arrays history.now sources.now) }
-    requires cells_le_max_cells { (cells ≤ max_cells) × (length used.old ≡ set_size) }
+    requires cells_le_max_cells { cells ≤ max_cells }
     ensures { Tested cells (state_of (parts identity core sending ring)
         (tables members.now pending.now waiting.now history.now sources.now))
         result used.new }

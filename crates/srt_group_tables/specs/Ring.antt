@@ -88,7 +88,7 @@ after_push r =
     then record { start = r.start; length = r.length + 1 }
     else record { start = (r.start % max_history + 1) % max_history; length = r.length }
 
--- a ring from which the front was dropped, over arrays with these words and any source times
+-- a ring from which the front was dropped, over arrays with these words and any source times: no longer than it was
 pub record Trimmed (sequence : ℕ) (history : List ℕ) (before after : HistoryRing) : Type 0 where
-  pub fits : after.length ≤ max_history
+  pub fits : after.length ≤ before.length
   pub is : (a : Arrays) → a.history ≡ history → entries_of after a ≡ drop_before sequence (entries_of before a)

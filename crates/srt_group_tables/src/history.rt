@@ -1,5 +1,6 @@
 // What the Backup carrier sent and its peer has not acknowledged: a ring over two lent arrays of 512 places. A word of
 // `history` is the sequence of an entry, its cell and its length; `sources` has its source time.
+// Kept (5, 6): `store` changes both arrays; `entry_at` also serves the test of code 6, whose ring may be too long for a `History`.
 ghost use Rattle.std.specs.Prelude.{◌≡◌, [], ◌+◌, ◌%◌, ◌≤◌, ◌<◌, length, get_or};
 ghost use Rattle.srt_group_model.specs.Backup.{max_history};
 ghost use Rattle.srt_group_tables.specs.Ring.{Long, arrays, cells_in_word, lengths_in_word, entry_word, word_sequence, word_cell, word_length, Packs, entry_at, with_entry, next_place, after_push, Trimmed};
@@ -58,24 +59,14 @@ pub fn length_of(word: u64) -> u64
 
 // The place of the entry so many behind the oldest; behind the newest is where the next one goes.
 pub fn place(ring: HistoryRing, index: usize) -> usize
-    requires { index ≤ max_history }
     ensures { (result ≡ (ring.start + index) % max_history) × (result < max_history) }
 {
-    (ring.start % MAX_HISTORY + index) % MAX_HISTORY
-}
-
-// The sequence of the entry so many behind the oldest.
-pub fn sequence_at(ring: HistoryRing, history: &[u64], index: usize) -> u64
-    requires { (index ≤ max_history) × (length history.now ≡ max_history) }
-    ensures { result ≡ word_sequence (get_or history.now ((ring.start + index) % max_history) 0) }
-{
-    let at = place(ring, index);
-    sequence_of(history[at])
+    ring.start.wrapping_add(index) % MAX_HISTORY
 }
 
 // The entry so many behind the oldest.
 pub fn entry_at(ring: HistoryRing, history: &[u64], sources: &[u64], index: usize) -> Entry
-    requires { (index ≤ max_history) × Long (arrays history.now sources.now) }
+    requires { Long (arrays history.now sources.now) }
     ensures { result ≡ entry_at ring (arrays history.now sources.now) index }
 {
     let at = place(ring, index);
@@ -91,7 +82,7 @@ pub fn entry_at(ring: HistoryRing, history: &[u64], sources: &[u64], index: usiz
 
 // An entry is stored behind the newest, in the place that `push_back` then counts in.
 pub fn store(ring: HistoryRing, history: &mut [u64], sources: &mut [u64], entry: Entry)
-    requires length_le_max_history { (ring.length ≤ max_history) × Long (arrays history.old sources.old) }
+    requires long { Long (arrays history.old sources.old) }
     requires packs { Packs entry.sequence entry.cell entry.length }
     ensures { arrays history.new sources.new
         ≡ with_entry (next_place ring) entry (arrays history.old sources.old) }
@@ -118,22 +109,76 @@ pub fn push_back(ring: HistoryRing) -> HistoryRing
     }
 }
 
-// The ring without the entries at the front that are before `oldest`.
-#[tactic(auto, using(crate::specs::Laws::Ring::trimmed_one, crate::specs::Laws::Ring::trimmed_there, crate::specs::Laws::Ring::trimmed_all))]
-pub fn drop_before(ring: HistoryRing, history: &[u64], oldest: u64) -> HistoryRing
-    requires { (ring.length ≤ max_history) × (length history.now ≡ max_history) }
-    ensures { Trimmed oldest history.now ring result }
-{
-    let mut start = ring.start;
-    for dropped in 0..ring.length {
-        let at = start % MAX_HISTORY;
-        if !word_before(sequence_of(history[at]), oldest) {
-            return HistoryRing {
-                start,
-                length: ring.length - dropped,
-            };
-        }
-        start = (at + 1) % MAX_HISTORY;
+// ---- a history, lent to read
+
+// The functions that change a history take the parts: of a struct of `&mut` fields each clause would name what every field holds at the
+// end by a ghost name of its own.
+
+// The ring with the words of its entries, which show all but their source times.
+#[derive(Clone, Copy)]
+pub struct HistoryWords<'a> {
+    pub ring: HistoryRing,
+    pub history: &'a [u64],
+    ghost history_long: { length history.now ≡ max_history },
+}
+
+// A ring of at most 512 entries, with all that is kept of them.
+#[derive(Clone, Copy)]
+pub struct History<'a, 'b> {
+    pub words: HistoryWords<'a>,
+    pub sources: &'b [u64],
+    ghost ring_fits: { words.ring.length ≤ max_history },
+    ghost sources_long: { length sources.now ≡ max_history },
+}
+
+impl HistoryWords<'_> {
+    // The word of the entry so many behind the oldest.
+    fn word_at(&self, index: usize) -> u64
+        ensures { result ≡ get_or self.now.history.now ((self.now.ring.start + index) % max_history) 0 }
+    {
+        self.history[place(self.ring, index)]
     }
-    HistoryRing { start, length: 0 }
+
+    // Its sequence.
+    pub fn sequence_at(&self, index: usize) -> u64
+        ensures { result ≡ word_sequence (get_or self.now.history.now ((self.now.ring.start + index) % max_history) 0) }
+    {
+        sequence_of(self.word_at(index))
+    }
+
+    // Its cell.
+    pub fn cell_at(&self, index: usize) -> u64
+        ensures { result ≡ word_cell (get_or self.now.history.now ((self.now.ring.start + index) % max_history) 0) }
+    {
+        cell_of(self.word_at(index))
+    }
+
+    // The ring without the entries at the front that are before `oldest`.
+    #[tactic(auto, using(crate::specs::Laws::Ring::trimmed_one, crate::specs::Laws::Ring::trimmed_there, crate::specs::Laws::Ring::trimmed_all))]
+    pub fn drop_before(&self, oldest: u64) -> HistoryRing
+        ensures { Trimmed oldest self.now.history.now self.now.ring result }
+    {
+        let ring = self.ring;
+        let mut start = ring.start;
+        for dropped in 0..ring.length {
+            let at = start % MAX_HISTORY;
+            if !word_before(sequence_of(self.history[at]), oldest) {
+                return HistoryRing {
+                    start,
+                    length: ring.length - dropped,
+                };
+            }
+            start = (at + 1) % MAX_HISTORY;
+        }
+        HistoryRing { start, length: 0 }
+    }
+}
+
+impl History<'_, '_> {
+    // The entry so many behind the oldest.
+    pub fn entry_at(&self, index: usize) -> Entry
+        ensures { result ≡ entry_at self.now.words.ring (arrays self.now.words.history.now self.now.sources.now) index }
+    {
+        entry_at(self.words.ring, self.words.history, self.sources, index)
+    }
 }

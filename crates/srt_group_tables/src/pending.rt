@@ -3,6 +3,7 @@
 // index is a ring: `count` of its words are in use, from the one on that the free word of the first row tells. What the others hold
 // is free, and so is the row of a cell that none in use names. A packet put in or taken out moves one word of each packet on its
 // shorter side, and no row.
+// Kept (3, 5, 6): the index is a ring, so its packets are no slice to walk; a struct lent to read would be made anew at each read between changes.
 ghost use Rattle.std.specs.Prelude.{◌≡◌, true, false, ◌+◌, ◌-◌, ◌*◌, ◌≤◌, ◌<◌, length, ltb};
 ghost use Rattle.word_rows.specs.Tab.{removed};
 ghost use Rattle.srt_protocol.specs.Sequence.{sequence_distance};
@@ -176,9 +177,9 @@ fn place(pending: &[u64], count: usize, sequence: u64) -> usize
     if sequence <= sequence_at(pending, 0) {
         return 0;
     }
-    // Over a ring, whose words are not one slice in order: so no `partition_point`.
     let mut low: usize = 0;
     let mut high: usize = last;
+    // Over a ring, whose words are not one slice in order: so no `partition_point`.
     while low < high {
         let middle = low + (high - low) / 2;
         if sequence_at(pending, middle) < sequence {

@@ -1,5 +1,6 @@
 // The group's lifecycle events that are not given out yet: rows of three words in a lent table, first come first. The first
 // `count` rows are in use; what the others hold is free.
+// Kept (6): both change the table, and the record has the count.
 ghost use Rattle.std.specs.Prelude.{◌≡◌, [], ◌∷◌, ◌++◌, ◌+◌, ◌-◌, ◌≤◌, ◌<◌, length, drop};
 ghost use Rattle.srt_group_model.specs.Validity.{max_waiting};
 ghost use Rattle.srt_group_tables.specs.Waitings.{waiting_size, waiting_row_size, waiting_of, waiting_words, waiting_at, waitings, HoldsWaiting};

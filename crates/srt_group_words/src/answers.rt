@@ -1,4 +1,5 @@
 // The numbers of an answer over the first words of a lent row. Its other words stay.
+// Kept (5): C lends a slice, and may lend a longer one.
 ghost use Rattle.std.specs.Prelude.{◌≡◌, ◌∷◌, ◌≤◌, length};
 ghost use Rattle.std.specs.Prelude.{Some};
 ghost use Rattle.srt_protocol.specs.Cells.{overwritten};

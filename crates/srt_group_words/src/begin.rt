@@ -1,11 +1,12 @@
 // How a call begins whose record is a row of words: 5 and 6 by number.
-ghost use Rattle.std.specs.Prelude.{◌≡◌, ◌≤◌, length};
-ghost use Rattle.cell_set.specs.Bits.{set_size};
+// Kept (5, 6): C lends each table by its name and length (docs/TABLES.md), so each is a parameter of its own.
+ghost use Rattle.std.specs.Prelude.{◌≤◌, length};
 ghost use Rattle.srt_group_shown.specs.Tables.{tables};
 ghost use Rattle.srt_group_words.specs.Record.{record_size};
 ghost use Rattle.srt_group_words.specs.Words.{BegunStored, BegunPoll};
 
 use crate::record::read_group;
+use cell_set::CellSet;
 use srt_group_refusals::refusals::LentGroup;
 use srt_protocol::error::outcome_number;
 
@@ -19,10 +20,9 @@ pub fn begin_stored(
     history: &[u64],
     sources: &[u64],
     store: usize,
-    used: &mut [u64],
+    used: &mut CellSet,
 ) -> u32
-    requires record_size_in_bounds { record_size ≤ length «record».now }
-    requires used_len { length used.old ≡ set_size }
+    requires { record_size ≤ length «record».now }
     ensures { BegunStored «record».now
         (tables members.now pending.now waiting.now history.now sources.now)
         store result used.new }
@@ -51,10 +51,9 @@ pub fn begin_poll(
     sources: &[u64],
     store: usize,
     output: usize,
-    used: &mut [u64],
+    used: &mut CellSet,
 ) -> u32
-    requires record_size_in_bounds { record_size ≤ length «record».now }
-    requires used_len { length used.old ≡ set_size }
+    requires { record_size ≤ length «record».now }
     ensures { BegunPoll «record».now
         (tables members.now pending.now waiting.now history.now sources.now)
         store output result used.new }

@@ -1,5 +1,6 @@
 // The tables' operations under plain names, for bench/tables to time beside Rust's BTreeMap and VecDeque. A measuring crate: no
 // product links it.
+// Kept (5, 6): each table is a parameter of its own, as the measuring program lends it over the C interface.
 
 #![tactic(auto)]
 
@@ -14,34 +15,21 @@ ghost use Rattle.srt_connection_members.specs.Members.{HasRow, members_size};
 ghost use Rattle.srt_group_tables.specs.Packets.{pending_size, packets};
 ghost use Rattle.srt_group_tables.specs.Ring.{Long, arrays};
 ghost use Rattle.srt_group_tables.specs.Waitings.{waiting_size};
-ghost use Rattle.table_bench.specs.Made.{data_of, InArrays};
+ghost use Rattle.table_bench.specs.Made.{InArrays};
 
-use cell_set::lowest_free;
+use bench_made::{core, data, sending};
+use cell_set::{WORDS, lowest_free};
 use srt_connection_members::{pop_at, push_at};
-use srt_group_members::accounts::NO_PACKETS;
-use srt_group_model::{
-    Core, Counts, Data, Entry, Event, Identity, Packet, Receiving, Sending, Visit,
-};
+use srt_group_model::{Entry, Event, Identity, Packet};
 use srt_group_state::validity::is_invalid;
-use srt_group_tables::history::{HistoryRing, drop_before, push_back, store};
+use srt_group_tables::history::{HistoryRing, HistoryWords, push_back, store};
 use srt_group_tables::pending;
 use srt_protocol::error::outcome_number;
 use srt_protocol::received_payload::MAX_CELLS;
 use srt_protocol::time::Timestamp;
 
-fn data(sequence: u64, cell: u64) -> Data
-    ensures { result ≡ data_of sequence cell }
-{
-    Data {
-        sequence,
-        count: 1,
-        message: 0,
-        timestamp: 0,
-        source: Timestamp(sequence),
-        cell,
-        length: 1316,
-    }
-}
+// The bytes of a payload.
+const LENGTH: u64 = 1316;
 
 // The place of a sequence, or MAX_CELLS.
 #[unsafe(no_mangle)]
@@ -67,7 +55,7 @@ pub extern "C" fn table_insert(pending: &mut [u64], count: usize, sequence: u64,
     let packet = Packet {
         member: 1,
         owned: 0,
-        content: data(sequence, cell),
+        content: data(sequence, cell, LENGTH),
     };
     pending::insert(pending, count, packet);
 }
@@ -87,7 +75,7 @@ pub extern "C" fn table_push(members: &mut [u64], index: usize, sequence: u64, c
     let event = Event {
         kind: 0,
         reason: 0,
-        content: data(sequence, cell),
+        content: data(sequence, cell, LENGTH),
     };
     let pushed = push_at(members, index, event);
     outcome_number(pushed)
@@ -115,7 +103,7 @@ fn sent(
     let entry = Entry {
         sequence,
         cell: 0,
-        length: 1316,
+        length: LENGTH,
         source: Timestamp(sequence),
     };
     store(ring, history, sources, entry);
@@ -123,7 +111,11 @@ fn sent(
     if sequence < kept {
         return longer;
     }
-    drop_before(longer, history, sequence - kept)
+    let lent = HistoryWords {
+        ring: longer,
+        history,
+    };
+    lent.drop_before(sequence - kept)
 }
 
 // So many times an entry goes into a history, and those more than `kept` sequences older than it go out. Answers the length.
@@ -145,39 +137,6 @@ pub extern "C" fn table_history(
         ring = sent(ring, history, sources, sequence, kept);
     }
     ring.length
-}
-
-// The numbers of a group with so many members and held packets.
-fn core(many: usize, held: usize) -> Core {
-    Core {
-        mode: 0,
-        peer: 0,
-        counts: Counts {
-            members: many,
-            pending: held,
-            waiting: 0,
-        },
-        receiving: Receiving {
-            based: 1,
-            base: 0,
-            skipped: 0,
-        },
-        visit: Visit {
-            continuation: 0,
-            round: 0,
-        },
-        own: NO_PACKETS,
-    }
-}
-
-fn sending() -> Sending {
-    Sending {
-        numbered: 0,
-        next: 0,
-        carried: 0,
-        carrier: 0,
-        gap: 0,
-    }
 }
 
 // Document 01's code 6 over so many members, held packets and sends of a group that holds none itself, and then the lowest free cell;
@@ -204,10 +163,10 @@ pub extern "C" fn table_rules(
         start: 0,
         length: entries,
     };
-    let mut used = [0u64; 32];
+    let mut used = [0; WORDS];
     if is_invalid(
         identity,
-        core(many, held),
+        core(many, held, 1),
         sending(),
         ring,
         members,

@@ -27,4 +27,4 @@ returns c =
     IsFirst-from_position _ _ c.position.result (λ w. w ≢ 2 ^ 64 - 1) (λ w. w ≡ 2 ^ 64 - 1) c.position.ensures.ran
     (YieldsList-from_slice c.args.used.now cc) (λ x q h. search rules) (λ x q h. search rules)
     in
-    rw c.unwrap_or.ensures (first_of c.args.used.now c.requires c.position.result first)
+    rw c.unwrap_or.ensures (first_of c.args.used.now c.told-used c.position.result first)

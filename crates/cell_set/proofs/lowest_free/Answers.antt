@@ -9,9 +9,9 @@ returns-then-at-ge-WORDS c = none_free _ _ (λ n h. c.first_word-at.ensures.pass
 pub returns-then-cell-cells : goal.returns-then-cell-cells
 returns-then-cell-cells c =
     found_in_word _ _ _ c.first_word-at.ensures c.if-at-ge-WORDS.false
-    (c.type_inv.used _).fits c.if-cell-cells.true
+    (c.fits-used _) c.if-cell-cells.true
 
 pub returns : goal.returns
 returns c =
     beyond_store _ _ _ c.first_word-at.ensures c.if-at-ge-WORDS.false
-    (c.type_inv.used _).fits c.if-cell-cells.false
+    (c.fits-used _) c.if-cell-cells.false

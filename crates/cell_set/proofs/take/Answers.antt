@@ -3,4 +3,4 @@ use Rattle.cell_set.specs.Laws.Sets.{cell_taken}
 use Rattle.cell_set.proofs.take.Goals as goal
 
 pub returns : goal.returns
-returns c = cell_taken _ _ c.requires.0 c.requires.1
+returns c = cell_taken _ _ c.told-used c.requires

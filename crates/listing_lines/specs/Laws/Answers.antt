@@ -11,6 +11,12 @@ use Rattle.listing_lines.specs.Text.{texts}
 use Rattle.listing_lines.specs.Answers.{state_after, answers_from, written_for_blocks}
 use Rattle.listing_lines.specs.Laws.Text.{texts_append}
 
+-- the state after some lines, and after those behind them
+pub state_append : {S : Type 0} (after : S → List ℕ → S) (state : S) (a b : List (List ℕ)) → state_after after state (a ++ b) ≡ state_after after (state_after after state a) b
+unfolding state_after
+state_append after state [] b = refl
+state_append after state (numbers ∷ a) b = state_append after (after state numbers) a b
+
 module _ {S : Type 0} (after : S → List ℕ → S) (told : S → List ℕ → List ℕ) where
   -- the answers to some lines, and those to the lines behind them
   pub answers_append :

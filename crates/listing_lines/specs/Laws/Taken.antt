@@ -1,42 +1,20 @@
--- What is proved of the definitions in specs/Taken.antt, with what the proofs need: what the bytes up to a line feed end and leave open,
--- what one line fills, and how the lines of a block come one by one.
-use Rattle.std.specs.Prelude.{ℕ, ◌+◌, ◌-◌, ◌*◌, ◌<◌, ◌≤◌, true, cond, ◌≡◌, refl, List, [], ◌∷◌, ◌++◌, leb, eqb, length, drop, Option, Some, None, Result}
-use Rattle.std.proofs.Common.{arith, true≢false, ap, ◌∙◌, append-nil, append_assoc, length-append, length-drop, length-take-le, leb-false, ne_eqb}
-use Rattle.std.proofs.Math.Bool.{false}
-use Rattle.std.proofs.Math.Path.{sym}
-use Rattle.std.proofs.lemmas.List.{map-append}
+-- What is proved of the definitions in specs/Taken.antt, with what the proofs need: what one line fills, and how the lines of a block
+-- come one by one.
+use Rattle.std.specs.Prelude.{ℕ, ◌+◌, ◌*◌, ◌<◌, ◌≤◌, cond, ◌≡◌, refl, List, [], ◌∷◌, ◌++◌, map, leb, length, take, Some, None, Result}
+use Rattle.std.proofs.Common.{arith, ap, sym, ◌∙◌, append-nil, length-append, leb-false, ne_eqb}
+use Rattle.std.proofs.Math.ListN.{set}
 use Rattle.std.proofs.Math.Seq.{append_snoc}
-use Rattle.std.proofs.lemmas.Option.{MatchOption-at_some, MatchOption-at_none}
+use Rattle.std.proofs.lemmas.List.{take-set, take_more_set}
 use denote.Ref.{Bor}
-use Rattle.listing.specs.Line.{cut, well_formed, line_numbers}
-use Rattle.listing.specs.Stream.{has_feed, first_line, after_feed, ended, open_line, last_line}
-use Rattle.listing.specs.Held.{Held, HeldRead, TakenFrom, WholeRead, whole_here}
+use Rattle.listing.specs.Line.{well_formed, line_numbers}
+use Rattle.listing.specs.Stream.{first_line, after_feed, ended, open_line, last_line}
+use Rattle.listing.specs.Held.{Held, HeldRead, TakenFrom}
 use Rattle.listing.specs.declared.MalformedLine.{MalformedLine}
-use Rattle.listing.specs.declared.Taken.{Taken}
+use Rattle.listing.specs.declared.stream.OpenLine.{OpenLine}
 use Rattle.listing.proofs.Cases.{by_cases}
-use Rattle.listing.proofs.StreamLaws.{ended_append, open_line_append, ended_without_feed, first_line_all, held_nothing, held_is_nothing, held_some}
-use Rattle.listing.proofs.WholeLaws.{both, cut_append, feed_behind_first_line}
-use Rattle.listing_lines.specs.Taken.{LinesTakenFrom, LineTakenFrom, LastLineTaken, part}
-use Rattle.listing_lines.specs.Laws.Rows.{back, lent_long, cut_one, cut_behind}
-use Rattle.listing_lines.specs.declared.LinesTaken.{LinesTaken}
-use Rattle.listing_lines.specs.declared.taking.LineTaken.{LineTaken}
-
--- ---- the bytes up to a line feed
-
--- a line feed ends the line before it and leaves none open
-ended_first_line :
-    (before stream : List ℕ) → has_feed stream ≡ true
-    → (ended before (first_line stream ++ (10 ∷ [])) ≡ (before ++ first_line stream) ∷ [])
-    × (open_line before (first_line stream ++ (10 ∷ [])) ≡ [])
-unfolding ended open_line has_feed first_line
-ended_first_line before [] h = absurd (true≢false (sym h))
-ended_first_line before (byte ∷ stream) h = by_cases (eqb byte 10)
-    (λ t. (rw (t, append-nil before), rw t))
-    (λ f.
-    let more = ended_first_line (before ++ (byte ∷ [])) stream (rw f at h) in (
-      rw (f, f) (more.0 ∙ ap (λ (line : List ℕ). line ∷ []) (append_snoc before byte (first_line stream))),
-      rw (f, f) more.1,
-    ))
+use Rattle.listing.proofs.StreamLaws.{ended_at_feed, ended_without_feed, first_line_all, held_nothing, held_is_nothing, held_some}
+use Rattle.listing.proofs.WholeLaws.{feed_behind_first_line}
+use Rattle.listing_lines.specs.Taken.{LinesTakenFrom, LineTakenFrom, LastLineTaken}
 
 -- ---- what one line fills
 
@@ -45,195 +23,109 @@ long_malformed : (line : List ℕ) → 88 < length line → line_numbers 8 11 li
 unfolding well_formed line_numbers
 long_malformed line h = let other : length line ≡ 8 * 11 → ⊥ = λ e. omega arith in rw (ne_eqb (length line) (8 * 11) other)
 
--- a line that a buffer of 88 bytes or more holds is read as its numbers
+-- a line that is held with room for 88 bytes or more is read as its numbers
 pub held_numbers :
-    (buffer line : List ℕ) (size : ℕ) (row row_after : List ℕ) (told : Result (Unit {0}) MalformedLine) → 88 ≤ length buffer → length row ≡ 8
-    → HeldRead 11 buffer size row row_after told → Held line buffer size → row_after ≡ line_numbers 8 11 line
-held_numbers buffer line size row row_after told room eight read held = by_cases (leb (length line) (length buffer))
+    {n : ℕ} (held : OpenLine n) (line row row_after : List ℕ) (told : Result (Unit {0}) MalformedLine) → 88 ≤ n → length row ≡ 8
+    → HeldRead 11 held row row_after told → Held line held → row_after ≡ line_numbers 8 11 line
+held_numbers {n} held line row row_after told room eight read holds = by_cases (leb (length line) n)
     (λ short. put ∙ rw short)
     (λ long.
-    let more = leb-false (length line) (length buffer) long in
+    let more = leb-false (length line) n long in
     put ∙ (rw long (sym (long_malformed line (omega arith)))))
   where
-    put : row_after ≡ cond (leb (length line) (length buffer)) (line_numbers 8 11 line) (0 ∷ 0 ∷ 0 ∷ 0 ∷ 0 ∷ 0 ∷ 0 ∷ 0 ∷ [])
-    put = rw eight at (read.put line held)
+    put : row_after ≡ cond (leb (length line) n) (line_numbers 8 11 line) (0 ∷ 0 ∷ 0 ∷ 0 ∷ 0 ∷ 0 ∷ 0 ∷ 0 ∷ [])
+    put = rw eight at (read.put line holds)
 
--- a line that a line feed ended fills a row
-line_filled :
-    (block buffer : List ℕ) (size : ℕ) (row between row_after : List ℕ) (rest : Bor (List ℕ)) → has_feed block ≡ true
-    → rest.now ≡ after_feed block → length between ≡ length buffer → length row ≡ 8 → length row_after ≡ 8
-    → ((line : List ℕ) → Held line buffer size → row_after ≡ line_numbers 8 11 (line ++ first_line block))
-    → LineTakenFrom block buffer size row between row_after (record { rest = rest; size = 0; count = 1 })
-line_filled block buffer size row between row_after rest feed behind same eight long numbers =
-    let long_front = length-append (first_line block) (10 ∷ []) in
+-- a block without line feed is held
+pub none_ended :
+    {n : ℕ} (block : List ℕ) (held after : OpenLine n) (row : List ℕ) → TakenFrom block held after None → LineTakenFrom block held after row None
+none_ended block held after row took =
+    record { taken = (took.behind, λ line h. rw (first_line_all block took.behind).0 at (took.holds line h)) }
+
+-- a line that a line feed ended is read
+pub line_ended :
+    {n : ℕ} (block : List ℕ) (held between after : OpenLine n) (row row_after : List ℕ) (told : Result (Unit {0}) MalformedLine) (rest : Bor (List ℕ))
+    → TakenFrom block held between (Some rest) → HeldRead 11 between row row_after told → 88 ≤ n → length row ≡ 8
+    → after.size ≡ 0 → LineTakenFrom block held after row_after (Some rest)
+line_ended block held between after row row_after told rest took read room eight none =
     record {
-      front = first_line block ++ (10 ∷ []);
-      split = feed_behind_first_line block feed ∙ rw (behind, append_snoc (first_line block) 10 (after_feed block));
-      moves = omega arith;
-      one = omega arith;
-      lines =
-          record {
-            same_buffer = same;
-            same_rows = omega arith;
-            few = omega arith;
-            filled = λ line held.
-                rw ((ended_first_line line block feed).0, cut_one 8 row_after long)
-                (ap (λ (r : List ℕ). r ∷ []) (numbers line held));
-            held = λ line held. rw (ended_first_line line block feed).1 (held_nothing between);
-          };
+      taken = (
+        took.behind.0,
+        took.behind.1,
+        held_nothing after none,
+        λ line h. held_numbers between (line ++ first_line block) row row_after told room eight read (took.holds line h),
+      );
     }
-
--- a line is taken from a block: it ended and is read, or it is held
-module _ (block buffer : List ℕ) (size : ℕ) (row between : List ℕ) (taken : Taken) (start : 0 < length block) (room : 88 ≤ length buffer) (eight : length row ≡ 8) (took : TakenFrom block buffer size between taken) where
-  pub taken_ended :
-      (rest : Bor (List ℕ)) (row_after : List ℕ) (told : Result (Unit {0}) MalformedLine) → taken.rest ≡ Some rest → length row_after ≡ length row
-      → HeldRead 11 between taken.size row row_after told
-      → LineTakenFrom block buffer size row between row_after (record { rest = rest; size = 0; count = 1 })
-  taken_ended rest row_after told e long read =
-      let behind = MatchOption-at_some (has_feed block ≡ false) (λ (r : Bor (List ℕ)). (has_feed block ≡ true) × (r.now ≡ after_feed block)) rest e took.rest in
-      line_filled block buffer size row between row_after rest behind.0 behind.1 took.same eight (omega arith)
-      (λ line held.
-      held_numbers between (line ++ first_line block) taken.size row row_after told (omega (arith, took.same)) eight read (took.held line held))
-
-  pub taken_open :
-      (rest : Bor (List ℕ)) → taken.rest ≡ None → rest.now ≡ []
-      → LineTakenFrom block buffer size row between row (record { rest = rest; size = taken.size; count = 0 })
-  unfolding cut
-  taken_open rest e nothing =
-      record {
-        front = block;
-        split = rw (nothing, append-nil block);
-        moves = start;
-        one = omega arith;
-        lines =
-            record {
-              same_buffer = took.same;
-              same_rows = refl;
-              few = omega arith;
-              filled = λ line held. rw (ended_without_feed line block none).0;
-              held = λ line held.
-                  rw ((ended_without_feed line block none).1, ← (first_line_all block none).0) (took.held line held);
-            };
-      }
-    where
-      none : has_feed block ≡ false
-      none = MatchOption-at_none (has_feed block ≡ false) (λ (r : Bor (List ℕ)). (has_feed block ≡ true) × (r.now ≡ after_feed block)) e took.rest
-
--- a well-formed line that stands whole at a block's start is read from there
-pub whole_taken :
-    (block buffer row row_after : List ℕ) (told : Option (Bor (List ℕ))) (rest : Bor (List ℕ)) → length row ≡ 8
-    → length row_after ≡ length row → WholeRead block 11 row row_after told → told ≡ Some rest
-    → LineTakenFrom block buffer 0 row buffer row_after (record { rest = rest; size = 0; count = 1 })
-whole_taken block buffer row row_after told rest eight long whole e =
-    let found = MatchOption-at_some (whole_here (length row) 11 block ≡ false)
-    (λ (r : Bor (List ℕ)). (whole_here (length row) 11 block ≡ true) × (r.now ≡ after_feed block)) rest e whole.found in
-    let parts = both (has_feed block) (well_formed (length row) 11 (first_line block)) found.0 in
-    line_filled block buffer 0 row buffer row_after rest parts.0 found.1 refl eight (omega arith)
-    (λ line held. rw (held_is_nothing line buffer held) (rw eight at (whole.put found.0)))
 
 -- ---- the lines of a block, one by one
 
+-- a line began before a block, and the rest is left of the block: what is held now, with which the rest ends and leaves open the same
+pub record Behind {n : ℕ} (start block rest : List ℕ) (after : OpenLine n) (rows : List (List ℕ)) : Type 0 where
+  pub now : List ℕ
+  pub holds : Held now after
+  pub filled : map (line_numbers 8 11) (ended start block) ≡ rows ++ map (line_numbers 8 11) (ended now rest)
+  pub leaves : open_line start block ≡ open_line now rest
+
 -- the front of a block is taken, and the rest is left
-pub record TakenSoFar (block rest buffer : List ℕ) (size : ℕ) (rows buffer_after rows_after : List ℕ) (taken : LinesTaken) : Type 0 where
-  pub front : List ℕ
-  pub split : block ≡ front ++ rest
-  pub lines : LinesTakenFrom front buffer size rows buffer_after rows_after taken
+pub record TakenSoFar {n : ℕ} (block rest : List ℕ) (held after : OpenLine n) (rows : List (List ℕ)) (count : ℕ) : Type 0 where
+  pub few : count + length rest ≤ length block
+  pub behind : (start : List ℕ) → Held start held → Behind start block rest after (take count rows)
 
-pub none_so_far :
-    (block buffer : List ℕ) (size : ℕ) (rows : List ℕ) → TakenSoFar block block buffer size rows buffer rows (record { count = 0; size = size })
-unfolding cut ended open_line
-none_so_far block buffer size rows =
+pub none_so_far : {n : ℕ} (block : List ℕ) (held : OpenLine n) (rows : List (List ℕ)) → TakenSoFar block block held held rows 0
+none_so_far block held rows =
+    record { few = omega arith; behind = λ start h. record { now = start; holds = h; filled = refl; leaves = refl } }
+
+-- where nothing is left all is taken
+pub all_taken :
+    {n : ℕ} {block : List ℕ} {held after : OpenLine n} {rows : List (List ℕ)} {count : ℕ} (rest : List ℕ)
+    → TakenSoFar block rest held after rows count → length rest ≤ 0 → LinesTakenFrom block held after rows count
+unfolding ended open_line
+all_taken {block = block} {after = after} {rows = rows} {count = count} [] so none =
     record {
-      front = [];
-      split = refl;
-      lines =
-          record {
-            same_buffer = refl;
-            same_rows = refl;
-            few = omega arith;
-            filled = λ line held. refl;
-            held = λ line held. held;
-          };
+      few = omega (arith, so.few);
+      filled = λ line h. sym (append-nil (take count rows)) ∙ sym (so.behind line h).filled;
+      open_held = λ line h. rw (so.behind line h).leaves (so.behind line h).holds;
     }
+all_taken (byte ∷ rest) so none = absurd (omega arith)
 
-module _ {block rest buffer : List ℕ} {size : ℕ} {rows buffer_between rows_between : List ℕ} {count size_between : ℕ} (first : TakenSoFar block rest buffer size rows buffer_between rows_between (record { count = count; size = size_between })) where
-  -- how many rows there are
-  pub few_so_far : count + length rest ≤ length block
-  few_so_far = omega (arith, first.lines.few, ap length first.split, length-append first.front rest)
+module _ {n : ℕ} {block rest : List ℕ} {held between : OpenLine n} {rows : List (List ℕ)} {count : ℕ} (so : TakenSoFar block rest held between rows count) {after : OpenLine n} (row : List ℕ) where
+  -- a line more
+  pub one_more :
+      (left : Bor (List ℕ)) → count < length rows → LineTakenFrom rest between after row (Some left)
+      → TakenSoFar block left.now held after (set rows count row) (count + 1)
+  one_more left inside step =
+      let feed = step.taken.0 in
+      let is = step.taken.1 in
+      let split = ap length (feed_behind_first_line rest feed) ∙ length-append (first_line rest) (10 ∷ after_feed rest) in
+      let shown = take_more_set rows count row inside in
+      record {
+        few = rw is (omega (arith, so.few));
+        behind = λ start h.
+            let b = so.behind start h in
+            let ends = ended_at_feed b.now rest feed in
+            record {
+              now = [];
+              holds = step.taken.2;
+              filled = b.filled ∙ rw (shown, is, ends.0, step.taken.3 b.now b.holds)
+                  (sym (append_snoc (take count rows) (line_numbers 8 11 (b.now ++ first_line rest)) (map (line_numbers 8 11) (ended [] (after_feed rest)))));
+              leaves = b.leaves ∙ rw is ends.1;
+            };
+      }
 
-  module _ {end : ℕ} {buffer_after row_after : List ℕ} {taken : LineTaken} (eight : end ≡ count * 8 + 8) (fits : end ≤ length rows_between) (step : LineTakenFrom rest buffer_between size_between (part rows_between (count * 8) end) buffer_after row_after taken) where
-    row_long : length row_after ≡ 8
-    row_long = step.lines.same_rows ∙ lent_long rows_between (count * 8) end 8 eight fits
-
-    back_long : length (back rows_between (count * 8) end row_after) ≡ length rows_between
-    back_long =
-        let inside : count * 8 ≤ length rows_between = omega arith in
-        simp (length-append, length-drop, length-take-le (count * 8) rows_between inside, row_long) (omega arith)
-
-    pub taken_further :
-        TakenSoFar block taken.rest.now buffer size rows buffer_after (back rows_between (count * 8) end row_after)
-        (record { count = count + taken.count; size = taken.size })
-    taken_further =
-        record {
-          front = first.front ++ step.front;
-          split = first.split ∙ rw (step.split, append_assoc first.front step.front taken.rest.now);
-          lines =
-              record {
-                same_buffer = step.lines.same_buffer ∙ first.lines.same_buffer;
-                same_rows = back_long ∙ first.lines.same_rows;
-                few = omega (arith, length-append first.front step.front, first.lines.few, step.lines.few);
-                filled = λ line held.
-                    let before = open_line line first.front in
-                    rw (
-                      ended_append line first.front step.front,
-                      map-append (line_numbers 8 11) (ended line first.front) (ended before step.front),
-                      cut_behind count taken.count 8 rows_between row_after (drop (end - count * 8) (drop (count * 8) rows_between)) (omega arith)
-                          (omega (arith, step.one, row_long)),
-                      first.lines.filled line held,
-                      step.lines.filled before (first.lines.held line held),
-                    );
-                held = λ line held.
-                    rw (open_line_append line first.front step.front)
-                    (step.lines.held (open_line line first.front) (first.lines.held line held));
-              };
-        }
-
--- where nothing is left the whole block is taken
-pub taken_whole :
-    (block rest buffer : List ℕ) (size : ℕ) (rows buffer_after rows_after : List ℕ) (taken : LinesTaken) → rest ≡ []
-    → TakenSoFar block rest buffer size rows buffer_after rows_after taken
-    → LinesTakenFrom block buffer size rows buffer_after rows_after taken
-taken_whole block rest buffer size rows buffer_after rows_after taken none all =
-    let whole : block ≡ all.front = all.split ∙ rw (none, append-nil all.front) in
-    rw whole all.lines
-
--- what a line fills does not depend on what its row was
-pub row_before :
-    (block buffer : List ℕ) (size : ℕ) (row other buffer_after row_after : List ℕ) (taken : LineTaken)
-    → length other ≡ length row → LineTakenFrom block buffer size other buffer_after row_after taken
-    → LineTakenFrom block buffer size row buffer_after row_after taken
-row_before block buffer size row other buffer_after row_after taken same step =
-    record {
-      front = step.front;
-      split = step.split;
-      moves = step.moves;
-      one = step.one;
-      lines =
-          record {
-            same_buffer = step.lines.same_buffer;
-            same_rows = step.lines.same_rows ∙ same;
-            few = step.lines.few;
-            filled = step.lines.filled;
-            held = step.lines.held;
-          };
-    }
+  -- no line more
+  pub no_more : LineTakenFrom rest between after row None → LinesTakenFrom block held after (set rows count row) count
+  no_more step =
+      record {
+        few = omega (arith, so.few);
+        filled = λ line h.
+            let b = so.behind line h in
+            take-set rows count row ∙ sym (append-nil (take count rows)) ∙ sym (rw (ended_without_feed b.now rest step.taken.0).0 at b.filled);
+        open_held = λ line h.
+            let b = so.behind line h in
+            rw (b.leaves, (ended_without_feed b.now rest step.taken.0).1) (step.taken.1 b.now b.holds);
+      }
 
 -- ---- the line that the end of the stream ends
-
-pub no_last_line : (buffer rows : List ℕ) (size : ℕ) → size ≡ 0 → LastLineTaken buffer size rows 0
-unfolding cut last_line
-no_last_line buffer rows size none =
-    record { one = omega arith; filled = λ line held. rw (held_is_nothing line buffer (rw none at held)) }
 
 last_line_one : (line : List ℕ) → 0 < length line → last_line line ≡ line ∷ []
 unfolding last_line
@@ -241,16 +133,11 @@ last_line_one [] some = absurd (omega arith)
 last_line_one (byte ∷ line) some = refl
 
 pub last_line_taken :
-    (buffer : List ℕ) (size : ℕ) (row row_after rest : List ℕ) (told : Result (Unit {0}) MalformedLine) → 0 < size → 88 ≤ length buffer → length row ≡ 8
-    → length row_after ≡ length row → HeldRead 11 buffer size row row_after told → LastLineTaken buffer size (row_after ++ rest) 1
-last_line_taken buffer size row row_after rest told some room eight long read =
-    record {
-      one = omega arith;
-      filled = λ line held.
-          rw (
-            last_line_one line (held_some line buffer size some held),
-            cut_append 1 8 row_after rest (omega arith),
-            cut_one 8 row_after (omega arith),
-          )
-          (ap (λ (r : List ℕ). r ∷ []) (held_numbers buffer line size row row_after told room eight read held));
-    }
+    {n : ℕ} (held : OpenLine n) (row row_after : List ℕ) (told : Result (Unit {0}) MalformedLine) → (held.size ≡ 0 → ⊥) → 88 ≤ n → length row ≡ 8
+    → HeldRead 11 held row row_after told → LastLineTaken held (Some row_after)
+last_line_taken held row row_after told some room eight read =
+    λ line h. rw (last_line_one line (held_some line held (omega arith) h), held_numbers held line row row_after told room eight read h)
+
+pub no_last_line : {n : ℕ} (held : OpenLine n) → held.size ≡ 0 → LastLineTaken held None
+unfolding last_line
+no_last_line held none = λ line h. rw (held_is_nothing line held none h)

@@ -11,12 +11,8 @@ use Rattle.listing.proofs.StreamLaws.{ended_append, open_line_append, lines_of_b
 use Rattle.listing_lines.specs.Answers.{state_after, answers_from}
 use Rattle.listing_lines.specs.Text.{texts}
 use Rattle.listing_lines.specs.Laws.Text.{texts_append}
-use Rattle.listing_lines.specs.Laws.Answers.{answers_append}
-use Rattle.srt_group_model.specs.Tools.{if_true◌then◌else◌}
+use Rattle.listing_lines.specs.Laws.Answers.{state_append, answers_append}
 use Rattle.srt_group_model.specs.Listing.{replay}
-use Rattle.srt_group_shown.specs.Tables.{Tables}
-use Rattle.srt_group.specs.declared.Group.{Group}
-use Rattle.srt_group_replay.specs.Lines.{standing}
 use Rattle.replay_rows.specs.Rows.{after_line, print_of, group_after, prints_from}
 use Rattle.replay_rows.specs.Laws.Rows.{prints_are_replay}
 use Rattle.replay_blocks.specs.Blocks.{replayed, numbers}
@@ -48,39 +44,36 @@ consumes_then (Some xs) (Some ys) (Some zs) a b x y = x ∙ ap (λ (t : List ℕ
 -- ---- a turn
 
 -- where no byte was read nothing is answered
-pub none_replayed : (buffer : List ℕ) (s : State) (t : Tables) (written : Option (List ℕ)) → BlockReplayed [] buffer s t s t buffer written written
+pub none_replayed : {n : ℕ} (s : State n) (written : Option (List ℕ)) → BlockReplayed [] s s written written
 unfolding ended open_line texts answers_from state_after
-none_replayed buffer s t written =
-    record { text = λ line h. appends_nothing written; group = λ line h. refl; held = λ line h. h }
+none_replayed s written = record { text = λ line h. appends_nothing written; group = λ line h. refl; open_held = λ line h. h }
 
 -- ---- all turns
 
 -- the beginning of a listing is read, and the lines that end in it are answered
-pub record ReplayedSoFar (s : State) (t : Tables) (buffer : List ℕ) (left₀ left written₀ written : Option (List ℕ)) : Type 0 where
+pub record ReplayedSoFar {n : ℕ} (s : State n) (left₀ left written₀ written : Option (List ℕ)) : Type 0 where
   pub beginning : List ℕ
   pub read : Consumes left₀ left beginning
   pub text : Appends written₀ written (texts (prints_from None (numbers (ended [] beginning))))
-  pub group : standing s.made s.group t ≡ group_after None (numbers (ended [] beginning))
-  pub held : Held (open_line [] beginning) buffer s.size
+  pub group : s.replay ≡ group_after None (numbers (ended [] beginning))
+  pub open_held : Held (open_line [] beginning) s.line
 
-pub none_so_far : (g : Group) (t : Tables) (buffer : List ℕ) (left written : Option (List ℕ))
-    → ReplayedSoFar (record { made = 0; group = g; size = 0 }) t buffer left left written written
-unfolding if_true◌then◌else◌ ended open_line texts answers_from state_after
-none_so_far g t buffer left written =
-    record { beginning = []; read = consumes_nothing left; text = appends_nothing written; group = refl; held = held_nothing buffer }
+pub none_so_far : {n : ℕ} (s : State n) (left written : Option (List ℕ)) → s.replay ≡ None → s.line.size ≡ 0 → ReplayedSoFar s left left written written
+unfolding ended open_line texts answers_from state_after
+none_so_far s left written none empty =
+    record {
+      beginning = [];
+      read = consumes_nothing left;
+      text = appends_nothing written;
+      group = none;
+      open_held = held_nothing s.line empty;
+    }
 
--- the state after some lines, and after those behind them
-after_append : {S : Type 0} (after : S → List ℕ → S) (s : S) (a b : List (List ℕ)) → state_after after s (a ++ b) ≡ state_after after (state_after after s a) b
-unfolding state_after
-after_append after s [] b = refl
-after_append after s (line ∷ a) b = after_append after (after s line) a b
-
-module _ {s : State} {t : Tables} {buffer : List ℕ} {left₀ left written₀ written : Option (List ℕ)} where
+module _ {n : ℕ} {s : State n} {left₀ left written₀ written : Option (List ℕ)} where
   -- a block more
-  pub further : {s' : State} {t' : Tables} {buffer' block : List ℕ} {left' written' : Option (List ℕ)} {count : ℕ}
-      → ReplayedSoFar s t buffer left₀ left written₀ written → BlockRead left left' count block
-      → BlockReplayed (take count block) buffer s t s' t' buffer' written written'
-      → ReplayedSoFar s' t' buffer' left₀ left' written₀ written'
+  pub further : {s' : State n} {block : List ℕ} {left' written' : Option (List ℕ)} {count : ℕ}
+      → ReplayedSoFar s left₀ left written₀ written → BlockRead left left' count block → BlockReplayed (take count block) s s' written written'
+      → ReplayedSoFar s' left₀ left' written₀ written'
   further {block = block} {left' = left'} {written' = written'} {count = count} so read done =
       let a = so.beginning in
       let b = take count block in
@@ -95,15 +88,15 @@ module _ {s : State} {t : Tables} {buffer : List ℕ} {left₀ left written₀ w
         beginning = a ++ b;
         read = consumes_then left₀ left left' a b so.read read.read;
         text = rw (all, printed, texts_append (prints_from None first) (prints_from (group_after None first) next), ← so.group)
-            (appends_then written₀ written written' _ _ so.text (done.text line so.held));
-        group = done.group line so.held
-            ∙ (ap (λ (g : _). group_after g next) so.group ∙ (sym (after_append after_line None first next) ∙ ap (group_after None) (sym all)));
-        held = rw (open_line_append [] a b) (done.held line so.held);
+            (appends_then written₀ written written' _ _ so.text (done.text line so.open_held));
+        group = done.group line so.open_held
+            ∙ (ap (λ (g : _). group_after g next) so.group ∙ (sym (state_append after_line None first next) ∙ ap (group_after None) (sym all)));
+        open_held = rw (open_line_append [] a b) (done.open_held line so.open_held);
       }
 
   -- the listing's end
-  pub whole : {written' : Option (List ℕ)} → ReplayedSoFar s t buffer left₀ left written₀ written → IsAtEnd left
-      → LastReplayed buffer s t written written' → ListingReplayed left₀ left written₀ written'
+  pub whole : {written' : Option (List ℕ)} → ReplayedSoFar s left₀ left written₀ written → IsAtEnd left
+      → LastReplayed s written written' → ListingReplayed left₀ left written₀ written'
   unfolding replayed replay lines_of_blocks joined
   whole {written' = written'} so end done =
       let a = so.beginning in
@@ -121,12 +114,11 @@ module _ {s : State} {t : Tables} {buffer : List ℕ} {left₀ left written₀ w
         read = so.read;
         at_end = end;
         text = rw (← prints_are_replay None (numbers (lines a)), all, printed, texts_append (prints_from None first) (prints_from (group_after None first) last), ← so.group)
-            (appends_then written₀ written written' _ _ so.text (done.text line so.held));
+            (appends_then written₀ written written' _ _ so.text (done.text line so.open_held));
       }
 
-  -- the same where it is known only of some listings that they ended, and only the outcome says whether the last line was written
-  pub whole_if : {T E A : Type 0} (outcome : Result T E) (written' : Option (List ℕ)) → ReplayedSoFar s t buffer left₀ left written₀ written
-      → (A → IsAtEnd left) → OnOk outcome (LastReplayed buffer s t written written')
-      → OnOk outcome (A → ListingReplayed left₀ left written₀ written')
-  whole_if (Ok x) written' so end done = λ a. whole so (end a) done
+  -- the same where only the outcome says whether the last line was written
+  pub whole_if : {T E : Type 0} (outcome : Result T E) (written' : Option (List ℕ)) → ReplayedSoFar s left₀ left written₀ written
+      → IsAtEnd left → OnOk outcome (LastReplayed s written written') → OnOk outcome (ListingReplayed left₀ left written₀ written')
+  whole_if (Ok x) written' so end done = whole so end done
   whole_if (Err e) written' so end done = tt

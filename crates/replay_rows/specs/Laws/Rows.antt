@@ -1,23 +1,18 @@
 -- What is proved of the definitions in specs/Rows.antt, with what the proofs need.
-use Rattle.std.specs.Prelude.{◌≡◌, refl, ℕ, ◌+◌, ◌-◌, ◌*◌, ◌≤◌, length, take, drop, Option}
+use Rattle.std.specs.Prelude.{◌≡◌, refl, ℕ, ◌+◌, ◌<◌, ◌≤◌, length, take, get_or, Option}
+use Rattle.std.proofs.Math.ListN.{set}
 use Rattle.std.proofs.Math.Path.{ap, ap₂, sym}
-use Rattle.std.proofs.Common.{subst, ◌∙◌, arith, length-append, length-take, length-drop}
+use Rattle.std.proofs.Common.{◌∙◌, arith}
+use Rattle.std.proofs.lemmas.List.{take_more, take_more_set}
 use mathlib.Core.List.{List, [], ◌∷◌, ◌++◌}
-use Rattle.listing.specs.Line.{cut}
-use Rattle.listing_lines.specs.Taken.{part}
 use Rattle.listing_lines.specs.Answers.{state_after, answers_from}
-use Rattle.listing_lines.specs.Laws.Rows.{cut_sum, cut_one, back, cut_behind}
-use Rattle.listing_lines.specs.Laws.Answers.{answers_append}
+use Rattle.listing_lines.specs.Laws.Answers.{state_append, answers_append}
 use Rattle.srt_group_model.specs.State.{State}
-use Rattle.srt_group_model.specs.Lent.{Lent}
 use Rattle.srt_group_model.specs.Listing.{Line, Told, replay_from}
-use Rattle.srt_group_shown.specs.Tables.{Tables}
-use Rattle.srt_group.specs.declared.Group.{Group}
+use Rattle.srt_group_listing.specs.declared.Printed.{Printed}
 use Rattle.srt_group_listing.specs.Telling.{numbers_of}
-use Rattle.srt_group_replay.specs.declared.Replayed.{Replayed}
-use Rattle.srt_group_replay.specs.Lines.{standing, Standing, TellsLine}
-use Rattle.replay_rows.specs.declared.rows.GroupAfter.{GroupAfter}
-use Rattle.replay_rows.specs.Rows.{after_line, print_of, group_after, prints_from, row_at, RowTold, RowsTold}
+use Rattle.srt_group_replay.specs.Told.{TellsLine}
+use Rattle.replay_rows.specs.Rows.{after_line, print_of, group_after, prints_from, RowsTold}
 
 -- what the lines print one after the other is the model's replay
 pub prints_are_replay : (s : Option State) (lines : List Line) → prints_from s lines ≡ replay_from s lines
@@ -25,67 +20,34 @@ unfolding answers_from replay_from
 prints_are_replay s [] = refl
 prints_are_replay s (line ∷ lines) = ap (λ (ls : List (List ℕ)). print_of s line ∷ ls) (prints_are_replay (after_line s line) lines)
 
--- ---- a row
+-- no row yet
+pub none_told : (s : Option State) → RowsTold [] s s []
+unfolding answers_from state_after
+none_told s = record { prints = refl; group = refl }
 
--- the row that is lent
-lent_row : (index : ℕ) (rows : List ℕ) → part rows (index * 8) (index * 8 + 8) ≡ row_at index rows
-lent_row index rows =
-    let eight : index * 8 + 8 - index * 8 ≡ 8 = omega arith in
-    ap (λ (n : ℕ). take n (drop (index * 8) rows)) eight
-
--- the answer goes into its row
-pub told_in_row : (rows : List ℕ) (index : ℕ) {made : ℕ} {g : Group} {t : Tables} {r : Replayed} {t' : Tables} {lent' : Lent} {used' : List ℕ}
-    (answers row : List ℕ) → index * 6 + 6 ≤ length answers → TellsLine (part rows (index * 8) (index * 8 + 8)) made g t r t' lent' used'
-    → row ≡ numbers_of r.line
-    → RowTold (row_at index rows) index made g t (record { made = r.made; group = r.group }) t' lent' used' answers
-    (back answers (index * 6) (index * 6 + 6) row)
-told_in_row rows index {made} {g} {t} {r} {t'} {lent'} {used'} answers row fits lent is =
+-- one row more
+pub one_more_told : (rows answers : List (List ℕ)) (index : ℕ) {s s' : Option State} → index < length rows → length rows ≤ length answers
+    → RowsTold (take index rows) s s' (take index answers)
+    → (r : Printed) {s'' : Option State} → TellsLine (get_or rows index []) s' r s''
+    → RowsTold (take (index + 1) rows) s s'' (take (index + 1) (set answers index (numbers_of r)))
+unfolding answers_from state_after
+one_more_told rows answers index {s} {s'} inside room done r {s''} tells =
     record {
-      same = simp (length-append, length-take, length-drop) (omega (arith, ap length is));
       prints =
-          cut_behind index 1 6 answers row (drop (index * 6 + 6 - index * 6) (drop (index * 6) answers)) (omega arith) (omega (arith, ap length is))
-          ∙ ap (λ (l : List (List ℕ)). cut index 6 answers ++ l)
-          (cut_one 6 row (ap length is) ∙ ap (λ (l : List ℕ). l ∷ []) (is ∙ sym (ap (λ (x : Told). x.line) tells.told)));
-      group = sym (ap (λ (x : Told). x.group) tells.told);
-      stands = tells.stands;
+          take_more_set answers index (numbers_of r) there
+          ∙ ap₂ (λ (a : List (List ℕ)) (x : List ℕ). a ++ (x ∷ [])) done.prints
+          (sym (ap (λ (x : Told). x.line) tells) ∙ ap (λ (x : Option State). print_of x line) done.group)
+          ∙ sym (answers_append after_line print_of s (take index rows) (line ∷ []))
+          ∙ ap (prints_from s) (sym longer);
+      group = sym (ap (λ (x : Told). x.group) tells) ∙ ap (λ (x : Option State). after_line x line) done.group
+          ∙ sym (state_append after_line s (take index rows) (line ∷ [])) ∙ ap (group_after s) (sym longer);
     }
   where
-    tells : TellsLine (row_at index rows) made g t r t' lent' used'
-    tells = subst (λ (line : Line). TellsLine line made g t r t' lent' used') (lent_row index rows) lent
+    line : Line
+    line = get_or rows index []
 
--- ---- the rows
+    there : index < length answers
+    there = omega arith
 
-module _ {made : ℕ} {g : Group} {t : Tables} where
-  -- no row yet
-  pub none_told : {lent : Lent} {used : List ℕ} (rows answers : List ℕ) → Standing made g t lent used
-      → RowsTold (cut 0 8 rows) made g t (record { made = made; group = g }) t lent used (cut 0 6 answers)
-  unfolding cut answers_from state_after
-  none_told rows answers stands = record { prints = refl; group = refl; stands = stands }
-
-  -- one row more
-  pub one_more_told : (index : ℕ) (rows : List ℕ) {r : GroupAfter} {t' : Tables} {lent' : Lent} {used' answers : List ℕ}
-      → RowsTold (cut index 8 rows) made g t r t' lent' used' (cut index 6 answers)
-      → {r'' : GroupAfter} {t'' : Tables} {lent'' : Lent} {used'' answers'' : List ℕ}
-      → RowTold (row_at index rows) index r.made r.group t' r'' t'' lent'' used'' answers answers''
-      → RowsTold (cut (index + 1) 8 rows) made g t r'' t'' lent'' used'' (cut (index + 1) 6 answers'')
-  unfolding cut answers_from state_after
-  one_more_told index rows {r} {t'} {lent'} {used'} {answers} done {r''} {t''} {lent''} {used''} {answers''} next =
-      record {
-        prints =
-            next.prints
-            ∙ ap₂ (λ (a : List (List ℕ)) (s : Option State). a ++ (print_of s (row_at index rows) ∷ [])) done.prints done.group
-            ∙ sym (answers_append after_line print_of s (cut index 8 rows) (row_at index rows ∷ []))
-            ∙ ap (prints_from s) (sym longer);
-        group = next.group ∙ ap (λ (x : Option State). after_line x (row_at index rows)) done.group ∙ sym (after_append s (cut index 8 rows)) ∙ ap (group_after s) (sym longer);
-        stands = next.stands;
-      }
-    where
-      s : Option State
-      s = standing made g t
-
-      longer : cut (index + 1) 8 rows ≡ cut index 8 rows ++ (row_at index rows ∷ [])
-      longer = cut_sum index 1 8 rows
-
-      after_append : (x : Option State) (lines : List Line) → group_after x (lines ++ (row_at index rows ∷ [])) ≡ after_line (group_after x lines) (row_at index rows)
-      after_append x [] = refl
-      after_append x (line ∷ lines) = after_append (after_line x line) lines
+    longer : take (index + 1) rows ≡ take index rows ++ (line ∷ [])
+    longer = take_more rows index [] inside

@@ -1,10 +1,11 @@
 -- What is proved of the definitions in specs/Members.antt, with what the proofs need.
 use Rattle.srt_protocol.specs.Errors.{Outcome}
-use Rattle.std.specs.Prelude.{◌≡◌, refl, List, ℕ, suc, ◌+◌, ◌-◌, ◌*◌, ◌≤◌, ◌<◌, length, take, drop, get_or, None, Option, Some}
+use Rattle.std.specs.Prelude.{◌≡◌, refl, List, [], ◌∷◌, ◌++◌, ℕ, zero, suc, ◌+◌, ◌-◌, ◌*◌, ◌≤◌, ◌<◌, length, take, drop, get_or, None, Option, Some}
+use Rattle.std.specs.Simd.{first_chunks}
 use Rattle.std.proofs.Math.Path.{ap}
-use Rattle.std.proofs.Common.{sym, ◌∙◌, add-one, arith}
+use Rattle.std.proofs.Common.{sym, ap₂, ◌∙◌, add-one, arith}
 use Rattle.std.proofs.Math.Decide.{dec_lt}
-use borrow.Author.Tests.{eq-eqb, ne_eqb, eqb-true}
+use borrow.Author.Tests.{eqb-true}
 use Rattle.srt_protocol.specs.Errors.{if_accepted}
 use Rattle.srt_group_model.specs.Tools.{at_place, without_place}
 use Rattle.srt_group_model.specs.Calls.{enqueue}
@@ -18,14 +19,14 @@ use Rattle.srt_group_model.specs.declared.Account.{Account}
 use Rattle.srt_connection_queue.specs.declared.queue.LegPoll.{LegPoll}
 use Rattle.word_rows.specs.Tab.{tab}
 use Rattle.word_rows.specs.Laws.Tab.{tab_length, tab_push}
-use Rattle.srt_connection_queue.specs.Laws.Tab.{tab_place, tab_change, tab_without, tab_each, tab_found, tab_not_found, place_below, tab_passes}
+use Rattle.srt_connection_queue.specs.Laws.Tab.{tab_place, tab_change, tab_without, tab_each, place_below, tab_passes}
 use Rattle.word_rows.specs.Rows.{row_at, Closed}
-use Rattle.word_rows.specs.Laws.Rows.{row_word, row_same, row_part}
+use Rattle.word_rows.specs.Laws.Rows.{row_same, row_part, chunks_read, chunk_there}
 use Rattle.srt_connection_queue.specs.Row.{put_row}
 use Rattle.srt_connection_queue.specs.Laws.Row.{row_put, row_put_other, put_length}
-use Rattle.srt_connection_queue.specs.Rows.{part_size, membership_part, row_size, membership_of, member_of, member_parts, Kept, with_membership}
+use Rattle.srt_connection_queue.specs.Rows.{row_size, member_of, Kept, with_membership}
 use Rattle.srt_connection_queue.specs.Queue.{cleared, Pushed, queue_after, Polled}
-use Rattle.srt_connection_members.specs.Members.{member_at, members_of, HasRow, new_member, Changed, PushedAt, PolledAt, ChangedAll, Appended, Removed}
+use Rattle.srt_connection_members.specs.Members.{member_at, members_of, members_in, member_in, HasRow, new_member, Changed, PushedAt, PolledAt, ChangedAll, Appended, Removed}
 
 -- ---- laws
 
@@ -41,6 +42,15 @@ members_place n t i h = tab_place n (member_at t) i h
 pub lent_member : (t : List ℕ) (i : ℕ) → member_of (take (i * row_size + row_size - i * row_size) (drop (i * row_size) t)) ≡ member_at t i
 unfolding member_at
 lent_member t i = ap member_of (row_part row_size t i)
+
+-- the rows that `as_chunks` lends show the members
+pub rows_show : (n k : ℕ) (t : List ℕ) → n ≤ k → members_in (take n (first_chunks row_size k t)) ≡ members_of n t
+unfolding members_of member_at
+rows_show n k t below = chunks_read row_size member_of n k t below
+
+pub row_shows : (i k : ℕ) (t : List ℕ) → i < k → member_of (get_or (first_chunks row_size k t) i []) ≡ member_at t i
+unfolding member_at
+row_shows i k t below = ap member_of (chunk_there row_size k i t below)
 
 module _ (i : ℕ) (t r : List ℕ) (there : HasRow i t) where
   pub changed_row : (f : Member → Member) → Kept r (f (member_at t i)) → Changed i f t (put_row row_size t i r)
@@ -80,6 +90,46 @@ module _ (i : ℕ) (t r : List ℕ) (there : HasRow i t) where
             ap (λ (n : ℕ). tab n (member_at (put_row row_size t i r))) (add-one i)
             ∙ tab_push i (member_at t) (member_at (put_row row_size t i r)) m (λ j h. c.others j (λ e. omega arith)) c.here;
       }
+
+-- the members that rows show, place by place
+pub members_tab : (rows : List (List ℕ)) → tab (length rows) (member_in rows) ≡ members_in rows
+unfolding tab
+members_tab [] = refl
+members_tab (row ∷ rows) = ap (λ (ms : List Member). member_of row ∷ ms) (members_tab rows)
+
+pub members_front : (n : ℕ) (rows : List (List ℕ)) → n ≤ length rows → tab n (member_in rows) ≡ members_in (take n rows)
+unfolding tab
+members_front zero rows below = refl
+members_front (suc n) [] below = absurd (omega arith)
+members_front (suc n) (row ∷ rows) below = ap (λ (ms : List Member). member_of row ∷ ms) (members_front n rows (omega arith))
+
+-- the row between two parts of the table was lent, and comes back as r
+module _ (i : ℕ) (t before behind lent r : List ℕ) (there : HasRow i t) (front : before ≡ take (i * row_size) t)
+    (back : behind ≡ drop (i * row_size) t) (first : lent ≡ take row_size behind) where
+  abbrev pub come_back : List ℕ
+  come_back = before ++ (r ++ drop row_size behind)
+
+  lent_shows : member_of lent ≡ member_at t i
+  unfolding member_at row_at
+  lent_shows = ap member_of (first ∙ ap (take row_size) back)
+
+  as_put : put_row row_size t i r ≡ come_back
+  as_put =
+      let size : i * row_size + row_size - i * row_size ≡ row_size = omega arith in
+      ap (λ (n : ℕ). take (i * row_size) t ++ (r ++ drop n (drop (i * row_size) t))) size
+      ∙ sym (ap₂ (λ (x y : List ℕ). x ++ (r ++ drop row_size y)) front back)
+
+  pub changed_back : (f : Member → Member) → Kept r (f (member_of lent)) → Changed i f t come_back
+  changed_back f kept = rw (← as_put) (changed_row i t r there f (rw lent_shows at kept))
+
+  pub pushed_back : (e : Event) (answer : Outcome) → Pushed (member_of lent) e answer r → PushedAt i e t answer come_back
+  pushed_back e answer pushed = rw (← as_put) (pushed_row i t r there e answer (rw lent_shows at pushed))
+
+  pub polled_back : (budget : ℕ) (answer : LegPoll) → Polled (member_of lent) budget answer r → PolledAt i budget t answer come_back
+  polled_back budget answer polled = rw (← as_put) (polled_row i t r there budget answer (rw lent_shows at polled))
+
+  pub appended_back : (m : Member) → Kept r m → Appended i m t come_back
+  appended_back m kept = rw (← as_put) (appended_row i t r there m kept)
 
 -- ---- laws of a changed row, for what is built on it
 
@@ -179,23 +229,6 @@ new_put r₀ r₁ r₂ r₃ x l a b c =
     record { long = c.long; is = c.is ∙ ap cleared (b.is ∙ ap (with_leg l) a.is) }
 
 -- ---- the row of an id
-
-pub id_word : (t : List ℕ) (i : ℕ) → get_or t (i * row_size) 0 ≡ (member_at t i).membership.id
-unfolding member_at member_of member_parts membership_of
-id_word t i = sym (row_word part_size (row_at row_size t i) membership_part 0 (omega arith) ∙ row_word row_size t i 0 (omega arith) ∙ ap (λ (k : ℕ). get_or t k 0) (omega arith))
-
-module _ (n id : ℕ) (t : List ℕ) where
-  pub found : (i : ℕ) → i < n → get_or t (i * row_size) 0 ≡ id → ((j : ℕ) → j < i → get_or t (j * row_size) 0 ≡ id → ⊥)
-      → (find id (members_of n t)) ≡ Some i
-  unfolding members_of
-  found i h is before =
-      (tab_found (has_id id) n (member_at t) i h (eq-eqb (member_at t i).membership.id id (sym (id_word t i) ∙ is))
-      (λ j k. ne_eqb (member_at t j).membership.id id (λ e. before j k (id_word t j ∙ e))))
-
-  pub not_found : ((j : ℕ) → j < n → get_or t (j * row_size) 0 ≡ id → ⊥) → (find id (members_of n t)) ≡ None
-  unfolding members_of
-  not_found none_is =
-      (tab_not_found (has_id id) n (member_at t) (λ j k. ne_eqb (member_at t j).membership.id id (λ e. none_is j k (id_word t j ∙ e))))
 
 -- an equation of options, the other way round
 pub found_some : (o : Option ℕ) (i : ℕ) → Some i ≡ o → o ≡ Some i

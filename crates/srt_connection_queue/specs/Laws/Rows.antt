@@ -238,6 +238,10 @@ leg_put r₀ r₁ r₂ r₃ l a b c =
 -- ---- one word of a row
 
 module _ (r : List ℕ) where
+  pub id_word : word r 0 ≡ (member_of r).membership.id
+  unfolding member_of member_parts membership_of
+  id_word = sym (row_word part_size r membership_part 0 (omega arith))
+
   pub state_word : word r 2 ≡ (member_of r).membership.state
   unfolding member_of member_parts membership_of
   state_word = sym (row_word part_size r membership_part 2 (omega arith))

@@ -8,7 +8,7 @@ use Rattle.srt_protocol.specs.declared.error.Error.{Error}
 use Rattle.srt_protocol.specs.declared.error.Error.TheVariants.{OutOfRange, InvalidState, MemberLimit, DuplicateMember}
 use Rattle.srt_protocol.specs.Errors.{error_number, outcome_number}
 use Rattle.srt_group_model.specs.Tools.{if_true◌then◌else◌, any}
-use Rattle.srt_group_model.specs.State.{State}
+use Rattle.srt_group_model.specs.State.{Member, State}
 use Rattle.srt_group_model.specs.Members.{has_id}
 use Rattle.srt_group_model.specs.Validity.{max_members}
 use Rattle.srt_group_model.specs.Guards.{no_answer, Step, refuse, Check, ◌when◌, guard}
@@ -19,23 +19,20 @@ use Rattle.srt_group_model.specs.declared.Core.{Core}
 use Rattle.srt_group_model.specs.declared.Event.{Event}
 use Rattle.srt_group_model.specs.declared.Leg.{Leg}
 use Rattle.srt_group_model.specs.declared.Sending.{Sending}
-use Rattle.srt_connection_members.specs.Members.{members_of, member_at}
+use Rattle.srt_connection_members.specs.Members.{members_of}
 use Rattle.srt_connection_members.specs.Laws.Members.{members_length}
 use Rattle.srt_group_shown.specs.Tables.{Parts, parts, Tables, tables, rest_of, state_of}
 use Rattle.srt_group_shown.specs.Steps.{Unbroken, StepsKeeping}
 use Rattle.srt_group_shown.specs.Laws.Steps.{left_by, left_refused}
 use Rattle.srt_group_shown.specs.Laws.Found.{long_with, same_cells}
 use Rattle.srt_group_addition.specs.Addition.{Adds}
-use Rattle.srt_group_addition.specs.Handed.{in_use, unfit, first_refusal, addition_refused, call_of_row, StepsAdding}
+use Rattle.srt_group_addition.specs.Handed.{in_use, unfit, first_refusal, addition_refused, call_of_member, StepsAdding}
 use Rattle.srt_group_addition.specs.Laws.Cells.{adding_keeps}
 use Rattle.srt_group_addition.specs.declared.addition.Added.{Added}
 
 -- ---- the first refusal
 
-module _ (id weight : ℕ) (l : Leg) (row : List ℕ) (n : ℕ) (ms : List ℕ) where
-  abbrev queue : List Event
-  queue = (member_at row 0).queue
-
+module _ (id weight : ℕ) (l : Leg) (queue : List Event) (n : ℕ) (ms : List ℕ) where
   abbrev full : Bool
   full = leb max_members (length (members_of n ms))
 
@@ -157,30 +154,35 @@ module _ (id weight : ℕ) (l : Leg) (queue : List Event) (p : Parts) (t : Table
 
 -- ---- the leg of the row, and what was tested of it
 
-module _ (id weight : ℕ) (row : List ℕ) (core : Core) (sending : Sending) (ms : List ℕ) {leg : Leg} (is_leg : leg ≡ (member_at row 0).leg) {r : Outcome}
-    (tested : r ≡ addition_refused id weight leg (member_at row 0).queue (members_of core.counts.members ms)) where
-  of_row : r ≡ addition_refused id weight (member_at row 0).leg (member_at row 0).queue (members_of core.counts.members ms)
-  of_row = tested ∙ ap (λ (l : Leg). addition_refused id weight l (member_at row 0).queue (members_of core.counts.members ms)) is_leg
+pub of_row : (id weight : ℕ) (core : Core) (sending : Sending) (ms : List ℕ) (answer : Added) (ms' : List ℕ) {m front : Member} → m ≡ front
+    → StepsAdding (call_of_member id weight m) core sending ms answer ms' → StepsAdding (call_of_member id weight front) core sending ms answer ms'
+of_row id weight core sending ms answer ms' same steps =
+    subst (λ (x : Member). StepsAdding (call_of_member id weight x) core sending ms answer ms') same steps
 
-  pub leg_refused : (e : Error) → r ≡ Err e → StepsAdding (call_of_row id weight row) core sending ms record { core = core; outcome = Err e } ms
+module _ (id weight : ℕ) (m : Member) (core : Core) (sending : Sending) (ms : List ℕ) {leg : Leg} (is_leg : leg ≡ m.leg) {r : Outcome}
+    (tested : r ≡ addition_refused id weight leg m.queue (members_of core.counts.members ms)) where
+  of_member : r ≡ addition_refused id weight m.leg m.queue (members_of core.counts.members ms)
+  of_member = tested ∙ ap (λ (l : Leg). addition_refused id weight l m.queue (members_of core.counts.members ms)) is_leg
+
+  pub leg_refused : (e : Error) → r ≡ Err e → StepsAdding (call_of_member id weight m) core sending ms record { core = core; outcome = Err e } ms
   leg_refused e is =
       record {
         over =
             λ identity ring pending waiting history sources unbroken.
-            adding_refused id weight (member_at row 0).leg (member_at row 0).queue (parts identity core sending ring) (tables ms pending waiting history sources) unbroken e
-            (sym is ∙ of_row);
+            adding_refused id weight m.leg m.queue (parts identity core sending ring) (tables ms pending waiting history sources) unbroken e
+            (sym is ∙ of_member);
       }
 
   module _ (accepted : r ≡ Ok tt) where
     pub leg_room : core.counts.members < max_members
-    leg_room = room_left id weight leg (member_at row 0).queue core.counts.members ms (sym accepted ∙ tested)
+    leg_room = room_left id weight leg m.queue core.counts.members ms (sym accepted ∙ tested)
 
     pub leg_added : (answer : Added) (ms' : List ℕ) → Adds id weight leg core sending ms answer ms'
-        → StepsAdding (call_of_row id weight row) core sending ms answer ms'
+        → StepsAdding (call_of_member id weight m) core sending ms answer ms'
     leg_added answer ms' adds =
         record {
           over =
               λ identity ring pending waiting history sources unbroken.
-              adding_done id weight (member_at row 0).leg (member_at row 0).queue (parts identity core sending ring) (tables ms pending waiting history sources) unbroken answer ms'
-              (sym accepted ∙ of_row) (subst (λ (l : Leg). Adds id weight l core sending ms answer ms') is_leg adds);
+              adding_done id weight m.leg m.queue (parts identity core sending ring) (tables ms pending waiting history sources) unbroken answer ms'
+              (sym accepted ∙ of_member) (subst (λ (l : Leg). Adds id weight l core sending ms answer ms') is_leg adds);
         }

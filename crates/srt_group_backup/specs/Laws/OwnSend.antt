@@ -18,7 +18,7 @@ use Rattle.srt_connection.specs.Laws.Answers.{result_ok, result_err}
 use Rattle.srt_connection_members.specs.Members.{member_at, members_of, Changed}
 use Rattle.srt_connection_members.specs.Laws.Members.{members_place, changed_by, unchanged}
 use Rattle.srt_group_tables.specs.Ring.{Arrays, Long, Packs, with_entry, next_place, after_push, send_of}
-use Rattle.srt_group_tables.specs.Laws.Ring.{with_newest, pushed}
+use Rattle.srt_group_tables.specs.Laws.Ring.{with_newest, pushed, push_fits}
 use Rattle.srt_group_tables.specs.declared.history.HistoryRing.{HistoryRing}
 use Rattle.srt_group_sending.specs.SentList.{SendTables, send_tables, sent_row, Wrote}
 use Rattle.srt_group_sending.specs.Laws.SentList.{wrote_nothing}
@@ -87,7 +87,7 @@ module _ (l : Leg) (carrier : ℕ) (e : Entry) (x : Sending) (r : HistoryRing) (
   unfolding record_backup_send append_history with_newest with_entries
   send_recorded {y} {ring} {answer} stored numbers_are ring_is trimmed =
       record {
-        fits = trimmed.fits;
+        fits = omega (arith, trimmed.fits, push_fits r fits, ap (λ (q : HistoryRing). q.length) ring_is);
         stored = stored;
         is =
             λ m leg id.

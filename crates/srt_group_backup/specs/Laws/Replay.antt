@@ -1,10 +1,12 @@
 -- What is proved of the definitions in specs/Replay.antt, with what the proofs need.
-use Rattle.std.specs.Prelude.{◌≡◌, refl, Bool, ℕ, ◌+◌, ◌*◌, ◌≤◌, ◌<◌, length, drop, None, Option, Some}
+use Rattle.std.specs.Prelude.{◌≡◌, refl, Bool, ℕ, ◌+◌, ◌*◌, ◌≤◌, ◌<◌, length, drop, Err, None, Ok, Option, Some}
 use Rattle.std.proofs.Math.Path.{ap, sym}
+use Rattle.srt_protocol.specs.Errors.{Outcome, outcome_number}
+use Rattle.srt_protocol.specs.declared.error.Error.TheVariants.{ReplayRefused}
 use Rattle.std.proofs.Common.{◌∙◌, add-one, arith}
 use Rattle.std.proofs.Math.Bool.{true, false}
 use mathlib.Core.List.{List, [], ◌∷◌, ◌++◌, append_assoc, append-nil}
-use Rattle.srt_group_model.specs.Tools.{if_some◌give◌otherwise◌, bit}
+use Rattle.srt_group_model.specs.Tools.{if_true◌then◌else◌, if_some◌give◌otherwise◌}
 use Rattle.srt_group_model.specs.Sending.{sent_row_size, Sent}
 use Rattle.srt_group_model.specs.Backup.{max_history, replay_entries}
 use Rattle.srt_group_model.specs.Backup as backup
@@ -59,13 +61,13 @@ no_more : (sends : List Sent) (l : Leg) (whole : Bool)
 no_more sends l whole = ap (λ (ss : List Sent). with_sends ss record { leg = l; sends = []; whole = whole }) (append-nil sends)
 
 replay_as : (time id : ℕ) (es : List Entry) (l : Leg) (sent : ℕ) (before : List ℕ) (here : Leg) (whole : Bool) (sends : List Sent)
-    (n : ℕ) (after : List ℕ)
+    (n : ℕ) (after : List ℕ) (outcome : Outcome) → outcome_number outcome ≡ (if_true whole then 0 else 28)
     → replay_entries time id es l ≡ record { leg = here; sends = sends; whole = whole } → Wrote sent sends before n after → n ≤ sent + max_history
-    → EntriesReplayed time id es l sent before record { leg = here; sent = n; whole = bit whole } after
-replay_as time id es l sent before here whole sends n after same written few =
+    → EntriesReplayed time id es l sent before record { outcome = outcome; leg = here; sent = n } after
+replay_as time id es l sent before here whole sends n after outcome code same written few =
     record {
+      outcome = code ∙ sym (ap (λ (x : backup.Replayed). if_true x.whole then 0 else 28) same);
       leg = sym (ap (λ (x : backup.Replayed). x.leg) same);
-      whole = sym (ap (λ (x : backup.Replayed). bit x.whole) same);
       written = rw same written;
       few = few;
     }
@@ -126,11 +128,11 @@ module _ (time id : ℕ) (r : HistoryRing) (a : Arrays) (l : Leg) (sent : ℕ) (
             (replay_entries time id (drop (index + 1) (entries_of r a)) k).sends))
 
     pub replay_stopped : index < r.length → r.length ≤ max_history → result ≡ None
-        → EntriesReplayed time id (entries_of r a) l sent before record { leg = here; sent = sent + index; whole = 0 } after
-    unfolding if_some◌give◌otherwise◌ bit
+        → EntriesReplayed time id (entries_of r a) l sent before record { outcome = Err ReplayRefused; leg = here; sent = sent + index } after
+    unfolding if_some◌give◌otherwise◌ if_true◌then◌else◌
     replay_stopped more fits err =
         rw same_list
-        (replay_as time id (entries_of r a) l sent before here false so_far.sends (sent + index) list whole_same
+        (replay_as time id (entries_of r a) l sent before here false so_far.sends (sent + index) list (Err ReplayRefused) refl whole_same
         so_far.written (omega arith))
       where
         failed : entry_send time e here ≡ None
@@ -148,10 +150,10 @@ module _ (time id : ℕ) (r : HistoryRing) (a : Arrays) (l : Leg) (sent : ℕ) (
             ∙ no_more so_far.sends here false
 
   pub replay_done : r.length ≤ index → index ≤ max_history
-      → EntriesReplayed time id (entries_of r a) l sent before record { leg = here; sent = sent + index; whole = 1 } list
-  unfolding bit
+      → EntriesReplayed time id (entries_of r a) l sent before record { outcome = Ok tt; leg = here; sent = sent + index } list
+  unfolding if_true◌then◌else◌
   replay_done all fits =
-      replay_as time id (entries_of r a) l sent before here true so_far.sends (sent + index) list whole_same so_far.written (omega arith)
+      replay_as time id (entries_of r a) l sent before here true so_far.sends (sent + index) list (Ok tt) refl whole_same so_far.written (omega arith)
     where
       whole_same : replay_entries time id (entries_of r a) l ≡ record { leg = here; sends = so_far.sends; whole = true }
       whole_same =

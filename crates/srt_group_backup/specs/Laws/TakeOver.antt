@@ -10,7 +10,7 @@ use Rattle.word_rows.specs.Laws.Tab.{tab_length, tab_none}
 use Rattle.srt_protocol.specs.Errors.{outcome_number}
 use Rattle.srt_protocol.specs.declared.error.Error.TheVariants.{AlignmentFailed, ReplayRefused}
 use Rattle.srt_group_model.specs.Tools.{if_true◌then◌else◌, if_some◌give◌otherwise◌, is_set, flagged, at_place, change}
-use Rattle.srt_group_model.specs.Laws.Flag.{zero_unset, other_set, bit_set}
+use Rattle.srt_group_model.specs.Laws.Flag.{zero_unset, other_set}
 use Rattle.srt_group_model.specs.State.{Member, Send, State, with_send, with_members, with_leg}
 use Rattle.srt_group_model.specs.Legs.{has_sender, remaining_window_packets, synchronize_send_sequence}
 use Rattle.srt_group_model.specs.Members.{id_of, align_leg, align_member_sequence}
@@ -70,14 +70,14 @@ module _ (time i : ℕ) (r : HistoryRing) (a : Arrays) (l : Leg) (t : List ℕ) 
             (ap (λ (l : List Member). flow_of (with_members l s) [] 28) (ap (change i (with_leg l)) ms ∙ sym (c.members n)));
       }
 
-  pub replayed_with_room : {u list_after : List ℕ} {room : ℕ} {x : Membership} {played : Replayed} {outcome : Outcome}
+  pub replayed_with_room : {u list_after : List ℕ} {room : ℕ} {x : Membership} {played : Replayed}
       → room ≡ remaining_window_packets l → r.length < room → x ≡ (member_at t i).membership
       → EntriesReplayed time x.id (entries_of r a) l sent list played list_after
-      → Changed i (with_leg played.leg) t u → outcome_number outcome ≡ (if_true is_set played.whole then 0 else 28)
+      → Changed i (with_leg played.leg) t u
       → FlightReplayed (replay_on time i (member_at t i) l) (HistoryIs (entries_of r a)) sent (send_tables t list)
-      record { outcome = outcome; sent = played.sent } (send_tables u list_after)
+      record { outcome = played.outcome; sent = played.sent } (send_tables u list_after)
   unfolding replay_on if_true◌then◌else◌
-  replayed_with_room {u} {list_after} {room} {x} {played} {outcome} is enough member replayed c code =
+  replayed_with_room {u} {list_after} {room} {x} {played} is enough member replayed c =
       record {
         long = c.long;
         few = replayed.few;
@@ -91,15 +91,11 @@ module _ (time i : ℕ) (r : HistoryRing) (a : Arrays) (l : Leg) (t : List ℕ) 
             flow_of (with_members (change i (with_leg p.leg) s.members) s) p.sends (if_true p.whole then 0 else 28))
             (same_replay s.send known)
             ∙ ap (λ (k : List Member). flow_of (with_members k s) whole.sends (if_true whole.whole then 0 else 28)) (changed n s ms)
-            ∙ ap (flow_of (with_members (members_of n u) s) whole.sends)
-            (ap (λ (b : Bool). if_true b then 0 else 28) (sym all_sent) ∙ sym code));
+            ∙ ap (flow_of (with_members (members_of n u) s) whole.sends) (sym replayed.outcome));
       }
     where
       whole : backup.Replayed
       whole = replay_entries time x.id (entries_of r a) l
-
-      all_sent : is_set played.whole ≡ whole.whole
-      all_sent = ap is_set replayed.whole ∙ bit_set whole.whole
 
       same_replay : (y : Send) → y.history ≡ entries_of r a
           → replay_entries time (id_of (member_at t i)) y.history l ≡ whole
@@ -345,7 +341,7 @@ module _ (time i n : ℕ) (t : List ℕ) (below : i < n) where
               ∙ ap (λ (y : Send). flow_of (with_send y (with_members (members_of n u) s)) [] (outcome_number outcome)) sends;
         }
 
-    module _ {trimmed : SendHistory} (other : answer ≡ true) (by_carrier : TrimmedByCarrier (members_of n t) a.history x r trimmed) where
+    module _ {trimmed : SendHistory} (fits : r.length ≤ max_history) (other : answer ≡ true) (by_carrier : TrimmedByCarrier (members_of n t) a.history x r trimmed) where
       abbrev trimmed_send : Send
       trimmed_send = send_of trimmed.sending trimmed.ring a
 
@@ -356,7 +352,7 @@ module _ (time i n : ℕ) (t : List ℕ) (below : i < n) where
       took_over_nothing {u} {outcome} empty aligned =
           record {
             long = aligned.long;
-            fits = by_carrier.fits;
+            fits = omega (arith, by_carrier.fits);
             few = omega arith;
             sends = [];
             written = wrote_nothing sent list;
@@ -378,7 +374,7 @@ module _ (time i n : ℕ) (t : List ℕ) (below : i < n) where
       took_over_flight {u} {list_after} {flight} some_there replayed =
           record {
             long = replayed.long;
-            fits = by_carrier.fits;
+            fits = omega (arith, by_carrier.fits);
             few = replayed.few;
             sends = replayed.sends;
             written = replayed.written;

@@ -1,10 +1,10 @@
 -- What is proved of the definitions in specs/Trimming.antt, with what the proofs need.
-use Rattle.std.specs.Prelude.{◌≡◌, Bool, true, get_or, None, Some}
+use Rattle.std.specs.Prelude.{◌≡◌, Bool, true, ◌<◌, length, get_or, None, Some}
 use Rattle.std.proofs.Math.Path.{refl, ap, sym}
 use Rattle.std.proofs.Common.{◌∙◌, arith, eq-eqb, ne_eqb}
 use Rattle.std.proofs.Math.Bool.{false}
 use mathlib.Core.List.{List}
-use Prim.Native.Nat.{ℕ, zero, suc, ◌+◌, ◌%◌, ◌≤◌}
+use Prim.Native.Nat.{ℕ, zero, suc, ◌+◌, ◌%◌}
 use Rattle.std.proofs.Math.Dec.{eqb}
 use Rattle.word_rows.specs.Tab.{tab}
 use Rattle.srt_protocol.specs.Sequence.{sequence_before}
@@ -12,13 +12,15 @@ use Rattle.srt_group_model.specs.Tools.{if_true◌then◌else◌, if_some◌give
 use Rattle.srt_group_model.specs.Laws.Flag.{unset_none, set_some}
 use Rattle.srt_group_model.specs.State.{Send, backup_carrier, with_send, send_side, with_gap}
 use Rattle.srt_group_model.specs.Legs.{has_sender, oldest_unacked_sequence}
-use Rattle.srt_group_model.specs.Members.{find}
+use Rattle.srt_group_model.specs.Members.{has_id, find}
 use Rattle.srt_group_model.specs.Backup.{max_history, starts_after, drop_before, trim_backup_history, trim_by_carrier}
 use Rattle.srt_group_model.specs.declared.Entry.{Entry}
 use Rattle.srt_group_model.specs.declared.Leg.{Leg}
 use Rattle.srt_group_model.specs.declared.Sending.{Sending}
-use Rattle.srt_connection_members.specs.Members.{member_at, members_of}
-use Rattle.srt_connection_members.specs.Laws.Members.{members_place, found_some, found_none, found_below}
+use Rattle.srt_connection_members.specs.Members.{members_in}
+use Rattle.srt_connection_members.specs.Laws.Members.{found_some, found_none}
+use Rattle.srt_group_members.specs.Rank.{shown}
+use Rattle.srt_group_sending.specs.Laws.Rows.{row_there, row_found}
 use Rattle.srt_group_tables.specs.Ring.{Arrays, word_sequence, entry_at, entries_of, Trimmed, send_of}
 use Rattle.srt_group_tables.specs.declared.history.HistoryRing.{HistoryRing}
 use Rattle.srt_group_backup.specs.declared.trimming.SendHistory.{SendHistory}
@@ -62,10 +64,10 @@ module _ (sequence : ℕ) (history : List ℕ) (r : HistoryRing) where
 -- ---- one trim
 
 module _ (l : Leg) (history : List ℕ) (x : Sending) (r : HistoryRing) where
-  pub no_sender_none_trimmed : {answer : Bool} → r.length ≤ max_history → answer ≡ has_sender l → answer ≡ false
+  pub no_sender_none_trimmed : {answer : Bool} → answer ≡ has_sender l → answer ≡ false
       → SendTrimmed (trim_backup_history l) history x r record { sending = x; ring = r }
   unfolding trim_backup_history if_true◌then◌else◌
-  no_sender_none_trimmed fits is none_there = record { fits = fits; is = λ a e. sym (rw (← is, none_there)) }
+  no_sender_none_trimmed is none_there = record { fits = omega arith; is = λ a e. sym (rw (← is, none_there)) }
 
   pub acknowledged_trimmed : {answer : Bool} {gap oldest : ℕ} {left : HistoryRing} → answer ≡ has_sender l → answer ≡ true
       → oldest ≡ oldest_unacked_sequence l → Trimmed oldest history r left → gap ≡ bit (front_after oldest history left)
@@ -83,6 +85,9 @@ module _ (l : Leg) (history : List ℕ) (x : Sending) (r : HistoryRing) where
 
 -- ---- by the carrier
 
+pub carrier_there : (id : ℕ) (rows : List (List ℕ)) (i : ℕ) → Some i ≡ find id (members_in rows) → i < length rows
+carrier_there id rows i e = row_found (has_id id) rows i e
+
 module _ (x : Sending) (h : List Entry) (y : Send) (is : y ≡ send_side x h) where
   no_carrier : x.carried ≡ 0 → backup_carrier y ≡ None
   no_carrier none_there = rw is (unset_none x.carried x.carrier none_there)
@@ -90,37 +95,37 @@ module _ (x : Sending) (h : List Entry) (y : Send) (is : y ≡ send_side x h) wh
   its_carrier : (x.carried ≡ 0 → ⊥) → backup_carrier y ≡ Some x.carrier
   its_carrier there = rw is (set_some x.carried x.carrier there)
 
-module _ (n : ℕ) (t : List ℕ) (history : List ℕ) (x : Sending) (r : HistoryRing) where
-  pub no_carrier_none_trimmed : r.length ≤ max_history → x.carried ≡ 0
-      → TrimmedByCarrier (members_of n t) history x r record { sending = x; ring = r }
+module _ (rows : List (List ℕ)) (history : List ℕ) (x : Sending) (r : HistoryRing) where
+  pub no_carrier_none_trimmed : x.carried ≡ 0
+      → TrimmedByCarrier (members_in rows) history x r record { sending = x; ring = r }
   unfolding trim_by_carrier if_some◌give◌otherwise◌
-  no_carrier_none_trimmed fits none_there =
+  no_carrier_none_trimmed none_there =
       record {
-        fits = fits;
+        fits = omega arith;
         is =
             λ s a ms e sent.
             rw (no_carrier x (entries_of r a) s.send sent none_there) (ap (λ (y : Send). with_send y s) sent);
       }
 
   module _ (carried : x.carried ≡ 0 → ⊥) where
-    pub carrier_gone_none_trimmed : r.length ≤ max_history → None ≡ find x.carrier (members_of n t)
-        → TrimmedByCarrier (members_of n t) history x r record { sending = x; ring = r }
+    pub carrier_gone_none_trimmed : None ≡ find x.carrier (members_in rows)
+        → TrimmedByCarrier (members_in rows) history x r record { sending = x; ring = r }
     unfolding trim_by_carrier if_some◌give◌otherwise◌
-    carrier_gone_none_trimmed fits gone =
+    carrier_gone_none_trimmed gone =
         record {
-          fits = fits;
+          fits = omega arith;
           is =
               λ s a ms e sent.
               rw (
                 its_carrier x (entries_of r a) s.send sent carried,
-                ap (find x.carrier) ms ∙ found_none (find x.carrier (members_of n t)) gone,
+                ap (find x.carrier) ms ∙ found_none (find x.carrier (members_in rows)) gone,
               )
               (ap (λ (y : Send). with_send y s) sent);
         }
 
-    pub carrier_trimmed : {l : Leg} {answer : SendHistory} (i : ℕ) → Some i ≡ find x.carrier (members_of n t)
-        → l ≡ (member_at t i).leg → SendTrimmed (trim_backup_history l) history x r answer
-        → TrimmedByCarrier (members_of n t) history x r answer
+    pub carrier_trimmed : {l : Leg} {answer : SendHistory} (i : ℕ) → Some i ≡ find x.carrier (members_in rows)
+        → l ≡ (shown rows i).leg → SendTrimmed (trim_backup_history l) history x r answer
+        → TrimmedByCarrier (members_in rows) history x r answer
     unfolding trim_by_carrier if_some◌give◌otherwise◌
     carrier_trimmed {l} {answer} i found leg trimmed =
         record {
@@ -129,11 +134,11 @@ module _ (n : ℕ) (t : List ℕ) (history : List ℕ) (x : Sending) (r : Histor
               λ s a ms e sent.
               rw (
                 its_carrier x (entries_of r a) s.send sent carried,
-                ap (find x.carrier) ms ∙ found_some (find x.carrier (members_of n t)) i found,
-                ap (at_place i) ms ∙ members_place n t i (found_below n x.carrier i t found),
+                ap (find x.carrier) ms ∙ found_some (find x.carrier (members_in rows)) i found,
+                ap (at_place i) ms ∙ row_there i rows (carrier_there x.carrier rows i found),
               )
               (ap (λ (y : Send). with_send y s)
-              (ap (trim_backup_history (member_at t i).leg) sent
+              (ap (trim_backup_history (shown rows i).leg) sent
               ∙ ap (λ (k : Leg). trim_backup_history k (send_of x r a)) (sym leg)
               ∙ sym (trimmed.is a e)));
         }

@@ -5,8 +5,8 @@ use Rattle.std.proofs.Common.{sym, subst, ◌∙◌, arith}
 use Rattle.std.proofs.Math.Path.{ap}
 use Rattle.std.proofs.Math.Bool.{true, false}
 use Rattle.srt_protocol.specs.Cells.{overwritten}
-use Rattle.srt_group_model.specs.Guards.{Answer, no_answer}
-use Rattle.srt_group_model.specs.Answers.{values_of}
+use Rattle.srt_group_model.specs.Guards.{Answer, no_answer, shown, number}
+use Rattle.srt_group_model.specs.Answers.{values_of, shown_values}
 use Rattle.srt_group_model.specs.Lent.{look_members, call_look}
 use Rattle.srt_group_traces.specs.Port.{Promise}
 use Rattle.srt_group_sending.specs.Laws.SentList.{overwritten_by_nothing}
@@ -17,8 +17,9 @@ use Rattle.srt_group_refusals.specs.Begins.{are_short}
 use Rattle.srt_group_refusals.specs.Promised.{nothing_lent, asking, showing}
 use Rattle.srt_group_looks.specs.Looks.{member_row_size, members_list_size, members_code, rows_filled, ListsBy, ListsMembers}
 use Rattle.srt_group_words.specs.Record.{record_size, group_of}
-use Rattle.srt_group_words.specs.Words.{words, Gives, Said}
+use Rattle.srt_group_words.specs.Words.{zeros, in_words, words, Gives, Said}
 use Rattle.srt_group_words.specs.Laws.Words.{record_gives, answer_gives, kept_gives}
+use Rattle.srt_group_c_looks.specs.Look.{given_code, given_answer}
 use Rattle.srt_group_c_looks.specs.Listed.{listed_words, ListsWords}
 
 nothing_listed : (list : List ℕ) → list ≡ overwritten 0 (values_of no_answer) list
@@ -32,6 +33,13 @@ one_word = refl
 none_filled : (r : Result ℕ Error) → members_code r ≡ 5 → rows_filled r ≡ 0
 none_filled (Ok n) h = absurd (omega (arith, h))
 none_filled (Err e) h = refl
+
+-- the word of how many rows were filled
+pub listed_said : (r : Result ℕ Error) {code : ℕ} {a a' : List ℕ}
+    → Said (given_code r) (in_words 1 (given_answer (λ n. shown (number n)) r) 0) code a a' → Said (members_code r) (rows_filled r ∷ []) code a a'
+unfolding in_words values_of shown_values zeros
+listed_said (Ok n) said = said
+listed_said (Err e) said = said
 
 filled : (n rows : ℕ) → n ≡ rows * member_row_size → rows ≡ n / member_row_size
 filled n rows is = omega (arith, is)

@@ -40,10 +40,9 @@ unfolding retain_group_packet if_true◌then◌else◌
 holds i p s not_discarded = rw not_discarded
 
 module _ (core : Core) (ms ps : List ℕ) (i : ℕ) (p : Packet) where
-  pub discarded : {answer : Bool} (ms' : List ℕ) → answer ≡ is_discarded p (receive_of core ps) → answer ≡ true
+  pub discarded : (ms' : List ℕ) → is_discarded p (receive_of core ps) ≡ true
       → Changed i (on_leg (release_data_reservation p.content.count)) ms ms' → Retained i p core ms ps core ms' ps
-  discarded ms' tested goes changed =
-      let is = sym tested ∙ goes in
+  discarded ms' is changed =
       record {
         waiting_same = refl;
         leaves =
@@ -60,12 +59,11 @@ module _ (core : Core) (ms ps : List ℕ) (i : ℕ) (p : Packet) where
             };
       }
 
-  pub held : {answer : Bool} (ms' ps' : List ℕ) → answer ≡ is_discarded p (receive_of core ps) → answer ≡ false
+  pub held : (ms' ps' : List ℕ) → is_discarded p (receive_of core ps) ≡ false
       → Holds (length ps) ps' (core.counts.pending + 1) (insert p (packets core.counts.pending ps))
       → Changed i (on_account (reserve p.content.count)) ms ms'
       → Retained i p core ms ps (with_held (core.counts.pending + 1) core) ms' ps'
-  held ms' ps' tested keeps inserted changed =
-      let is = sym tested ∙ keeps in
+  held ms' ps' is inserted changed =
       record {
         waiting_same = refl;
         leaves =

@@ -2,6 +2,7 @@
 use Rattle.std.specs.Prelude.{◌≡◌, Bool, true, false, not, ◌&&◌, ◌||◌, List, eqb, length}
 use Rattle.std.proofs.Math.Path.{refl, ap, sym}
 use Rattle.std.proofs.Common.{subst, ◌∙◌, arith, ne_eqb}
+use mir.Val.{bool_byte}
 use Prim.Native.Nat.{ℕ, zero, suc, ◌+◌, ◌-◌, ◌≤◌, ◌<◌}
 use Rattle.word_rows.specs.Tab.{tab}
 use Rattle.srt_group_model.specs.declared.Core.{Core}
@@ -30,14 +31,10 @@ use Rattle.srt_group_collecting.specs.Gather.{Shows, run_of, HeldVisit, Gathers,
 
 -- ---- a flag's word
 
-module _ (set : Bool) where
-  pub written_set : set ≡ true → 1 ≡ bit set
-  unfolding bit
-  written_set is = rw is
-
-  pub written_unset : set ≡ false → 0 ≡ bit set
-  unfolding bit
-  written_unset is = rw is
+pub word_of_flag : (set : Bool) → bool_byte set ≡ bit set
+unfolding bit
+word_of_flag true = refl
+word_of_flag false = refl
 
 -- ---- tests of a state that is shown
 

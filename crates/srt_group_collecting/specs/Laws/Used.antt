@@ -40,9 +40,9 @@ module _ (p : Packet) (x : Receive) (used : List ℕ) where
   unfolding freed_by if_true◌then◌else◌
   discarded_freed used' tested discards freed = rw (← tested, discards) freed
 
-  pub held_kept : {answer : Bool} → length used ≡ set_size → answer ≡ is_discarded p x → answer ≡ false → Freed (freed_by p x) used used
+  pub held_kept : length used ≡ set_size → is_discarded p x ≡ false → Freed (freed_by p x) used used
   unfolding freed_by if_true◌then◌else◌
-  held_kept long tested keeps = rw (← tested, keeps) (none_freed used long)
+  held_kept long keeps = rw keeps (none_freed used long)
 
 module _ (id : ℕ) (e : Event) (x : Receive) (used : List ℕ) where
   pub data_freed : (used' : List ℕ) → e.kind ≡ 0 → Freed (freed_by (packet_from id e) x) used used' → Freed (freed_by_event id e x) used used'

@@ -1,11 +1,11 @@
 -- What is proved of the definitions in specs/Delivery.antt, with what the proofs need.
-use Rattle.std.specs.Prelude.{◌≡◌, refl, Bool, true, false, ℕ, suc, ◌+◌, ◌≤◌, ◌<◌, ◌*◌, leb, length, None, Option, Some}
+use Rattle.std.specs.Prelude.{◌≡◌, refl, Bool, true, false, ℕ, zero, suc, unwrap_or, slice_index_or, ◌+◌, ◌≤◌, ◌<◌, ◌*◌, leb, length, None, Option, Some}
 use Rattle.std.proofs.Math.Path.{ap, ap₂, sym}
-use Rattle.std.proofs.Common.{subst, ◌∙◌, eq-eqb, ne_eqb, arith}
+use Rattle.std.proofs.Common.{subst, ◌∙◌, eq-eqb, ne_eqb, arith, is_le, nat_cmp}
+use Rattle.std.proofs.lemmas.Bool.Decides.{nat_tests}
 use mathlib.Core.List.{List, [], ◌∷◌, ◌++◌}
 use Rattle.srt_protocol.specs.Sequence.{sequence_further}
 use Rattle.srt_protocol.specs.declared.time.Timestamp.{Timestamp}
-use Rattle.word_rows.specs.Tab.{tab}
 use Rattle.srt_group_model.specs.declared.Core.{Core}
 use Rattle.srt_group_model.specs.declared.Account.{Account}
 use Rattle.srt_group_model.specs.declared.Leg.{Leg}
@@ -18,9 +18,10 @@ use Rattle.srt_group_model.specs.Legs.{is_disconnected, gives_up_at, release_dat
 use Rattle.srt_group_model.specs.Members.{has_id, find}
 use Rattle.srt_group_model.specs.Nearest.{nearest, covered, not_covered}
 use Rattle.srt_group_model.specs.Delivery.{leg_gives_up, gap_given_up, release_pending_reservation, release_all, advance_legs, pass_run, deliver_packet}
-use Rattle.srt_connection_members.specs.Members.{member_at, members_of, Changed, ChangedAll, HasRow}
-use Rattle.srt_connection_members.specs.Laws.Members.{members_place, found_some, found_none, found_below, changed_twice, account_changed}
-use Rattle.srt_connection_queue.specs.Rows.{row_size}
+use Rattle.srt_connection_members.specs.Members.{member_at, members_in, members_of, Changed, ChangedAll, HasRow}
+use Rattle.srt_connection_members.specs.Laws.Members.{found_some, found_none, found_below, changed_twice, account_changed}
+use Rattle.srt_connection_queue.specs.Laws.Tab.{place_below}
+use Rattle.srt_connection_queue.specs.Rows.{row_size, member_of}
 use Rattle.srt_connection.specs.Answers.{deadline_of}
 use Rattle.srt_group_tables.specs.Packets.{packet_at, packets, packets_between, Holds, FoundPacket}
 use Rattle.srt_group_tables.specs.Covered.{Covers, packets_at, packets_elsewhere}
@@ -59,10 +60,15 @@ deadline_none : (o : Option ℕ) → None ≡ deadline_of o → o ≡ None
 deadline_none None e = refl
 deadline_none (Some n) e = cc e
 
+le_is_leb : (a b : ℕ) → is_le (nat_cmp a b) ≡ leb a b
+le_is_leb a b = grind (arith, nat_tests)
+
 module _ (time source : ℕ) (l : Leg) where
-  pub given_up_from : {r : Option Timestamp} (moment : Timestamp) → r ≡ Some moment → r ≡ deadline_of (gives_up_at source l) → leb moment.0 time ≡ leg_given_up time source l
+  pub given_up_from : {r : Option Timestamp} {reached : Bool} (moment : Timestamp) → r ≡ Some moment → r ≡ deadline_of (gives_up_at source l)
+      → reached ≡ is_le (nat_cmp moment.0 time) → reached ≡ leg_given_up time source l
   unfolding if_some◌give◌otherwise◌
-  given_up_from moment at_moment is = rw (deadline_some (gives_up_at source l) moment (sym at_moment ∙ is))
+  given_up_from moment at_moment is compared =
+      rw (deadline_some (gives_up_at source l) moment (sym at_moment ∙ is)) (compared ∙ le_is_leb moment.0 time)
 
   pub never_given_up : {r : Option Timestamp} → r ≡ None → r ≡ deadline_of (gives_up_at source l) → false ≡ leg_given_up time source l
   unfolding if_some◌give◌otherwise◌
@@ -86,31 +92,51 @@ pub found_has_row : {r : Option ℕ} (n id i : ℕ) (t : List ℕ) → r ≡ Som
     → n * row_size ≤ length t → HasRow i t
 found_has_row n id i t there found long = omega (arith, found_below n id i t (sym there ∙ found))
 
-module _ (time n : ℕ) (t : List ℕ) (p : Packet) where
-  first_none : None ≡ find p.member (members_of n t) → first_such (has_id p.member) (members_of n t) ≡ None
-  unfolding if_some◌give◌otherwise◌
-  first_none e = rw (first_place (has_id p.member) (members_of n t), found_none (find p.member (members_of n t)) e)
+row_there : (rows : List (List ℕ)) (i : ℕ) (row : List ℕ) → i < length rows → row ≡ slice_index_or rows i row → at_place i (members_in rows) ≡ Some (member_of row)
+unfolding at_place
+row_there [] i row below is = absurd (omega arith)
+row_there (first ∷ rows) zero row below is = ap (λ (r : List ℕ). Some (member_of r)) (sym is)
+row_there (first ∷ rows) (suc i) row below is = row_there rows i row (omega arith) is
 
-  first_some : (i : ℕ) → Some i ≡ find p.member (members_of n t)
-      → first_such (has_id p.member) (members_of n t) ≡ Some (member_at t i)
-  unfolding if_some◌give◌otherwise◌
-  first_some i e =
-      rw (first_place (has_id p.member) (members_of n t), found_some (find p.member (members_of n t)) i e)
-      (members_place n t i (found_below n p.member i t e))
+no_row : (rows : List (List ℕ)) (i : ℕ) → length rows ≤ i → at_place i (members_in rows) ≡ None
+unfolding at_place
+no_row [] i past = refl
+no_row (first ∷ rows) zero past = absurd (omega arith)
+no_row (first ∷ rows) (suc i) past = no_row rows i (omega arith)
 
-  pub own_leg_asked : {b : Bool} {l : Leg} {r : Option ℕ} (i : ℕ) → r ≡ Some i → r ≡ find p.member (members_of n t) → l ≡ (member_at t i).leg
-      → b ≡ leg_given_up time p.content.source.0 l → b ≡ leg_gives_up time p (members_of n t)
-  unfolding leg_gives_up or_else if_some◌give◌otherwise◌
-  own_leg_asked i there found is asked = rw (first_some i (sym there ∙ found), ← is) asked
+-- a place inside a list gives what stands there
+place_inside : {A : Type 0} (l : List A) (i : ℕ) (b : Option A) → i < length l → or_else (at_place i l) b ≡ at_place i l
+unfolding at_place or_else
+place_inside [] i b below = absurd (omega arith)
+place_inside (x ∷ xs) zero b below = refl
+place_inside (x ∷ xs) (suc i) b below = place_inside xs i b (omega arith)
 
-  pub first_leg_asked : {b : Bool} {l : Leg} {r : Option ℕ} → r ≡ None → r ≡ find p.member (members_of n t) → (n ≡ 0 → ⊥) → l ≡ (member_at t 0).leg
-      → b ≡ leg_given_up time p.content.source.0 l → b ≡ leg_gives_up time p (members_of n t)
-  unfolding leg_gives_up or_else if_some◌give◌otherwise◌
-  first_leg_asked nowhere found some_member is asked = rw (first_none (sym nowhere ∙ found), members_place n t 0 (omega (arith, some_member)), ← is) asked
+module _ (time : ℕ) (p : Packet) (rows : List (List ℕ)) where
+  abbrev members : List Member
+  members = members_in rows
 
-  pub no_leg_asked : n ≡ 0 → false ≡ leg_gives_up time p (members_of n t)
-  unfolding leg_gives_up or_else if_some◌give◌otherwise◌ members_of tab first_such at_place
-  no_leg_asked e = rw e
+  -- the member with the packet's id, or else the first, by its place
+  member_asked : {found : Option ℕ} → found ≡ find p.member members
+      → or_else (first_such (has_id p.member) members) (at_place 0 members) ≡ at_place (unwrap_or found 0) members
+  unfolding or_else if_some◌give◌otherwise◌
+  member_asked {found} is =
+      rw (first_place (has_id p.member) members, ← is) (go found (λ i e. place_below (has_id p.member) members i (sym is ∙ e)))
+    where
+      go : (o : Option ℕ) → ((i : ℕ) → o ≡ Some i → i < length members)
+          → or_else (if_some o give (λ i. at_place i members) otherwise None) (at_place 0 members) ≡ at_place (unwrap_or o 0) members
+      go None inside = refl
+      go (Some i) inside = place_inside members i (at_place 0 members) (inside i refl)
+
+  pub leg_asked : {found : Option ℕ} {i : ℕ} {row : List ℕ} {l : Leg} {b : Bool} → found ≡ find p.member members → i ≡ unwrap_or found 0
+      → i < length rows → row ≡ slice_index_or rows i row → l ≡ (member_of row).leg
+      → b ≡ leg_given_up time p.content.source.0 l → b ≡ leg_gives_up time p members
+  unfolding leg_gives_up if_some◌give◌otherwise◌
+  leg_asked {row = row} found at below here is asked = rw (member_asked found, ← at, row_there rows _ row below here, ← is) asked
+
+  pub no_leg_asked : {found : Option ℕ} {i : ℕ} → found ≡ find p.member members → i ≡ unwrap_or found 0
+      → length rows ≤ i → false ≡ leg_gives_up time p members
+  unfolding leg_gives_up if_some◌give◌otherwise◌
+  no_leg_asked found at past = rw (member_asked found, ← at, no_row rows _ past)
 
 pub nearest_in_table : {r : Option ℕ} {o : Option Packet} (n i : ℕ) (ps : List ℕ) → FoundPacket ps n r o → r ≡ Some i → n ≤ max_pending → i < max_pending
 nearest_in_table {r} n i ps near there few = omega (arith, at_in_use n r i near.within there)

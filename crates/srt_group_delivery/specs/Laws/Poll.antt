@@ -12,7 +12,7 @@ use Rattle.srt_group_model.specs.Sound.{PacketFit}
 use Rattle.srt_group_model.specs.declared.Core.{Core}
 use Rattle.srt_group_model.specs.declared.Packet.{Packet}
 use Rattle.srt_group_model.specs.declared.Waiting.{Waiting}
-use Rattle.srt_group_model.specs.Tools.{All, if_some◌give◌otherwise◌, is_set, flagged, place_of, at_place}
+use Rattle.srt_group_model.specs.Tools.{All, if_some◌give◌otherwise◌, flagged, place_of, at_place}
 use Rattle.srt_group_model.specs.Laws.Flag.{other_set}
 use Rattle.srt_group_model.specs.State.{with_waiting, based_at}
 use Rattle.srt_group_model.specs.Core.{with_receiving, with_waiting_count}

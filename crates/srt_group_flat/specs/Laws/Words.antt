@@ -36,7 +36,7 @@ says_refused e is {n} same =
             same_code = same;
             same_answer = ap (λ (b : Bool). if_true b then no_answer else data_polled None false) (ap is_set same ∙ other_set (error_number e) (refused_not_0 e));
           };
-      cleared = record { flag = omega arith; packet = λ None. refl; given = λ refused. refl; continuation = λ refused. refl };
+      cleared = record { flag = omega arith; packet = λ none. refl; given = λ refused. refl; continuation = λ refused. refl };
     }
 
 pub says_polled : {answer : Result GroupDataPoll Error} (poll : GroupDataPoll) → answer ≡ Ok poll → {w : DataWords} → Says (Ok poll) w → Says answer w
@@ -54,7 +54,7 @@ module _ {poll : GroupDataPoll} where
         cleared =
             record {
               flag = omega arith;
-              packet = λ None. refl;
+              packet = λ none. refl;
               given = λ refused. refl;
               continuation = λ refused. absurd (true≢false (sym refused));
             };
@@ -68,7 +68,7 @@ module _ {poll : GroupDataPoll} where
         cleared =
             record {
               flag = omega arith;
-              packet = λ None. absurd (true≢false None);
+              packet = λ none. absurd (true≢false none);
               given = λ refused. absurd (true≢false (sym refused));
               continuation = λ refused. absurd (true≢false (sym refused));
             };

@@ -1,6 +1,9 @@
 -- What is proved of the definitions in specs/Legs.antt: over a list that `members` filled, the state among its rows is the model's.
 use Rattle.srt_protocol.specs.declared.error.Error.{Error}
-use Rattle.std.specs.Prelude.{◌≡◌, refl, Bool, ℕ, ◌+◌, ◌*◌, eqb, drop, Option, Result, Some}
+use Rattle.std.specs.Prelude.{◌≡◌, refl, Bool, ℕ, ◌+◌, ◌*◌, eqb, cond, drop, None, Option, Result, Some, MatchOption}
+use Rattle.std.specs.List.{find}
+use Rattle.std.specs.Option.{option_map}
+use denote.Ref.{Bor}
 use Rattle.std.proofs.Common.{sym, ◌∙◌, arith, length-append}
 use Rattle.std.proofs.Math.Path.{ap}
 use Rattle.std.proofs.Math.Bool.{true, false}
@@ -24,6 +27,28 @@ use Rattle.srt_group_looks.specs.Looks.{member_row_size, members_code, rows_fill
 use Rattle.srt_group_looks.specs.Laws.Members.{eight_words}
 use Rattle.srt_group_leg_rows.specs.declared.LegRow.{LegRow}
 use Rattle.srt_group_leg_rows.specs.Legs.{unknown_leg, state_among, leg_state, front_row, rows_in}
+
+-- ---- the row that is found
+
+-- the state of a row, if one is given
+abbrev pub state_or : Option LegRow → ℕ
+state_or None = unknown_leg
+state_or (Some row) = row.state
+
+pub found_state : (id : ℕ) (rows : List LegRow) → state_or (find (λ row. eqb row.id id) rows) ≡ state_among id rows
+unfolding state_among if_true◌then◌else◌
+found_state id [] = refl
+found_state id (row ∷ rows) = go (eqb row.id id) (found_state id rows)
+  where
+    go : (b : Bool) → state_or (find (λ row. eqb row.id id) rows) ≡ state_among id rows
+        → state_or (cond b (Some row) (find (λ row. eqb row.id id) rows)) ≡ (if_true b then row.state else state_among id rows)
+    go true later = refl
+    go false later = later
+
+pub state_mapped : (o : Option (Bor LegRow)) (answer : ℕ) → MatchOption o (answer ≡ unknown_leg) (λ row. answer ≡ row.now.state)
+    → answer ≡ state_or (option_map (λ row. row.now) o)
+state_mapped None answer is = is
+state_mapped (Some row) answer is = is
 
 -- ---- rows of members
 

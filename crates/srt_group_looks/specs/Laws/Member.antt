@@ -1,10 +1,13 @@
 -- What is proved of the looks at one member.
 use Rattle.srt_protocol.specs.Errors.{Outcome}
-use Rattle.std.specs.Prelude.{◌≡◌, Bool, ℕ, None, Ok, Option, Some}
+use Rattle.std.specs.Prelude.{◌≡◌, Bool, ℕ, List, None, Ok, Err, Option, Some}
+use Rattle.srt_protocol.specs.declared.error.Error.{Error}
+use Rattle.srt_protocol.specs.declared.error.Error.TheVariants.{OutOfRange, UnknownMember}
+use Rattle.srt_protocol.specs.Errors.{error_number}
 use Rattle.std.proofs.Math.Path.{refl, ap, subst}
 use Rattle.std.proofs.Common.{sym, ◌∙◌}
 use Rattle.std.proofs.Math.Bool.{true, false}
-use Rattle.srt_group_model.specs.Tools.{if_true◌then◌else◌, if_some◌give◌otherwise◌, at_place, first_such}
+use Rattle.srt_group_model.specs.Tools.{if_true◌then◌else◌, if_some◌give◌otherwise◌, at_place}
 use Rattle.srt_group_model.specs.declared.Leg.{Leg}
 use Rattle.srt_group_model.specs.declared.MemberShown.{MemberShown}
 use Rattle.srt_group_model.specs.State.{Member, State}
@@ -17,88 +20,90 @@ use Rattle.srt_group_model.specs.Calls.{cells_given, member_shown, member, backu
 use Rattle.srt_group_model.specs.Lent.{look_member, look_backup_stability_timeout_micros, looking}
 use Rattle.srt_group_model.specs.Laws.Places.{first_such_is_found}
 use Rattle.srt_group_model.specs.Laws.Valid.{valid_of, fit_of}
+use Rattle.srt_connection_queue.specs.Rows.{member_of}
 use Rattle.srt_connection_members.specs.Members.{member_at}
 use Rattle.srt_group_shown.specs.Tables.{Parts, Tables, state_of}
-use Rattle.srt_group_shown.specs.Steps.{Unbroken}
 use Rattle.srt_group_shown.specs.Laws.Found.{is_nowhere, is_known, found_there, place, below}
-use Rattle.srt_group_backup.specs.Stale.{TripFit}
 use Rattle.srt_group_backup.specs.Laws.Stale.{trip_fits}
 use Rattle.srt_group_refusals.specs.Begins.{begun}
-use Rattle.srt_group_looks.specs.Looks.{Looked}
-use Rattle.srt_group_looks.specs.Laws.Looks.{member_unfit, member_unknown, member_look}
+use Rattle.srt_group_refusals.specs.Laws.Begins.{begun_unbroken}
+use Rattle.srt_group_looks.specs.Looks.{Looked, RowFound, LooksRefused}
+use Rattle.srt_group_looks.specs.Laws.Looks.{look_refused, member_unfit, member_unknown, member_look}
 
 module _ (id : ℕ) (p : Parts) (t : Tables) where
   abbrev s : State
   s = state_of p t
 
-  -- the member that `find` answers is the first with the id
-  first_found : (i : ℕ) → Some i ≡ find id s.members → first_such (has_id id) s.members ≡ Some (member_at t.members i)
-  unfolding if_some◌give◌otherwise◌
-  first_found i at =
-      first_such_is_found (has_id id) s.members
-      ∙ ap (λ (o : Option ℕ). if_some o give (λ k. at_place k s.members) otherwise None) (found_there id p t i at)
-      ∙ place id p t i at
+  module _ {r : Outcome} (begins : r ≡ begun p t) where
+    pub begin_refuses : (e : Error) → r ≡ Err e → LooksRefused id p t e
+    begin_refuses e refused = record { looks = λ look is. look_refused look p t begins e refused }
 
-  -- the round trip of a member of a valid state is in its range
-  pub trip_there : Unbroken p t → (i : ℕ) → Some i ≡ find id s.members → {l : Leg} → l ≡ (member_at t.members i).leg → TripFit l
-  trip_there unbroken i at is =
-      trip_fits p.core.counts.members i t.members (below id p t i at)
-      (fit_of (cells_given s) s (valid_of (cells_given s) s unbroken.valid)).members is
+    module _ (accepted : r ≡ Ok tt) where
+      pub unfit_refuses : above largest_32 id ≡ true → LooksRefused id p t OutOfRange
+      unfit_refuses unfit = record { looks = λ look is. member_unfit look p t begins accepted id is unfit }
 
-  module _ {r : Outcome} (begins : r ≡ begun p t) (accepted : r ≡ Ok tt) where
-    -- ---- `member`
+      module _ (fit : above largest_32 id ≡ false) where
+        pub unknown_refuses : None ≡ find id s.members → LooksRefused id p t UnknownMember
+        unknown_refuses nowhere =
+            record { looks = λ look is. member_unknown look p t begins accepted id is fit (is_nowhere id p t nowhere) }
 
-    pub member_unfit_shown : above largest_32 id ≡ true → Looked (look_member id) p t 2 no_answer
-    unfolding looking member
-    member_unfit_shown = member_unfit (look_member id) p t begins accepted id refl
+        pub row_is_found : (i : ℕ) → Some i ≡ find id s.members → {row : List ℕ} → member_of row ≡ member_at t.members i → RowFound id p t row
+        unfolding if_some◌give◌otherwise◌
+        row_is_found i at {row} shows =
+            record {
+              looks = λ look is. member_look look p t begins accepted id is fit (is_known id p t i at);
+              is =
+                  first_such_is_found (has_id id) s.members
+                  ∙ ap (λ (o : Option ℕ). if_some o give (λ k. at_place k s.members) otherwise None) (found_there id p t i at)
+                  ∙ place id p t i at ∙ ap (λ (m : Member). Some m) (sym shows);
+              trip =
+                  trip_fits p.core.counts.members i t.members (below id p t i at)
+                  (fit_of (cells_given s) s (valid_of (cells_given s) s (begun_unbroken p t begins accepted).valid)).members
+                  (ap (λ (m : Member). m.leg) shows);
+            }
+
+  -- ---- `member`
+
+  pub member_refused : (e : Error) → LooksRefused id p t e → Looked (look_member id) p t (error_number e) no_answer
+  unfolding looking member
+  member_refused e refused = refused.looks (look_member id) refl
+
+  module _ (row : List ℕ) (found : RowFound id p t row) where
+    pub member_is_shown : (m : MemberShown) → m ≡ member_shown (member_of row) → Looked (look_member id) p t 0 (shown (one_member (Some m)))
+    unfolding looking member if_some◌give◌otherwise◌
+    member_is_shown m is =
+        subst (λ (o : Option MemberShown). Looked (look_member id) p t 0 (shown (one_member o)))
+        (ap (λ (o : Option Member). if_some o give (λ x. Some (member_shown x)) otherwise None) found.is
+        ∙ ap (λ (x : MemberShown). Some x) (sym is))
+        (found.looks (look_member id) refl)
 
     -- ---- `backup_stability_timeout_micros`
 
-    pub timeout_unfit_shown : above largest_32 id ≡ true → Looked (look_backup_stability_timeout_micros id) p t 2 no_answer
-    unfolding looking backup_stability_timeout_micros
-    timeout_unfit_shown = member_unfit (look_backup_stability_timeout_micros id) p t begins accepted id refl
+    module _ (l : Leg) (is : l ≡ (member_of row).leg) where
+      timeout_is_shown : (b : Bool) → has_sender l ≡ b
+          → Looked (look_backup_stability_timeout_micros id) p t 0 (shown (optional (if_true b then Some (stability_timeout l) else None)))
+      unfolding looking backup_stability_timeout_micros if_some◌give◌otherwise◌
+      timeout_is_shown b sender =
+          subst (λ (o : Option ℕ). Looked (look_backup_stability_timeout_micros id) p t 0 (shown (optional o)))
+          (ap
+          (λ (o : Option Member).
+          if_some o give (λ m. if_true has_sender m.leg then Some (stability_timeout m.leg) else None) otherwise None)
+          found.is
+          ∙ ap (λ (x : Leg). if_true has_sender x then Some (stability_timeout x) else None) (sym is)
+          ∙ ap (λ (c : Bool). if_true c then Some (stability_timeout l) else None) sender)
+          (found.looks (look_backup_stability_timeout_micros id) refl)
 
-    module _ (fit : above largest_32 id ≡ false) where
-      pub member_unknown_shown : None ≡ find id s.members → Looked (look_member id) p t 3 no_answer
-      unfolding looking member
-      member_unknown_shown nowhere = member_unknown (look_member id) p t begins accepted id refl fit (is_nowhere id p t nowhere)
+      pub no_timeout_shown : has_sender l ≡ false → Looked (look_backup_stability_timeout_micros id) p t 0 (shown (optional None))
+      unfolding if_true◌then◌else◌
+      no_timeout_shown sender = timeout_is_shown false sender
 
-      pub timeout_unknown_shown : None ≡ find id s.members → Looked (look_backup_stability_timeout_micros id) p t 3 no_answer
-      unfolding looking backup_stability_timeout_micros
-      timeout_unknown_shown nowhere =
-          member_unknown (look_backup_stability_timeout_micros id) p t begins accepted id refl fit (is_nowhere id p t nowhere)
+      pub timeout_shown : has_sender l ≡ true → (n : ℕ) → n ≡ stability_timeout l
+          → Looked (look_backup_stability_timeout_micros id) p t 0 (shown (optional (Some n)))
+      unfolding if_true◌then◌else◌
+      timeout_shown sender n made =
+          subst (λ (x : ℕ). Looked (look_backup_stability_timeout_micros id) p t 0 (shown (optional (Some x)))) (sym made)
+          (timeout_is_shown true sender)
 
-      module _ (i : ℕ) (at : Some i ≡ find id s.members) where
-        pub member_is_shown : (m : MemberShown) → m ≡ member_shown (member_at t.members i)
-            → Looked (look_member id) p t 0 (shown (one_member (Some m)))
-        unfolding looking member if_some◌give◌otherwise◌
-        member_is_shown m is =
-            subst (λ (o : Option MemberShown). Looked (look_member id) p t 0 (shown (one_member o)))
-            (ap (λ (o : Option Member). if_some o give (λ x. Some (member_shown x)) otherwise None) (first_found i at)
-            ∙ ap (λ (x : MemberShown). Some x) (sym is))
-            (member_look (look_member id) p t begins accepted id refl fit (is_known id p t i at))
-
-        module _ (l : Leg) (is : l ≡ (member_at t.members i).leg) where
-          timeout_is_shown : (b : Bool) → has_sender l ≡ b
-              → Looked (look_backup_stability_timeout_micros id) p t 0 (shown (optional (if_true b then Some (stability_timeout l) else None)))
-          unfolding looking backup_stability_timeout_micros if_some◌give◌otherwise◌
-          timeout_is_shown b sender =
-              subst (λ (o : Option ℕ). Looked (look_backup_stability_timeout_micros id) p t 0 (shown (optional o)))
-              (ap
-              (λ (o : Option Member).
-              if_some o give (λ m. if_true has_sender m.leg then Some (stability_timeout m.leg) else None) otherwise None)
-              (first_found i at)
-              ∙ ap (λ (x : Leg). if_true has_sender x then Some (stability_timeout x) else None) (sym is)
-              ∙ ap (λ (c : Bool). if_true c then Some (stability_timeout l) else None) sender)
-              (member_look (look_backup_stability_timeout_micros id) p t begins accepted id refl fit (is_known id p t i at))
-
-          pub no_timeout_shown : has_sender l ≡ false → Looked (look_backup_stability_timeout_micros id) p t 0 (shown (optional None))
-          unfolding if_true◌then◌else◌
-          no_timeout_shown sender = timeout_is_shown false sender
-
-          pub timeout_shown : has_sender l ≡ true → (n : ℕ) → n ≡ stability_timeout l
-              → Looked (look_backup_stability_timeout_micros id) p t 0 (shown (optional (Some n)))
-          unfolding if_true◌then◌else◌
-          timeout_shown sender n made =
-              subst (λ (x : ℕ). Looked (look_backup_stability_timeout_micros id) p t 0 (shown (optional (Some x)))) (sym made)
-              (timeout_is_shown true sender)
+  pub timeout_refused : (e : Error) → LooksRefused id p t e → Looked (look_backup_stability_timeout_micros id) p t (error_number e) no_answer
+  unfolding looking backup_stability_timeout_micros
+  timeout_refused e refused = refused.looks (look_backup_stability_timeout_micros id) refl

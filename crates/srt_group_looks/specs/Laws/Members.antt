@@ -1,8 +1,9 @@
 -- What is proved of `members`: the rows that are written one behind the other are the answer's values.
 use Rattle.srt_protocol.specs.Errors.{Outcome}
-use Rattle.std.specs.Prelude.{◌≡◌, refl, Bool, true, false, List, [], ◌∷◌, ◌++◌, ℕ, suc, ◌+◌, ◌*◌, ◌≤◌, ltb, length, Err, Ok}
+use Rattle.std.specs.Prelude.{◌≡◌, refl, Bool, true, false, List, [], ◌∷◌, ◌++◌, ℕ, zero, suc, ◌+◌, ◌*◌, ◌≤◌, ◌<◌, ltb, length, take, get_or, Err, Ok}
 use Rattle.std.proofs.Common.{ap, ◌∙◌, append_assoc, arith, length-append}
 use Rattle.std.proofs.Math.Path.{sym, subst}
+use Rattle.std.proofs.lemmas.List.{take_more, take_all, length-take-le, length-map}
 use Rattle.srt_protocol.specs.declared.error.Error.{Error}
 use Rattle.srt_protocol.specs.declared.error.Error.TheVariants.{InsufficientBuffer}
 use Rattle.srt_protocol.specs.Cells.{overwritten}
@@ -15,9 +16,8 @@ use Rattle.srt_group_model.specs.Calls.{cells_given, member_shown, members_call}
 use Rattle.srt_group_model.specs.Laws.Valid.{valid_of, counted_of}
 use Rattle.srt_group_model.specs.Lent.{look_members, looking}
 use Rattle.srt_group_model.specs.Answers.{member_values, all_values, shown_values, values_of}
-use Rattle.word_rows.specs.Tab.{tab}
-use Rattle.word_rows.specs.Laws.Tab.{tab_push, tab_length}
-use Rattle.srt_connection_members.specs.Members.{members_of, member_at}
+use Rattle.srt_connection_queue.specs.Rows.{member_of}
+use Rattle.srt_connection_members.specs.Members.{members_in}
 use Rattle.srt_connection_members.specs.Laws.Members.{members_length}
 use Rattle.srt_group_sending.specs.Laws.SentList.{overwritten_by_nothing, overwritten_behind}
 use Rattle.srt_group_shown.specs.Tables.{Parts, Tables, state_of}
@@ -32,8 +32,8 @@ eight_words m = refl
 -- ---- rows
 
 -- the values of the first n members
-abbrev pub rows_of : ℕ → List ℕ → List ℕ
-rows_of n members = all_values (each member_shown (members_of n members))
+abbrev pub rows_of : ℕ → List (List ℕ) → List ℕ
+rows_of n rows = all_values (each member_shown (take n (members_in rows)))
 
 all_values_append : (xs ys : List MemberShown) → all_values (xs ++ ys) ≡ all_values xs ++ all_values ys
 unfolding all_values
@@ -56,46 +56,61 @@ unfolding each
 shown_length [] = refl
 shown_length (x ∷ ms) = omega (arith, shown_length ms)
 
-pub rows_length : (n : ℕ) (members : List ℕ) → length (rows_of n members) ≡ n * member_row_size
-unfolding members_of
-rows_length n members =
-    omega (arith, all_values_length (each member_shown (members_of n members)), shown_length (members_of n members), tab_length n (member_at members))
+values_length : (ms : List Member) → length (all_values (each member_shown ms)) ≡ length ms * member_row_size
+values_length ms = omega (arith, all_values_length (each member_shown ms), shown_length ms)
+
+rows_length : (n : ℕ) (rows : List (List ℕ)) → n ≤ length rows → length (rows_of n rows) ≡ n * member_row_size
+rows_length n rows within =
+    omega (arith, values_length (take n (members_in rows)), length-take-le n (members_in rows) (omega (arith, length-map rows member_of)))
 
 one_row : (m : MemberShown) → all_values (m ∷ []) ≡ member_values m
 unfolding all_values
 one_row m = refl
 
-row_more : (n : ℕ) (members : List ℕ) → rows_of (n + 1) members ≡ rows_of n members ++ member_values (member_shown (member_at members n))
-unfolding members_of
-row_more n members =
-    let next : n + 1 ≡ suc n = omega arith in
-    ap (λ (k : ℕ). rows_of k members) next
-    ∙ ap (λ (ms : List Member). all_values (each member_shown ms)) (tab_push n (member_at members) (member_at members) (member_at members n) (λ i h. refl) refl)
-    ∙ ap all_values (shown_append (members_of n members) (member_at members n))
-    ∙ all_values_append (each member_shown (members_of n members)) (member_shown (member_at members n) ∷ [])
-    ∙ ap (λ (l : List ℕ). rows_of n members ++ l) (one_row (member_shown (member_at members n)))
+member_read : (rows : List (List ℕ)) (n : ℕ) (m : Member) → n < length rows → get_or (members_in rows) n m ≡ member_of (get_or rows n [])
+member_read [] n m h = absurd (omega arith)
+member_read (row ∷ rows) zero m h = refl
+member_read (row ∷ rows) (suc n) m h = member_read rows n m (omega arith)
+
+row_more : (n : ℕ) (rows : List (List ℕ)) → n < length rows → rows_of (n + 1) rows ≡ rows_of n rows ++ member_values (member_shown (member_of (get_or rows n [])))
+row_more n rows h =
+    let m = member_of (get_or rows n []) in
+    ap (λ (ms : List Member). all_values (each member_shown ms))
+    (take_more (members_in rows) n m (omega (arith, length-map rows member_of))
+    ∙ ap (λ (x : Member). take n (members_in rows) ++ (x ∷ [])) (member_read rows n m h))
+    ∙ ap all_values (shown_append (take n (members_in rows)) m)
+    ∙ all_values_append (each member_shown (take n (members_in rows))) (member_shown m ∷ [])
+    ∙ ap (λ (l : List ℕ). rows_of n rows ++ l) (one_row (member_shown m))
 
 -- ---- the list, once the rows of the first n members are written
 
-pub nothing_written : (members list : List ℕ) → list ≡ overwritten 0 (rows_of 0 members) list
-unfolding members_of tab each all_values
-nothing_written members list = sym (overwritten_by_nothing 0 list)
+pub nothing_written : (rows : List (List ℕ)) (list : List ℕ) → list ≡ overwritten 0 (rows_of 0 rows) list
+unfolding each all_values
+nothing_written rows list = sym (overwritten_by_nothing 0 list)
 
-pub row_written : (n : ℕ) (members list here list' : List ℕ) → n * member_row_size ≤ length list → here ≡ overwritten 0 (rows_of n members) list
-    → list' ≡ overwritten (n * member_row_size) (member_values (member_shown (member_at members n))) here
-    → list' ≡ overwritten 0 (rows_of (n + 1) members) list
-row_written n members list here list' fits so_far wrote =
-    let row = member_values (member_shown (member_at members n)) in
-    let end : n * member_row_size ≡ 0 + length (rows_of n members) = omega (arith, rows_length n members) in
+pub row_written : (n : ℕ) (rows : List (List ℕ)) (list here list' : List ℕ) → n < length rows → length rows * member_row_size ≤ length list
+    → here ≡ overwritten 0 (rows_of n rows) list
+    → list' ≡ overwritten (n * member_row_size) (member_values (member_shown (member_of (get_or rows n [])))) here
+    → list' ≡ overwritten 0 (rows_of (n + 1) rows) list
+row_written n rows list here list' inside fits so_far wrote =
+    let row = member_values (member_shown (member_of (get_or rows n []))) in
+    let long = rows_length n rows (omega arith) in
+    let end : n * member_row_size ≡ 0 + length (rows_of n rows) = omega (arith, long) in
     wrote ∙ ap (overwritten (n * member_row_size) row) so_far
-    ∙ ap (λ (at : ℕ). overwritten at row (overwritten 0 (rows_of n members) list)) end
-    ∙ overwritten_behind 0 (rows_of n members) row list (omega (arith, rows_length n members))
-    ∙ ap (λ (l : List ℕ). overwritten 0 l list) (sym (row_more n members))
+    ∙ ap (λ (at : ℕ). overwritten at row (overwritten 0 (rows_of n rows) list)) end
+    ∙ overwritten_behind 0 (rows_of n rows) row list (omega (arith, long))
+    ∙ ap (λ (l : List ℕ). overwritten 0 l list) (sym (row_more n rows inside))
 
-pub written_length : (n : ℕ) (members list here : List ℕ) → n * member_row_size ≤ length list → here ≡ overwritten 0 (rows_of n members) list
-    → length here ≡ length list
-written_length n members list here fits is =
-    ap length is ∙ overwritten_length 0 (rows_of n members) list (omega (arith, rows_length n members))
+pub written_length : (n : ℕ) (rows : List (List ℕ)) (list here : List ℕ) → n ≤ length rows → length rows * member_row_size ≤ length list
+    → here ≡ overwritten 0 (rows_of n rows) list → length here ≡ length list
+written_length n rows list here within fits is =
+    let long = rows_length n rows within in
+    ap length is ∙ overwritten_length 0 (rows_of n rows) list (omega (arith, long))
+
+pub all_written : (n : ℕ) (rows : List (List ℕ)) (list here : List ℕ) → length rows ≤ n → here ≡ overwritten 0 (rows_of n rows) list
+    → here ≡ overwritten 0 (all_values (each member_shown (members_in rows))) list
+all_written n rows list here past is =
+    is ∙ ap (λ (ms : List Member). overwritten 0 (all_values (each member_shown ms)) list) (take_all n (members_in rows) (omega (arith, length-map rows member_of)))
 
 -- ---- the call
 
@@ -128,7 +143,7 @@ module _ (p : Parts) (t : Tables) (list : List ℕ) (long : ltb (length list) me
         rows = refl;
       }
 
-  pub members_listed : r ≡ Ok tt → (list' : List ℕ) → list' ≡ overwritten 0 (rows_of p.core.counts.members t.members) list
+  pub members_listed : r ≡ Ok tt → (list' : List ℕ) → list' ≡ overwritten 0 (all_values (each member_shown (state_of p t).members)) list
       → ListsMembers p t list (Ok p.core.counts.members) list'
   unfolding looking members_call values_of shown_values
   members_listed accepted list' wrote =
@@ -137,5 +152,5 @@ module _ (p : Parts) (t : Tables) (list : List ℕ) (long : ltb (length list) me
         answer = shown (all_members (each member_shown (state_of p t).members));
         looked = group_look look_members p t begins accepted refl;
         is = wrote;
-        rows = rows_length p.core.counts.members t.members;
+        rows = omega (arith, values_length (state_of p t).members, members_length p.core.counts.members t.members);
       }

@@ -11,7 +11,6 @@ use Rattle.srt_group_model.specs.State.{Member, turned, unstable_state, broken_s
 use Rattle.srt_group_model.specs.Legs.{is_connected, is_disconnected, can_send}
 use Rattle.srt_group_model.specs.Members.{in_state, align_member_sequence, turn_aligned, steps_from, at_each_place, settle, requalify, break_disconnected, promote_if_none, settle_members, requalify_members}
 use Rattle.srt_group_model.specs.declared.Leg.{Leg}
-use Rattle.srt_group_model.specs.declared.Membership.{Membership}
 use Rattle.srt_connection_members.specs.Members.{member_at, members_of, Changed, ChangedAll}
 use Rattle.srt_connection_members.specs.Laws.Members.{members_length, members_place, changed_by, unchanged}
 use Rattle.srt_group_members.specs.Scan.{Became, Tried}
@@ -133,13 +132,13 @@ module _ (i : ℕ) (t : List ℕ) where
   turned_already : (m : Member) → m.membership.state ≡ broken_state → m ≡ turned broken_state m
   turned_already m e = ap (λ (n : ℕ). turned n m) e
 
-  pub broken_already : {x : Membership} → x ≡ (member_at t i).membership → x.state ≡ broken_state → Changed i break_disconnected t t
+  pub broken_already : {state : ℕ} → state ≡ (member_at t i).membership.state → state ≡ broken_state → Changed i break_disconnected t t
   unfolding break_disconnected if_true◌then◌else◌
-  broken_already membership broken =
+  broken_already is broken =
       changed_by i t t break_disconnected (unchanged i t) (go (is_disconnected (member_at t i).leg))
     where
       same : member_at t i ≡ turned broken_state (member_at t i)
-      same = turned_already (member_at t i) (ap (λ (x : Membership). x.state) (sym membership) ∙ broken)
+      same = turned_already (member_at t i) (sym is ∙ broken)
 
       go : (b : Bool) → member_at t i ≡ (if_true b then turned broken_state (member_at t i) else member_at t i)
       go true = same

@@ -1,18 +1,27 @@
 -- What is proved of the definitions in specs/Scan.antt, with what the proofs need.
-use Rattle.std.specs.Prelude.{◌≡◌, Bool, ◌||◌, None, Option, Some, is_some}
+use Rattle.std.specs.Prelude.{◌≡◌, Bool, ◌||◌, cond, length, None, Option, Some, is_some, MatchOption}
+use Rattle.std.specs.List.{find, FoldsTo}
+use Rattle.std.specs.Fn.{Called, CalledAt}
+use Rattle.std.specs.Iterator.{YieldsThen}
+use Rattle.std.specs.Option.{option_map}
+use Rattle.std.proofs.lemmas.Iterator.{YieldsList}
+use Rattle.std.proofs.lemmas.Iterator.Search.{any_from_yields_List, all_from_yields_List, position_from_yields_List, find_from_yields_List}
+use denote.Param.Members.{Mut}
+use denote.Ref.{Bor}
 use Rattle.std.proofs.Math.Path.{refl, ap, sym}
 use Rattle.std.proofs.Common.{◌∙◌, add-one, arith}
 use Rattle.std.proofs.Math.Bool.{true, false}
 use mathlib.Core.List.{List, [], ◌∷◌}
 use Prim.Native.Nat.{ℕ, zero, suc, ◌+◌, ◌≤◌, ◌<◌}
-use Rattle.std.proofs.Math.Decide.{dec_lt}
 use Rattle.std.proofs.Math.ListN.{drop}
 use Rattle.word_rows.specs.Tab.{tab}
-use Rattle.srt_group_model.specs.Tools.{if_true◌then◌else◌, if_some◌give◌otherwise◌, any, all, place_of, change}
+use Rattle.srt_group_model.specs.Tools.{if_true◌then◌else◌, if_some◌give◌otherwise◌, any, all, first_such, place_of, change}
 use Rattle.srt_group_model.specs.State.{Member}
-use Rattle.srt_connection_queue.specs.Laws.Tab.{tab_found, tab_not_found, place_below}
-use Rattle.srt_connection_members.specs.Members.{member_at, members_of, Changed}
-use Rattle.srt_connection_members.specs.Laws.Members.{members_length, found_some, found_none}
+use Rattle.srt_connection_queue.specs.Laws.Chains.{any_read, all_read, place_read}
+use Rattle.srt_connection_queue.specs.Laws.Tab.{place_below}
+use Rattle.srt_connection_queue.specs.Rows.{member_of}
+use Rattle.srt_connection_members.specs.Members.{member_at, members_in, members_of, Changed}
+use Rattle.srt_connection_members.specs.Laws.Members.{members_length, found_some}
 use Rattle.srt_group_members.specs.Scan.{Became}
 
 -- an equation of options, the other way round
@@ -38,6 +47,58 @@ became_same n t ms e = record { long = refl; is = e }
 pub became_then : (n : ℕ) (f : List Member → List Member) (t u v : List ℕ) {ms : List Member} → Became n ms t u
     → Became n (f (members_of n u)) u v → Became n (f ms) t v
 became_then n f t u v a b = record { long = b.long ∙ a.long; is = b.is ∙ ap f a.is }
+
+-- ---- what a chain over rows makes of the members that they show
+
+module _ (test : Member → Bool) where
+  row_found : (rows : List (List ℕ)) → option_map member_of (find (λ row. test (member_of row)) rows) ≡ first_such test (members_in rows)
+  unfolding first_such if_true◌then◌else◌
+  row_found [] = refl
+  row_found (row ∷ rows) = go (test (member_of row)) (row_found rows)
+    where
+      go : (b : Bool) → option_map member_of (find (λ row. test (member_of row)) rows) ≡ first_such test (members_in rows)
+          → option_map member_of (cond b (Some row) (find (λ row. test (member_of row)) rows))
+          ≡ (if_true b then Some (member_of row) else first_such test (members_in rows))
+      go true later = refl
+      go false later = later
+
+module _ {S A F : Type 0} {steps : S → Option A → S → Type 0} {v : A → List ℕ} {s : S} {rows : List (List ℕ)} (test : Member → Bool) (u : S) (f : F) where
+  module _ {g : Mut F (A × Unit {0}) Bool} where
+    pub any_in : (r : Bool)
+        → (xs : List A) × (o : Option A) × (j : F) × YieldsThen steps s xs o u × FoldsTo (λ p x q. Called g p (x, tt) false q) f xs j
+        × MatchOption o (r ≡ false) (λ x. (r ≡ true) × ((h : F) × Called g j (x, tt) true h))
+        → YieldsList steps v s rows
+        → ((x : A) (b : Bool) (q : F) → Called g f (x, tt) b q → (q ≡ f) × (b ≡ test (member_of (v x)))) → r ≡ any test (members_in rows)
+    any_in r ran yields calls = any_from_yields_List (λ row. test (member_of row)) u f r ran yields calls ∙ any_read member_of test rows
+
+    pub all_in : (r : Bool)
+        → (xs : List A) × (o : Option A) × (j : F) × YieldsThen steps s xs o u × FoldsTo (λ p x q. Called g p (x, tt) true q) f xs j
+        × MatchOption o (r ≡ true) (λ x. (r ≡ false) × ((h : F) × Called g j (x, tt) false h))
+        → YieldsList steps v s rows
+        → ((x : A) (b : Bool) (q : F) → Called g f (x, tt) b q → (q ≡ f) × (b ≡ test (member_of (v x)))) → r ≡ all test (members_in rows)
+    all_in r ran yields calls = all_from_yields_List (λ row. test (member_of row)) u f r ran yields calls ∙ all_read member_of test rows
+
+    pub place_in : (r : Option ℕ)
+        → (xs : List A) × (o : Option A) × (j : F) × YieldsThen steps s xs o u × FoldsTo (λ p x q. Called g p (x, tt) false q) f xs j
+        × MatchOption o (r ≡ None) (λ x. (r ≡ Some (length xs)) × ((h : F) × Called g j (x, tt) true h))
+        → YieldsList steps v s rows
+        → ((x : A) (b : Bool) (q : F) → Called g f (x, tt) b q → (q ≡ f) × (b ≡ test (member_of (v x)))) → r ≡ place_of test (members_in rows)
+    place_in r ran yields calls =
+        position_from_yields_List (λ row. test (member_of row)) u f r ran yields calls ∙ place_read member_of test rows
+
+  module _ {g : Mut F (Bor A × Unit {0}) Bool} where
+    pub found_in : (r : Option A)
+        → (xs : List A) × (j : F) × YieldsThen steps s xs r u × FoldsTo (λ p x q. CalledAt g p x false q) f xs j
+        × MatchOption r (Unit {0}) (λ x. (h : F) × CalledAt g j x true h)
+        → YieldsList steps v s rows
+        → ((x : A) (b : Bool) (q : F) → CalledAt g f x b q → (q ≡ f) × (b ≡ test (member_of (v x))))
+        → option_map (λ x. member_of (v x)) r ≡ first_such test (members_in rows)
+    found_in r ran yields calls =
+        twice r ∙ ap (option_map member_of) (find_from_yields_List (λ row. test (member_of row)) u f r ran yields calls) ∙ row_found test rows
+      where
+        twice : (o : Option A) → option_map (λ x. member_of (v x)) o ≡ option_map member_of (option_map v o)
+        twice None = refl
+        twice (Some x) = refl
 
 -- ---- what is left
 
@@ -76,61 +137,7 @@ module _ (n k : ℕ) (t : List ℕ) where
   unfolding members_of
   left_none h = tab_ended k n (member_at t) h
 
--- ---- the first that passes a test
-
--- none from `start` up to i passes it
-pub record Passed (test : Member → Bool) (t : List ℕ) (start i : ℕ) : Type 0 where
-  pub fails : (j : ℕ) → start ≤ j → j < i → test (member_at t j) ≡ false
-
-module _ (test : Member → Bool) (t : List ℕ) where
-  pub passed_start : (start : ℕ) → Passed test t start start
-  passed_start start = record { fails = λ j low high. absurd (omega arith) }
-
-  pub passed_on : {answer : Bool} (start i : ℕ) → Passed test t start i → answer ≡ test (member_at t i) → answer ≡ false
-      → Passed test t start (i + 1)
-  passed_on start i p is no_pass = record { fails = λ j low high. one_more j low high (dec_lt j i) }
-    where
-      one_more : (j : ℕ) → start ≤ j → j < i + 1 → Dec (j < i) → test (member_at t j) ≡ false
-      one_more j low high (yes h) = p.fails j low h
-      one_more j low high (no h) =
-          let e : j ≡ i = omega arith in
-          rw e (sym is ∙ no_pass)
-
-  pub found_first : {answer : Bool} (n i : ℕ) → i < n → Passed test t 0 i → answer ≡ test (member_at t i) → answer ≡ true
-      → Some i ≡ place_of test (members_of n t)
-  unfolding members_of
-  found_first n i h p is pass =
-      (sym (tab_found test n (member_at t) i h (sym is ∙ pass) (λ j k. p.fails j (omega arith) k)))
-
-  pub found_nowhere : (n i : ℕ) → n ≤ i → Passed test t 0 i → None ≡ place_of test (members_of n t)
-  unfolding members_of
-  found_nowhere n i h p =
-      (sym (tab_not_found test n (member_at t) (λ j k. p.fails j (omega arith) (omega arith))))
-
 -- what was found is there
 pub found_row : (test : Member → Bool) (n : ℕ) (t : List ℕ) (i : ℕ) → Some i ≡ place_of test (members_of n t) → i < n
 found_row test n t i e =
     omega (arith, place_below test (members_of n t) i (found_some (place_of test (members_of n t)) i e), members_length n t)
-
--- whether any passes
-pub any_at : (test : Member → Bool) (ms : List Member) (i : ℕ) → Some i ≡ place_of test ms → true ≡ any test ms
-any_at test ms i e = sym (any_found test ms ∙ ap is_some (found_some (place_of test ms) i e))
-
-pub any_nowhere : (test : Member → Bool) (ms : List Member) → None ≡ place_of test ms → false ≡ any test ms
-any_nowhere test ms e = sym (any_found test ms ∙ ap is_some (found_none (place_of test ms) e))
-
--- whether all pass: so far all do, and it is for those that are left to say
-module _ (test : Member → Bool) (n : ℕ) (t : List ℕ) (i : ℕ) where
-  pub all_on : {answer : Bool} → i < n → all test (members_of n t) ≡ all test (drop i (members_of n t))
-      → answer ≡ test (member_at t i) → answer ≡ true → all test (members_of n t) ≡ all test (drop (i + 1) (members_of n t))
-  unfolding all
-  all_on h so_far is pass = rw (left_next n i t h, sym is ∙ pass) at so_far
-
-  pub all_fails : {answer : Bool} → i < n → all test (members_of n t) ≡ all test (drop i (members_of n t))
-      → answer ≡ test (member_at t i) → answer ≡ false → false ≡ all test (members_of n t)
-  unfolding all
-  all_fails h so_far is fails = sym (rw (left_next n i t h, sym is ∙ fails) at so_far)
-
-  pub all_done : n ≤ i → all test (members_of n t) ≡ all test (drop i (members_of n t)) → true ≡ all test (members_of n t)
-  unfolding all
-  all_done h so_far = sym (rw (left_none n i t h) at so_far)

@@ -1,118 +1,94 @@
 -- What is proved of the definitions in specs/Turns.antt, with what the proofs need.
-use Rattle.std.specs.Prelude.{◌≡◌, Bool, true, List, ℕ, zero, suc, ◌+◌, ◌-◌, ◌≤◌, ◌<◌, min, max, drop, None, Option, Some}
+use Rattle.std.specs.Prelude.{◌≡◌, Bool, List, [], ◌∷◌, ◌++◌, ℕ, zero, suc, ◌+◌, ◌-◌, ◌<◌, length, min, max, fold, take, drop, None, Option, Some}
 use Rattle.std.proofs.Math.Path.{refl, ap, sym}
 use Rattle.std.proofs.Common.{◌∙◌}
-use Rattle.std.proofs.Math.Decide.{dec_le}
 use native.Mathlib.Omega.{arith}
-use Rattle.word_rows.specs.Tab.{tab}
-use Rattle.srt_group_model.specs.Tools.{if_some◌give◌otherwise◌, place_of}
+use Rattle.srt_group_model.specs.Tools.{if_true◌then◌else◌, if_some◌give◌otherwise◌, place_of}
 use Rattle.srt_group_model.specs.State.{Member}
 use Rattle.srt_group_model.specs.Collecting.{in_turn}
 use Rattle.srt_group_model.specs.Removal.{largest_window}
-use Rattle.srt_group_model.specs.declared.Receiver.{Receiver}
-use Rattle.srt_connection_queue.specs.Laws.Tab.{tab_found, tab_not_found, tab_from}
-use Rattle.srt_connection_members.specs.Members.{member_at, members_of}
-use Rattle.srt_group_members.specs.Laws.Scan.{Passed, left_next, left_none}
-use Rattle.srt_group_members.specs.Turns.{has_event, place_from}
+use Rattle.srt_connection_queue.specs.Laws.Tab.{place_below}
+use Rattle.srt_connection_queue.specs.Rows.{member_of}
+use Rattle.srt_connection_members.specs.Members.{members_in}
+use Rattle.srt_connection_members.specs.Laws.Members.{found_some, found_none}
+use Rattle.srt_group_members.specs.Turns.{has_event}
 
--- ---- a search from a place on
+-- ---- the rows from a place on, and those before it
 
-module _ (test : Member → Bool) (t : List ℕ) (start end i : ℕ) (passed : Passed test t start i) where
-  pub found_from : {answer : Bool} → start ≤ i → i < end → answer ≡ test (member_at t i) → answer ≡ true
-      → Some i ≡ place_from start (place_of test (drop start (members_of end t)))
-  unfolding members_of place_from if_some◌give◌otherwise◌
-  found_from low high is pass =
-      (sym
-      (ap (place_from start) (ap (place_of test) (tab_from start end (member_at t)) ∙ place) ∙ ap (λ (j : ℕ). Some j) there))
+left_in : (k : ℕ) (rows : List (List ℕ)) → drop k (members_in rows) ≡ members_in (drop (min k (length rows)) rows)
+left_in zero rows = let none : 0 ≡ min 0 (length rows) = omega arith in ap (λ (j : ℕ). members_in (drop j rows)) none
+left_in (suc k) [] = let none : 0 ≡ min (suc k) 0 = omega arith in ap (λ (j : ℕ). members_in (drop {A = List ℕ} j [])) none
+left_in (suc k) (row ∷ rows) = left_in k rows ∙ (let one : suc (min k (length rows)) ≡ min (suc k) (suc (length rows)) = omega arith in ap (λ (j : ℕ). members_in (drop j (row ∷ rows))) one)
+
+long : (rows : List (List ℕ)) → length (members_in rows) ≡ length rows
+long [] = refl
+long (row ∷ rows) = ap (λ (n : ℕ). suc n) (long rows)
+
+left_long : (k : ℕ) (rows : List (List ℕ)) → length (drop k rows) ≡ length rows - k
+left_long zero rows = omega arith
+left_long (suc k) [] = omega arith
+left_long (suc k) (row ∷ rows) = left_long k rows ∙ omega arith
+
+parted : (k : ℕ) (rows : List (List ℕ)) → members_in rows ≡ members_in (take k rows) ++ members_in (drop k rows)
+parted zero rows = refl
+parted (suc k) [] = refl
+parted (suc k) (row ∷ rows) = ap (λ (ms : List Member). member_of row ∷ ms) (parted k rows)
+
+-- where none of the later ones passes, the first that does is among the earlier
+place_before : {A : Type 0} (test : A → Bool) (xs ys : List A) → place_of test ys ≡ None → place_of test (xs ++ ys) ≡ place_of test xs
+unfolding place_of if_true◌then◌else◌ if_some◌give◌otherwise◌
+place_before test [] ys none = none
+place_before test (x ∷ xs) ys none =
+    ap (λ (o : Option ℕ). if_true test x then Some 0 else (if_some o give (λ i. Some (suc i)) otherwise None)) (place_before test xs ys none)
+
+-- the place that was found is one of the rows'
+pub event_inside : (rows : List (List ℕ)) (i : ℕ) → Some i ≡ place_of has_event (members_in rows) → i < length rows
+event_inside rows i e =
+    omega (arith, place_below has_event (members_in rows) i (found_some (place_of has_event (members_in rows)) i e), long rows)
+
+module _ (round : ℕ) (rows : List (List ℕ)) {k : ℕ} (at : k ≡ min round (length rows)) where
+  pub turn_later : {later : List (List ℕ)} {i : ℕ} → later ≡ drop k rows → Some i ≡ place_of has_event (members_in later)
+      → Some (k + i) ≡ in_turn round (members_in rows)
+  unfolding in_turn has_event if_some◌give◌otherwise◌
+  turn_later {later} {i} is e =
+      let inside : i < length rows - k = omega (arith, event_inside later i e, ap length is, left_long k rows) in
+      let whole : k ≡ round = omega arith in
+      sym (rw found (ap (λ (j : ℕ). Some (j + i)) (sym whole)))
     where
-      there : start + (i - start) ≡ i
-      there = omega arith
+      found : place_of has_event (drop round (members_in rows)) ≡ Some i
+      found =
+          ap (place_of has_event)
+          (left_in round rows ∙ ap (λ (j : ℕ). members_in (drop j rows)) (sym at) ∙ ap (λ (r : List (List ℕ)). members_in r) (sym is))
+          ∙ found_some (place_of has_event (members_in later)) i e
 
-      place : place_of test (tab (end - start) (λ j. member_at t (start + j))) ≡ Some (i - start)
-      place =
-          tab_found test (end - start) (λ j. member_at t (start + j)) (i - start) (omega arith)
-          (ap (λ (j : ℕ). test (member_at t j)) there ∙ sym is ∙ pass)
-          (λ j k. passed.fails (start + j) (omega arith) (omega arith))
-
-  pub found_from_nowhere : end ≤ i → None ≡ place_from start (place_of test (drop start (members_of end t)))
-  unfolding members_of place_from if_some◌give◌otherwise◌
-  found_from_nowhere high =
-      (sym
-      (ap (place_from start)
-      (ap (place_of test) (tab_from start end (member_at t))
-      ∙ tab_not_found test (end - start) (λ j. member_at t (start + j))
-      (λ j k. passed.fails (start + j) (omega arith) (omega arith)))))
-
--- where none from k on passes, the first that does is among the first k
-tab_first_part : {A : Type 0} (test : A → Bool) (k n : ℕ) (f : ℕ → A) → k ≤ n → place_of test (drop k (tab n f)) ≡ None
-    → place_of test (tab n f) ≡ place_of test (tab k f)
-unfolding tab place_of
-tab_first_part test zero n f h e = e
-tab_first_part test (suc k) zero f h e = absurd (omega arith)
-tab_first_part test (suc k) (suc n) f h e = rw (tab_first_part test k n (λ i. f (suc i)) (omega arith) e)
-
-tab_all_first : {A : Type 0} (test : A → Bool) (k n : ℕ) (f : ℕ → A) → place_of test (drop k (tab n f)) ≡ None
-    → place_of test (tab n f) ≡ place_of test (tab (min k n) f)
-tab_all_first test k n f e = go (dec_le k n)
-  where
-    go : Dec (k ≤ n) → place_of test (tab n f) ≡ place_of test (tab (min k n) f)
-    go (yes h) = tab_first_part test k n f h e ∙ ap (λ (j : ℕ). place_of test (tab j f)) (omega arith)
-    go (no h) = ap (λ (j : ℕ). place_of test (tab j f)) (omega arith)
-
-module _ (n round : ℕ) (t : List ℕ) where
-  pub turn_later : (i : ℕ) → Some i ≡ place_from round (place_of has_event (drop round (members_of n t)))
-      → Some i ≡ in_turn round (members_of n t)
-  unfolding in_turn has_event place_from if_some◌give◌otherwise◌
-  turn_later i e = go (place_of has_event (drop round (members_of n t))) e
-    where
-      go : (o : Option ℕ) → Some i ≡ place_from round o
-          → Some i
-          ≡ if_some o give (λ j. Some (round + j)) otherwise place_of has_event (members_of n t)
-      go None e = cc e
-      go (Some j) e = e
-
-  pub turn_again : {answer : Option ℕ} (k : ℕ) → None ≡ place_from round (place_of has_event (drop round (members_of n t)))
-      → k ≡ min round n → answer ≡ place_from 0 (place_of has_event (drop 0 (members_of k t)))
-      → answer ≡ in_turn round (members_of n t)
-  unfolding in_turn has_event place_from if_some◌give◌otherwise◌ members_of
-  turn_again k e is answer =
+  pub turn_again : {before later : List (List ℕ)} {answer : Option ℕ} → before ≡ take k rows → later ≡ drop k rows
+      → None ≡ place_of has_event (members_in later) → answer ≡ place_of has_event (members_in before)
+      → answer ≡ in_turn round (members_in rows)
+  unfolding in_turn has_event if_some◌give◌otherwise◌
+  turn_again {before} {later} before_is is e answer =
       answer
-      ∙ (from_first (place_of has_event (tab k (member_at t)))
-      ∙ ap (λ (j : ℕ). place_of has_event (tab j (member_at t))) is
-      ∙ sym (tab_all_first has_event round n (member_at t) none_later)
-      ∙ sym from_the_first)
+      ∙ ap (λ (r : List (List ℕ)). place_of has_event (members_in r)) before_is
+      ∙ sym (place_before has_event (members_in (take k rows)) (members_in (drop k rows)) none_later)
+      ∙ ap (place_of has_event) (sym (parted k rows))
+      ∙ sym (rw (ap (place_of has_event) (left_in round rows ∙ ap (λ (j : ℕ). members_in (drop j rows)) (sym at)) ∙ none_later))
     where
-      from_first : (o : Option ℕ) → place_from 0 o ≡ o
-      from_first None = refl
-      from_first (Some j) = ap (λ (k : ℕ). Some k) (omega arith)
-
-      not_later : (o : Option ℕ) → None ≡ place_from round o → o ≡ None
-      not_later None e = refl
-      not_later (Some j) e = cc e
-
-      none_later : place_of has_event (drop round (tab n (member_at t))) ≡ None
-      none_later = not_later (place_of has_event (drop round (tab n (member_at t)))) e
-
-      from_the_first : in_turn round (members_of n t) ≡ place_of has_event (tab n (member_at t))
-      from_the_first = rw none_later
+      none_later : place_of has_event (members_in (drop k rows)) ≡ None
+      none_later =
+          ap (λ (r : List (List ℕ)). place_of has_event (members_in r)) (sym is)
+          ∙ found_none (place_of has_event (members_in later)) e
 
 -- ---- the largest window
 
-module _ (n : ℕ) (t : List ℕ) (window : ℕ) where
-  pub window_start : window ≡ largest_window window (drop n (members_of n t))
-  unfolding largest_window
-  window_start = sym (rw (left_none n n t (omega arith)))
+larger_first : (window x : ℕ) (ms : List Member) → largest_window (max window x) ms ≡ max (largest_window window ms) x
+unfolding largest_window
+larger_first window x [] = refl
+larger_first window x (m ∷ ms) = ap (max m.leg.receiver.window) (larger_first window x ms) ∙ omega arith
 
-  pub window_on : {largest answer : ℕ} {x : Receiver} (left i : ℕ) → 0 < left → left ≤ n → i ≡ left - 1
-      → largest ≡ largest_window window (drop left (members_of n t)) → x ≡ (member_at t i).leg.receiver
-      → answer ≡ max x.window largest → answer ≡ largest_window window (drop i (members_of n t))
-  unfolding largest_window
-  window_on {largest} {answer} {x} left i some_left within e so_far receiver is =
-      let next : left ≡ i + 1 = omega arith in
-      is ∙ sym (rw (left_next n i t (omega arith), ← receiver, ← next, ← so_far))
-
-  pub window_done : {largest : ℕ} (left : ℕ) → left ≤ 0 → largest ≡ largest_window window (drop left (members_of n t))
-      → largest ≡ largest_window window (members_of n t)
-  window_done left h so_far =
-      let none_left : left ≡ 0 = omega arith in
-      rw none_left at so_far
+pub window_folded : (window : ℕ) (rows : List (List ℕ))
+    → fold (λ largest row. max largest (member_of row).leg.receiver.window) window rows ≡ largest_window window (members_in rows)
+unfolding largest_window
+window_folded window [] = refl
+window_folded window (row ∷ rows) =
+    window_folded (max window (member_of row).leg.receiver.window) rows
+    ∙ larger_first window (member_of row).leg.receiver.window (members_in rows)
+    ∙ omega arith

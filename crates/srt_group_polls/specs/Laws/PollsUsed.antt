@@ -12,8 +12,8 @@ use Rattle.srt_group_collecting.specs.Leaves.{sends, under_way}
 use Rattle.srt_group_collecting.specs.Follows.{Follows}
 use Rattle.srt_group_collecting.specs.Laws.Follows.{follows_kept}
 use Rattle.srt_group_polls.specs.Refresh.{Refreshes}
-use Rattle.srt_group_polls.specs.declared.polls.Passed.{Passed}
-use Rattle.srt_group_polls.specs.DataPoll.{Passes}
+use Rattle.srt_group_polls.specs.declared.polls.DataPoll.{DataPoll}
+use Rattle.srt_group_polls.specs.DataPoll.{Ends}
 use Rattle.srt_group_model.specs.Core.{continued}
 
 module _ (sending : Sending) (core after : Core) (ms ms' ps used : List ℕ) (long : length used ≡ set_size) where
@@ -34,6 +34,6 @@ module _ (sending : Sending) (core after : Core) (ms ms' ps used : List ℕ) (lo
       (λ others. refresh_pending_keeps (under_way (continued 0 core) others (receive_tables ms ps []) [] 0)) in
       record { long = follows.long; shows = follows.shows }
 
-pub follows_passed : (core : Core) (ms ps used : List ℕ) (poll : Poll) (r : Passed) (ms' ps' used' : List ℕ) → Passes poll r
-    → Follows core ms ps used poll.core ms' ps' used' → Follows core ms ps used r.answer.core ms' ps' used'
-follows_passed core ms ps used poll r ms' ps' used' passes = subst (λ (c : Core). Follows core ms ps used c ms' ps' used') (sym passes.core_same)
+pub follows_ended : (core : Core) (ms ps used : List ℕ) (poll : Poll) (answer : DataPoll) (ms' ps' used' : List ℕ) → Ends poll answer
+    → Follows core ms ps used poll.core ms' ps' used' → Follows core ms ps used answer.core ms' ps' used'
+follows_ended core ms ps used poll answer ms' ps' used' ends = subst (λ (c : Core). Follows core ms ps used c ms' ps' used') (sym ends.core_same)

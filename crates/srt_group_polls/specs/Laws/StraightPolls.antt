@@ -25,7 +25,7 @@ use Rattle.srt_group_model.specs.declared.Sending.{Sending}
 use Rattle.srt_group_model.specs.Laws.Steps.{poll_event_has}
 use Rattle.srt_group_model.specs.Laws.Sound.{sound_law}
 use Rattle.srt_group_model.specs.Core.{with_receiving, with_visit}
-use Rattle.srt_group_model.specs.declared.Membership.{Membership}
+use Rattle.srt_group_model.specs.Members.{id_of}
 use Rattle.srt_group_model.specs.Laws.Flag.{set_some}
 use Rattle.srt_connection_members.specs.Members.{member_at, members_of, HasRow, Changed, ChangedAll}
 use Rattle.srt_connection_members.specs.Laws.Members.{members_place, members_length, found_some, changed_twice}
@@ -115,12 +115,12 @@ module _ {found : Option ℕ} (core : Core) (ms ps : List ℕ) (i : ℕ) (there 
   turn_has_row d = omega (arith, inside, d.members_long, d.members_few)
 
   -- each test of it was passed
-  pub all_passed : {quiet alone held : Bool} {first : Option Event} {membership : Membership} (e : Event) → Known quiet core ms → quiet ≡ true → core.counts.waiting ≤ 0
+  pub all_passed : {quiet alone held : Bool} {first : Option Event} {id : ℕ} (e : Event) → Known quiet core ms → quiet ≡ true → core.counts.waiting ≤ 0
       → (core.receiving.based ≡ 0 → ⊥) → first ≡ Some e → first ≡ at_place 0 (member_at ms i).queue → alone ≡ true
       → alone ≡ (eqb e.kind 0 && (eqb e.content.sequence core.receiving.base && eqb e.content.count 1)) → held ≡ false
-      → held ≡ is_held core.receiving.base (packets core.counts.pending ps) → membership ≡ (member_at ms i).membership
-      → Goes i record { member = membership.id; owned = 0; content = e.content } core ms ps
-  all_passed {membership = membership} e known quiet none_waits based some_first is_first yes_alone is_alone not_held is_held' named =
+      → held ≡ is_held core.receiving.base (packets core.counts.pending ps) → id ≡ id_of (member_at ms i)
+      → Goes i record { member = id; owned = 0; content = e.content } core ms ps
+  all_passed e known quiet none_waits based some_first is_first yes_alone is_alone not_held is_held' named =
       let tests = sym is_alone ∙ yes_alone in
       let at = eqb e.content.sequence core.receiving.base in
       let one = eqb e.content.count 1 in
@@ -140,7 +140,7 @@ module _ {found : Option ℕ} (core : Core) (ms ps : List ℕ) (i : ℕ) (there 
               event = e;
               first = event_some (at_place 0 (member_at ms i).queue) (sym some_first ∙ is_first);
               is_data = eqb-true _ _ (and_left (eqb e.kind 0) (at && one) tests);
-              packet = ap (λ (x : Membership). record { member = x.id; owned = 0; content = e.content }) named;
+              packet = ap (λ (n : ℕ). record { member = n; owned = 0; content = e.content }) named;
               alone = eqb-true _ _ (and_right at one later);
               free =
                   ap (λ (n : ℕ). is_held n (packets core.counts.pending ps)) sequence ∙ sym is_held' ∙ not_held;

@@ -55,7 +55,7 @@ module _ (index cell : ℕ) (d : Data) (payload members store used : List ℕ) w
         kept = λ f g. refl;
       }
 
-  module _ (fits : Enqueueable index cell d (length payload) members (length store) (length used)) where
+  module _ (fits : Enqueueable index cell d (length payload) members (length store)) where
     accepted_changed : {r : Outcome} (event : Event) (u v : List ℕ) → event ≡ data_event cell (length payload) d
         → PushedAt index event members r u → r ≡ Ok tt → Changed index (on_leg (add_reservation d.count)) u v
         → Changed index (with_data cell (length payload) d) members v
@@ -186,7 +186,7 @@ module _ (id : ℕ) (d : Data) (payload : List ℕ) (p : Parts) (t : Tables) (st
           full_is : of_member id queue_full s ≡ queue_full (member_at t.members i)
           full_is = of_found id p t i at queue_full
 
-          pub enqueueable : Enqueueable i cell d (length payload) t.members (length store) (length used)
+          pub enqueueable : Enqueueable i cell d (length payload) t.members (length store)
           unfolding data_unfit data_words
           enqueueable =
               record {
@@ -200,7 +200,6 @@ module _ (id : ℕ) (d : Data) (payload : List ℕ) (p : Parts) (t : Tables) (st
                 one_cell = one_cell ready;
                 cell_there = can.0;
                 payload = short;
-                words = ready.shows.cells.long;
               }
             where
               count_fits : d.count ≤ largest_16

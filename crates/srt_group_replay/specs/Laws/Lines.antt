@@ -1,34 +1,30 @@
--- What is proved of the definitions in specs/Lines.antt, with what the proofs need.
-use Rattle.std.specs.Prelude.{◌≡◌, false, ℕ, zero, suc, ◌-◌, ◌≤◌, ◌<◌, length, Err, None, Ok, Option, Result, Some}
+-- What is proved of a line of a replay listing, with what the proofs need.
+use Rattle.std.specs.Prelude.{◌≡◌, false, ℕ, zero, suc, ◌-◌, ◌≤◌, ◌<◌, ◌⊎◌, length, Err, None, Ok, Option, Result, Some}
 use Rattle.std.proofs.Math.Path.{refl, ap, ap₂, sym, subst}
-use Rattle.std.proofs.Common.{◌∙◌, arith}
+use Rattle.std.proofs.Common.{◌∙◌, inl, inr, arith}
 use mathlib.Core.List.{List, []}
 use borrow.Author.Tests.{eq-eqb, ne_eqb}
 use Rattle.std.proofs.Math.Dec.{eqb}
 use Rattle.srt_protocol.specs.Errors.{error_number}
 use Rattle.srt_protocol.specs.Laws.Errors.{refused_not_0}
-use Rattle.srt_protocol.specs.Cells.{output_size}
-use Rattle.srt_group_model.specs.Sending.{list_size}
 use Rattle.srt_group_model.specs.Tools.{if_some◌give◌otherwise◌, at_place}
 use Rattle.srt_group_model.specs.State.{State, Making}
 use Rattle.srt_group_model.specs.Calls.{new, new_code, store_unfit}
-use Rattle.srt_group_model.specs.Lent.{Lent}
-use Rattle.srt_group_model.specs.Listing.{Line, column, store_length, verbs, refused_line, Told, tell_new, tell_verb, tell}
+use Rattle.srt_group_model.specs.Listing.{Line, column, store_length, verbs, refused_line, tell_new, tell_verb, tell}
 use Rattle.srt_group_model.specs.Laws.Reason.{when_true, when_false}
 use Rattle.srt_group_traces.specs.Port.{Shown}
 use Rattle.cell_set.specs.Sets.{ShowsCells}
-use Rattle.srt_group_shown.specs.Tables.{Tables, state_of}
-use Rattle.srt_group_shown.specs.Ready.{Ready}
+use Rattle.srt_group_shown.specs.Tables.{Tables, Long, state_of}
+use Rattle.srt_group_shown.specs.Ready.{Ready, storing}
 use Rattle.srt_group_shown.specs.Laws.Ready.{ready_new}
 use Rattle.srt_group.specs.Made.{parts_of, PromisedNew}
 use Rattle.srt_group.specs.declared.Group.{Group}
 use Rattle.srt_protocol.specs.declared.error.Error.{Error}
+use Rattle.srt_group_listing.specs.declared.Memory.{Memory}
 use Rattle.srt_group_listing.specs.declared.Printed.{Printed}
-use Rattle.srt_group_listing.specs.declared.Told as told
-use Rattle.srt_group_listing.specs.Telling.{numbers_of}
-use Rattle.srt_group_replay.specs.declared.Replayed.{Replayed}
-use Rattle.srt_group_listing.specs.Verbs.{TellsVerb}
-use Rattle.srt_group_replay.specs.Lines.{room, standing, Standing, TellsNew, TellsLine}
+use Rattle.srt_group_listing.specs.Telling.{tables_of, numbers_of, ReadyFor}
+use Rattle.srt_group_replay.specs.Lines.{standing, Standing}
+use Rattle.srt_group_replay.specs.Told.{TellsLine}
 
 -- ---- verbs that are none, and no group
 
@@ -58,15 +54,6 @@ without_group line (suc (suc (suc (suc (suc (suc zero)))))) few = refl
 without_group line (suc (suc (suc (suc (suc (suc (suc zero))))))) few = refl
 without_group line (suc (suc (suc (suc (suc (suc (suc (suc k)))))))) few = absurd (omega arith)
 
--- ---- whether a group was made
-
-module _ (g : Group) (t : Tables) (made : ℕ) where
-  standing_made : (made ≡ 0 → ⊥) → standing made g t ≡ Some (state_of (parts_of g) t)
-  standing_made some_made = when_false (eqb made 0) None (Some (state_of (parts_of g) t)) (ne_eqb made 0 some_made)
-
-  standing_none : made ≡ 0 → standing made g t ≡ None
-  standing_none is = when_true (eqb made 0) None (Some (state_of (parts_of g) t)) (eq-eqb made 0 is)
-
 -- ---- verb 1
 
 module _ (line : Line) where
@@ -77,123 +64,85 @@ module _ (line : Line) where
   unfolding store_unfit new
   new_fits = refl
 
-  module _ (made : ℕ) (g : Group) (used : List ℕ) {r : Result Group Error} (promised : PromisedNew making_of r) where
+  module _ {r : Result Group Error} (promised : PromisedNew making_of r) where
     -- made: a fresh group stands
-    pub tells_made : (fresh : Group) → r ≡ Ok fresh → {used' : List ℕ} → ShowsCells used' [] → {out : Printed} → numbers_of out ≡ refused_line 1 0
-        → TellsNew line made g used (record { made = 1; group = fresh; line = out }) used'
-    unfolding tell tell_new
-    tells_made fresh is {used'} clean {out} says =
-        record {
-          over =
-              λ t lent stands. (
-                when_true (eqb (new_code making_of) 0) _ _ (eq-eqb (new_code making_of) 0 (accepted t lent))
-                    ∙ ap₂ (λ (x : Option State) (l : List ℕ). record { group = x; line = l })
-                    (ap (λ (x : State). Some x) (sym (shows t lent)) ∙ sym (standing_made fresh t 1 (λ e. omega arith))) (sym says),
+    module _ (fresh : Group) (is : r ≡ Ok fresh) where
+      here : PromisedNew making_of (Ok fresh)
+      here = subst (PromisedNew making_of) is promised
+
+      accepted : (t : Tables) → new_code making_of ≡ 0
+      accepted t = sym (ap (λ (x : Shown). x.code) (here.holds t (storing []) (new making_of)))
+
+      shows : (t : Tables) → state_of (parts_of fresh) t ≡ new making_of
+      shows t =
+          ap (λ (x : Shown). x.state) (here.holds t (storing []) (new making_of))
+          ∙ when_true (eqb (new_code making_of) 0) (new making_of) (new making_of) (eq-eqb (new_code making_of) 0 (accepted t))
+
+      pub tells_made : column 0 line ≡ 1 → {out : Printed} → numbers_of out ≡ refused_line 1 0
+          → (s : Option State) (t : Tables) → TellsLine line s out (Some (state_of (parts_of fresh) t))
+      unfolding tell tell_new
+      tells_made verb {out} says s t =
+          ap (λ (n : ℕ). tell n line s) verb
+          ∙ when_true (eqb (new_code making_of) 0) _ _ (eq-eqb (new_code making_of) 0 (accepted t))
+          ∙ ap₂ (λ (x : Option State) (l : List ℕ). record { group = x; line = l }) (ap (λ (x : State). Some x) (sym (shows t))) (sym says)
+
+      pub fresh_stands : {m : Memory} → Long (tables_of m) → length m.store ≡ store_length → ShowsCells m.used [] → Standing (Some fresh) m
+      fresh_stands {m} long cells clean =
+          record {
+            long = long;
+            cells = cells;
+            ready =
                 record {
-                  long = stands.long;
-                  store = stands.store;
-                  output = stands.output;
-                  list = stands.list;
-                  set = clean.long;
-                  ready =
-                      λ some_made.
-                      ready_new (parts_of fresh) t making_of store_length used' (shows t lent) (accepted t lent) stands.long new_fits clean;
-                },
-              );
-        }
-      where
-        here : PromisedNew making_of (Ok fresh)
-        here = subst (PromisedNew making_of) is promised
-
-        accepted : (t : Tables) (lent : Lent) → new_code making_of ≡ 0
-        accepted t lent = sym (ap (λ (x : Shown). x.code) (here.holds t lent (new making_of)))
-
-        shows : (t : Tables) (lent : Lent) → state_of (parts_of fresh) t ≡ new making_of
-        shows t lent =
-            ap (λ (x : Shown). x.state) (here.holds t lent (new making_of))
-            ∙ when_true (eqb (new_code making_of) 0) (new making_of) (new making_of) (eq-eqb (new_code making_of) 0 (accepted t lent))
+                  call =
+                      subst (λ (n : ℕ). Ready (parts_of fresh) (tables_of m) n m.used) (sym cells)
+                      (ready_new (parts_of fresh) (tables_of m) making_of store_length m.used (shows (tables_of m)) (accepted (tables_of m)) long new_fits clean);
+                  cells = cells;
+                };
+          }
 
     -- refused: what stood in its place stays
-    pub tells_refused : (e : Error) → r ≡ Err e → {n : ℕ} → n ≡ error_number e → {out : Printed} → numbers_of out ≡ refused_line 1 n
-        → TellsNew line made g used (record { made = made; group = g; line = out }) used
+    pub tells_refused : (e : Error) → r ≡ Err e → column 0 line ≡ 1 → {n : ℕ} → n ≡ error_number e → {out : Printed} → numbers_of out ≡ refused_line 1 n
+        → (s : Option State) → TellsLine line s out s
     unfolding tell tell_new
-    tells_refused e is {n} number {out} says =
-        record {
-          over =
-              λ t lent stands. (
-                when_false (eqb (new_code making_of) 0) _ _
-                    (ap (λ (n : ℕ). eqb n 0) (sym (code t lent)) ∙ ne_eqb (error_number e) 0 (refused_not_0 e))
-                    ∙ ap (λ (l : List ℕ). record { group = standing made g t; line = l })
-                    (ap (λ (n : ℕ). refused_line 1 n) (sym (number ∙ code t lent)) ∙ sym says),
-                stands,
-              );
-        }
+    tells_refused e is verb {n} number {out} says s =
+        ap (λ (n : ℕ). tell n line s) verb
+        ∙ when_false (eqb (new_code making_of) 0) _ _ (ap (λ (n : ℕ). eqb n 0) (sym code) ∙ ne_eqb (error_number e) 0 (refused_not_0 e))
+        ∙ ap (λ (l : List ℕ). record { group = s; line = l }) (ap (λ (n : ℕ). refused_line 1 n) (sym (number ∙ code)) ∙ sym says)
       where
-        code : (t : Tables) (lent : Lent) → error_number e ≡ new_code making_of
-        code t lent = ap (λ (x : Shown). x.code) ((subst (PromisedNew making_of) is promised).holds t lent (new making_of))
+        code : error_number e ≡ new_code making_of
+        code =
+            ap (λ (x : Shown). x.code)
+            ((subst (PromisedNew making_of) is promised).holds record { members = []; pending = []; waiting = []; history = []; sources = [] } (storing [])
+            (new making_of))
 
 -- ---- a line
 
--- the group that stands is ready for its next call
-pub ready_here : {made : ℕ} {g : Group} {t : Tables} {lent : Lent} {used : List ℕ} → Standing made g t lent used → (made ≡ 0 → ⊥)
-    → Ready (parts_of g) t (length lent.store) used
-ready_here {made} {g} {t} {lent} {used} stands some_made =
-    subst (λ (n : ℕ). Ready (parts_of g) t n used) (sym stands.store) (stands.ready some_made)
-
-module _ (line : Line) {made : ℕ} {g : Group} {t : Tables} {lent : Lent} {used : List ℕ} (stands : Standing made g t lent used) where
-  -- verb 1
-  pub tells_line_new : column 0 line ≡ 1 → {r : Replayed} {used' : List ℕ} → TellsNew line made g used r used' → TellsLine line made g t r t lent used'
-  tells_line_new is news =
-      record {
-        told = ap (λ (n : ℕ). tell n line (standing made g t)) is ∙ (news.over t lent stands).0;
-        stands = (news.over t lent stands).1;
-      }
-
+module _ (line : Line) where
   -- nothing changes
-  stays : {out : Printed} {l : List ℕ} → tell (column 0 line) line (standing made g t) ≡ record { group = standing made g t; line = l }
-      → numbers_of out ≡ l → TellsLine line made g t (record { made = made; group = g; line = out }) t lent used
-  stays rule says =
-      record { told = rule ∙ ap (λ (l : List ℕ). record { group = standing made g t; line = l }) (sym says); stands = stands }
+  stays : {s : Option State} {out : Printed} {l : List ℕ} → tell (column 0 line) line s ≡ record { group = s; line = l } → numbers_of out ≡ l
+      → TellsLine line s out s
+  stays {s} rule says = rule ∙ ap (λ (l : List ℕ). record { group = s; line = l }) (sym says)
 
   -- no such verb
-  pub tells_0 : column 0 line ≡ 0 → {out : Printed} → numbers_of out ≡ refused_line 0 2
-      → TellsLine line made g t (record { made = made; group = g; line = out }) t lent used
+  pub tells_no_verb : (column 0 line < 1) ⊎ (9 < column 0 line) → (s : Option State) {out : Printed} → numbers_of out ≡ refused_line 0 2
+      → TellsLine line s out s
   unfolding tell
-  tells_0 is says = stays (ap (λ (n : ℕ). tell n line (standing made g t)) is) says
-
-  pub tells_beyond : 9 < column 0 line → {out : Printed} → numbers_of out ≡ refused_line 0 2
-      → TellsLine line made g t (record { made = made; group = g; line = out }) t lent used
-  tells_beyond beyond says = stays (no_verb line (standing made g t) (column 0 line) beyond) says
+  tells_no_verb (inl below) s says = let none : column 0 line ≡ 0 = omega (arith, below) in stays (ap (λ (n : ℕ). tell n line s) none) says
+  tells_no_verb (inr beyond) s says = stays (no_verb line s (column 0 line) beyond) says
 
   -- no group was made
-  pub tells_without_group : made ≡ 0 → 2 ≤ column 0 line → column 0 line ≤ 9 → {out : Printed} → numbers_of out ≡ refused_line (column 0 line) 6
-      → TellsLine line made g t (record { made = made; group = g; line = out }) t lent used
-  tells_without_group is from to says =
-      let none_stands = standing_none g t made is in
-      stays
-      (ap₂ (λ (n : ℕ) (o : Option State). tell n line o) verb none_stands ∙ without_group line (column 0 line - 2) (omega arith)
-      ∙ ap (λ (o : Option State). record { group = o; line = refused_line (column 0 line) 6 }) (sym none_stands))
-      says
+  pub tells_without_group : 2 ≤ column 0 line → column 0 line ≤ 9 → {s : Option State} → None ≡ s
+      → {out : Printed} → numbers_of out ≡ refused_line (column 0 line) 6 → TellsLine line s out s
+  tells_without_group from to {s} is {out} says =
+      subst (λ (o : Option State). TellsLine line o out o) is
+      (stays (ap (λ (n : ℕ). tell n line None) verb ∙ without_group line (column 0 line - 2) (omega arith)) says)
     where
       verb : column 0 line ≡ suc (suc (column 0 line - 2))
       verb = omega arith
 
-  -- a group was made
-  pub tells_group : (made ≡ 0 → ⊥) → {r : told.Told} {t' : Tables} {used' store' output' list' : List ℕ} → TellsVerb line g t r t' used'
-      → length store' ≡ store_length → length output' ≡ output_size → length list' ≡ list_size
-      → TellsLine line made g t (record { made = made; group = r.group; line = r.line }) t' (room store' output' list') used'
-  tells_group some_made {r} {t'} verb store output list =
-      record {
-        told =
-            ap (tell (column 0 line) line) (standing_made g t made some_made) ∙ verb.told
-            ∙ ap (λ (o : Option State). record { group = o; line = numbers_of r.line }) (sym (standing_made r.group t' made some_made));
-        stands =
-            record {
-              long = verb.ready.long;
-              store = store;
-              output = output;
-              list = list;
-              set = verb.ready.shows.cells.long;
-              ready = λ some_made. verb.ready;
-            };
-      }
+pub none_stands : (g : Option Group) (m : Memory) {s : Option State} → standing g m ≡ s → g ≡ None → None ≡ s
+none_stands g m {s} view is = subst (λ (o : Option Group). standing o m ≡ s) is view
+
+-- a group that is ready stands
+pub stands : {g : Group} {m : Memory} → ReadyFor g m → Standing (Some g) m
+stands ready = record { long = ready.call.long; cells = ready.cells; ready = ready }

@@ -1,25 +1,28 @@
 -- What is proved of the definitions in specs/Ids.antt, with what the proofs need.
-use Rattle.std.specs.Prelude.{◌≡◌, Bool, true, false, List, eqb, length, set, replicate, Some}
+use Rattle.std.specs.Prelude.{◌≡◌, Bool, true, false, List, [], take, eqb, length, set, replicate, Some}
 use Rattle.std.proofs.Math.Path.{refl, ap, sym}
-use Rattle.std.proofs.Common.{◌∙◌, length-set, get_or-set_same, get_or-set_other}
-use Prim.Native.Nat.{ℕ, zero, suc, ◌+◌, ◌-◌, ◌*◌, ◌%◌, ◌≤◌, ◌<◌}
+use Rattle.std.proofs.Common.{◌∙◌, length-set, length-take-le, get_or-take, get_or-set_same, get_or-set_other}
+use Prim.Native.Nat.{ℕ, zero, suc, ◌+◌, ◌%◌, ◌≤◌, ◌<◌}
 use Rattle.std.proofs.Math.Decide.{dec_lt}
 use native.Mathlib.Omega.{arith}
 use borrow.Author.Tests.{eq-eqb, ne_eqb, eqb-true, eqb-false}
 use Rattle.std.proofs.Math.ListN.{get_or}
 use Rattle.std.proofs.lemmas.List.{length-replicate}
 use Rattle.srt_group_model.specs.Tools.{any, each}
+use Rattle.srt_group_model.specs.State.{Member}
 use Rattle.srt_group_model.specs.Laws.Reason.{by_test, not_both, or_yes_left, or_yes_right, or_cases}
 use Rattle.srt_group_model.specs.Members.{id_of, has_id, find}
 use Rattle.srt_group_model.specs.Cells.{is_among}
 use Rattle.srt_group_model.specs.Validity.{one_twice}
-use Rattle.srt_connection_queue.specs.Rows.{row_size}
-use Rattle.srt_connection_members.specs.Members.{member_at, members_of}
-use Rattle.srt_connection_members.specs.Laws.Members.{id_word, found}
+use Rattle.srt_connection_queue.specs.Rows.{member_of}
+use Rattle.srt_connection_members.specs.Members.{member_in, members_in}
+use Rattle.srt_connection_members.specs.Laws.Members.{members_tab, members_front}
+use Rattle.word_rows.specs.Laws.Tab.{tab_length}
+use Rattle.srt_connection_queue.specs.Laws.Tab.{tab_found, place_below, tab_passes}
 use Rattle.word_rows.specs.Tab.{tab}
 use Rattle.srt_group_tables.specs.Laws.PacketLaws.{each_tab}
 use Rattle.srt_group_rules.specs.Laws.Walks.{any_there, any_nowhere, none_there}
-use Rattle.srt_group_rules.specs.Ids.{id_at, places, nobody, TakenBefore}
+use Rattle.srt_group_rules.specs.Ids.{id_at, members_upto, places, nobody, TakenBefore}
 
 -- ---- a search that finds nothing, and a row that passes
 
@@ -62,46 +65,20 @@ once_apart n ids once = record { apart = λ i j less below same. not_both (twice
 
 -- ---- the ids of a table's members
 
-pub ids_of : (n : ℕ) (t : List ℕ) → each id_of (members_of n t) ≡ tab n (id_at t)
-unfolding members_of
-ids_of n t = each_tab id_of n (member_at t)
+pub ids_of : (n : ℕ) (t : List (List ℕ)) → each id_of (members_upto n t) ≡ tab n (id_at t)
+ids_of n t = each_tab id_of n (member_in t)
 
-module _ (t : List ℕ) (index : ℕ) where
-  -- where the walk back over the members before this one stands: none from `left` on has its id
-  pub record Later (left : ℕ) : Type 0 where
-    pub within : left ≤ index
-    pub differ : (k : ℕ) → left ≤ k → k < index → get_or t (k * row_size) 0 ≡ get_or t (index * row_size) 0 → ⊥
+-- what a search finds is there, and has the id
+module _ (n id i : ℕ) (t : List (List ℕ)) (is : Some i ≡ find id (members_upto n t)) where
+  pub found_upto : i < n
+  found_upto = omega (arith, place_below (has_id id) (members_upto n t) i (sym is), tab_length n (member_in t))
 
-  pub later_start : Later index
-  later_start = record { within = omega arith; differ = λ k above below. absurd (omega arith) }
+  pub found_id : id_at t i ≡ id
+  found_id = eqb-true (id_at t i) id (tab_passes (has_id id) n (member_in t) i (sym is))
 
-  pub later_one : (left : ℕ) → Later left → 0 < left → (get_or t ((left - 1) * row_size) 0 ≡ get_or t (index * row_size) 0 → ⊥) → Later (left - 1)
-  later_one left here some_left other =
-      record { within = omega (arith, here.within); differ = λ k above below. one_more k above below (dec_lt k left) }
-    where
-      one_more : (k : ℕ) → left - 1 ≤ k → k < index → Dec (k < left) → get_or t (k * row_size) 0 ≡ get_or t (index * row_size) 0 → ⊥
-      one_more k above below (yes lower) =
-          let last : k ≡ left - 1 = omega arith in λ same. other (ap (λ (j : ℕ). get_or t (j * row_size) 0) (sym last) ∙ same)
-      one_more k above below (no higher) = here.differ k (omega arith) below
-
-  pub later_none : (left : ℕ) → Later left → left ≡ 0 → false ≡ any (has_id (id_at t index)) (members_of index t)
-  unfolding members_of
-  later_none left here none_left =
-      sym
-      (any_nowhere (has_id (id_at t index)) index (member_at t)
-      (λ k below. ne_eqb (id_at t k) (id_at t index) (λ same. here.differ k (omega arith) below (id_word t k ∙ same ∙ sym (id_word t index)))))
-
-  pub before_there : (left : ℕ) → Later left → 0 < left → get_or t ((left - 1) * row_size) 0 ≡ get_or t (index * row_size) 0
-      → true ≡ any (has_id (id_at t index)) (members_of index t)
-  unfolding members_of
-  before_there left here some_left same =
-      sym
-      (any_there (has_id (id_at t index)) index (member_at t) (left - 1) (omega (arith, here.within))
-      (eq-eqb (id_at t (left - 1)) (id_at t index) (sym (id_word t (left - 1)) ∙ same ∙ id_word t index)))
-
-  module _ (answer : Bool) (tested : answer ≡ any (has_id (id_at t index)) (members_of index t)) where
+module _ (t : List (List ℕ)) (index : ℕ) where
+  module _ (answer : Bool) (tested : answer ≡ any (has_id (id_at t index)) (members_upto index t)) where
     pub apart_one : answer ≡ false → Apart (id_at t) index → Apart (id_at t) (index + 1)
-    unfolding members_of
     apart_one first here = record { apart = λ i j less below same. one_more i j less (dec_lt j index) same below }
       where
         one_more : (i j : ℕ) → i < j → Dec (j < index) → id_at t i ≡ id_at t j → j < index + 1 → ⊥
@@ -109,43 +86,68 @@ module _ (t : List ℕ) (index : ℕ) where
         one_more i j less (no other) same below =
             let last : j ≡ index = omega arith in
             eqb-false (id_at t i) (id_at t index)
-            (none_there (has_id (id_at t index)) index (member_at t) (sym tested ∙ first) i (omega arith))
+            (none_there (has_id (id_at t index)) index (member_in t) (sym tested ∙ first) i (omega arith))
             (same ∙ ap (id_at t) last)
 
-    pub twice_here : (n : ℕ) → index < n → answer ≡ true → true ≡ one_twice (each id_of (members_of n t))
-    unfolding members_of
+    pub twice_here : (n : ℕ) → index < n → answer ≡ true → true ≡ one_twice (each id_of (members_upto n t))
     twice_here n inside again =
-        any_place (has_id (id_at t index)) index (member_at t) (sym tested ∙ again)
+        any_place (has_id (id_at t index)) index (member_in t) (sym tested ∙ again)
         (λ i below it. sym (ap one_twice (ids_of n t) ∙ twice_there n (id_at t) i index below inside (eqb-true (id_at t i) (id_at t index) it)))
 
-pub apart_start : (t : List ℕ) → Apart (id_at t) 0
+pub apart_start : (t : List (List ℕ)) → Apart (id_at t) 0
 apart_start t = record { apart = λ i j less below same. omega arith }
 
-pub apart_all : (t : List ℕ) (index n : ℕ) → Apart (id_at t) index → n ≤ index → false ≡ one_twice (each id_of (members_of n t))
+pub apart_all : (t : List (List ℕ)) (index n : ℕ) → Apart (id_at t) index → n ≤ index → false ≡ one_twice (each id_of (members_upto n t))
 apart_all t index n here all =
     sym
     (ap one_twice (ids_of n t)
     ∙ apart_once n (id_at t) record { apart = λ i j less below same. here.apart i j less (omega arith) same })
 
+-- the rows before one were asked for its id
+pub asked : (t : List (List ℕ)) (index id : ℕ) (answer : Bool) → index ≤ length t → id ≡ id_at t index → answer ≡ any (has_id id) (members_in (take index t))
+    → answer ≡ any (has_id (id_at t index)) (members_upto index t)
+asked t index id answer within is tested =
+    tested ∙ ap (λ (k : ℕ). any (has_id k) (members_in (take index t))) is
+    ∙ ap (any (has_id (id_at t index))) (sym (members_front index t within))
+
+pub twice_in : (t : List (List ℕ)) (index : ℕ) (answer : Bool) → answer ≡ any (has_id (id_at t index)) (members_upto index t) → index < length t
+    → answer ≡ true → true ≡ one_twice (each id_of (members_in t))
+twice_in t index answer tested inside again =
+    twice_here t index answer tested (length t) inside again ∙ ap (λ (ms : List Member). one_twice (each id_of ms)) (members_tab t)
+
+pub once_in : (t : List (List ℕ)) (index : ℕ) → Apart (id_at t) index → length t ≤ index → false ≡ one_twice (each id_of (members_in t))
+once_in t index here all = apart_all t index (length t) here all ∙ ap (λ (ms : List Member). one_twice (each id_of ms)) (members_tab t)
+
 -- ---- the table of places
 
-pub taken_start : (t : List ℕ) → TakenBefore t 0 (replicate places nobody)
+pub taken_start : (t : List (List ℕ)) → TakenBefore t 0 (replicate places nobody)
 taken_start t = record { long = length-replicate places nobody; taken = λ k below. absurd (omega arith) }
 
-module _ (t : List ℕ) (index : ℕ) (table : List ℕ) (here : TakenBefore t index table) (at : ℕ) (its_place : at ≡ get_or t (index * row_size) 0 % places) where
-  place_is : at ≡ id_at t index % places
-  place_is = its_place ∙ ap (λ (id : ℕ). id % places) (id_word t index)
+-- no id before has the place, so none is the same
+pub free_place : (t : List (List ℕ)) (table : List ℕ) (id : ℕ) → TakenBefore t (length t) table → get_or table (id % places) 0 ≡ nobody
+    → false ≡ any (has_id id) (members_in t)
+free_place t table id here free =
+    sym
+    (ap (any (has_id id)) (sym (members_tab t))
+    ∙ any_nowhere (has_id id) (length t) (member_in t)
+    (λ k below.
+    ne_eqb (id_at t k) id
+    (λ same. here.taken k below (ap (λ (n : ℕ). get_or table (n % places) 0) same ∙ free))))
 
-  -- no id before has the place, so none is the same
-  pub free_place : get_or table at 0 ≡ nobody → false ≡ any (has_id (id_at t index)) (members_of index t)
-  unfolding members_of
-  free_place free =
-      sym
-      (any_nowhere (has_id (id_at t index)) index (member_at t)
-      (λ k below.
-      ne_eqb (id_at t k) (id_at t index)
-      (λ same. here.taken k below (ap (λ (id : ℕ). get_or table (id % places) 0) same ∙ ap (λ (n : ℕ). get_or table n 0) (sym place_is) ∙ free))))
+-- the members before one are those of the rows before its
+pub taken_front : (t : List (List ℕ)) (index : ℕ) (table : List ℕ) → index ≤ length t → TakenBefore t index table
+    → TakenBefore (take index t) (length (take index t)) table
+taken_front t index table within here =
+    record {
+      long = here.long;
+      taken =
+          λ k below free.
+          let low : k < index = omega (arith, length-take-le index t within) in
+          here.taken k low
+          (ap (λ (row : List ℕ). get_or table (id_of (member_of row) % places) 0) (sym (get_or-take index t k [] low)) ∙ free);
+    }
 
+module _ (t : List (List ℕ)) (index : ℕ) (table : List ℕ) (here : TakenBefore t index table) (at : ℕ) (place_is : at ≡ id_at t index % places) where
   pub taken_on : index < nobody → TakenBefore t (index + 1) (set table at index)
   taken_on low =
       record {
@@ -170,9 +172,12 @@ module _ (t : List ℕ) (index : ℕ) (table : List ℕ) (here : TakenBefore t i
           let last : k ≡ index = omega arith in absurd (other (ap (λ (i : ℕ). id_at t i % places) last ∙ sym place_is))
 
 -- a member with the id is the one that a search finds, where no id stands twice
-pub found_there : (n id : ℕ) (t : List ℕ) → one_twice (each id_of (members_of n t)) ≡ false → (i : ℕ) → i < n → get_or t (i * row_size) 0 ≡ id
-    → Some i ≡ find id (members_of n t)
-found_there n id t once i below is =
+pub found_there : (id : ℕ) (t : List (List ℕ)) → one_twice (each id_of (members_in t)) ≡ false → (i : ℕ) → i < length t → id_at t i ≡ id
+    → Some i ≡ find id (members_in t)
+found_there id t once i below is =
     sym
-    (found n id t i below is
-    (λ j lower same. (once_apart n (id_at t) (ap one_twice (sym (ids_of n t)) ∙ once)).apart j i lower below (sym (id_word t j) ∙ same ∙ sym is ∙ id_word t i)))
+    (ap (find id) (sym (members_tab t))
+    ∙ tab_found (has_id id) (length t) (member_in t) i below (eq-eqb (id_at t i) id is)
+    (λ j lower.
+    ne_eqb (id_at t j) id
+    (λ same. (once_apart (length t) (id_at t) (ap one_twice (sym (ids_of (length t) t)) ∙ rw (← members_tab t) at once)).apart j i lower below (same ∙ sym is))))

@@ -22,15 +22,15 @@ use Rattle.srt_group_model.specs.declared.Event.{Event}
 use Rattle.srt_group_model.specs.declared.Packet.{Packet}
 use Rattle.srt_connection_queue.specs.declared.rows.Ring.{Ring}
 use Rattle.srt_connection_queue.specs.Rows.{receiver_part, part, ring_of, member_of}
-use Rattle.srt_connection_members.specs.Members.{member_at, members_of}
-use Rattle.srt_connection_members.specs.Laws.Members.{found_below, found_id, found_none}
+use Rattle.srt_connection_members.specs.Members.{member_in}
+use Rattle.srt_connection_members.specs.Laws.Members.{found_none}
 use Rattle.srt_group_tables.specs.Packets.{packet_at, packets}
 use Rattle.word_rows.specs.Tab.{tab}
 use Rattle.word_rows.specs.Laws.Tab.{tab_length, tab_push}
 use Rattle.srt_group_rules.specs.Rules.{event_breaks_rule, packet_breaks_rule}
 use Rattle.srt_group_rules.specs.Laws.Walks.{all_of_tab, any_there, any_nowhere, any_same, queued, the_queue}
-use Rattle.srt_group_rules.specs.Ids.{id_at}
-use Rattle.srt_group_rules.specs.Laws.Ids.{Apart, ids_of, once_apart}
+use Rattle.srt_group_rules.specs.Ids.{id_at, members_upto}
+use Rattle.srt_group_rules.specs.Laws.Ids.{Apart, ids_of, once_apart, found_upto, found_id}
 use Rattle.srt_group_rules.specs.Sums.{sum_of, event_count, own_place, account_place, differs, accounts_wrong, account_at, Adding, member_differs, index_of, accounts_differ}
 use Rattle.srt_group_model.specs.Laws.Accounts.{account_yes, account_no, Small, Few, few_account, few_room}
 use Rattle.srt_group_model.specs.Accounts.{no_packets, reserve, account_of, unlike, Fits}
@@ -148,9 +148,9 @@ never_nothing : {C : Type 0} (i : ℕ) → ◌≡◌ {A = (Option ℕ)} None (So
 never_nothing i e = let different : ◌≡◌ {A = ℕ} 0 1 = cc in absurd (omega arith)
 
 -- a packet with a place: the account there is the one that it is added to, and no other is
-record Placed (t : List ℕ) (count : ℕ) (p : Packet) (place : ℕ) : Type 0 where
+record Placed (t : List (List ℕ)) (count : ℕ) (p : Packet) (place : ℕ) : Type 0 where
   inside : (place ≡ own_place) ⊎ (place < count)
-  reserved : is_unreserved (members_of count t) p ≡ false
+  reserved : is_unreserved (members_upto count t) p ≡ false
   own_yes : own_place ≡ place → is_owned p ≡ true
   own_no : (own_place ≡ place → ⊥) → is_owned p ≡ false
   held_yes : (i : ℕ) → i < count → i ≡ place → is_held_for (id_at t i) p ≡ true
@@ -160,14 +160,14 @@ and_no : (b : Bool) → b && false ≡ false
 and_no true = refl
 and_no false = refl
 
-module _ (t : List ℕ) (count : ℕ) (few : count ≤ max_members) (once : one_twice (each id_of (members_of count t)) ≡ false) where
+module _ (t : List (List ℕ)) (count : ℕ) (few : count ≤ max_members) (once : one_twice (each id_of (members_upto count t)) ≡ false) where
   module _ (p : Packet) where
     placed_own : is_owned p ≡ true → Placed t count p own_place
     unfolding is_unreserved
     placed_own mine =
         record {
           inside = inl refl;
-          reserved = ap (λ (b : Bool). not b && not (any (has_id p.member) (members_of count t))) mine;
+          reserved = ap (λ (b : Bool). not b && not (any (has_id p.member) (members_upto count t))) mine;
           own_yes = λ e. mine;
           own_no = λ other. absurd (other refl);
           held_yes = λ i below e. absurd (omega (arith, e));
@@ -175,13 +175,13 @@ module _ (t : List ℕ) (count : ℕ) (few : count ≤ max_members) (once : one_
         }
 
     placed_held : is_owned p ≡ false → (place : ℕ) → place < count → id_at t place ≡ p.member → Placed t count p place
-    unfolding is_unreserved members_of
+    unfolding is_unreserved
     placed_held other place below mine =
         record {
           inside = inr below;
           reserved =
               ap₂ (λ (b found : Bool). not b && not found) other
-              (any_there (has_id p.member) count (member_at t) place below (eq-eqb (id_at t place) p.member mine));
+              (any_there (has_id p.member) count (member_in t) place below (eq-eqb (id_at t place) p.member mine));
           own_yes = λ e. absurd (omega (arith, e));
           own_no = λ e. other;
           held_yes =
@@ -204,20 +204,20 @@ module _ (t : List ℕ) (count : ℕ) (few : count ≤ max_members) (once : one_
             by_order (no l) (yes higher) = ids_apart.apart place i higher inside (sym same)
             by_order (no l) (no h) = differ (omega arith)
 
-  placed : (p : Packet) (place : ℕ) → Some place ≡ account_place (members_of count t) p → Placed t count p place
+  placed : (p : Packet) (place : ℕ) → Some place ≡ account_place (members_upto count t) p → Placed t count p place
   placed p place found =
       by_test (is_owned p)
       (λ mine.
-      subst (Placed t count p) (sym (same_place place own_place (found ∙ place_own (members_of count t) p mine)))
+      subst (Placed t count p) (sym (same_place place own_place (found ∙ place_own (members_upto count t) p mine)))
       (placed_own p mine))
       (λ other.
-      let is = found ∙ place_held (members_of count t) p other in
-      placed_held p other place (found_below count p.member place t is) (found_id count p.member place t is))
+      let is = found ∙ place_held (members_upto count t) p other in
+      placed_held p other place (found_upto count p.member place t is) (found_id count p.member place t is))
 
-  pub placed_somewhere : (p : Packet) (place : ℕ) → Some place ≡ account_place (members_of count t) p → is_unreserved (members_of count t) p ≡ false
+  pub placed_somewhere : (p : Packet) (place : ℕ) → Some place ≡ account_place (members_upto count t) p → is_unreserved (members_upto count t) p ≡ false
   placed_somewhere p place found = (placed p place found).reserved
 
-pub adding_start : (t : List ℕ) (count : ℕ) (pending : List ℕ) → count ≤ max_members → Adding t count pending 0 (replicate 65 no_packets)
+pub adding_start : (t : List (List ℕ)) (count : ℕ) (pending : List ℕ) → count ≤ max_members → Adding t count pending 0 (replicate 65 no_packets)
 unfolding tab total
 adding_start t count pending few =
     record {
@@ -254,8 +254,8 @@ one_more test pending at accounts place j long so_far yes_there no_else =
         ap (account_of test)
         (ap (λ (k : ℕ). packets k pending) (add-one at) ∙ tab_push at (packet_at pending) (packet_at pending) (packet_at pending at) (λ i below. refl) refl)
 
-module _ (t : List ℕ) (count : ℕ) (pending : List ℕ) (at : ℕ) (accounts : List Account) (few : count ≤ max_members)
-    (once : one_twice (each id_of (members_of count t)) ≡ false)
+module _ (t : List (List ℕ)) (count : ℕ) (pending : List ℕ) (at : ℕ) (accounts : List Account) (few : count ≤ max_members)
+    (once : one_twice (each id_of (members_upto count t)) ≡ false)
     (good : (k : ℕ) → k < at → packet_breaks_rule (packet_at pending k) ≡ false) (here : Adding t count pending at accounts) where
   -- the accounts are of at most so many packets
   small_at : (place : ℕ) → (place ≡ own_place) ⊎ (place < count) → Few at (account_at accounts place)
@@ -269,7 +269,7 @@ module _ (t : List ℕ) (count : ℕ) (pending : List ℕ) (at : ℕ) (accounts 
           subst (λ (k : ℕ). Few k (account_of test (packets at pending))) (tab_length at (packet_at pending))
           (few_account test (packets at pending) (all_of_tab Small at (packet_at pending) (λ k below. packet_small _ (good k below))))
 
-  module _ (found : Option ℕ) (p : Packet) (place : ℕ) (is : found ≡ Some place) (found_is : found ≡ account_place (members_of count t) p)
+  module _ (found : Option ℕ) (p : Packet) (place : ℕ) (is : found ≡ Some place) (found_is : found ≡ account_place (members_upto count t) p)
       (read : p ≡ packet_at pending at) where
     there : Placed t count p place
     there = placed t count few once p place (sym is ∙ found_is)
@@ -301,12 +301,12 @@ module _ (t : List ℕ) (count : ℕ) (pending : List ℕ) (at : ℕ) (accounts 
         long : place < length accounts
         long = omega (arith, place_inside, here.long)
 
-        passed : (k : ℕ) → k < at + 1 → Dec (k < at) → is_unreserved (members_of count t) (packet_at pending k) ≡ false
+        passed : (k : ℕ) → k < at + 1 → Dec (k < at) → is_unreserved (members_upto count t) (packet_at pending k) ≡ false
         passed k below (yes lower) = here.reserved k lower
         passed k below (no other) =
             let last : k ≡ at = omega arith in
-            ap (λ (j : ℕ). is_unreserved (members_of count t) (packet_at pending j)) last
-            ∙ ap (is_unreserved (members_of count t)) (sym read) ∙ there.reserved
+            ap (λ (j : ℕ). is_unreserved (members_upto count t) (packet_at pending j)) last
+            ∙ ap (is_unreserved (members_upto count t)) (sym read) ∙ there.reserved
 
 -- ---- the whole rule, from the walk and the comparison
 
@@ -320,14 +320,14 @@ module _ (ms : List Member) (p : Packet) where
       ap₂ (λ (b there : Bool). not b && not there) other
       (place_none (has_id p.member) ms (found_none (find p.member ms) (sym nothing ∙ place_held ms p other))))
 
-module _ (t : List ℕ) (count : ℕ) (pending : List ℕ) (n : ℕ) (own : Account) (accounts : List Account) (whole : Adding t count pending n accounts) where
-  pub wrong_is : accounts_wrong (members_of count t) (packets n pending) own ≡ (unlike own (account_at accounts own_place) || accounts_differ t accounts count)
-  unfolding accounts_wrong accounts_differ members_of member_sum_wrong differs
+module _ (t : List (List ℕ)) (count : ℕ) (pending : List ℕ) (n : ℕ) (own : Account) (accounts : List Account) (whole : Adding t count pending n accounts) where
+  pub wrong_is : accounts_wrong (members_upto count t) (packets n pending) own ≡ (unlike own (account_at accounts own_place) || accounts_differ t accounts count)
+  unfolding accounts_wrong accounts_differ member_sum_wrong differs
   wrong_is =
       ap₂ ◌||◌
-      (any_same (member_sum_wrong (packets n pending)) (member_differs t accounts) count (member_at t) index_of (λ i below. member_is i below))
+      (any_same (member_sum_wrong (packets n pending)) (member_differs t accounts) count (member_in t) index_of (λ i below. member_is i below))
       (ap₂ ◌||◌
-      (any_nowhere (is_unreserved (members_of count t)) n (packet_at pending) (λ k below. whole.reserved k below))
+      (any_nowhere (is_unreserved (members_upto count t)) n (packet_at pending) (λ k below. whole.reserved k below))
       (ap (unlike own) (sym whole.own)))
       ∙ or_swap (any (member_differs t accounts) (tab count index_of)) (unlike own (account_at accounts own_place))
     where
@@ -337,5 +337,5 @@ module _ (t : List ℕ) (count : ℕ) (pending : List ℕ) (n : ℕ) (own : Acco
       or_swap false true = refl
       or_swap false false = refl
 
-      member_is : (i : ℕ) → i < count → member_sum_wrong (packets n pending) (member_at t i) ≡ member_differs t accounts i
-      member_is i below = ap (λ (held : Account). differs held (member_at t i)) (sym (whole.held i below))
+      member_is : (i : ℕ) → i < count → member_sum_wrong (packets n pending) (member_in t i) ≡ member_differs t accounts i
+      member_is i below = ap (λ (held : Account). differs held (member_in t i)) (sym (whole.held i below))

@@ -3,7 +3,6 @@ use Rattle.std.specs.Prelude.{◌≡◌, Bool, true, false, ℕ, zero, suc, ◌-
 use Rattle.std.proofs.Math.Path.{refl, ap, sym, subst}
 use Rattle.std.proofs.Common.{◌∙◌, arith, le-ltb}
 use mathlib.Core.List.{List, [], ◌∷◌, ◌++◌, append_assoc}
-use Rattle.word_rows.specs.Laws.Tab.{tab_length}
 use Rattle.srt_group_model.specs.Tools.{any, such_that, each, change}
 use Rattle.srt_group_model.specs.Laws.Reason.{if_elim, if_some_elim, when_true, when_false}
 use Rattle.srt_group_model.specs.State.{Member, State, is_backup, with_send, with_members, turned, active_state}
@@ -31,7 +30,7 @@ use Rattle.srt_group_model.specs.declared.Sending.{Sending}
 use Rattle.srt_connection_members.specs.Members.{members_of}
 use Rattle.srt_group_members.specs.Scan.{Became}
 use Rattle.srt_group_tables.specs.declared.history.HistoryRing.{HistoryRing}
-use Rattle.srt_group_tables.specs.Ring.{Arrays, arrays, entry_at, entries_of, send_of}
+use Rattle.srt_group_tables.specs.Ring.{Arrays, arrays, entries_of, send_of}
 use Rattle.srt_group_sending.specs.Readiness.{sends_now}
 use Rattle.srt_group_sending.specs.BackupReadiness.{BackupReady}
 use Rattle.srt_group_backup.specs.declared.trimming.SendHistory.{SendHistory}
@@ -71,7 +70,7 @@ module _ (time : Option ℕ) (core : Core) (x : Sending) (r : HistoryRing) (memb
       (subst (λ (t : State). Suffix (entries_of r a) t.send.history) left (trimmed_by_carrier s).suffix)
 
   pub trimmed_ready : {ready : Bool} → FrontFreed r trimmed.ring.length history used used'
-      → BackupReady core.counts.members time trimmed.sending trimmed.ring history members ready
+      → BackupReady time trimmed.sending trimmed.ring history (members_of core.counts.members members) ready
       → TrimmedReady time core x r members history used record { ready = ready; core = core; sending = trimmed.sending; ring = trimmed.ring } used'
   trimmed_ready {ready} freed tested =
       record {
@@ -169,7 +168,7 @@ module _ (core : Core) (x : Sending) (r : HistoryRing) (members history used : L
       }
 
   -- every number of the members is still in its range
-  pub members_refreshed : {size : ℕ} → Testable core x r members history size → AllFit (members_of after.counts.members mid)
+  pub members_refreshed : Testable core x r members history → AllFit (members_of after.counts.members mid)
   unfolding run
   members_refreshed testable =
       (subst Fit (refreshed testable.identity testable.pending testable.waiting testable.sources)
@@ -335,14 +334,11 @@ module _ (core : Core) (x : Sending) (r : HistoryRing) (members history used : L
 
 module _ {identity : Identity} {core : Core} {x : Sending} {r : HistoryRing} {members pending waiting history sources used : List ℕ} (store : List ℕ)
     (ready : Ready (parts identity core x r) (tables members pending waiting history sources) (length store) used) where
-  pub testable_of : Testable core x r members history (length used)
+  pub testable_of : Testable core x r members history
   testable_of =
       let fit = (sound_of_valid (cells_of (length store)) (state_of (parts identity core x r) (tables members pending waiting history sources)) (omega arith) ready.valid).fit in
       record {
         rows = rows_there ready;
-        fits = omega (arith, fit.remembered, tab_length r.length (entry_at r (arrays history sources)));
-        history_long = ready.long.history;
-        used_long = ready.shows.cells.long;
         identity = identity;
         pending = pending;
         waiting = waiting;

@@ -1,21 +1,18 @@
 -- What is proved of the public readiness tests: 5 and 6, and then what follows them.
 use Rattle.srt_protocol.specs.Errors.{Outcome}
-use Rattle.std.specs.Prelude.{◌≡◌, List, ℕ, Err, Ok}
+use Rattle.std.specs.Prelude.{◌≡◌, List, ℕ, length, Err, Ok}
 use Rattle.std.proofs.Math.Path.{refl}
-use Rattle.std.proofs.Common.{arith}
-use Rattle.word_rows.specs.Laws.Tab.{tab_length}
 use Rattle.srt_protocol.specs.declared.error.Error.{Error}
 use Rattle.srt_protocol.specs.Errors.{error_number}
 use Rattle.srt_group_model.specs.Guards.{no_answer, shown, truth}
 use Rattle.srt_group_model.specs.Calls.{cells_given, can_send_call, can_send_with_pacing_call}
 use Rattle.srt_group_model.specs.Lent.{Call, call_can_send, call_can_send_with_pacing, delivered_by, step_of}
 use Rattle.srt_group_model.specs.Laws.Valid.{valid_of, fit_of}
-use Rattle.cell_set.specs.Bits.{set_size}
+use Rattle.srt_group_model.specs.Backup.{max_history}
 use Rattle.srt_group_model.specs.declared.Core.{Core}
 use Rattle.srt_group_model.specs.declared.Identity.{Identity}
 use Rattle.srt_group_model.specs.declared.Sending.{Sending}
 use Rattle.srt_group_tables.specs.declared.history.HistoryRing.{HistoryRing}
-use Rattle.srt_group_tables.specs.Ring.{arrays, entry_at}
 use Rattle.srt_group_shown.specs.Tables.{Parts, parts, Tables, tables, state_of}
 use Rattle.srt_group_shown.specs.Steps.{Unbroken}
 use Rattle.srt_group_shown.specs.Laws.Steps.{rows_unbroken}
@@ -27,16 +24,13 @@ use Rattle.srt_group_send.specs.declared.readiness.Readiness.{Readiness}
 use Rattle.srt_group_send.specs.Readiness.{Testable, Tests}
 
 -- what the tests rely on
-pub testable_unbroken : {identity : Identity} {core : Core} {x : Sending} {r : HistoryRing} {members pending waiting history sources : List ℕ} {used : ℕ}
-    → Unbroken (parts identity core x r) (tables members pending waiting history sources) → used ≡ set_size → Testable core x r members history used
-testable_unbroken {identity} {core} {x} {r} {members} {pending} {waiting} {history} {sources} unbroken used_long =
+pub testable_unbroken : {identity : Identity} {core : Core} {x : Sending} {r : HistoryRing} {members pending waiting history sources : List ℕ}
+    → Unbroken (parts identity core x r) (tables members pending waiting history sources) → Testable core x r members history
+testable_unbroken {identity} {core} {x} {r} {members} {pending} {waiting} {history} {sources} unbroken =
     let s = state_of (parts identity core x r) (tables members pending waiting history sources) in
     let fit = fit_of (cells_given s) s (valid_of (cells_given s) s unbroken.valid) in
     record {
       rows = rows_unbroken unbroken;
-      fits = omega (arith, fit.remembered, tab_length r.length (entry_at r (arrays history sources)));
-      history_long = unbroken.long.history;
-      used_long = used_long;
       identity = identity;
       pending = pending;
       waiting = waiting;
@@ -63,8 +57,11 @@ module _ (identity : Identity) (core : Core) (x : Sending) (r : HistoryRing) (me
   with_pacing_refused time e refused = promised_refused_6 (call_can_send_with_pacing time) p t nothing_lent begins _ _ refl e refused
 
   module _ (accepted : o ≡ Ok tt) where
-    pub can_test : {used : ℕ} → used ≡ set_size → Testable core x r members history used
-    can_test used_long = testable_unbroken (begun_unbroken p t begins accepted) used_long
+    pub can_test : Testable core x r members history
+    can_test = testable_unbroken (begun_unbroken p t begins accepted)
+
+    pub history_long : length history ≡ max_history
+    history_long = (begun_unbroken p t begins accepted).long.history
 
     pub tested : (call : Call) {answer : Readiness} {used members' used' : List ℕ} → Tests call core x r members history used answer members' used'
         → Promised call p t nothing_lent

@@ -17,10 +17,11 @@ use Rattle.srt_group_model.specs.declared.Leg.{Leg}
 use Rattle.srt_group_model.specs.declared.Membership.{Membership}
 use Rattle.srt_group_model.specs.declared.Sending.{Sending}
 use Rattle.srt_connection_queue.specs.Laws.Tab.{tab_place, tab_past}
-use Rattle.srt_connection_members.specs.Members.{member_at, members_of}
-use Rattle.srt_connection_members.specs.Laws.Members.{members_place, found_some, found_none}
-use Rattle.srt_group_members.specs.Laws.Scan.{sequence_some, sequence_none, found_row}
-use Rattle.srt_group_members.specs.Laws.Rank.{promotion_below}
+use Rattle.srt_connection_members.specs.Members.{members_in}
+use Rattle.srt_connection_members.specs.Laws.Members.{found_some, found_none}
+use Rattle.srt_group_members.specs.Laws.Scan.{sequence_some, sequence_none}
+use Rattle.srt_group_members.specs.Rank.{shown}
+use Rattle.srt_group_sending.specs.Laws.Rows.{row_there, row_found, row_promoted}
 use Rattle.srt_group_tables.specs.Ring.{Arrays, word_sequence, entry_at, entries_of, send_of}
 use Rattle.srt_group_tables.specs.declared.history.HistoryRing.{HistoryRing}
 use Rattle.srt_group_sending.specs.BackupReadiness.{is_other_carrier, send_number, front_sequence, replay_length, replay_sequence, gap_allows, stands_at, could_take_over, MemberReady, BackupReady}
@@ -184,44 +185,44 @@ module _ (time : Option ℕ) (x : Sending) (r : HistoryRing) (history : List ℕ
 
 -- ---- the group
 
-module _ (n : ℕ) (time : Option ℕ) (x : Sending) (r : HistoryRing) (history t : List ℕ) where
-  pub no_active_not_ready : None ≡ first_active (members_of n t) → BackupReady n time x r history t false
+module _ (time : Option ℕ) (x : Sending) (r : HistoryRing) (history : List ℕ) (rows : List (List ℕ)) where
+  pub no_active_not_ready : None ≡ first_active (members_in rows) → BackupReady time x r history (members_in rows) false
   unfolding backup_send_ready if_some◌give◌otherwise◌
   no_active_not_ready e =
       record {
-        is = λ s a q members send. sym (rw (members, found_none (place_of is_active (members_of n t)) e));
+        is = λ s a q members send. sym (rw (members, found_none (place_of is_active (members_in rows)) e));
       }
 
-  module _ (i : ℕ) {leg : Leg} {can : Bool} (first : Some i ≡ first_active (members_of n t))
-      (is_leg : leg ≡ (member_at t i).leg) (is_can : can ≡ can_send leg) where
-    first_found : place_of is_active (members_of n t) ≡ Some i
-    first_found = found_some (place_of is_active (members_of n t)) i first
+  module _ (i : ℕ) {leg : Leg} {can : Bool} (first : Some i ≡ first_active (members_in rows))
+      (is_leg : leg ≡ (shown rows i).leg) (is_can : can ≡ can_send leg) where
+    first_found : place_of is_active (members_in rows) ≡ Some i
+    first_found = found_some (place_of is_active (members_in rows)) i first
 
-    first_there : at_place i (members_of n t) ≡ Some (member_at t i)
-    first_there = members_place n t i (found_row is_active n t i first)
+    first_there : at_place i (members_in rows) ≡ Some (shown rows i)
+    first_there = row_there i rows (row_found is_active rows i first)
 
-    can_is : can_send (member_at t i).leg ≡ can
+    can_is : can_send (shown rows i).leg ≡ can
     can_is = sym (is_can ∙ ap can_send is_leg)
 
-    pub first_decides : {answer : Bool} → can ≡ true → MemberReady time x r history (member_at t i) answer
-        → BackupReady n time x r history t answer
+    pub first_decides : {answer : Bool} → can ≡ true → MemberReady time x r history (shown rows i) answer
+        → BackupReady time x r history (members_in rows) answer
     unfolding backup_send_ready if_some◌give◌otherwise◌ if_true◌then◌else◌
     first_decides e ready =
         record {
           is = λ s a q members send. ready.is a q ∙ sym (rw (members, send, first_found, first_there, can_is, e));
         }
 
-    pub nobody_to_promote : can ≡ false → None ≡ promotion (members_of n t) → BackupReady n time x r history t false
+    pub nobody_to_promote : can ≡ false → None ≡ promotion (members_in rows) → BackupReady time x r history (members_in rows) false
     unfolding backup_send_ready if_some◌give◌otherwise◌ if_true◌then◌else◌
     nobody_to_promote e nobody =
         record {
           is =
               λ s a q members send.
-              sym (rw (members, first_found, first_there, can_is, e, found_none (promotion (members_of n t)) nobody));
+              sym (rw (members, first_found, first_there, can_is, e, found_none (promotion (members_in rows)) nobody));
         }
 
-    pub promoted_decides : {answer : Bool} (j : ℕ) → can ≡ false → Some j ≡ promotion (members_of n t)
-        → MemberReady time x r history (member_at t j) answer → BackupReady n time x r history t answer
+    pub promoted_decides : {answer : Bool} (j : ℕ) → can ≡ false → Some j ≡ promotion (members_in rows)
+        → MemberReady time x r history (shown rows j) answer → BackupReady time x r history (members_in rows) answer
     unfolding backup_send_ready if_some◌give◌otherwise◌ if_true◌then◌else◌
     promoted_decides j e promoted ready =
         record {
@@ -236,7 +237,7 @@ module _ (n : ℕ) (time : Option ℕ) (x : Sending) (r : HistoryRing) (history 
                 first_there,
                 can_is,
                 e,
-                found_some (promotion (members_of n t)) j promoted,
-                members_place n t j (promotion_below n t j promoted),
+                found_some (promotion (members_in rows)) j promoted,
+                row_there j rows (row_promoted rows j promoted),
               ));
         }

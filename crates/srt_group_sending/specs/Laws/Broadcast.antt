@@ -25,10 +25,12 @@ use Rattle.srt_group_model.specs.declared.Membership.{Membership}
 use Rattle.srt_group_model.specs.declared.Sender.{Sender}
 use Rattle.srt_group_model.specs.declared.Sending.{Sending}
 use Rattle.srt_connection.specs.Laws.Answers.{result_ok, result_err}
-use Rattle.srt_connection_members.specs.Members.{member_at, members_of, Changed}
+use Rattle.srt_connection_members.specs.Members.{member_at, members_in, members_of, Changed}
 use Rattle.srt_connection_members.specs.Laws.Members.{members_place, found_some, found_none, changed_by, unchanged, Changing, changing_start, changing_on, changing_done}
-use Rattle.srt_group_members.specs.Laws.Scan.{found_row, any_at, any_nowhere}
+use Rattle.srt_group_members.specs.Laws.Scan.{found_row}
+use Rattle.srt_group_members.specs.Rank.{shown}
 use Rattle.srt_group_sending.specs.SentList.{sent_row, sent_rows, send_tables, Wrote}
+use Rattle.srt_group_sending.specs.Laws.Rows.{row_there, row_found}
 use Rattle.srt_group_sending.specs.Laws.SentList.{wrote_nothing, wrote_length, wrote_then, wrote_rows}
 use Rattle.srt_group_sending.specs.Broadcast.{number_for_send, is_mismatched, sends_of, left_by_send, AttemptedAt, Attempted, SentBroadcast}
 
@@ -124,17 +126,22 @@ module _ (n : ℕ) (t : List ℕ) where
       such_that_first is_active (members_of n t) i (found_some (place_of is_active (members_of n t)) i e)
       ∙ members_place n t i (found_row is_active n t i e)
 
-  -- ---- before anything is sent
+-- ---- before anything is sent
 
-  pub limit_of_none : (size : ℕ) → None ≡ first_active (members_of n t) → false ≡ above_limit size (members_of n t)
+module _ (rows : List (List ℕ)) (size : ℕ) where
+  pub limit_of_none : None ≡ first_active (members_in rows) → false ≡ above_limit size (members_in rows)
   unfolding above_limit at_place if_some◌give◌otherwise◌
-  limit_of_none size e = sym (rw (none_active e))
+  limit_of_none e =
+      let none_there = such_that_none is_active (members_in rows) (found_none (place_of is_active (members_in rows)) e) in
+      sym (rw none_there)
 
-  pub limit_of_first : (size i : ℕ) {leg : Leg} → Some i ≡ first_active (members_of n t) → leg ≡ (member_at t i).leg
-      → ltb leg.link.limit size ≡ above_limit size (members_of n t)
+  pub limit_of_first : (i : ℕ) {leg : Leg} → Some i ≡ first_active (members_in rows) → leg ≡ (shown rows i).leg
+      → ltb leg.link.limit size ≡ above_limit size (members_in rows)
   unfolding above_limit if_some◌give◌otherwise◌
-  limit_of_first size i e is_leg =
-      ap (λ (l : Leg). ltb l.link.limit size) is_leg ∙ sym (rw (first_is i e))
+  limit_of_first i e is_leg =
+      let first = such_that_first is_active (members_in rows) i (found_some (place_of is_active (members_in rows)) i e) in
+      let there = row_there i rows (row_found is_active rows i e) in
+      ap (λ (l : Leg). ltb l.link.limit size) is_leg ∙ sym (rw (first, there))
 
 module _ (x : Sending) (m : Member) where
   pub numbered_number : (x.numbered ≡ 0 → ⊥) → x.next ≡ number_for_send x m
@@ -158,19 +165,7 @@ number_of_first x ms m e = go (is_set x.numbers.numbered)
     go true = refl
     go false = ap (λ (o : Option Member). if_some o give (λ k. k.leg.sender.next) otherwise 0) e
 
-module _ (sequence : ℕ) (m : Member) {active : Bool} (is : active ≡ is_active m) where
-  pub inactive_matches : active ≡ false → false ≡ is_mismatched sequence m
-  unfolding is_mismatched
-  inactive_matches e = sym (rw (← is, e))
-
-  pub active_matches : {sender : Sender} → active ≡ true → sender ≡ m.leg.sender
-      → not (eqb sender.next sequence) ≡ is_mismatched sequence m
-  unfolding is_mismatched
-  active_matches e is_sender =
-      ap (λ (y : Sender). not (eqb y.next sequence)) is_sender
-      ∙ sym (rw (← is, e))
-
-mismatch_of_any : (sequence : ℕ) (ms : List Member) → sequence_mismatch sequence (such_that is_active ms) ≡ any (is_mismatched sequence) ms
+pub mismatch_of_any : (sequence : ℕ) (ms : List Member) → sequence_mismatch sequence (such_that is_active ms) ≡ any (is_mismatched sequence) ms
 unfolding sequence_mismatch is_mismatched such_that any if_true◌then◌else◌
 mismatch_of_any sequence [] = refl
 mismatch_of_any sequence (m ∷ ms) = go (is_active m) (mismatch_of_any sequence ms)
@@ -180,15 +175,6 @@ mismatch_of_any sequence (m ∷ ms) = go (is_active m) (mismatch_of_any sequence
         ≡ ((b && not (eqb m.leg.sender.next sequence)) || any (is_mismatched sequence) ms)
     go true e = ap (λ (r : Bool). not (eqb m.leg.sender.next sequence) || r) e
     go false e = e
-
-module _ (sequence n : ℕ) (t : List ℕ) where
-  pub mismatch_at : (i : ℕ) → Some i ≡ place_of (is_mismatched sequence) (members_of n t)
-      → true ≡ sequence_mismatch sequence (such_that is_active (members_of n t))
-  mismatch_at i e = any_at (is_mismatched sequence) (members_of n t) i e ∙ sym (mismatch_of_any sequence (members_of n t))
-
-  pub mismatch_nowhere : None ≡ place_of (is_mismatched sequence) (members_of n t)
-      → false ≡ sequence_mismatch sequence (such_that is_active (members_of n t))
-  mismatch_nowhere e = any_nowhere (is_mismatched sequence) (members_of n t) e ∙ sym (mismatch_of_any sequence (members_of n t))
 
 -- ---- one attempt
 
@@ -369,9 +355,9 @@ module _ (n time size sequence : ℕ) (t a : List ℕ) where
 -- ---- the whole send
 
 -- the rows that are shown are the sends
-shown : (xs : List Sent) (a b : List ℕ) (sent : ℕ) → sent * sent_row_size ≤ length a → Wrote 0 xs a sent b → sent_rows sent b ≡ xs
+list_shown : (xs : List Sent) (a b : List ℕ) (sent : ℕ) → sent * sent_row_size ≤ length a → Wrote 0 xs a sent b → sent_rows sent b ≡ xs
 unfolding tab
-shown xs a b sent fits w = wrote_rows 0 sent xs a b w fits
+list_shown xs a b sent fits w = wrote_rows 0 sent xs a b w fits
 
 nothing_shown : (a : List ℕ) → sent_rows 0 a ≡ []
 unfolding tab
@@ -465,7 +451,7 @@ module _ (n time size : ℕ) (x : Sending) (t a : List ℕ) where
     module _ (e : mismatch ≡ false) {sent : ℕ} {u b : List ℕ} (tried : Attempted n time size sequence (send_tables t a) sent (send_tables u b))
         (fits : sent * sent_row_size ≤ length a) where
       rows_are : sent_rows sent b ≡ sends_of time size sequence (members_of n t)
-      rows_are = shown (sends_of time size sequence (members_of n t)) a b sent fits tried.wrote
+      rows_are = list_shown (sends_of time size sequence (members_of n t)) a b sent fits tried.wrote
 
       wrote_shown : Wrote 0 (sent_rows sent b) a sent b
       wrote_shown = subst (λ (xs : List Sent). Wrote 0 xs a sent b) (sym rows_are) tried.wrote

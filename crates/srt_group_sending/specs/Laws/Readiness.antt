@@ -1,5 +1,5 @@
 -- What is proved of the definitions in specs/Readiness.antt, with what the proofs need.
-use Rattle.std.specs.Prelude.{◌≡◌, Bool, true, false, ◌||◌, List, ◌∷◌, drop, None, Option, Some}
+use Rattle.std.specs.Prelude.{◌≡◌, Bool, true, false, ◌||◌, List, ◌∷◌, length, drop, None, Option, Some}
 use Rattle.std.proofs.Math.Path.{refl, ap, sym}
 use Rattle.std.proofs.Common.{◌∙◌, eq-eqb, ne_eqb}
 use Prim.Native.Nat.{ℕ, ◌+◌, ◌-◌, ◌≤◌, ◌<◌, min}
@@ -12,8 +12,9 @@ use Rattle.srt_group_model.specs.Members.{in_state}
 use Rattle.srt_group_model.specs.Backup.{least_time, group_time_until_send}
 use Rattle.srt_group_model.specs.declared.Leg.{Leg}
 use Rattle.srt_group_model.specs.declared.Membership.{Membership}
-use Rattle.srt_connection_members.specs.Members.{member_at, members_of}
-use Rattle.srt_group_members.specs.Laws.Scan.{left_next, left_none}
+use Rattle.srt_connection_members.specs.Members.{members_in}
+use Rattle.srt_group_members.specs.Rank.{shown}
+use Rattle.srt_group_sending.specs.Laws.Rows.{left_next, left_none}
 use Rattle.srt_group_sending.specs.Readiness.{may_carry, least_with}
 
 -- ---- the least wait
@@ -26,88 +27,78 @@ pub standby_carries : (state : ℕ) → (state ≡ active_state → ⊥) → eqb
 unfolding may_carry
 standby_carries state h = sym (rw (ne_eqb state active_state h))
 
-wait_back : (o : Option ℕ) → (o) ≡ o
-wait_back None = refl
-wait_back (Some n) = refl
-
-wait_as : (o : Option ℕ) → o ≡ o
-wait_as None = refl
-wait_as (Some n) = refl
-
 module _ (time : ℕ) (m : Member) (least : Option ℕ) {x : Membership} {carries : Bool} (is : x ≡ m.membership)
     (is_carries : carries ≡ may_carry x.state) where
   carrying : (in_state active_state m || in_state standby_state m) ≡ carries
   unfolding may_carry
   carrying = sym (is_carries ∙ ap (λ (y : Membership). eqb y.state active_state || eqb y.state standby_state) is)
 
-  pub least_without : carries ≡ false → least ≡ least_with time m (least)
+  pub least_without : carries ≡ false → least ≡ least_with time m least
   unfolding least_with if_true◌then◌else◌
-  least_without e = sym (rw (carrying, e) (wait_back least))
+  least_without e = sym (rw (carrying, e) refl)
 
   module _ {leg : Leg} {wait : ℕ} (e : carries ≡ true) (is_leg : leg ≡ m.leg) (is_wait : wait ≡ time_until_send time leg) where
     wait_is : time_until_send time m.leg ≡ wait
     wait_is = sym (is_wait ∙ ap (λ (l : Leg). time_until_send time l) is_leg)
 
-    pub least_alone : least ≡ None → Some wait ≡ least_with time m (least)
+    pub least_alone : least ≡ None → Some wait ≡ least_with time m least
     unfolding least_with if_true◌then◌else◌ if_some◌give◌otherwise◌
     least_alone none_yet = sym (rw (none_yet, carrying, e, wait_is))
 
-    pub least_now : (other : ℕ) → least ≡ Some other → wait < other → Some wait ≡ least_with time m (least)
+    pub least_now : (other : ℕ) → least ≡ Some other → wait < other → Some wait ≡ least_with time m least
     unfolding least_with if_true◌then◌else◌ if_some◌give◌otherwise◌
     least_now other so_far less =
         let smaller : min wait other ≡ wait = omega arith in
         sym (rw (so_far, carrying, e, wait_is, smaller))
 
-    pub least_before : (other : ℕ) → least ≡ Some other → other ≤ wait → Some other ≡ least_with time m (least)
+    pub least_before : (other : ℕ) → least ≡ Some other → other ≤ wait → Some other ≡ least_with time m least
     unfolding least_with if_true◌then◌else◌ if_some◌give◌otherwise◌
     least_before other so_far less =
         let smaller : min wait other ≡ other = omega arith in
         sym (rw (so_far, carrying, e, wait_is, smaller))
 
 -- the least wait of the members from `left` on
-pub record LeastFrom (n time : ℕ) (t : List ℕ) (left : ℕ) (least : Option ℕ) : Type 0 where
-  pub within : left ≤ n
-  pub is : least ≡ least_time time (drop left (members_of n t))
+pub record LeastFrom (time : ℕ) (rows : List (List ℕ)) (left : ℕ) (least : Option ℕ) : Type 0 where
+  pub within : left ≤ length rows
+  pub is : least ≡ least_time time (drop left (members_in rows))
 
-module _ (n time : ℕ) (t : List ℕ) where
-  pub least_start : LeastFrom n time t n None
+module _ (time : ℕ) (rows : List (List ℕ)) where
+  pub least_start : LeastFrom time rows (length rows) None
   unfolding least_time
-  least_start = record { within = omega arith; is = sym (rw (left_none n n t (omega arith))) }
+  least_start = record { within = omega arith; is = sym (rw (left_none (length rows) rows (omega arith))) }
 
   one_more_wait : (m : Member) (ms : List Member) → least_time time (m ∷ ms) ≡ least_with time m (least_time time ms)
   unfolding least_time least_with
   one_more_wait m ms = refl
 
-  pub least_on : {next : Option ℕ} (left : ℕ) (least : Option ℕ) → 0 < left → LeastFrom n time t left least
-      → next ≡ least_with time (member_at t (left - 1)) (least) → LeastFrom n time t (left - 1) next
+  pub least_on : {next : Option ℕ} (left : ℕ) (least : Option ℕ) → 0 < left → LeastFrom time rows left least
+      → next ≡ least_with time (shown rows (left - 1)) least → LeastFrom time rows (left - 1) next
   least_on {next} left least some_left so_far is_next =
       let back : left - 1 + 1 ≡ left = omega arith in
       record {
         within = omega (arith, so_far.within);
         is =
             is_next
-            ∙ ap (λ (o : Option ℕ). (least_with time (member_at t (left - 1)) o))
-            (so_far.is ∙ wait_as (least_time time (drop left (members_of n t))))
+            ∙ ap (least_with time (shown rows (left - 1))) so_far.is
             ∙ (sym
             (ap (least_time time)
-            (left_next n (left - 1) t (omega (arith, so_far.within))
-            ∙ ap (λ (k : ℕ). member_at t (left - 1) ∷ drop k (members_of n t)) back)
-            ∙ one_more_wait (member_at t (left - 1)) (drop left (members_of n t))));
+            (left_next (left - 1) rows (omega (arith, so_far.within))
+            ∙ ap (λ (k : ℕ). shown rows (left - 1) ∷ drop k (members_in rows)) back)
+            ∙ one_more_wait (shown rows (left - 1)) (drop left (members_in rows))));
       }
 
-  least_at_end : (left : ℕ) (least : Option ℕ) → left ≤ 0 → LeastFrom n time t left least
-      → least ≡ least_time time (members_of n t)
+  least_at_end : (left : ℕ) (least : Option ℕ) → left ≤ 0 → LeastFrom time rows left least
+      → least ≡ least_time time (members_in rows)
   least_at_end left least h so_far =
       let end : left ≡ 0 = omega arith in
-      so_far.is ∙ wait_as (least_time time (drop left (members_of n t)))
-      ∙ ap (λ (k : ℕ). least_time time (drop k (members_of n t))) end
+      so_far.is ∙ ap (λ (k : ℕ). least_time time (drop k (members_in rows))) end
 
-  pub wait_none : (left : ℕ) (least : Option ℕ) → left ≤ 0 → LeastFrom n time t left least → least ≡ None
-      → 100000 ≡ group_time_until_send time (members_of n t)
+  pub wait_none : (left : ℕ) (least : Option ℕ) → left ≤ 0 → LeastFrom time rows left least → least ≡ None
+      → 100000 ≡ group_time_until_send time (members_in rows)
   unfolding group_time_until_send if_some◌give◌otherwise◌
   wait_none left least h so_far e = sym (rw (← least_at_end left least h so_far, e))
 
-  pub wait_least : (left wait : ℕ) (least : Option ℕ) → left ≤ 0 → LeastFrom n time t left least → least ≡ Some wait
-      → wait ≡ group_time_until_send time (members_of n t)
+  pub wait_least : (left wait : ℕ) (least : Option ℕ) → left ≤ 0 → LeastFrom time rows left least → least ≡ Some wait
+      → wait ≡ group_time_until_send time (members_in rows)
   unfolding group_time_until_send if_some◌give◌otherwise◌
   wait_least left wait least h so_far e = sym (rw (← least_at_end left least h so_far, e))

@@ -19,7 +19,8 @@ use Rattle.cell_set.specs.Marks.{Marking, Marks}
 use Rattle.srt_connection_queue.specs.declared.rows.Ring.{Ring}
 use Rattle.srt_connection_queue.specs.Laws.Tab.{tab_place}
 use Rattle.srt_connection_queue.specs.Rows.{receiver_part, first_event_part, part, ring_of, event_of, event_in, queue_of, member_parts, member_of}
-use Rattle.srt_connection_members.specs.Members.{member_at, members_of}
+use Rattle.srt_connection_members.specs.Members.{member_in}
+use Rattle.srt_group_rules.specs.Ids.{members_upto}
 use Rattle.srt_group_tables.specs.Packets.{packet_at, packets}
 use Rattle.srt_group_tables.specs.Ring.{Arrays, entry_at, entries_of}
 use Rattle.srt_group_tables.specs.declared.history.HistoryRing.{HistoryRing}
@@ -92,9 +93,8 @@ pub queue_is : (m : Member) → joined (length m.queue) (queue_names m.queue) �
 unfolding queue_cells
 queue_is m = queue_joined m.queue
 
-pub queues_are : (n : ℕ) (members : List ℕ) → joined n (λ i. queue_cells (member_at members i)) ≡ queued_cells (members_of n members)
-unfolding members_of
-queues_are n members = members_joined n (member_at members)
+pub queues_are : (n : ℕ) (rows : List (List ℕ)) → joined n (λ i. queue_cells (member_in rows i)) ≡ queued_cells (members_upto n rows)
+queues_are n rows = members_joined n (member_in rows)
 
 pub events_are : (n : ℕ) (event : ℕ → Event) → joined n (λ i. event_cells (event i)) ≡ each (λ (e : Event). e.content.cell) (such_that is_data (tab n event))
 unfolding joined tab if_true◌then◌else◌ such_that each event_cells

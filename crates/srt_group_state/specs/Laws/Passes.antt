@@ -1,5 +1,5 @@
 -- What one pass over a table finds, from what it finds row by row.
-use Rattle.std.specs.Prelude.{◌≡◌, Bool, true, false, ◌||◌, ℕ, zero, suc, ◌+◌, ◌-◌, ◌*◌, ◌≤◌, ◌<◌, eqb, ltb, length, take, drop, None, Option, Some}
+use Rattle.std.specs.Prelude.{◌≡◌, Bool, true, false, ◌||◌, ℕ, zero, suc, ◌+◌, ◌-◌, ◌≤◌, ◌<◌, eqb, ltb, length, None, Option, Some}
 use Rattle.std.proofs.Math.Path.{refl, ap}
 use Rattle.std.proofs.Common.{sym, subst, ◌∙◌, add-one}
 use Rattle.std.proofs.Math.Bool.{not}
@@ -28,9 +28,9 @@ use Rattle.srt_group_model.specs.declared.Packet.{Packet}
 use Rattle.word_rows.specs.Tab.{tab}
 use Rattle.cell_set.specs.Marks.{Marking, Marks}
 use Rattle.srt_connection_queue.specs.declared.rows.Ring.{Ring}
-use Rattle.srt_connection_queue.specs.Rows.{row_size, receiver_part, part, ring_of, member_of}
-use Rattle.srt_connection_members.specs.Members.{member_at, members_of}
-use Rattle.srt_connection_members.specs.Laws.Members.{lent_member}
+use Rattle.srt_connection_queue.specs.Rows.{receiver_part, part, ring_of, member_of}
+use Rattle.srt_connection_members.specs.Members.{member_in}
+use Rattle.srt_group_rules.specs.Ids.{members_upto}
 use Rattle.srt_group_tables.specs.Packets.{packet_at, packets}
 use Rattle.srt_group_tables.specs.Laws.PacketLaws.{ascends_up}
 use Rattle.srt_group_tables.specs.Ring.{Arrays, entry_at, entries_of}
@@ -346,13 +346,13 @@ module _ (cells : ℕ) (ms : List Member) (lowest : ℕ) (p : Packet) (before : 
     place_refused refused = record { passes = passes_refused m marks refused; place = λ e. not_both refl e }
 
 -- the packet breaks no rule, and its cell is marked: it has the place of its account, if there is one
-pub place_found : (cells : ℕ) (t : List ℕ) (count : ℕ) → count ≤ max_members → one_twice (each id_of (members_of count t)) ≡ false → (lowest : ℕ) (p : Packet)
+pub place_found : (cells : ℕ) (t : List (List ℕ)) (count : ℕ) → count ≤ max_members → one_twice (each id_of (members_upto count t)) ≡ false → (lowest : ℕ) (p : Packet)
     (before : List ℕ) (b : Bool) → b ≡ packet_breaks_rule p → (b || ltb p.content.sequence lowest) ≡ false → (m : Bool) (after : List ℕ)
-    → Marks cells (p.content.cell ∷ []) before m after → not m ≡ false → (r : Option ℕ) → r ≡ account_place (members_of count t) p
-    → PlacesPacket cells (members_of count t) lowest p before r after
+    → Marks cells (p.content.cell ∷ []) before m after → not m ≡ false → (r : Option ℕ) → r ≡ account_place (members_upto count t) p
+    → PlacesPacket cells (members_upto count t) lowest p before r after
 place_found cells t count few once lowest p before b b_is fine m after marks taken None is =
     record {
-      passes = passes_broken (λ good. not_both (placed_nowhere (members_of count t) p (sym is)) good.reserved);
+      passes = passes_broken (λ good. not_both (placed_nowhere (members_upto count t) p (sym is)) good.reserved);
       place = λ e. not_both refl e;
     }
 place_found cells t count few once lowest p before b b_is fine m after marks taken (Some i) is =
@@ -417,42 +417,38 @@ lowest_of n f up (suc i) below = omega (arith, ascends_up n f up i (suc i) (omeg
 
 -- ---- the held packets, and then the members
 
-abbrev pub packet_good : List ℕ → ℕ → List ℕ → ℕ → Type 0
-packet_good t count pending i = PacketGood (members_of count t) (lowest_at (packet_at pending) i) (packet_at pending i)
+abbrev pub packet_good : List (List ℕ) → ℕ → List ℕ → ℕ → Type 0
+packet_good t count pending i = PacketGood (members_upto count t) (lowest_at (packet_at pending) i) (packet_at pending i)
 
 abbrev pub packet_names : List ℕ → ℕ → List ℕ
 packet_names pending i = (packet_at pending i).content.cell ∷ []
 
-abbrev pub member_good : List ℕ → List Account → ℕ → Type 0
-member_good t accounts i = MemberGood (account_at accounts i) (member_at t i)
+abbrev pub member_good : List (List ℕ) → List Account → ℕ → Type 0
+member_good t accounts i = MemberGood (account_at accounts i) (member_in t i)
 
-abbrev pub member_names : List ℕ → ℕ → List ℕ
-member_names t i = queue_cells (member_at t i)
+abbrev pub member_names : List (List ℕ) → ℕ → List ℕ
+member_names t i = queue_cells (member_in t i)
 
--- the row of a member that is lent
-abbrev lent : List ℕ → ℕ → Member
-lent t i = member_of (take (i * row_size + row_size - i * row_size) (drop (i * row_size) t))
-
-pub member_step : {cells : ℕ} {here after : List ℕ} {r : Bool} (t : List ℕ) (accounts : List Account) (i : ℕ)
-    → Passes cells (MemberGood (account_at accounts i) (lent t i)) (queue_cells (lent t i)) here r after
+pub member_step : {cells : ℕ} {here after : List ℕ} {r : Bool} {m : Member} (t : List (List ℕ)) (accounts : List Account) (i : ℕ) → m ≡ member_in t i
+    → Passes cells (MemberGood (account_at accounts i) m) (queue_cells m) here r after
     → Passes cells (member_good t accounts i) (member_names t i) here r after
-member_step {cells} {here} {after} {r} t accounts i passes =
-    subst (λ (m : Member). Passes cells (MemberGood (account_at accounts i) m) (queue_cells m) here r after) (lent_member t i) passes
+member_step {cells} {here} {after} {r} t accounts i read passes =
+    subst (λ (m : Member). Passes cells (MemberGood (account_at accounts i) m) (queue_cells m) here r after) read passes
 
-module _ (t : List ℕ) (count : ℕ) (pending : List ℕ) (n : ℕ) where
+module _ (t : List (List ℕ)) (count : ℕ) (pending : List ℕ) (n : ℕ) where
   pub packet_step : {cells lowest : ℕ} (at : ℕ) {p : Packet} {here after : List ℕ} {r : Option ℕ} → p ≡ packet_at pending at → lowest ≡ lowest_at (packet_at pending) at
-      → PlacesPacket cells (members_of count t) lowest p here r after
+      → PlacesPacket cells (members_upto count t) lowest p here r after
       → Passes cells (packet_good t count pending at) (packet_names pending at) here (is_nothing r) after
   packet_step {cells} {lowest} at {p} {here} {after} {r} read low places =
-      subst (λ (k : ℕ). Passes cells (PacketGood (members_of count t) k (packet_at pending at)) (packet_names pending at) here (is_nothing r) after) low
-      (subst (λ (x : Packet). Passes cells (PacketGood (members_of count t) lowest x) (x.content.cell ∷ []) here (is_nothing r) after) read places.passes)
+      subst (λ (k : ℕ). Passes cells (PacketGood (members_upto count t) k (packet_at pending at)) (packet_names pending at) here (is_nothing r) after) low
+      (subst (λ (x : Packet). Passes cells (PacketGood (members_upto count t) lowest x) (x.content.cell ∷ []) here (is_nothing r) after) read places.passes)
 
   module _ (own : Account) where
     abbrev rows_good : Type 0
-    rows_good = RowsGood (members_of count t) (packets n pending) own
+    rows_good = RowsGood (members_upto count t) (packets n pending) own
 
     abbrev row_cells : List ℕ
-    row_cells = pending_cells (packets n pending) ++ queued_cells (members_of count t)
+    row_cells = pending_cells (packets n pending) ++ queued_cells (members_upto count t)
 
     rows_packets : rows_good → (i : ℕ) → i < n → packet_good t count pending i
     unfolding accounts_wrong
@@ -461,9 +457,9 @@ module _ (t : List ℕ) (count : ℕ) (pending : List ℕ) (n : ℕ) where
           rules = none_there packet_breaks_rule n (packet_at pending) good.packets i below;
           above = lowest_of n (packet_at pending) good.order i below;
           reserved =
-              none_there (is_unreserved (members_of count t)) n (packet_at pending)
-              (or_left (any (is_unreserved (members_of count t)) (packets n pending)) _
-              (or_right (any (member_sum_wrong (packets n pending)) (members_of count t)) _ good.sums)) i below;
+              none_there (is_unreserved (members_upto count t)) n (packet_at pending)
+              (or_left (any (is_unreserved (members_upto count t)) (packets n pending)) _
+              (or_right (any (member_sum_wrong (packets n pending)) (members_upto count t)) _ good.sums)) i below;
         }
 
     module _ {cells : ℕ} {before : List ℕ} {at : ℕ} {here : List ℕ}
@@ -472,7 +468,7 @@ module _ (t : List ℕ) (count : ℕ) (pending : List ℕ) (n : ℕ) where
           → Passes cells (packet_good t count pending at) (packet_names pending at) here (is_nothing r) after
           → r ≡ None → Passes cells rows_good row_cells before true after
       rows_packet_stopped more step nothing =
-          first_stops (passing_stopped sofar more step (pending_are n pending) (ap is_nothing nothing)) rows_packets (queued_cells (members_of count t))
+          first_stops (passing_stopped sofar more step (pending_are n pending) (ap is_nothing nothing)) rows_packets (queued_cells (members_upto count t))
 
       -- every packet was passed and added up
       module _ (accounts : List Account) (adding : Adding t count pending at accounts) (through : n ≤ at) where
@@ -494,20 +490,20 @@ module _ (t : List ℕ) (count : ℕ) (pending : List ℕ) (n : ℕ) where
 
           module _ (alike : other ≡ false) where
             members_good : rows_good → (i : ℕ) → i < count → member_good t accounts i
-            unfolding members_of accounts_differ
+            unfolding accounts_differ
             members_good good i below =
                 record {
-                  rules = none_there member_breaks_rule count (member_at t) good.members i below;
+                  rules = none_there member_breaks_rule count (member_in t) good.members i below;
                   sums =
                       none_there (member_differs t accounts) count index_of
                       (or_right (unlike own (account_at accounts own_place)) _ (sym (wrong_is t count pending n own accounts whole) ∙ good.sums)) i below;
                 }
 
             all_good : ((i : ℕ) → i < count → member_good t accounts i) → rows_good
-            unfolding members_of accounts_differ
+            unfolding accounts_differ
             all_good goods =
                 record {
-                  members = any_nowhere member_breaks_rule count (member_at t) (λ i below. (goods i below).rules);
+                  members = any_nowhere member_breaks_rule count (member_in t) (λ i below. (goods i below).rules);
                   packets = any_nowhere packet_breaks_rule n (packet_at pending) (λ i below. (passed.clean refl i below).rules);
                   order = ascends_of n (packet_at pending) (λ i below. (passed.clean refl i below).above);
                   sums =

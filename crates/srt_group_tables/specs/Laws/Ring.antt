@@ -195,7 +195,7 @@ module _ (r : HistoryRing) (sequence : ℕ) (history : List ℕ) (a : Arrays) (i
 
 -- where the loop of `drop_before` stands: what is left to drop gives what all of it gives
 pub record Trimming (sequence : ℕ) (history : List ℕ) (before : HistoryRing) (start left : ℕ) : Type 0 where
-  pub fits : left ≤ max_history
+  pub fits : left ≤ before.length
   pub same : (a : Arrays) → a.history ≡ history
       → drop_before sequence (entries_of record { start = start; length = left } a) ≡ drop_before sequence (entries_of before a)
 

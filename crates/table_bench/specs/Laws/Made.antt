@@ -13,7 +13,7 @@ use Rattle.srt_group_tables.specs.Packets.{pending_size, packets}
 use Rattle.srt_group_tables.specs.Ring.{after_push}
 use Rattle.srt_group_tables.specs.Laws.Ring.{push_fits}
 use Rattle.srt_group_tables.specs.declared.history.HistoryRing.{HistoryRing}
-use Rattle.table_bench.specs.Made.{data_of}
+use Rattle.bench_made.specs.Made.{data_of}
 
 -- what the table asks of a packet that is put in
 abbrev pub Insertable : List ℕ → ℕ → Data → Type 0
@@ -24,9 +24,9 @@ Insertable pending count d =
     × (((d.sequence ≤ largest_sequence) × (d.cell < max_cells))
     × (is_among d.cell (pending_cells (packets count pending)) ≡ false))))
 
-pub insertable_made : (pending : List ℕ) (count sequence cell : ℕ) (d : Data) → d ≡ data_of sequence cell
-    → Insertable pending count (data_of sequence cell) → Insertable pending count d
-insertable_made pending count sequence cell d is made = subst (Insertable pending count) (sym is) made
+pub insertable_made : (pending : List ℕ) (count sequence cell length : ℕ) (d : Data) → d ≡ data_of sequence cell length
+    → Insertable pending count (data_of sequence cell length) → Insertable pending count d
+insertable_made pending count sequence cell length d is made = subst (Insertable pending count) (sym is) made
 
 pub pushed_fits : (r longer : HistoryRing) → longer ≡ after_push r → r.length ≤ max_history → longer.length ≤ max_history
 pushed_fits r longer is fits = subst (λ (x : HistoryRing). x.length ≤ max_history) (sym is) (push_fits r fits)

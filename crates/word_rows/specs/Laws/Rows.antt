@@ -1,14 +1,15 @@
 -- What is proved of the definitions in specs/Rows.antt, with what the proofs need.
-use Rattle.std.specs.Prelude.{◌≡◌, ◌⊎◌, List, [], ◌∷◌, ◌++◌, ℕ, suc, ◌+◌, ◌*◌, ◌-◌, ◌≤◌, ◌<◌, drop, get_or}
-use Rattle.std.proofs.Math.Path.{ap}
-use Rattle.std.proofs.Common.{sym, ◌∙◌, mul-le-mul_right, add-one, arith, length-drop, length-take-le, get_or-take, get_or-drop, ext_get_or}
+use Rattle.std.specs.Prelude.{◌≡◌, ◌⊎◌, List, [], ◌∷◌, ◌++◌, ℕ, zero, suc, ◌+◌, ◌*◌, ◌-◌, ◌≤◌, ◌<◌, drop, get_or, map}
+use Rattle.std.specs.Simd.{first_chunks}
+use Rattle.std.proofs.Math.Path.{ap, refl}
+use Rattle.std.proofs.Common.{sym, ◌∙◌, mul-le-mul_right, add-one, arith, length-drop, length-take-le, get_or-take, get_or-drop, ext_get_or, drop-drop}
 use Rattle.std.proofs.Math.Logic.{inl, inr}
 use Rattle.std.proofs.Math.Decide.{dec_lt}
 use Rattle.std.proofs.Math.ListN.{length, take}
 use Rattle.srt_protocol.specs.Cells.{overwritten}
 use Rattle.srt_protocol.specs.Laws.CellLaws.{part_back, overwritten_there, overwritten_run}
 use Rattle.word_rows.specs.Tab.{tab, removed}
-use Rattle.word_rows.specs.Laws.Tab.{tab_push, tab_remove}
+use Rattle.word_rows.specs.Laws.Tab.{tab_push, tab_remove, tab_same, map_tab}
 use Rattle.word_rows.specs.Rows.{row_at, Closed}
 
 -- ---- words of a row
@@ -69,6 +70,45 @@ module _ (width : ℕ) (words row : List ℕ) (i : ℕ) (fits : i * width + widt
       apart : Dec (j < i) → (j * width + width ≤ i * width) ⊎ (i * width + length row ≤ j * width)
       apart (yes lower) = inl (next_row width j i lower)
       apart (no not_lower) = inr (omega (arith, next_row width i j (omega arith)))
+
+-- ---- the rows as `as_chunks` lends them
+
+pub chunks_taken : (width n k : ℕ) (words : List ℕ) → n ≤ k → take n (first_chunks width k words) ≡ first_chunks width n words
+chunks_taken width zero k words below = refl
+chunks_taken width (suc n) zero words below = absurd (omega arith)
+chunks_taken width (suc n) (suc k) words below =
+    ap (λ (rows : List (List ℕ)). take width words ∷ rows) (chunks_taken width n k (drop width words) (omega arith))
+
+chunk_front : (width : ℕ) (words : List ℕ) → take width words ≡ row_at width words 0
+unfolding row_at
+chunk_front width words = let none : 0 * width ≡ 0 = omega arith in ap (λ (n : ℕ). take width (drop n words)) (sym none)
+
+row_next : (width : ℕ) (words : List ℕ) (i : ℕ) → row_at width (drop width words) i ≡ row_at width words (suc i)
+unfolding row_at
+row_next width words i =
+    let on : width + i * width ≡ suc i * width = omega arith in
+    ap (take width) (drop-drop (i * width) width words ∙ ap (λ (n : ℕ). drop n words) on)
+
+pub chunk_there : (width k i : ℕ) (words : List ℕ) → i < k → get_or (first_chunks width k words) i [] ≡ row_at width words i
+chunk_there width zero i words below = absurd (omega arith)
+chunk_there width (suc k) zero words below = chunk_front width words
+chunk_there width (suc k) (suc i) words below = chunk_there width k i (drop width words) (omega arith) ∙ row_next width words i
+
+pub chunks_are_rows : (width n : ℕ) (words : List ℕ) → first_chunks width n words ≡ tab n (row_at width words)
+unfolding tab
+chunks_are_rows width zero words = refl
+chunks_are_rows width (suc n) words =
+    cc (
+      chunk_front width words,
+      chunks_are_rows width n (drop width words),
+      tab_same n (λ i. row_at width words (suc i)) (row_at width (drop width words)) (λ i below. row_next width words i),
+    )
+
+-- the first n rows, each read as what it stands for
+pub chunks_read : {A : Type 0} (width : ℕ) (read : List ℕ → A) (n k : ℕ) (words : List ℕ) → n ≤ k
+    → map read (take n (first_chunks width k words)) ≡ tab n (λ i. read (row_at width words i))
+chunks_read width read n k words below =
+    ap (map read) (chunks_taken width n k words below ∙ chunks_are_rows width n words) ∙ map_tab n (row_at width words) read
 
 -- ---- a table: the first `count` rows, each read as what it stands for
 

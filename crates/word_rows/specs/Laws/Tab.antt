@@ -1,5 +1,5 @@
 -- How a change at one place of a list given by a function shows in the list.
-use Rattle.std.specs.Prelude.{◌≡◌, List, [], ◌∷◌, ◌++◌, length, take, drop}
+use Rattle.std.specs.Prelude.{◌≡◌, List, [], ◌∷◌, ◌++◌, length, take, drop, map}
 use Rattle.std.proofs.Math.Path.{refl, ap}
 use Prim.Native.Nat.{ℕ, zero, suc, ◌≤◌, ◌<◌}
 use Rattle.std.proofs.Common.{arith}
@@ -20,6 +20,11 @@ module _ {A : Type 0} where
   tab_same zero f g same = refl
   tab_same (suc n) f g same =
       cc (same 0 (omega arith), tab_same n (λ i. f (suc i)) (λ i. g (suc i)) (λ i below. same (suc i) (omega arith)))
+
+  pub map_tab : {B : Type 0} (n : ℕ) (f : ℕ → A) (g : A → B) → map g (tab n f) ≡ tab n (λ i. g (f i))
+  unfolding tab
+  map_tab zero f g = refl
+  map_tab {B = B} (suc n) f g = ap (λ (l : List B). g (f 0) ∷ l) (map_tab n (λ i. f (suc i)) g)
 
   -- the first element and the others
   pub tab_front : (n : ℕ) (f : ℕ → A) → 0 < n → tab n f ≡ f 0 ∷ drop 1 (tab n f)

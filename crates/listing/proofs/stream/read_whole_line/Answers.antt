@@ -1,17 +1,9 @@
 -- `listing::stream::read_whole_line` meets its contract: the columns that stand at the block's start end at a line feed exactly
 -- where a well-formed line stands there.
-use Rattle.std.proofs.Common.{ℕ, ◌≡◌, ◌+◌, ◌-◌, ◌*◌, ap, sym, ◌∙◌, true≢false, length, take, drop, length-drop, take_all, arith}
-use Rattle.listing.proofs.LineLaws.{columns_end, columns_refused}
-use Rattle.listing.proofs.WholeLaws.{whole_found, whole_not_found}
+use Rattle.std.proofs.Common.{ℕ, ◌≡◌, ◌+◌, ◌-◌, ◌*◌, ap, ◌∙◌, length, take, drop, length-drop, take_all, arith}
+use Rattle.listing.proofs.LineLaws.{columns_end}
+use Rattle.listing.proofs.WholeLaws.{whole_found}
 use Rattle.listing.proofs.stream.read_whole_line.Goals as goal
-use Rattle.listing.proofs.stream.read_whole_line.Goals.{else-end-block-via-then-end-block+else-block-end-eq10, else-end-block-via-else-end-block}
-
-pub returns-in_err-end : goal.returns-in_err-end
-returns-in_err-end c =
-    let a = c.args in
-    let refused = columns_refused a.width a.block.now a.numbers.now _ _ c.read_columns.ensures c.in_err-end.was in
-    rw c.from_residual.ensures (whole_not_found a.block.now a.width a.numbers.now _ c.read_columns.auto.numbers
-    (λ begins inside feed. true≢false (sym begins ∙ refused)))
 
 pub returns-then-block-end-eq10 : goal.returns-then-block-end-eq10
 returns-then-block-end-eq10 c =
@@ -23,13 +15,3 @@ returns-then-block-end-eq10 c =
     take_all _ (drop (end + 1) block) (omega (arith, length-drop (end + 1) block)) ∙ ap (λ (n : ℕ). drop (n + 1) block) found.1 in
     whole_found block a.width a.numbers.now _ c.read_columns.auto.numbers _ found.0
     (rw found.1 at c.if-end-block.true) (rw found.1 at c.if-block-end-eq10.true) (c.read_columns.ensures.put found.0) behind
-
-pub returns : goal.returns
-returns c =
-    let a = c.args in
-    let found = columns_end a.width a.block.now a.numbers.now _ _ _ c.read_columns.ensures c.in_ok-end.was in
-    whole_not_found a.block.now a.width a.numbers.now _ c.read_columns.auto.numbers
-    (λ begins inside feed. elim c.else-end-block.branch [
-      | else-end-block-via-then-end-block+else-block-end-eq10 w ↦ w.if-block-end-eq10.false (rw found.1 feed)
-      | else-end-block-via-else-end-block w ↦ let past = w.if-end-block.false in omega (arith, found.1)
-    ])

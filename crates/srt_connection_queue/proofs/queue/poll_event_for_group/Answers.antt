@@ -6,14 +6,14 @@ use Rattle.srt_connection_queue.proofs.queue.poll_event_for_group.Goals as goal
 
 pub returns-in_default : goal.returns-in_default
 returns-in_default c =
-    poll_empty c.args.row.now c.requires
+    poll_empty c.args.row.now c.told-row
     c.args.budget
     (sym c.in_default.is ∙ c.front-first.ensures)
 
 pub returns-then-budget-eq0 : goal.returns-then-budget-eq0
 returns-then-budget-eq0 c =
     poll_spent c.args.row.now
-    c.requires
+    c.told-row
     c.args.budget _
     (sym c.in-Some.is ∙ c.front-first.ensures) (omega arith)
 

@@ -1,22 +1,6 @@
--- `add_leg` meets its contract: refused with nothing changed, or the member is added.
-use Rattle.srt_group_addition.specs.Laws.Handed.{leg_refused, leg_room, leg_added}
+-- `add_leg` meets its contract: the handed row is the front of the lent words.
+use Rattle.srt_group_addition.specs.Laws.Handed.{of_row}
 use Rattle.srt_group_addition.proofs.handed.add_leg.Goals as goal
 
-pub returns-in-Err : goal.returns-in-Err
-returns-in-Err c =
-    let a = c.args in
-    leg_refused a.id a.weight a.row.now a.core a.sending a.members.now c.leg_at-leg.ensures c.refusal-refused.ensures
-    _ c.in-Err.is
-
-pub add_member_at_end-requires : goal.add_member_at_end-requires
-add_member_at_end-requires c =
-    let a = c.args in (
-      leg_room a.id a.weight a.row.now a.core a.sending a.members.now c.leg_at-leg.ensures c.refusal-refused.ensures c.in_default.is,
-      c.requires.0,
-    )
-
 pub returns : goal.returns
-returns c =
-    let a = c.args in
-    leg_added a.id a.weight a.row.now a.core a.sending a.members.now c.leg_at-leg.ensures c.refusal-refused.ensures c.in_default.is
-    _ _ c.add_member_at_end.ensures
+returns c = of_row c.args.id c.args.weight _ _ _ _ _ c.row-row.ensures c.add_row.ensures

@@ -6,4 +6,4 @@ use Rattle.srt_group_backup.proofs.replay.replay_entries.Given as goal
 
 abbrev pub invariant-loop-index : goal.invariant-loop-index
 invariant-loop-index l =
-    Replaying l.time.0 l.id (entries_of l.ring (arrays l.history l.sources)) l.initial.here l.sent l.initial.list l.here l.index l.list
+    Replaying l.time.0 l.id (entries_of l.history.words.ring (arrays l.history.words.history.now l.history.sources.now)) l.initial.here l.sent l.initial.list l.here l.index l.list

@@ -1,21 +1,9 @@
 -- `record_backup_send` meets its contract.
-use Prim.Native.Nat.{◌≤◌}
-use Rattle.srt_group_model.specs.Backup.{max_history}
-use mathlib.Core.Path.{sym, subst}
-use Rattle.srt_group_tables.specs.declared.history.HistoryRing.{HistoryRing}
-use Rattle.srt_group_tables.specs.Laws.Ring.{push_fits}
 use Rattle.srt_group_backup.specs.Laws.OwnSend.{send_recorded}
-use borrow.Author.Rules.{rules}
 use Rattle.srt_group_backup.proofs.send.record_backup_send.Goals as goal
-
-pub trim_backup_history-requires : goal.trim_backup_history-requires
-trim_backup_history-requires c = (
-  subst (λ (r : HistoryRing). r.length ≤ max_history) (sym c.push_back-pushed.ensures) (push_fits _ c.requires.length_le_max_history.0),
-  search rules,
-)
 
 pub returns : goal.returns
 returns c =
     send_recorded _ _ _ _ _ _ _ c.requires.length_le_max_history.1 c.requires.packs c.requires.length_le_max_history.0
     c.store.ensures
-    c.with_number_after-numbers.ensures c.push_back-pushed.ensures c.trim_backup_history.ensures
+    c.with_number_after-numbers.ensures c.push_back.ensures c.trim_backup_history.ensures

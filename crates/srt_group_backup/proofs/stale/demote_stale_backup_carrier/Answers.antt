@@ -1,47 +1,48 @@
 -- `demote_stale_backup_carrier` meets its contract: each return is a law of Stale.antt.
-use mathlib.Core.Path.{sym, ◌∙◌}
+use mathlib.Core.Path.{ap, sym, ◌∙◌}
+use Rattle.srt_group_model.specs.Tools.{any}
 use native.Mathlib.Omega.{arith}
-use Rattle.srt_group_model.specs.Members.{is_active}
+use Rattle.srt_group_model.specs.Members.{is_active, is_standby, first_active}
 use Rattle.srt_group_members.specs.Laws.Scan.{found_row}
 use Rattle.srt_group_backup.specs.Laws.Stale.{trip_fits, none_active_none_demoted, no_standby_none_demoted, not_stale_none_demoted, stale_demoted}
 use Rattle.srt_group_backup.proofs.stale.demote_stale_backup_carrier.Goals as goal
 
 pub returns-in_default : goal.returns-in_default
-returns-in_default c = none_active_none_demoted _ _ _ (sym c.in_default.is ∙ c.first_active-found.ensures)
+returns-in_default c = none_active_none_demoted _ _ _ (sym c.in_default.is ∙ (c.first_active-found.ensures ∙ ap first_active c.rows.ensures.shows))
 
 pub returns-then-not-has_standby : goal.returns-then-not-has_standby
 returns-then-not-has_standby c =
     no_standby_none_demoted _ _ _ _
-    (sym c.in-Some.is ∙ c.first_active-found.ensures)
-    c.has_standby.ensures c.if-not-has_standby.true
+    (sym c.in-Some.is ∙ (c.first_active-found.ensures ∙ ap first_active c.rows.ensures.shows))
+    (c.has_standby.ensures ∙ ap (any is_standby) c.rows-2.ensures.shows) c.if-not-has_standby.true
 
 pub leg_at-requires : goal.leg_at-requires
 leg_at-requires c =
     omega
-    (arith, found_row is_active _ _ _ (sym c.in-Some.is ∙ c.first_active-found.ensures))
+    (arith, found_row is_active _ _ _ (sym c.in-Some.is ∙ (c.first_active-found.ensures ∙ ap first_active c.rows.ensures.shows)))
 
 pub is_stale-requires : goal.is_stale-requires
 is_stale-requires c =
     trip_fits _ _ _
-    (found_row is_active _ _ _ (sym c.in-Some.is ∙ c.first_active-found.ensures))
+    (found_row is_active _ _ _ (sym c.in-Some.is ∙ (c.first_active-found.ensures ∙ ap first_active c.rows.ensures.shows)))
     c.requires.all_fit c.leg_at.ensures
 
 pub returns-then-not-is_stale : goal.returns-then-not-is_stale
 returns-then-not-is_stale c =
     not_stale_none_demoted _ _ _ _
-    (sym c.in-Some.is ∙ c.first_active-found.ensures)
+    (sym c.in-Some.is ∙ (c.first_active-found.ensures ∙ ap first_active c.rows.ensures.shows))
     c.leg_at.ensures c.is_stale.ensures c.if-not-is_stale.true
 
 pub turn_at-requires : goal.turn_at-requires
 turn_at-requires c =
     omega
-    (arith, found_row is_active _ _ _ (sym c.in-Some.is ∙ c.first_active-found.ensures))
+    (arith, found_row is_active _ _ _ (sym c.in-Some.is ∙ (c.first_active-found.ensures ∙ ap first_active c.rows.ensures.shows)))
 
 pub returns : goal.returns
 returns c =
     stale_demoted _ _ _ _
-    (sym c.in-Some.is ∙ c.first_active-found.ensures)
-    c.has_standby.ensures
+    (sym c.in-Some.is ∙ (c.first_active-found.ensures ∙ ap first_active c.rows.ensures.shows))
+    (c.has_standby.ensures ∙ ap (any is_standby) c.rows-2.ensures.shows)
     c.if-not-has_standby.false
     c.leg_at.ensures
     c.is_stale.ensures

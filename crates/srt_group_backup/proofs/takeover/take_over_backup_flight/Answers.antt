@@ -1,24 +1,21 @@
 -- `take_over_backup_flight` meets its contract: each return is one of the three cases of a take-over.
-use borrow.Author.Tests.{not-true}
-use Rattle.srt_group_backup.specs.Laws.TakeOver.{no_take_over, took_over_nothing, took_over_flight}
+use Rattle.srt_group_backup.specs.Laws.TakeOver.{took_over_nothing, took_over_flight}
 use Rattle.srt_group_tables.specs.Ring.{arrays}
 use Rattle.srt_group_backup.proofs.takeover.take_over_backup_flight.Goals as goal
-
-pub returns-then-not-takes_over : goal.returns-then-not-takes_over
-returns-then-not-takes_over c = search (no_take_over, not-true)
 
 pub returns-then-left-eq0 : goal.returns-then-left-eq0
 returns-then-left-eq0 c =
     let args = c.args in
     took_over_nothing _ _ _ _
     c.requires.index_lt_count.0
-    args.sending args.ring
-    (arrays args.history.now args.sources.now)
+    args.sending args.history.now.words.ring
+    (arrays args.history.now.words.history.now args.history.now.sources.now)
     _ _
     c.membership_at-membership.ensures
     c.takes_over.ensures
+    c.args.history.now.ring_fits
     c.if-not-takes_over.false
-    c.trim_by_carrier-trimmed.ensures
+    (rw c.rows.ensures.shows at c.trim_by_carrier-trimmed.ensures)
     c.if-left-eq0.true c.align_carrier-outcome-then-left-eq0.ensures
 
 pub returns : goal.returns
@@ -26,12 +23,13 @@ returns c =
     let args = c.args in
     took_over_flight _ _ _ _
     c.requires.index_lt_count.0
-    args.sending args.ring
-    (arrays args.history.now args.sources.now)
+    args.sending args.history.now.words.ring
+    (arrays args.history.now.words.history.now args.history.now.sources.now)
     _ _
     c.membership_at-membership.ensures
     c.takes_over.ensures
+    c.args.history.now.ring_fits
     c.if-not-takes_over.false
-    c.trim_by_carrier-trimmed.ensures
+    (rw c.rows.ensures.shows at c.trim_by_carrier-trimmed.ensures)
     c.if-left-eq0.false
     c.replay_flight-flight.ensures

@@ -3,4 +3,4 @@ use Rattle.srt_group_words.specs.Laws.Words.{performs_silent}
 use Rattle.srt_group_c_members.proofs.adding.srt_group_valid_add_member.Goals as goal
 
 pub returns : goal.returns
-returns c = search performs_silent
+returns c = rw (← c.of_words.ensures) (search performs_silent)

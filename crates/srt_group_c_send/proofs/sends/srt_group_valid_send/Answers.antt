@@ -1,4 +1,5 @@
 -- `srt_group_valid_send` meets its contract: that of the form over the parts that the words show.
+use Rattle.std.proofs.Common.{◌≡◌, rules}
 use Rattle.srt_group_words.specs.Laws.Words.{parts_ready, performs_sent}
 use Rattle.srt_group_words.specs.Words.{sent_words}
 use Rattle.srt_group_c_send.proofs.sends.srt_group_valid_send.Goals as goal
@@ -16,7 +17,12 @@ pub read_ring-requires : goal.read_ring-requires
 read_ring-requires c = c.requires.ready_words.long
 
 pub send-sent-requires : goal.send-sent-requires
-send-sent-requires c = record { ready = parts_ready _ c.read_identity.ensures c.read_core.ensures c.read_sending.ensures c.read_ring.ensures c.requires.ready_words; list_size_in_bounds = c.requires.list_size_in_bounds.0 }
+send-sent-requires c =
+    let lent : c.of_words_mut.result.now ≡ c.args.used.now = search rules in
+    record {
+      ready = rw lent (parts_ready _ c.read_identity.ensures c.read_core.ensures c.read_sending.ensures c.read_ring.ensures c.requires.ready_words);
+      list_size_in_bounds = c.requires.list_size_in_bounds.0;
+    }
 
 pub put_send-requires : goal.put_send-requires
 put_send-requires c = (c.requires.ready_words.long, c.requires.list_size_in_bounds.1)

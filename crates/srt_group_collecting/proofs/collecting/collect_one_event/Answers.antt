@@ -1,14 +1,14 @@
 -- `collect_one_event` meets its contract.
-use Rattle.srt_group_collecting.specs.Laws.Turn.{in_turn_inside}
+use Rattle.std.proofs.Common.{◌∙◌, ap}
+use Rattle.srt_group_model.specs.Collecting.{in_turn}
 use Rattle.srt_group_collecting.specs.Laws.Visit.{collects_none, collects_one}
-use borrow.Author.Rules.{rules}
 use Rattle.srt_group_collecting.proofs.collecting.collect_one_event.Goals as goal
 
 pub returns-in_default-clause-collects : goal.returns-in_default-clause-collects
-returns-in_default-clause-collects c = search collects_none
-
-pub take_front-requires-clause-index_lt_members : goal.take_front-requires-clause-index_lt_members
-take_front-requires-clause-index_lt_members c = (search in_turn_inside, search rules)
+returns-in_default-clause-collects c =
+    let found = c.in_turn-found.ensures ∙ ap (in_turn c.args.core.visit.round) c.rows.ensures.shows in search collects_none
 
 pub returns-clause-collects : goal.returns-clause-collects
-returns-clause-collects c = collects_one _ _ _ _ _ (search) (search) _ _ _ _ _ c.in-Some.is c.in_turn-found.ensures c.take_front.ensures.visits
+returns-clause-collects c =
+    let found = c.in_turn-found.ensures ∙ ap (in_turn c.args.core.visit.round) c.rows.ensures.shows in
+    collects_one _ _ _ _ _ (search) (search) _ _ _ _ _ c.in-Some.is found c.take_front.ensures.visits

@@ -1,16 +1,13 @@
 -- `collect_until_empty` meets its contract. The loop's invariant: what is left of the visits gives what all of them give (`Emptying`).
-use Rattle.srt_group_collecting.specs.Laws.Gather.{held_most, emptying_start, emptying_on, emptying_settled, emptying_ended, emptying_spent}
+use Rattle.srt_group_collecting.specs.Laws.Gather.{held_most, emptying_on, emptying_settled, emptying_ended, emptying_spent}
 use Rattle.std.proofs.Common.{◌≡◌, ◌+◌, ◌-◌}
 use Rattle.srt_group_model.specs.Delivery.{max_visits}
 use borrow.Author.Rules.{rules}
 use native.Mathlib.Omega.{arith}
-use Rattle.srt_group_collecting.specs.Laws.Follows.{follows_same, follows_then}
+use Rattle.srt_group_collecting.specs.Laws.Follows.{follows_then}
 use Rattle.srt_group_collecting.specs.Laws.Used.{follows_continued}
 use Rattle.srt_group_model.specs.Laws.Flag.{zero_unset, other_set}
 use Rattle.srt_group_collecting.proofs.collecting.collect_until_empty.Goals as goal
-
-pub loop-visit-init : goal.loop-visit-init
-loop-visit-init c = (search emptying_start, search follows_same)
 
 pub is_settled-requires-clause-pending_size_in_bounds : goal.is_settled-requires-clause-pending_size_in_bounds
 is_settled-requires-clause-pending_size_in_bounds c = (search rules, search held_most)

@@ -1,11 +1,8 @@
 -- `collect_until_held` meets its contract. The loop's invariant: what is left of the visits gives what all of them give (`Holding`).
-use Rattle.srt_group_collecting.specs.Laws.Gather.{holding_start, holding_on, holding_ended, holding_done}
-use Rattle.srt_group_collecting.specs.Laws.Follows.{follows_same, follows_then}
+use Rattle.srt_group_collecting.specs.Laws.Gather.{holding_on, holding_ended, holding_done}
+use Rattle.srt_group_collecting.specs.Laws.Follows.{follows_then}
 use Rattle.srt_group_model.specs.Laws.Flag.{zero_unset, other_set}
 use Rattle.srt_group_collecting.proofs.collecting.collect_until_held.Goals as goal
-
-pub loop-left-init : goal.loop-left-init
-loop-left-init c = (search holding_start, search follows_same)
 
 pub returns-then-visited-eq0 : goal.returns-then-visited-eq0
 returns-then-visited-eq0 c =

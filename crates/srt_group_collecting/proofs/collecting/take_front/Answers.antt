@@ -3,15 +3,16 @@ use Rattle.srt_group_collecting.specs.Laws.Visit.{visits_nothing, visits_spent, 
 use Rattle.srt_group_collecting.specs.Laws.Used.{follows_nothing, follows_spent, follows_event}
 use Rattle.srt_group_collecting.proofs.collecting.take_front.Goals as goal
 
-pub collect_member_event-after-requires-clause-collectable : goal.collect_member_event-after-requires-clause-collectable
-collect_member_event-after-requires-clause-collectable c = let polled = c.poll_event_for_group_at-polled.ensures in collectable _ _ _ _ c.requires.usable _ c.requires.index_lt_members.0 _ _ _ _ _ _ _ c.turn_past-next.ensures polled.changed c.in-Event.is polled.gave c.requires.index_lt_members.1
+pub collect_member_event-after-requires : goal.collect_member_event-after-requires
+collect_member_event-after-requires c = let polled = c.poll_event_for_group_at-polled.ensures in collectable _ _ _ _ c.requires.usable _ c.requires.index_lt_members.0 _ _ _ _ _ _ _ c.turn_past-next.ensures polled.changed c.in-Event.is polled.gave c.requires.index_lt_members.1
 
 pub returns-in-Nothing : goal.returns-in-Nothing
-returns-in-Nothing c = record { visits = search visits_nothing; follows = search follows_nothing }
+returns-in-Nothing c =
+    let long = c.told-used in record { visits = search visits_nothing; follows = search follows_nothing }
 
 pub returns-in-Continuation : goal.returns-in-Continuation
 returns-in-Continuation c =
-    let long = c.requires.used_len in record { visits = search visits_spent; follows = search follows_spent }
+    let long = c.told-used in record { visits = search visits_spent; follows = search follows_spent }
 
 pub returns-in-Event : goal.returns-in-Event
 returns-in-Event c =

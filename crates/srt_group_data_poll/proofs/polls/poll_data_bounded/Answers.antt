@@ -5,7 +5,7 @@ use Rattle.srt_group_data_poll.specs.Laws.Polling.{usable, sending_fits, writabl
 use Rattle.srt_group_data_poll.proofs.polls.poll_data_bounded.Goals as goal
 
 pub poll_data_bounded-polled-requires : goal.poll_data_bounded-polled-requires
-poll_data_bounded-polled-requires c = record { usable = search usable; sending_fit = search sending_fits; used_len = search rules }
+poll_data_bounded-polled-requires c = record { usable = search usable; sending_fit = search sending_fits }
 
 pub write_payload-requires : goal.write_payload-requires
 write_payload-requires c = search (rules, writable)

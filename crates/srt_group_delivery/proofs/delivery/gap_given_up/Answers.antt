@@ -1,12 +1,14 @@
--- `gap_given_up` meets its contract: nothing is held, all legs are gone, or the nearest packet's leg is asked.
-use Rattle.srt_group_delivery.specs.Laws.Delivery.{nothing_held, all_gone, left_to_the_leg}
+-- `gap_given_up` meets its contract where the nearest packet's leg is asked.
+use Rattle.std.proofs.Common.{◌∙◌, ap}
+use Rattle.srt_group_model.specs.Tools.{all}
+use Rattle.srt_group_model.specs.State.{Member}
+use Rattle.srt_group_model.specs.Legs.{is_disconnected}
+use Rattle.srt_group_model.specs.Delivery.{leg_gives_up}
+use Rattle.srt_group_delivery.specs.Laws.Delivery.{left_to_the_leg}
 use Rattle.srt_group_delivery.proofs.delivery.gap_given_up.Goals as goal
 
-pub returns-in_default : goal.returns-in_default
-returns-in_default c = search nothing_held
-
-pub returns-then-all_disconnected : goal.returns-then-all_disconnected
-returns-then-all_disconnected c = search all_gone
-
 pub returns : goal.returns
-returns c = search left_to_the_leg
+returns c =
+    let shows = c.rows-rows.ensures.shows in
+    let not_all = c.all_disconnected.ensures ∙ ap (all (λ (m : Member). is_disconnected m.leg)) shows in
+    let asked = c.leg_gives_up.ensures ∙ ap (leg_gives_up c.args.time.0 c.packet-nearest_held.result) shows in search left_to_the_leg

@@ -1,7 +1,6 @@
--- `release_held` meets its contract: what is released and freed is the packet at the place.
-use Rattle.srt_group_delivery.specs.Laws.Delivery.{that_released}
+-- `release_held` meets its contract: what is freed is the packet's cell at the place.
 use Rattle.srt_group_delivery.specs.Laws.UsedByDelivery.{that_freed}
 use Rattle.srt_group_delivery.proofs.delivery.release_held.Goals as goal
 
 pub returns-clause-freed : goal.returns-clause-freed
-returns-clause-freed c = search (that_released, that_freed)
+returns-clause-freed c = search that_freed

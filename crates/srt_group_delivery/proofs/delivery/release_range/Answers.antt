@@ -5,7 +5,7 @@ use borrow.Author.Rules.{rules}
 use Rattle.srt_group_delivery.proofs.delivery.release_range.Goals as goal
 
 pub loop-at-init : goal.loop-at-init
-loop-at-init c = search (rules, released_start, freed_start)
+loop-at-init c = let long = c.told-used in search (rules, released_start, freed_start)
 
 pub loop-at-preserved : goal.loop-at-preserved
 loop-at-preserved c = search (rules, released_on, freed_on)

@@ -1,12 +1,11 @@
 -- `poll_event` meets its contract.
-use borrow.Author.Rules.{rules}
 use native.Mathlib.Omega.{arith}
 use Rattle.srt_group_data_poll.specs.Laws.Polling.{usable, sending_fits}
 use Rattle.srt_group_event_poll.specs.Laws.Polling.{writable, performed}
 use Rattle.srt_group_event_poll.proofs.polls.poll_event.Goals as goal
 
 pub poll_event-polled-requires : goal.poll_event-polled-requires
-poll_event-polled-requires c = record { usable = search usable; sending_fit = search sending_fits; used_len = search rules }
+poll_event-polled-requires c = record { usable = search usable; sending_fit = search sending_fits }
 
 pub write_payload-requires : goal.write_payload-requires
 write_payload-requires c =

@@ -1,9 +1,15 @@
--- `queue` meets its contract.
+-- `queue` meets its contract, for a byte above 255 too.
+use native.Mathlib.Omega.{arith}
+use Rattle.srt_group_traces.specs.VerbCalls.{queueing}
 use Rattle.srt_group_listing.specs.Laws.Telling.{tells_queueing}
-use mathlib.Core.Path.{refl}
+use Rattle.srt_group_listing.specs.Laws.Verbs.{byte_fits, byte_refused}
 use borrow.Author.Rules.{rules}
 use Rattle.srt_group_listing_packets.proofs.packets.queue.Goals as goal
 
+pub returns-then-line-gt255 : goal.returns-then-line-gt255
+returns-then-line-gt255 c = byte_refused (queueing c.args.line.now) c.if-line-gt255.true c.requires c.outcome_line.ensures
+
 pub returns : goal.returns
 returns c =
-    tells_queueing c.args.line.now c.data_of_line.ensures refl (search rules) c.outcome_line.ensures c.queue_data-outcome.ensures
+    byte_fits (queueing c.args.line.now) (omega (arith, c.if-line-gt255.false))
+    (tells_queueing c.args.line.now (search rules) (search rules) c.data_of_line.ensures (search rules) c.outcome_line-2.ensures c.queue_data-outcome.ensures)

@@ -1,4 +1,6 @@
 -- `time_until_send` meets its contract: 5, 6, or the least wait.
+use Rattle.std.proofs.Common.{◌∙◌, ap}
+use Rattle.srt_group_model.specs.Backup.{group_time_until_send}
 use Rattle.std.proofs.lemmas.Result.{err_from_is_err_and}
 use native.Mathlib.Omega.{arith}
 use Rattle.srt_group_shown.specs.Laws.Steps.{rows_unbroken}
@@ -11,10 +13,11 @@ returns-in_err-begin c =
     let p = err_from_is_err_and c.from_residual.result c.from_residual.ensures.1 in
     rw (p.1, p.2) (look_refused _ _ _ c.begin.ensures _ c.in_err-begin.was)
 
-pub group_time_until_send-requires : goal.group_time_until_send-requires
-group_time_until_send-requires c = rows_unbroken (begun_unbroken _ _ c.begin.ensures c.in_ok-begin.was)
+pub rows-rows-requires : goal.rows-rows-requires
+rows-rows-requires c = rows_unbroken (begun_unbroken _ _ c.begin.ensures c.in_ok-begin.was)
 
 pub returns : goal.returns
 returns c =
     let a = c.args in
-    time_shown _ _ c.begin.ensures c.in_ok-begin.was a.time.0 (omega (arith, c.well_formed.1)) _ c.group_time_until_send.ensures
+    time_shown _ _ c.begin.ensures c.in_ok-begin.was a.time.0 (omega (arith, c.well_formed.1)) _
+    (c.group_time_until_send.ensures ∙ ap (group_time_until_send a.time.0) c.rows-rows.ensures.shows)

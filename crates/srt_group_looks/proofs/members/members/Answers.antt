@@ -1,15 +1,11 @@
 -- `members` meets its contract: 5 for the list, 5, 6, or the rows.
 use Rattle.std.proofs.lemmas.Result.{err_from_is_err_and}
-use borrow.Author.Tests.{lt-ltb, le-ltb}
+use Rattle.std.proofs.Common.{arith}
+use borrow.Author.Tests.{le-ltb}
 use Rattle.srt_group_shown.specs.Laws.Steps.{rows_unbroken}
 use Rattle.srt_group_refusals.specs.Laws.Begins.{begun_unbroken}
-use Rattle.srt_group_looks.specs.Laws.Members.{list_too_short, listing_refused, members_listed, room_there}
+use Rattle.srt_group_looks.specs.Laws.Members.{listing_refused, members_listed, room_there}
 use Rattle.srt_group_looks.proofs.members.members.Goals as goal
-
-pub returns-then-list-lt-LIST_LENGTH : goal.returns-then-list-lt-LIST_LENGTH
-returns-then-list-lt-LIST_LENGTH c =
-    let a = c.args in
-    list_too_short _ _ a.list.now (lt-ltb _ _ c.if-list-lt-LIST_LENGTH.true)
 
 pub returns-in_err-begin : goal.returns-in_err-begin
 returns-in_err-begin c =
@@ -17,12 +13,15 @@ returns-in_err-begin c =
     let p = err_from_is_err_and c.from_residual.result c.from_residual.ensures.1 in
     rw (p.1, p.2) (listing_refused _ _ a.list.now (le-ltb _ _ c.if-list-lt-LIST_LENGTH.false) c.begin.ensures _ c.in_err-begin.was)
 
+pub rows-requires : goal.rows-requires
+rows-requires c = rows_unbroken (begun_unbroken _ _ c.begin.ensures c.in_ok-begin.was)
+
 pub list_members-requires : goal.list_members-requires
 list_members-requires c =
-    let a = c.args in
-    let unbroken = begun_unbroken _ _ c.begin.ensures c.in_ok-begin.was in record { row_size_in_bounds = rows_unbroken unbroken; member_row_size_in_bounds = room_there _ _ unbroken a.list.now c.if-list-lt-LIST_LENGTH.false }
+    let room = room_there _ _ (begun_unbroken _ _ c.begin.ensures c.in_ok-begin.was) c.args.list.now c.if-list-lt-LIST_LENGTH.false in
+    omega (arith, room, c.rows.ensures.long)
 
 pub returns : goal.returns
 returns c =
-    let a = c.args in
-    members_listed _ _ a.list.now (le-ltb _ _ c.if-list-lt-LIST_LENGTH.false) c.begin.ensures c.in_ok-begin.was _ c.list_members.ensures
+    members_listed _ _ c.args.list.now (le-ltb _ _ c.if-list-lt-LIST_LENGTH.false) c.begin.ensures c.in_ok-begin.was _
+    (rw c.rows.ensures.shows at c.list_members.ensures)

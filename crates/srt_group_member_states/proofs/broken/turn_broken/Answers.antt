@@ -1,6 +1,7 @@
 -- `turn_broken` meets its contract: 2, 3, or the member turns Broken.
-use mathlib.Core.Path.{refl, sym, ◌∙◌}
+use mathlib.Core.Path.{ap, refl, sym, ◌∙◌}
 use borrow.Author.Tests.{lt-ltb, le-ltb}
+use Rattle.srt_group_model.specs.Members.{find}
 use Rattle.srt_group_shown.specs.Tables.{parts, tables}
 use Rattle.srt_group_shown.specs.Laws.Found.{row_there}
 use Rattle.srt_group_queueing.specs.Laws.OneMember.{unfit_refused, unknown_refused, member_changed}
@@ -16,8 +17,8 @@ returns-then-id-gt-LARGEST_32 c =
           unfit_refused (broken_call a.id) (parts identity a.core sending ring) (tables a.members.now pending waiting history sources) unbroken (lt-ltb _ _ c.if-id-gt-LARGEST_32.true);
     }
 
-pub find-found-requires : goal.find-found-requires
-find-found-requires c = c.requires
+pub rows-requires : goal.rows-requires
+rows-requires c = c.requires
 
 pub returns-in_default : goal.returns-in_default
 returns-in_default c =
@@ -26,13 +27,13 @@ returns-in_default c =
       over =
           λ identity sending ring pending waiting history sources unbroken.
           unknown_refused (broken_call a.id) (parts identity a.core sending ring) (tables a.members.now pending waiting history sources) unbroken (le-ltb _ _ c.if-id-gt-LARGEST_32.false)
-          (sym c.in_default.is ∙ c.find-found.ensures);
+          (sym c.in_default.is ∙ c.find-found.ensures ∙ ap (find c.args.id) c.rows.ensures.shows);
     }
 
 pub turn_at-requires : goal.turn_at-requires
 turn_at-requires c =
     let a = c.args in
-    row_there a.core.counts.members a.id _ a.members.now c.requires (sym c.in-Some.is ∙ c.find-found.ensures)
+    row_there a.core.counts.members a.id _ a.members.now c.requires (sym c.in-Some.is ∙ c.find-found.ensures ∙ ap (find c.args.id) c.rows.ensures.shows)
 
 pub returns : goal.returns
 returns c =
@@ -41,5 +42,5 @@ returns c =
       over =
           λ identity sending ring pending waiting history sources unbroken.
           member_changed (broken_call a.id) (parts identity a.core sending ring) (tables a.members.now pending waiting history sources) unbroken (le-ltb _ _ c.if-id-gt-LARGEST_32.false) _
-          (sym c.in-Some.is ∙ c.find-found.ensures) _ refl c.turn_at.ensures;
+          (sym c.in-Some.is ∙ c.find-found.ensures ∙ ap (find c.args.id) c.rows.ensures.shows) _ refl c.turn_at.ensures;
     }

@@ -5,4 +5,4 @@ use Rattle.srt_group_members.proofs.refresh.requalify_unstable_members.Given as 
 
 abbrev pub invariant-loop-i : goal.invariant-loop-i
 invariant-loop-i l =
-    Stepping (requalify l.mode l.number) l.count l.initial.members l.i l.members
+    Stepping (requalify l.refresh.mode l.refresh.number) l.count l.initial.members l.i l.members

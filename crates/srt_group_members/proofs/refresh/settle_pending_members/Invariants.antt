@@ -5,4 +5,4 @@ use Rattle.srt_group_members.proofs.refresh.settle_pending_members.Given as goal
 
 abbrev pub invariant-loop-i : goal.invariant-loop-i
 invariant-loop-i l =
-    Stepping (settle l.mode l.number) l.count l.initial.members l.i l.members
+    Stepping (settle l.refresh.mode l.refresh.number) l.count l.initial.members l.i l.members

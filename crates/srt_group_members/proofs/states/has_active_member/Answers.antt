@@ -1,8 +1,9 @@
--- `has_active_member` meets its contract: a member is active if one is found.
-use Rattle.std.proofs.Common.{ap, sym, ◌∙◌, is_some}
+-- `has_active_member` meets its contract.
+use Rattle.std.proofs.Common.{rules}
+use Rattle.std.proofs.lemmas.Iterator.{YieldsList-from_slice}
 use Rattle.srt_group_model.specs.Members.{is_active}
-use Rattle.srt_group_members.specs.Laws.Scan.{any_found}
+use Rattle.srt_group_members.specs.Laws.Scan.{any_in}
 use Rattle.srt_group_members.proofs.states.has_active_member.Goals as goal
 
 pub returns : goal.returns
-returns c = c.is_some.ensures ∙ (ap is_some c.first_active.ensures ∙ sym (any_found is_active _))
+returns c = any_in is_active _ _ _ c.any.ensures.ran (YieldsList-from_slice c.args.rows.now cc) (λ x b q h. search rules)

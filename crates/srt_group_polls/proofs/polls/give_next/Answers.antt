@@ -35,5 +35,5 @@ returns c =
     ] in
     record {
       polls_from = packet_next _ _ _ _ _ _ _ _ _ _ _ _ _ (omega (arith, c.if-here-gt0.false)) refreshed c.deliver_next.ensures.polls_from;
-      follows = follows_then (follows_refreshed _ _ _ _ _ _ _ c.requires.used_len refreshed) c.deliver_next.ensures.follows;
+      follows = follows_then (follows_refreshed _ _ _ _ _ _ _ c.told-used refreshed) c.deliver_next.ensures.follows;
     }

@@ -11,8 +11,8 @@ use Rattle.srt_group_polls.specs.Laws.Refresh.{settling_left_out}
 use Rattle.srt_group_polls.proofs.polls.poll_collecting.Goals as goal
 use Rattle.srt_group_polls.proofs.polls.poll_collecting.Goals.{then-not-quiet, else-not-quiet}
 
-pub collect_until_held-gathered-requires-clause-usable : goal.collect_until_held-gathered-requires-clause-usable
-collect_until_held-gathered-requires-clause-usable c =
+pub collect_until_held-gathered-requires : goal.collect_until_held-gathered-requires
+collect_until_held-gathered-requires c =
     -- made or left out, it is the definition's refresh
     let begun : Refreshes (sends c.args.sending) refresh_pending_states (continued 0 c.args.core) c.args.members.now c.if-not-quiet.begun c.if-not-quiet.members =
     elim c.if-not-quiet.branch [
@@ -45,5 +45,5 @@ returns c =
     let given = c.give_next.ensures in
     record {
       by_index = polls_event _ _ c.args.core _ _ _ _ _ begun gathered.result _ _ _ gathered.ensures.gathers _ _ _ _ given.polls_from;
-      follows = follows_then (follows_begun _ c.args.core _ _ _ _ _ c.requires.used_len begun) (follows_then gathered.ensures.follows given.follows);
+      follows = follows_then (follows_begun _ c.args.core _ _ _ _ _ c.told-used begun) (follows_then gathered.ensures.follows given.follows);
     }

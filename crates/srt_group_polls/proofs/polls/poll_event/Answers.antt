@@ -1,10 +1,6 @@
 -- `poll_event` meets its contract: a packet that can be given straight is given, or the legs are visited.
-use Rattle.srt_group_delivery.specs.Laws.Delivery.{deliverable}
 use Rattle.srt_group_polls.specs.Laws.StraightPolls.{goes_at, polls_straight, follows_straight}
 use Rattle.srt_group_polls.proofs.polls.poll_event.Goals as goal
-
-pub next_straight-next-requires-clause-deliverable : goal.next_straight-next-requires-clause-deliverable
-next_straight-next-requires-clause-deliverable c = deliverable _ _ _ _ c.requires.usable
 
 pub returns-in-Some : goal.returns-in-Some
 returns-in-Some c =

@@ -2,37 +2,35 @@
 use Rattle.std.proofs.Common.{◌≡◌, ◌+◌, ◌-◌}
 use native.Mathlib.Omega.{arith}
 use Rattle.srt_group_polls.specs.Laws.DataPoll.{passing_start, passing_on, passing_ended, passing_spent}
-use Rattle.srt_group_polls.specs.Laws.PollsUsed.{follows_passed}
+use Rattle.srt_group_polls.specs.Laws.PollsUsed.{follows_ended}
 use Rattle.srt_group_collecting.specs.Laws.Follows.{follows_same, follows_then}
-use Rattle.srt_group_model.specs.Laws.Flag.{zero_unset, other_set}
 use Rattle.srt_group_collecting.specs.Leaves.{sends}
 use Rattle.srt_group_polls.proofs.polls.poll_until_data.Goals as goal
 
 pub loop-visit-init : goal.loop-visit-init
 loop-visit-init c =
+    let long = c.told-used in
     let none_yet : c.args.visits - 0 ≡ c.args.visits = omega arith in (rw none_yet (search passing_start), search follows_same)
 
-pub returns-then-passed-eq0 : goal.returns-then-passed-eq0
-returns-then-passed-eq0 c =
+pub returns-in-Some : goal.returns-in-Some
+returns-in-Some c =
     let args = c.args in
-    let loop = c.loop-visit in
-    let pass-event = c.pass_event-passed in record {
+    let loop = c.loop-visit in record {
       polls_data = passing_ended (sends args.sending) args.time.0 args.visits args.core args.members.now args.pending.now args.waiting.now
-          _ loop.answer _ _ _ loop.invariant.0 (omega arith) c.poll_event-poll.result _ _ _ c.poll_event-poll.ensures.by_index
-          pass-event.result pass-event.ensures (zero_unset pass-event.result.event c.if-passed-eq0.true);
-      follows = follows_passed _ _ _ _ _ _ _ _ _ pass-event.ensures (follows_then loop.invariant.1 c.poll_event-poll.ensures.follows);
+          _ loop.here _ _ _ loop.invariant.0 (omega arith) c.poll_event-poll.result _ _ _ c.poll_event-poll.ensures.by_index
+          c.in-Some.answer c.in-Some.ensures;
+      follows = follows_ended _ _ _ _ _ _ _ _ _ c.in-Some.ensures (follows_then loop.invariant.1 c.poll_event-poll.ensures.follows);
     }
 
 pub loop-visit-preserved : goal.loop-visit-preserved
 loop-visit-preserved c =
     let args = c.args in
     let loop = c.loop-visit in
-    let pass-event = c.pass_event-passed in
     let one_less : args.visits - (loop._visit + 1) ≡ args.visits - loop._visit - 1 = omega arith in (
       rw one_less (passing_on (sends args.sending) args.time.0 args.visits args.core args.members.now args.pending.now args.waiting.now
-          _ loop.answer _ _ _ loop.invariant.0 (omega arith) c.poll_event-poll.result _ _ _ c.poll_event-poll.ensures.by_index
-          pass-event.result pass-event.ensures (other_set pass-event.result.event c.if-passed-eq0.false)),
-      follows_passed _ _ _ _ _ _ _ _ _ pass-event.ensures (follows_then loop.invariant.1 c.poll_event-poll.ensures.follows),
+          _ loop.here _ _ _ loop.invariant.0 (omega arith) c.poll_event-poll.result _ _ _ c.poll_event-poll.ensures.by_index
+          c.in_default.ensures),
+      follows_then loop.invariant.1 c.poll_event-poll.ensures.follows,
     )
 
 pub returns : goal.returns
@@ -40,6 +38,6 @@ returns c =
     let args = c.args in
     let loop = c.loop-visit in record {
       polls_data = passing_spent (sends args.sending) args.time.0 args.visits args.core args.members.now args.pending.now args.waiting.now
-          _ loop.answer _ _ _ loop.invariant.0 (omega arith);
+          _ loop.here _ _ _ loop.invariant.0 (omega arith);
       follows = loop.invariant.1;
     }

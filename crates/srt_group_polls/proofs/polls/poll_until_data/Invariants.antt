@@ -8,5 +8,5 @@ use Rattle.srt_group_polls.proofs.polls.poll_until_data.Given as goal
 
 abbrev pub invariant-loop-visit : goal.invariant-loop-visit
 invariant-loop-visit l =
-    Passing (sends l.sending) (l.visits - l._visit) l.time.0 l.visits l.initial.answer.core (receive_tables l.initial.members l.initial.pending l.initial.waiting) l.answer (receive_tables l.members l.pending l.waiting)
-    × Follows l.initial.answer.core l.initial.members l.initial.pending l.initial.used l.answer.core l.members l.pending l.used
+    Passing (sends l.sending) (l.visits - l._visit) l.time.0 l.visits l.initial.here (receive_tables l.initial.members l.initial.pending l.initial.waiting) l.here (receive_tables l.members l.pending l.waiting)
+    × Follows l.initial.here l.initial.members l.initial.pending l.initial.used l.here l.members l.pending l.used

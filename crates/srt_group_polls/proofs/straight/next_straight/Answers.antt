@@ -1,17 +1,17 @@
 -- `next_straight` meets its contract: where every test was passed, the packet can be given straight.
+use Rattle.std.proofs.Common.{◌∙◌, ap}
 use native.Mathlib.Omega.{arith}
-use Rattle.srt_group_polls.specs.Laws.StraightPolls.{turn_has_row, all_passed}
+use Rattle.srt_group_model.specs.Tools.{at_place}
+use Rattle.srt_group_model.specs.State.{Member}
+use Rattle.srt_group_model.specs.Members.{id_of}
+use Rattle.srt_group_model.specs.Collecting.{in_turn}
+use Rattle.srt_group_polls.specs.Laws.StraightPolls.{all_passed}
 use Rattle.srt_group_polls.proofs.straight.next_straight.Goals as goal
-
-pub front_at-requires : goal.front_at-requires
-front_at-requires c = turn_has_row c.args.core _ _ _ c.in_ok-index.was c.in_turn.ensures c.requires.deliverable
-
-pub membership_at-membership-requires : goal.membership_at-membership-requires
-membership_at-membership-requires c = turn_has_row c.args.core _ _ _ c.in_ok-index.was c.in_turn.ensures c.requires.deliverable
 
 pub returns : goal.returns
 returns c =
-    all_passed c.args.core _ _ _ c.in_ok-index.was c.in_turn.ensures _ c.requires.known
+    let here = c.row-row.ensures in
+    all_passed c.args.core _ _ _ c.in_ok-index.was (c.in_turn.ensures ∙ ap (in_turn c.args.core.visit.round) c.rows.ensures.shows) _ c.requires.known
     c.if-not-quiet.false (omega (arith, c.if-core-gt0.false)) c.if-core-eq0.false
-    c.in_ok-event.was c.front_at.ensures c.if-not-is_alone_at.false c.is_alone_at.ensures
-    c.if-is_held.false c.is_held.ensures c.membership_at-membership.ensures
+    c.in_ok-event.was (c.front.ensures ∙ ap (λ (m : Member). at_place 0 m.queue) here) c.if-not-is_alone_at.false c.is_alone_at.ensures
+    c.if-is_held.false c.is_held.ensures (c.member_id.ensures ∙ ap id_of here)

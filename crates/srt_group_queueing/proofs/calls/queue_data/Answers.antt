@@ -14,9 +14,6 @@ returns-in_err-begin_stored c =
     (tables a.members.now a.pending.now a.waiting.now a.history.now a.sources.now) a.store.now
     c.begin_stored.ensures _ c.in_err-begin_stored.was)
 
-pub queue_data-requires : goal.queue_data-requires
-queue_data-requires c = c.begin_stored.ensures.ready c.in_ok-begin_stored.was
-
 pub returns : goal.returns
 returns c =
     let a = c.args in

@@ -1,5 +1,6 @@
 -- `push_event` meets its contract: 2, 3, and then 31 or the event is queued.
-use mathlib.Core.Path.{sym, ◌∙◌}
+use mathlib.Core.Path.{ap, sym, ◌∙◌}
+use Rattle.srt_group_model.specs.Members.{find}
 use Rattle.srt_group_shown.specs.Tables.{parts, tables}
 use Rattle.srt_group_shown.specs.Laws.Found.{row_there}
 use Rattle.srt_group_queueing.specs.Laws.OneMember.{unfit_refused, unknown_refused}
@@ -16,9 +17,6 @@ returns-then-event_unfit c =
           (sym c.event_unfit.ensures ∙ c.if-event_unfit.true);
     }
 
-pub find-found-requires : goal.find-found-requires
-find-found-requires c = c.requires
-
 pub returns-in_default : goal.returns-in_default
 returns-in_default c =
     let a = c.args in
@@ -26,12 +24,12 @@ returns-in_default c =
       over =
           λ identity sending ring pending waiting history sources unbroken.
           unknown_refused (event_call a.id a.kind a.reason) (parts identity a.core sending ring) (tables a.members.now pending waiting history sources) unbroken
-          (sym c.event_unfit.ensures ∙ c.if-event_unfit.false) (sym c.in_default.is ∙ c.find-found.ensures);
+          (sym c.event_unfit.ensures ∙ c.if-event_unfit.false) (sym c.in_default.is ∙ c.find-found.ensures ∙ ap (find c.args.id) c.rows.ensures.shows);
     }
 
 pub push_at-requires : goal.push_at-requires
 push_at-requires c =
-    row_there c.args.core.counts.members c.args.id _ c.args.members.now c.requires (sym c.in-Some.is ∙ c.find-found.ensures)
+    row_there c.args.core.counts.members c.args.id _ c.args.members.now c.requires (sym c.in-Some.is ∙ c.find-found.ensures ∙ ap (find c.args.id) c.rows.ensures.shows)
 
 pub returns : goal.returns
 returns c =
@@ -40,6 +38,6 @@ returns c =
       over =
           λ identity sending ring pending waiting history sources unbroken.
           event_pushed a.id a.kind a.reason (parts identity a.core sending ring) (tables a.members.now pending waiting history sources) unbroken
-          (sym c.event_unfit.ensures ∙ c.if-event_unfit.false) _ (sym c.in-Some.is ∙ c.find-found.ensures)
+          (sym c.event_unfit.ensures ∙ c.if-event_unfit.false) _ (sym c.in-Some.is ∙ c.find-found.ensures ∙ ap (find c.args.id) c.rows.ensures.shows)
           _ _ _ c.lifecycle_event.ensures c.push_at.ensures;
     }

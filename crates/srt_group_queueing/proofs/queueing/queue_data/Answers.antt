@@ -1,8 +1,8 @@
 -- `queue_data` meets its contract: 2, 3, 4, 30, and then 31 or the packet is queued.
-use mathlib.Core.Path.{sym, subst, ◌∙◌}
+use mathlib.Core.Path.{ap, sym, subst, ◌∙◌}
 use Prim.Native.Nat.{ℕ}
-use native.Mathlib.Omega.{arith}
 use Rattle.cell_set.specs.Sets.{LowestFree}
+use Rattle.srt_group_model.specs.Members.{find}
 use Rattle.srt_group_shown.specs.Laws.Steps.{rows_there}
 use Rattle.srt_group_queueing.specs.Laws.Queueing.{data_refused, unknown_refused, long_refused, full_refused, enqueueable, performed}
 use Rattle.srt_group_queueing.proofs.queueing.queue_data.Goals as goal
@@ -11,31 +11,28 @@ pub returns-then-data_unfit : goal.returns-then-data_unfit
 returns-then-data_unfit c =
     data_refused _ _ _ _ _ _ _ c.requires (sym c.data_unfit.ensures ∙ c.if-data_unfit.true)
 
-pub find-found-requires : goal.find-found-requires
-find-found-requires c = rows_there c.requires
+pub rows-requires : goal.rows-requires
+rows-requires c = rows_there c.requires
 
 pub returns-in_default : goal.returns-in_default
 returns-in_default c =
-    unknown_refused _ _ _ _ _ _ _ c.requires (sym c.data_unfit.ensures ∙ c.if-data_unfit.false) (sym c.in_default.is ∙ c.find-found.ensures)
+    unknown_refused _ _ _ _ _ _ _ c.requires (sym c.data_unfit.ensures ∙ c.if-data_unfit.false) (sym c.in_default.is ∙ c.find-found.ensures ∙ ap (find c.args.id) c.rows.ensures.shows)
 
 pub returns-then-payload-gt-CELL : goal.returns-then-payload-gt-CELL
 returns-then-payload-gt-CELL c =
-    long_refused _ _ _ _ _ _ _ c.requires (sym c.data_unfit.ensures ∙ c.if-data_unfit.false) _ (sym c.in-Some.is ∙ c.find-found.ensures) c.if-payload-gt-CELL.true
-
-pub lowest_free-lowest-requires : goal.lowest_free-lowest-requires
-lowest_free-lowest-requires c = (c.requires.shows.cells.long, omega (arith, c.cells_of.ensures))
+    long_refused _ _ _ _ _ _ _ c.requires (sym c.data_unfit.ensures ∙ c.if-data_unfit.false) _ (sym c.in-Some.is ∙ c.find-found.ensures ∙ ap (find c.args.id) c.rows.ensures.shows) c.if-payload-gt-CELL.true
 
 pub returns-in_default-lowest : goal.returns-in_default-lowest
 returns-in_default-lowest c =
-    full_refused _ _ _ _ _ _ _ c.requires (sym c.data_unfit.ensures ∙ c.if-data_unfit.false) _ (sym c.in-Some.is ∙ c.find-found.ensures) c.if-payload-gt-CELL.false
+    full_refused _ _ _ _ _ _ _ c.requires (sym c.data_unfit.ensures ∙ c.if-data_unfit.false) _ (sym c.in-Some.is ∙ c.find-found.ensures ∙ ap (find c.args.id) c.rows.ensures.shows) c.if-payload-gt-CELL.false
     (subst (λ (n : ℕ). LowestFree c.args.used.now n c.lowest_free-lowest.result) c.cells_of.ensures c.lowest_free-lowest.ensures) c.in_default-lowest.is
 
 pub enqueue-requires : goal.enqueue-requires
 enqueue-requires c =
-    enqueueable _ _ c.args.payload.now _ _ c.args.store.now _ c.requires (sym c.data_unfit.ensures ∙ c.if-data_unfit.false) _ (sym c.in-Some.is ∙ c.find-found.ensures) c.if-payload-gt-CELL.false
+    enqueueable _ _ c.args.payload.now _ _ c.args.store.now _ c.requires (sym c.data_unfit.ensures ∙ c.if-data_unfit.false) _ (sym c.in-Some.is ∙ c.find-found.ensures ∙ ap (find c.args.id) c.rows.ensures.shows) c.if-payload-gt-CELL.false
     _ (subst (λ (n : ℕ). LowestFree c.args.used.now n c.lowest_free-lowest.result) c.cells_of.ensures c.lowest_free-lowest.ensures) c.in-Some-lowest.is
 
 pub returns : goal.returns
 returns c =
-    performed _ _ _ _ _ _ _ c.requires (sym c.data_unfit.ensures ∙ c.if-data_unfit.false) _ (sym c.in-Some.is ∙ c.find-found.ensures) c.if-payload-gt-CELL.false
+    performed _ _ _ _ _ _ _ c.requires (sym c.data_unfit.ensures ∙ c.if-data_unfit.false) _ (sym c.in-Some.is ∙ c.find-found.ensures ∙ ap (find c.args.id) c.rows.ensures.shows) c.if-payload-gt-CELL.false
     _ (subst (λ (n : ℕ). LowestFree c.args.used.now n c.lowest_free-lowest.result) c.cells_of.ensures c.lowest_free-lowest.ensures) c.in-Some-lowest.is _ _ _ _ c.enqueue.ensures

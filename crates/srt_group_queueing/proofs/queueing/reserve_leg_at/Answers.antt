@@ -1,12 +1,8 @@
 -- `reserve_leg_at` meets its contract: the reservation that is put is the one that was there with the count added.
 use mathlib.Core.Path.{ap}
 use Prim.Native.Nat.{ℕ, ◌+◌}
-use native.Mathlib.Omega.{arith}
 use Rattle.srt_connection_members.specs.Laws.Members.{reservation_changed}
 use Rattle.srt_group_queueing.proofs.queueing.reserve_leg_at.Goals as goal
-
-pub overflow_add-reserved : goal.overflow_add-reserved
-overflow_add-reserved c = omega (arith, c.requires.count_bound, c.reservation_at.ensures)
 
 pub returns : goal.returns
 returns c =

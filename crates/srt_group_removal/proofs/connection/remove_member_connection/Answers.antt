@@ -3,8 +3,8 @@ use Rattle.srt_group_shown.specs.Laws.Steps.{unbroken_of}
 use Rattle.srt_group_removal.specs.Laws.Connection.{any_removable, removal_performed}
 use Rattle.srt_group_removal.proofs.connection.remove_member_connection.Goals as goal
 
-pub remove_named-requires : goal.remove_named-requires
-remove_named-requires c = record { any_removable = any_removable (unbroken_of c.requires.ready); has_row = c.requires.has_row; used_len = c.requires.ready.shows.cells.long }
+pub remove_named-requires-clause-any_removable : goal.remove_named-requires-clause-any_removable
+remove_named-requires-clause-any_removable c = any_removable (unbroken_of c.requires.ready)
 
-pub returns : goal.returns
-returns c = record { performs = removal_performed c.requires.ready c.args.id _ _ _ _ _ c.remove_named.ensures.steps_removal c.remove_named.ensures.follows; row_after = c.remove_named.ensures.row_after }
+pub returns-clause-performs : goal.returns-clause-performs
+returns-clause-performs c = removal_performed c.requires.ready c.args.id _ _ _ _ _ c.remove_named.ensures.steps_removal c.remove_named.ensures.follows

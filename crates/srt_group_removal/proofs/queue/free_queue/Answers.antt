@@ -1,10 +1,7 @@
 -- `free_queue` meets its contract. The loop's invariant: the cells of the events passed are freed.
 use native.Mathlib.Omega.{arith}
-use Rattle.srt_group_removal.specs.Laws.Queue.{freeing_start, freeing_on, freeing_done}
+use Rattle.srt_group_removal.specs.Laws.Queue.{freeing_on, freeing_done}
 use Rattle.srt_group_removal.proofs.queue.free_queue.Goals as goal
-
-pub loop-index-init : goal.loop-index-init
-loop-index-init c = search freeing_start
 
 pub loop-index-preserved : goal.loop-index-preserved
 loop-index-preserved c =

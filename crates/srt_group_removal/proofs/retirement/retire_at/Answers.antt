@@ -2,6 +2,6 @@
 use Rattle.srt_group_removal.specs.Laws.Retire.{retired_one, retired_and_freed}
 use Rattle.srt_group_removal.proofs.retirement.retire_at.Goals as goal
 
-pub returns : goal.returns
-returns c = let whole = retired_and_freed _ _ _ c.requires.held c.requires.at_lt_pending (search retired_one) c.packet-packet.ensures
-    c.free.ensures in record { retired = whole.0; follows_held = whole.1 }
+pub returns-clause-follows_held : goal.returns-clause-follows_held
+returns-clause-follows_held c = let whole = retired_and_freed _ _ _ c.requires.held c.requires.at_lt_pending (search retired_one) c.packet-packet.ensures
+    c.free.ensures in whole.1

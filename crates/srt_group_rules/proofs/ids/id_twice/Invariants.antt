@@ -4,4 +4,4 @@ use Rattle.srt_group_rules.specs.Laws.Ids.{Apart}
 use Rattle.srt_group_rules.proofs.ids.id_twice.Given as goal
 
 abbrev pub invariant-loop-index : goal.invariant-loop-index
-invariant-loop-index l = Apart (id_at l.members) l.index × TakenBefore l.members l.index l.table
+invariant-loop-index l = Apart (id_at l.rows) l.index × TakenBefore l.rows l.index l.table

@@ -1,7 +1,6 @@
 -- `can_send` meets its contract: 5 and 6, and then what follows them.
-use borrow.Author.Rules.{rules}
 use Rattle.srt_group_model.specs.Lent.{call_can_send}
-use Rattle.srt_group_send_calls.specs.Laws.Readiness.{can_send_refused, can_test, tested}
+use Rattle.srt_group_send_calls.specs.Laws.Readiness.{can_send_refused, can_test, history_long, tested}
 use Rattle.srt_group_send_calls.proofs.calls.can_send.Goals as goal
 
 pub returns-in-Err : goal.returns-in-Err
@@ -16,7 +15,16 @@ can_send-tested-requires c =
     let a = c.args in
     can_test a.group.identity a.group.core a.group.sending a.group.ring
     a.members.now a.pending.now a.waiting.now a.history.now a.sources.now
-    c.begin-begun.ensures c.in_default.is (search rules)
+    c.begin-begun.ensures c.in_default.is
+
+pub invariant_of-words : goal.invariant_of-words
+invariant_of-words c =
+    let a = c.args in
+    record {
+      history_long = history_long a.group.identity a.group.core a.group.sending a.group.ring
+          a.members.now a.pending.now a.waiting.now a.history.now a.sources.now
+          c.begin-begun.ensures c.in_default.is;
+    }
 
 pub returns : goal.returns
 returns c =

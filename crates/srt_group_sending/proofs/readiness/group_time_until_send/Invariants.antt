@@ -4,4 +4,4 @@ use Rattle.srt_group_sending.specs.Laws.Readiness.{LeastFrom}
 use Rattle.srt_group_sending.proofs.readiness.group_time_until_send.Given as goal
 
 abbrev pub invariant-loop-index : goal.invariant-loop-index
-invariant-loop-index l = LeastFrom l.count l.time.0 l.members l.index l.least
+invariant-loop-index l = LeastFrom l.time.0 l.rows l.index l.least

@@ -1,5 +1,4 @@
 -- `skip_after` meets its contract: an event waits, the queues ended empty, or not.
-use Rattle.srt_group_delivery.specs.Laws.Delivery.{deliverable}
 use Rattle.srt_group_skip.specs.Laws.Skip.{event_first, skipped_if_empty, stays_if_not_empty}
 use Rattle.srt_group_skip.specs.Laws.SkipUsed.{follows_given}
 use Rattle.srt_group_model.specs.Laws.Flag.{zero_unset, other_set}
@@ -9,14 +8,8 @@ pub returns-then-core-gt0 : goal.returns-then-core-gt0
 returns-then-core-gt0 c =
     let given = c.give_waiting.ensures in record { polls = λ tested time. event_first _ _ _ _ _ _ _ _ _ _ tested time (search) (given _ _); follows = follows_given _ _ _ _ _ _ _ (search) (given _ _) }
 
-pub skip_to_nearest-requires-clause-deliverable : goal.skip_to_nearest-requires-clause-deliverable
-skip_to_nearest-requires-clause-deliverable c = search deliverable
-
 pub returns-then-collected-ne0-clause-polls : goal.returns-then-collected-ne0-clause-polls
 returns-then-collected-ne0-clause-polls c = λ tested time. skipped_if_empty _ _ _ _ _ _ _ _ _ _ tested time (search) (search other_set) (c.skip_to_nearest.ensures.by_index _ tested time)
-
-pub deliver-requires-clause-deliverable : goal.deliver-requires-clause-deliverable
-deliver-requires-clause-deliverable c = search deliverable
 
 pub returns-clause-polls : goal.returns-clause-polls
 returns-clause-polls c = λ tested time. stays_if_not_empty _ _ _ _ _ _ _ _ _ _ tested time (search) (search zero_unset) (c.deliver.ensures.by_index _)

@@ -1,14 +1,7 @@
 -- `skip_given_up_gap` meets its contract: the base stays, or the queues are collected first.
-use Rattle.srt_group_delivery.specs.Laws.Delivery.{deliverable}
 use Rattle.srt_group_skip.specs.Laws.Skip.{gap_stays, gap_passed}
 use Rattle.srt_group_collecting.specs.Laws.Follows.{follows_then}
 use Rattle.srt_group_skip.proofs.skip.skip_given_up_gap.Goals as goal
-
-pub base_stays-requires : goal.base_stays-requires
-base_stays-requires c = search deliverable
-
-pub deliver-requires-clause-deliverable : goal.deliver-requires-clause-deliverable
-deliver-requires-clause-deliverable c = search deliverable
 
 pub returns-then-base_stays-clause-polls_from : goal.returns-then-base_stays-clause-polls_from
 returns-then-base_stays-clause-polls_from c = let stays = c.base_stays.ensures in gap_stays _ _ _ _ _ _ _ (search) stays _ _ _ (search) (c.deliver.ensures.by_index _)

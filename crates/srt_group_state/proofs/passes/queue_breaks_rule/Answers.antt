@@ -9,7 +9,7 @@ pub returns-then-count-gt-MAX_QUEUED : goal.returns-then-count-gt-MAX_QUEUED
 returns-then-count-gt-MAX_QUEUED c = queue_long _ _ c.ring_of-ring.ensures _ c.if-count-gt-MAX_QUEUED.true
 
 pub loop-at-init : goal.loop-at-init
-loop-at-init c = (passing_start _ _ _ _ _ c.requires.marking, queued_start _ _)
+loop-at-init c = (passing_start _ _ _ _ _ c.requires, queued_start _ _)
 
 pub returns-then-event_breaks_rule : goal.returns-then-event_breaks_rule
 returns-then-event_breaks_rule c = queue_stopped _ _ c.ring_of-ring.ensures _ c.loop-at.invariant.0 c.loop-at-test.true (event_broken c.args.row.now c.ring_of-ring.result _ _ _ _ c.queue_event-event.ensures _ c.event_breaks_rule.ensures c.if-event_breaks_rule.true)

@@ -1,0 +1,6 @@
+-- `put_membership` meets its contract: the law `membership_put`.
+use Rattle.srt_connection_queue.specs.Laws.Rows.{membership_put}
+use Rattle.srt_connection_queue.proofs.rows.put_membership.Goals as goal
+
+pub returns : goal.returns
+returns c = rw c.write_membership.ensures (membership_put _ c.told-row _)

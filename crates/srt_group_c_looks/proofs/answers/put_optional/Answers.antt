@@ -1,9 +1,0 @@
--- `put_optional` meets its contract, for each answer.
-use Rattle.srt_group_c_looks.specs.Laws.Answers.{says_optional, optional_refused}
-use Rattle.srt_group_c_looks.proofs.answers.put_optional.Goals as goal
-
-pub returns-in-Ok : goal.returns-in-Ok
-returns-in-Ok c = search says_optional
-
-pub returns-in-Err : goal.returns-in-Err
-returns-in-Err c = search optional_refused

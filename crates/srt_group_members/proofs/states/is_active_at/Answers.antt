@@ -1,7 +1,0 @@
--- `is_active_at` meets its contract.
-use Rattle.srt_group_model.specs.Members.{is_active}
-use Rattle.srt_group_members.proofs.states.is_active_at.Goals as goal
-
-pub returns : goal.returns
-unfolding is_active
-returns c = c.is_connected_in.ensures

@@ -1,7 +1,0 @@
--- `is_standby_at` meets its contract.
-use Rattle.srt_group_model.specs.Members.{is_standby}
-use Rattle.srt_group_members.proofs.states.is_standby_at.Goals as goal
-
-pub returns : goal.returns
-unfolding is_standby
-returns c = c.is_connected_in.ensures

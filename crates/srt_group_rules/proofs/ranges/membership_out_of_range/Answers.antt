@@ -1,9 +1,0 @@
--- `membership_out_of_range` meets its contract.
-use Rattle.srt_group_model.specs.Laws.Reason.{or_assoc, or_no}
-use Rattle.srt_group_model.specs.Tools.{any}
-use Rattle.srt_group_model.specs.Validity.{any_above, membership_words, membership_out_of_range}
-use Rattle.srt_group_rules.proofs.ranges.membership_out_of_range.Goals as goal
-
-pub returns : goal.returns
-unfolding membership_out_of_range membership_words any_above any
-returns c = simp (or_assoc, or_no)

@@ -1,9 +1,0 @@
--- `front_sequence` meets its contract.
-use Rattle.srt_group_sending.specs.Laws.BackupReadiness.{front_missing, front_there}
-use Rattle.srt_group_sending.proofs.readiness.front_sequence.Goals as goal
-
-pub returns-then-ring-eq0 : goal.returns-then-ring-eq0
-returns-then-ring-eq0 c = front_missing _ _ c.if-ring-eq0.true
-
-pub returns : goal.returns
-returns c = search front_there
