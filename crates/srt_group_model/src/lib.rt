@@ -165,11 +165,21 @@ pub struct Identity {
 #[derive(Clone, Copy)]
 pub struct Receiving {
     // next_receive_sequence, the base, and whether it is set
-    // Kept (1): a C host lends the record as words, and whatever it lends has to be readable.
+    // Kept (1): a C host lends the record as words, and whatever it lends has to be readable; `base` gives the option.
     pub based: u64,
     pub base: u64,
     // skipped_receive_packets
     pub skipped: u64,
+}
+
+impl Receiving {
+    // next_receive_sequence
+    #[tactic(auto, using(crate::specs::Laws::Flag::shown))]
+    pub fn base(self) -> Option<u64>
+        ensures { result ≡ flagged (is_set self.based) self.base }
+    {
+        (self.based != 0).then_some(self.base)
+    }
 }
 
 // What sending moves, with the history.
@@ -181,7 +191,7 @@ pub struct Sending {
     pub numbered: u64,
     pub next: u64,
     // backup_carrier, and whether there is one
-    // Kept (1): a C host lends the record as words.
+    // Kept (1): a C host lends the record as words; `carrier` gives the option.
     pub carried: u64,
     pub carrier: u64,
     // backup_history_gap
@@ -190,13 +200,19 @@ pub struct Sending {
 
 impl Sending {
     // next_send_sequence
+    #[tactic(auto, using(crate::specs::Laws::Flag::shown))]
     pub fn next_send_sequence(self) -> Option<u64>
         ensures { result ≡ flagged (is_set self.numbered) self.next }
     {
-        if self.numbered == 0 {
-            return None;
-        }
-        Some(self.next)
+        (self.numbered != 0).then_some(self.next)
+    }
+
+    // backup_carrier
+    #[tactic(auto, using(crate::specs::Laws::Flag::shown))]
+    pub fn carrier(self) -> Option<u64>
+        ensures { result ≡ flagged (is_set self.carried) self.carrier }
+    {
+        (self.carried != 0).then_some(self.carrier)
     }
 }
 
