@@ -31,6 +31,13 @@ pub struct Group {
     pub ring: HistoryRing,
 }
 
+// The answer of a call, and the record after it: as it was where the call is refused.
+#[derive(Clone, Copy)]
+pub struct Answered<R, T> {
+    pub record: R,
+    pub answer: Result<T, Error>,
+}
+
 // 2: an id beyond 32 bits, or a mode above 1.
 fn making_out_of_range(id: u64, mode: u64) -> bool
     ensures { result ≡ (above largest_32 id || above 1 mode) }
