@@ -50,7 +50,7 @@ fn answer_line(line: &[u8], out: &mut [u8]) -> usize
         Some(number) => [numbers[0], number],
         None => [0, 2],
     };
-    listing::write_line(out, WIDTH, &pair).unwrap_or(0)
+    listing::write_line(out, 0, WIDTH, &pair).unwrap_or(0)
 }
 
 // The answers of all lines, from the start of an output, and their end.

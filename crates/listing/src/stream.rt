@@ -83,8 +83,5 @@ pub fn read_whole_line<'a>(block: &'a [u8], width: usize, numbers: &mut [u64]) -
     ensures { WholeRead block.now width numbers.old numbers.new result }
 {
     let end = read_columns(block, width, numbers)?;
-    if end < block.len() && block[end] == b'\n' {
-        return Some(&block[end + 1..]);
-    }
-    None
+    block[end..].strip_prefix(b"\n")
 }
