@@ -37,11 +37,7 @@ pub extern "C" fn table_find(pending: &[u64], count: usize, sequence: u64) -> us
     requires pending_size_in_bounds { (pending_size ≤ length pending.now) × (count ≤ max_pending) }
     requires pending_value { ascends (packets count pending.now) ≡ true }
 {
-    let found = pending::find(pending, count, sequence);
-    match found {
-        Some(at) => at,
-        None => MAX_CELLS,
-    }
+    pending::find(pending, count, sequence).unwrap_or(MAX_CELLS)
 }
 
 #[unsafe(no_mangle)]
@@ -179,9 +175,5 @@ pub extern "C" fn table_rules(
     ) {
         return MAX_CELLS;
     }
-    let free = lowest_free(&used, MAX_CELLS);
-    match free {
-        Some(cell) => cell,
-        None => MAX_CELLS,
-    }
+    lowest_free(&used, MAX_CELLS).unwrap_or(MAX_CELLS)
 }
