@@ -1,68 +1,62 @@
--- `reading_out_of_range` meets its contract: each arm is a row of `readings`, and there are no others; a word is never above
--- 64 bits.
+-- `reading_out_of_range` meets its contract: each field is a row of `readings`, and an unknown number is none; a word is never
+-- above 64 bits.
 use mathlib.Core.Path.{sym}
 use native.Mathlib.Omega.{arith}
 use borrow.Author.Tests.{le-ltb}
 use Rattle.srt_group_model.specs.Legs.{readings, reading_of, largest_64}
 use Rattle.srt_group_model.specs.Tools.{if_true◌then◌else◌, if_some◌give◌otherwise◌, first_such}
-use Rattle.srt_connection.specs.Laws.Readings.{unknown_field}
 use Rattle.srt_group_model.specs.Calls.{reading_out_of_range}
+use Rattle.srt_connection.specs.Readings.{field_number}
 use Rattle.srt_connection.proofs.readings.reading_out_of_range.Goals as goal
 
-pub returns-in-1 : goal.returns-in-1
-unfolding reading_out_of_range if_some◌give◌otherwise◌ reading_of readings first_such if_true◌then◌else◌
-returns-in-1 c = rw c.in-1.is
+pub returns-in-State : goal.returns-in-State
+unfolding reading_out_of_range reading_of readings first_such if_true◌then◌else◌ if_some◌give◌otherwise◌ field_number
+returns-in-State c = rw (rw c.in-State.is at c.in-Some.ensures)
 
-pub returns-in-2 : goal.returns-in-2
-unfolding reading_out_of_range if_some◌give◌otherwise◌ reading_of readings first_such if_true◌then◌else◌
-returns-in-2 c = rw c.in-2.is
+pub returns-in-Window : goal.returns-in-Window
+unfolding reading_out_of_range reading_of readings first_such if_true◌then◌else◌ if_some◌give◌otherwise◌ field_number
+returns-in-Window c = rw (rw c.in-Window.is at c.in-Some.ensures)
 
-pub returns-in-3 : goal.returns-in-3
-unfolding reading_out_of_range if_some◌give◌otherwise◌ reading_of readings first_such if_true◌then◌else◌
-returns-in-3 c = rw c.in-3.is
+pub returns-in-ReceiveWindow : goal.returns-in-ReceiveWindow
+unfolding reading_out_of_range reading_of readings first_such if_true◌then◌else◌ if_some◌give◌otherwise◌ field_number
+returns-in-ReceiveWindow c = rw (rw c.in-ReceiveWindow.is at c.in-Some.ensures)
 
-pub returns-in-4 : goal.returns-in-4
-unfolding reading_out_of_range if_some◌give◌otherwise◌ reading_of readings first_such if_true◌then◌else◌
-returns-in-4 c = rw c.in-4.is (sym (le-ltb largest_64 c.args.number (omega arith)))
+pub returns-in-Latency : goal.returns-in-Latency
+unfolding reading_out_of_range reading_of readings first_such if_true◌then◌else◌ if_some◌give◌otherwise◌ field_number
+returns-in-Latency c = rw (rw c.in-Latency.is at c.in-Some.ensures) (sym (le-ltb largest_64 c.args.number (omega arith)))
 
-pub returns-in-5 : goal.returns-in-5
-unfolding reading_out_of_range if_some◌give◌otherwise◌ reading_of readings first_such if_true◌then◌else◌
-returns-in-5 c = rw c.in-5.is
+pub returns-in-Acknowledged : goal.returns-in-Acknowledged
+unfolding reading_out_of_range reading_of readings first_such if_true◌then◌else◌ if_some◌give◌otherwise◌ field_number
+returns-in-Acknowledged c = rw (rw c.in-Acknowledged.is at c.in-Some.ensures)
 
-pub returns-in-6 : goal.returns-in-6
-unfolding reading_out_of_range if_some◌give◌otherwise◌ reading_of readings first_such if_true◌then◌else◌
-returns-in-6 c = rw c.in-6.is
+pub returns-in-Srtt : goal.returns-in-Srtt
+unfolding reading_out_of_range reading_of readings first_such if_true◌then◌else◌ if_some◌give◌otherwise◌ field_number
+returns-in-Srtt c = rw (rw c.in-Srtt.is at c.in-Some.ensures)
 
-pub returns-in-7 : goal.returns-in-7
-unfolding reading_out_of_range if_some◌give◌otherwise◌ reading_of readings first_such if_true◌then◌else◌
-returns-in-7 c = rw c.in-7.is
+pub returns-in-Rttvar : goal.returns-in-Rttvar
+unfolding reading_out_of_range reading_of readings first_such if_true◌then◌else◌ if_some◌give◌otherwise◌ field_number
+returns-in-Rttvar c = rw (rw c.in-Rttvar.is at c.in-Some.ensures)
 
-pub returns-in-8 : goal.returns-in-8
-unfolding reading_out_of_range if_some◌give◌otherwise◌ reading_of readings first_such if_true◌then◌else◌
-returns-in-8 c = rw c.in-8.is (sym (le-ltb largest_64 c.args.number (omega arith)))
+pub returns-in-LastHeard : goal.returns-in-LastHeard
+unfolding reading_out_of_range reading_of readings first_such if_true◌then◌else◌ if_some◌give◌otherwise◌ field_number
+returns-in-LastHeard c = rw (rw c.in-LastHeard.is at c.in-Some.ensures) (sym (le-ltb largest_64 c.args.number (omega arith)))
 
-pub returns-in-9 : goal.returns-in-9
-unfolding reading_out_of_range if_some◌give◌otherwise◌ reading_of readings first_such if_true◌then◌else◌
-returns-in-9 c = rw c.in-9.is (sym (le-ltb largest_64 c.args.number (omega arith)))
+pub returns-in-PaceTime : goal.returns-in-PaceTime
+unfolding reading_out_of_range reading_of readings first_such if_true◌then◌else◌ if_some◌give◌otherwise◌ field_number
+returns-in-PaceTime c = rw (rw c.in-PaceTime.is at c.in-Some.ensures) (sym (le-ltb largest_64 c.args.number (omega arith)))
 
-pub returns-in-10 : goal.returns-in-10
-unfolding reading_out_of_range if_some◌give◌otherwise◌ reading_of readings first_such if_true◌then◌else◌
-returns-in-10 c = rw c.in-10.is
+pub returns-in-PeerGroup : goal.returns-in-PeerGroup
+unfolding reading_out_of_range reading_of readings first_such if_true◌then◌else◌ if_some◌give◌otherwise◌ field_number
+returns-in-PeerGroup c = rw (rw c.in-PeerGroup.is at c.in-Some.ensures)
 
-pub returns-in-11 : goal.returns-in-11
-unfolding reading_out_of_range if_some◌give◌otherwise◌ reading_of readings first_such if_true◌then◌else◌
-returns-in-11 c = rw c.in-11.is
+pub returns-in-PayloadLimit : goal.returns-in-PayloadLimit
+unfolding reading_out_of_range reading_of readings first_such if_true◌then◌else◌ if_some◌give◌otherwise◌ field_number
+returns-in-PayloadLimit c = rw (rw c.in-PayloadLimit.is at c.in-Some.ensures)
 
-pub returns-in-12 : goal.returns-in-12
-unfolding reading_out_of_range if_some◌give◌otherwise◌ reading_of readings first_such if_true◌then◌else◌
-returns-in-12 c = rw c.in-12.is (sym (le-ltb largest_64 c.args.number (omega arith)))
+pub returns-in-OldestSendTime : goal.returns-in-OldestSendTime
+unfolding reading_out_of_range reading_of readings first_such if_true◌then◌else◌ if_some◌give◌otherwise◌ field_number
+returns-in-OldestSendTime c = rw (rw c.in-OldestSendTime.is at c.in-Some.ensures) (sym (le-ltb largest_64 c.args.number (omega arith)))
 
 pub returns-in_default : goal.returns-in_default
 unfolding reading_out_of_range if_some◌give◌otherwise◌
-returns-in_default c =
-    rw
-    (unknown_field c.args.field c.in_default.in_default-own.rest.0.0.0.0.0.0.0.0.0.0.0.1
-    c.in_default.in_default-own.rest.0.0.0.0.0.0.0.0.0.0.1 c.in_default.in_default-own.rest.0.0.0.0.0.0.0.0.0.1
-    c.in_default.in_default-own.rest.0.0.0.0.0.0.0.0.1 c.in_default.in_default-own.rest.0.0.0.0.0.0.0.1 c.in_default.in_default-own.rest.0.0.0.0.0.0.1
-    c.in_default.in_default-own.rest.0.0.0.0.0.1 c.in_default.in_default-own.rest.0.0.0.0.1 c.in_default.in_default-own.rest.0.0.0.1 c.in_default.in_default-own.rest.0.0.1
-    c.in_default.in_default-own.rest.0.1 c.in_default.in_default-own.rest.1)
+returns-in_default c = rw c.in_default.ensures
