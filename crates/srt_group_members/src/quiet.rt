@@ -7,13 +7,10 @@ ghost use Rattle.srt_connection_queue.specs.Rows.{member_of};
 ghost use Rattle.srt_connection_members.specs.Members.{members_in};
 ghost use Rattle.srt_group_members.specs.Quiet.{is_steady, is_quiet};
 
-use crate::states::{ACTIVE, BROKEN, STANDBY, has_active_member, is_backup};
+use crate::states::{
+    ACTIVE, BROKEN, CONNECTED, HANDSHAKING, STANDBY, has_active_member, is_backup,
+};
 use srt_connection_queue::rows::{Row, admitted, link_state, member_state};
-
-// What a leg's state is while it handshakes, and once it has connected.
-const HANDSHAKING: u64 = 0;
-
-const CONNECTED: u64 = 1;
 
 // Broken; or still handshaking; or connected, admitted, and Active or Standby. Three words of the row are read.
 #[tactic(auto, unfolding(crate::specs::Quiet::is_steady))]
@@ -42,8 +39,5 @@ pub fn is_quiet(rows: &[Row], mode: u64) -> bool
     if !all_steady(rows) {
         return false;
     }
-    if !is_backup(mode) {
-        return true;
-    }
-    has_active_member(rows)
+    !is_backup(mode) || has_active_member(rows)
 }

@@ -3,18 +3,20 @@ ghost use Rattle.std.specs.Prelude.{◌≡◌, ◌&&◌, ◌*◌, ◌≤◌, len
 ghost use Rattle.srt_connection_queue.specs.Rows.{member_of};
 ghost use Rattle.srt_connection_members.specs.Members.{members_in, HasRow, Changed};
 ghost use Rattle.srt_group_model.specs.State.{is_backup, turned};
-ghost use Rattle.srt_group_model.specs.Legs.{is_connected, is_disconnected};
+ghost use Rattle.srt_group_model.specs.Legs.{is_connected, is_disconnected, has_sender};
 ghost use Rattle.srt_group_model.specs.Tools.{all};
 ghost use Rattle.srt_group_model.specs.Members.{in_state, is_active, is_standby, has_active_member, first_active};
 ghost use Rattle.srt_group_model.specs.Calls.{state_at_addition};
 ghost use Rattle.srt_group_members.specs.Scan.{leg_disconnected};
+ghost use Rattle.srt_group_members.specs.Refresh.{requalified_state};
 
-use srt_connection::legs::{is_connected, is_disconnected};
+use srt_connection::legs::is_connected;
 use srt_connection_members::{membership_at, put_membership_at};
-use srt_connection_queue::rows::{Row, leg, membership};
+use srt_connection_queue::rows::{Row, link_state, member_state, sender};
 use srt_group_model::Leg;
 
 // `GroupMemberState` as the numbers that a row holds.
+// Kept (1): a row is lent by a C host and may hold any number, which the tests compare as it is; an enum would stand beside the numbers.
 pub const PENDING: u64 = 0;
 
 pub const ACTIVE: u64 = 1;
@@ -24,6 +26,13 @@ pub const STANDBY: u64 = 2;
 pub const UNSTABLE: u64 = 3;
 
 pub const BROKEN: u64 = 4;
+
+// A leg's state, as the number that a row holds.
+pub const HANDSHAKING: u64 = 0;
+
+pub const CONNECTED: u64 = 1;
+
+pub const DISCONNECTED: u64 = 2;
 
 // The mode is 0 in Broadcast and 1 in Backup.
 // Kept (1): it is the word of the record that C lends, and an enum of it would be this test again at each call.
@@ -38,20 +47,27 @@ pub fn is_backup(mode: u64) -> bool
 pub fn leg_connected(row: &Row) -> bool
     ensures { result ≡ is_connected (member_of row.now).leg }
 {
-    is_connected(leg(row))
+    link_state(row) == CONNECTED
+}
+
+// The sender exists from the first connect on.
+pub fn leg_has_sender(row: &Row) -> bool
+    ensures { result ≡ has_sender (member_of row.now).leg }
+{
+    sender(row).started == 1
 }
 
 pub fn leg_disconnected(row: &Row) -> bool
     ensures { result ≡ leg_disconnected (member_of row.now) }
 {
-    is_disconnected(leg(row))
+    link_state(row) == DISCONNECTED
 }
 
 // In that state, and connected.
 pub fn is_connected_in(row: &Row, state: u64) -> bool
     ensures { result ≡ (in_state state (member_of row.now) && is_connected (member_of row.now).leg) }
 {
-    membership(row).state == state && leg_connected(row)
+    member_state(row) == state && leg_connected(row)
 }
 
 #[tactic(auto, unfolding(srt_group_model::specs::Members::is_active))]
@@ -100,22 +116,27 @@ pub fn all_disconnected(rows: &[Row]) -> bool
     rows.iter().all(leg_disconnected)
 }
 
-// The state of a member at its addition. A leg that is not connected cannot be the one that sends.
-#[tactic(auto, using(srt_group_model::specs::Laws::Reason::when_true, srt_group_model::specs::Laws::Reason::when_false), unfolding(srt_group_model::specs::Calls::state_at_addition))]
-pub fn state_at_addition(rows: &[Row], mode: u64, leg: Leg) -> u64
-    ensures { result ≡ state_at_addition mode leg (members_in rows.now) }
+// The state of a member that is to send: Active, but in Backup only one is, so Standby if another is active.
+#[tactic(auto, using(srt_group_model::specs::Laws::Reason::when_true, srt_group_model::specs::Laws::Reason::when_false), unfolding(crate::specs::Refresh::requalified_state))]
+pub fn requalified_state(rows: &[Row], mode: u64) -> u64
+    ensures { result ≡ requalified_state mode (members_in rows.now) }
 {
-    if !is_connected(leg) {
-        if is_backup(mode) {
-            return STANDBY;
-        }
-        return PENDING;
-    }
-    if !is_backup(mode) {
-        return ACTIVE;
-    }
-    if has_active_member(rows) {
+    if is_backup(mode) && has_active_member(rows) {
         return STANDBY;
     }
     ACTIVE
+}
+
+// The state of a member at its addition. A leg that is not connected cannot be the one that sends.
+#[tactic(auto, using(crate::specs::Laws::Refresh::added_connected, crate::specs::Laws::Refresh::added_standby, crate::specs::Laws::Refresh::added_pending))]
+pub fn state_at_addition(rows: &[Row], mode: u64, leg: Leg) -> u64
+    ensures { result ≡ state_at_addition mode leg (members_in rows.now) }
+{
+    if is_connected(leg) {
+        return requalified_state(rows, mode);
+    }
+    if is_backup(mode) {
+        return STANDBY;
+    }
+    PENDING
 }

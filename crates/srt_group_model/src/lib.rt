@@ -1,5 +1,5 @@
 // The types that the code and its definitions share: a bonding group, its members, the legs that carry them, and the
-// packets. A field's comment names the Rust's field. The only functions here show two words of a record as the Rust's one field.
+// packets. A field's comment names the Rust's field. The only functions here show words of a record as the Rust has them.
 //
 // What is read from a row of a lent table has 64-bit words, as the row has. Their ranges are rules of validity (code 6),
 // so a row that breaks one can be shown and refused.
@@ -7,6 +7,7 @@
 #![tactic(auto)]
 
 ghost use Rattle.std.specs.Prelude.{◌≡◌};
+ghost use Rattle.srt_group_model.specs.Cells.{is_data};
 ghost use Rattle.srt_group_model.specs.Tools.{is_set, flagged};
 
 use srt_protocol::time::Timestamp;
@@ -38,6 +39,14 @@ pub struct Event {
     pub kind: u64,
     pub reason: u64,
     pub content: Data,
+}
+
+impl Event {
+    pub fn is_data(&self) -> bool
+        ensures { result ≡ is_data self.now }
+    {
+        self.kind == 0
+    }
 }
 
 // `GroupPacket`, with its place in `owned`: 1 if the group holds it itself, 0 if its member holds the reservation.
@@ -120,7 +129,7 @@ pub struct Collision {
 
 // The packets held for a member, or by the group itself: the sum of their counts. What is kept of them moves together.
 #[repr(C)]
-#[derive(Clone, Copy)]
+#[derive(Clone, Copy, PartialEq)]
 pub struct Account {
     // reserved_packets of a member, owned_packets of the group
     pub reserved: u64,
