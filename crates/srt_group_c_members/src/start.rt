@@ -7,6 +7,7 @@ use cell_set::{WORDS, of_words_mut};
 use srt_group::Group;
 use srt_group_words::begin::begin_stored;
 use srt_group_words::record::{RECORD, put_group};
+use srt_protocol::error::outcome_number;
 
 // A fresh group over tables of which no row is in use: its id, its mode (0 Broadcast, 1 Backup), and the length of the store that every call
 // is then to be lent, or 0.
@@ -19,8 +20,7 @@ pub extern "C" fn srt_group_raw_new(record: &mut [u64], id: u64, mode: u64, leng
     if record.len() < RECORD {
         return 5;
     }
-    let made = Group::new(id, mode, length);
-    match made {
+    match Group::new(id, mode, length) {
         Ok(group) => {
             put_group(record, group);
             0
@@ -52,7 +52,7 @@ pub extern "C" fn srt_group_valid_begin(
     if used.len() != WORDS {
         return 5;
     }
-    begin_stored(
+    let begun = begin_stored(
         record,
         members,
         pending,
@@ -61,5 +61,6 @@ pub extern "C" fn srt_group_valid_begin(
         sources,
         store,
         of_words_mut(used),
-    )
+    );
+    outcome_number(begun)
 }
