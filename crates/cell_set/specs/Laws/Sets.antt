@@ -1,6 +1,7 @@
 -- What is proved of the definitions in specs/Sets.antt, with what the proofs need.
 use Rattle.std.specs.Prelude.{◌≡◌, refl, true, List, [], ◌∷◌, ℕ, zero, suc, ◌+◌, ◌-◌, ◌*◌, ◌/◌, ◌%◌, ◌^◌, ◌≤◌, ◌<◌, eqb, ltb, length, get_or, set, None, Some}
 use Rattle.std.proofs.Common.{sym, ◌∙◌, arith, get_or-set_same, get_or-set_other}
+use Rattle.std.specs.Bool.{then_some}
 use Rattle.std.proofs.Math.Path.{ap, subst}
 use Rattle.std.proofs.Math.Bool.{false}
 use borrow.Author.Tests.{eqb-true, eqb-false, ltb-true, ltb-false}
@@ -178,8 +179,13 @@ module _ (words : List ℕ) (at cells : ℕ) (first : FirstWord words at) (insid
       let same : (at * 64 + ones) % 64 ≡ ones = omega arith in
       in_word words at (at * 64 + ones) (omega arith) ∙ ap (λ (k : ℕ). bit k (get_or words at 0)) same ∙ zero_at (get_or words at 0) small most
 
-  pub found_in_word : at * 64 + ones < cells → LowestFree words cells (Some (at * 64 + ones))
+  found_in_word : at * 64 + ones < cells → LowestFree words cells (Some (at * 64 + ones))
   found_in_word below = lowest_found words cells (at * 64 + ones) below found_free ones_passed
 
-  pub beyond_store : cells ≤ at * 64 + ones → LowestFree words cells None
+  beyond_store : cells ≤ at * 64 + ones → LowestFree words cells None
   beyond_store beyond = none_free words cells (λ n h. ones_passed n (omega arith))
+
+  pub found_if_inside : LowestFree words cells (then_some (ltb (at * 64 + ones) cells) (at * 64 + ones))
+  found_if_inside =
+      by_test (ltb (at * 64 + ones) cells) (λ e. rw e (found_in_word (ltb-true (at * 64 + ones) cells e)))
+      (λ e. rw e (beyond_store (ltb-false (at * 64 + ones) cells e)))
