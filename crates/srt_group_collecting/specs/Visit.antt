@@ -2,7 +2,7 @@
 use Rattle.std.specs.Prelude.{◌≡◌, List, [], ℕ, ◌+◌, ◌*◌, ◌≤◌, ◌<◌, eqb, length}
 use Rattle.srt_group_model.specs.declared.Core.{Core}
 use Rattle.srt_group_model.specs.declared.Event.{Event}
-use Rattle.srt_group_model.specs.Tools.{if_true◌then◌else◌, is_set}
+use Rattle.srt_group_model.specs.Tools.{if_true◌then◌else◌}
 use Rattle.srt_group_model.specs.State.{Receive, State}
 use Rattle.srt_group_model.specs.Run.{Mark, Run}
 use Rattle.srt_group_model.specs.Collecting.{retain_group_packet, report_event, Visited as VisitedRun, packet_from, waiting_from}
@@ -49,7 +49,7 @@ pub record Visits (most : ℕ) (f : Run → VisitedRun) (core : Core) (budget : 
   pub waiting_long : length t'.waiting ≡ length t.waiting
   pub members_same : r.core.counts.members ≡ core.counts.members
   pub waiting_most : r.core.counts.waiting ≤ most
-  pub took : (others : Rest) (log : List Mark) → (f (under_way core others t log budget)).took ≡ is_set r.took
+  pub more : (others : Rest) (log : List Mark) → (f (under_way core others t log budget)).took ≡ r.more
   pub state : (others : Rest) (log : List Mark) → (f (under_way core others t log budget)).run.state ≡ shown_by r.core others t'
   pub left : (others : Rest) (log : List Mark) → (f (under_way core others t log budget)).run.budget ≡ r.budget
 

@@ -52,15 +52,10 @@ pub struct Poll {
 // ---- the give-up test
 
 // Whether a leg has given up by a time on a packet of that source time.
-#[tactic(auto, using(crate::specs::Laws::Delivery::given_up_from, crate::specs::Laws::Delivery::never_given_up))]
 fn leg_given_up(leg: Leg, source: Timestamp, time: Timestamp) -> bool
     ensures { result ≡ leg_given_up time.0 source.0 leg }
 {
-    let deadline = legs::gives_up_at(leg, source);
-    match deadline {
-        Some(moment) => moment <= time,
-        None => false,
-    }
+    legs::gives_up_at(leg, source).is_some_and(|moment| moment <= time)
 }
 
 // The leg of the packet's member gives up on it; where that member is gone, the first leg.
@@ -115,8 +110,7 @@ fn release_pending_reservation(mut core: Core, members: &mut [u64], packet: Pack
 {
     let run = packet.content.count;
     if packet.owned == 1 {
-        let own = accounts::release_packet(core.own, run);
-        core.own = own;
+        core.own = accounts::release_packet(core.own, run);
         return core;
     }
     let found = find(rows(members, core.counts.members), packet.member);
@@ -179,11 +173,8 @@ fn release_covered(
     ensures released { Released (packets_at covered pending.now) core members.old result members.new }
     ensures freed { Freed (pending_cells (packets_at covered pending.now)) used.old used.new }
 {
-    let low = covered.low;
-    let from = covered.from;
-    let end = covered.end;
-    let begun = release_range(core, members, pending, used, 0, low);
-    release_range(begun, members, pending, used, from, end)
+    let begun = release_range(core, members, pending, used, 0, covered.low);
+    release_range(begun, members, pending, used, covered.from, covered.end)
 }
 
 // ---- delivery
@@ -264,8 +255,7 @@ pub fn give_waiting(mut core: Core, waiting: &mut [u64]) -> Poll
     }
     let event = waiting::waiting_event(waiting, 0);
     waiting::pop_front(waiting, waits);
-    let left = waits - 1;
-    core.counts.waiting = left;
+    core.counts.waiting = waits - 1;
     Poll {
         gave: Some(GroupEvent::Event(event)),
         core,
@@ -283,10 +273,9 @@ fn skipped_after(skipped: u64, base: u64, next: u64) -> u64
 pub fn skip_to(mut core: Core, base: u64, next: u64) -> Core
     ensures { Skips base next core result }
 {
-    let skipped = skipped_after(core.receiving.skipped, base, next);
+    core.receiving.skipped = skipped_after(core.receiving.skipped, base, next);
     core.receiving.based = 1;
     core.receiving.base = next;
-    core.receiving.skipped = skipped;
     core
 }
 

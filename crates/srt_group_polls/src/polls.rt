@@ -29,7 +29,7 @@ use srt_protocol::time::Timestamp;
 #[derive(Clone, Copy)]
 pub struct DataPoll {
     pub gave: Option<Packet>,
-    // Kept (1): as a `bool` beside a record that goes by value it cost 50 ns a poll (tried).
+    // Kept (1): the record's continuation and C's answer are words (the C interface), and it goes from the one to the other as it is.
     pub continuation: u64,
     pub core: Core,
 }
@@ -145,16 +145,14 @@ fn pass_event(poll: Poll) -> Option<DataPoll>
     ensures { Passes poll result }
 {
     let core = poll.core;
-    let Some(given) = poll.gave else {
-        return Some(DataPoll {
+    match poll.gave {
+        None => Some(DataPoll {
             gave: None,
             continuation: core.visit.continuation,
             core,
-        });
-    };
-    match given {
-        GroupEvent::Event(_) => None,
-        GroupEvent::Packet(packet) => Some(DataPoll {
+        }),
+        Some(GroupEvent::Event(_)) => None,
+        Some(GroupEvent::Packet(packet)) => Some(DataPoll {
             gave: Some(packet),
             continuation: 0,
             core,

@@ -50,25 +50,22 @@ pub fn next_straight(core: Core, members: &[u64], pending: &[u64], quiet: bool) 
     if 0 < core.counts.waiting {
         return None;
     }
-    if core.receiving.based == 0 {
-        return None;
-    }
+    let base = core.receiving.base()?;
     let index = in_turn(rows(members, core.counts.members), core.visit.round)?;
     let row = row(members, index);
     let event = front(row)?;
-    if !is_alone_at(event, core.receiving.base) {
+    if !is_alone_at(event, base) {
         return None;
     }
-    if is_held(pending, core.counts.pending, core.receiving.base) {
+    if is_held(pending, core.counts.pending, base) {
         return None;
     }
-    let content = event.content;
     Some(Straight {
         index,
         packet: Packet {
             member: member_id(row),
             owned: 0,
-            content,
+            content: event.content,
         },
     })
 }

@@ -192,7 +192,7 @@ module _ (core : Core) (budget : ℕ) (ms ps ws : List ℕ) (i : ℕ) (ms₁ : L
 
   pub visits_nothing : {r : LegPoll} → r ≡ Nothing → r ≡ leg_poll budget (member_at ms i).queue
       → Visits (core.counts.waiting + 1) (take_front i (member_at ms i)) core budget (receive_tables ms ps ws)
-      record { took = 0; core = core; budget = budget } (receive_tables ms₁ ps ws)
+      record { more = false; core = core; budget = budget } (receive_tables ms₁ ps ws)
   visits_nothing gave is =
       let empty = gave_nothing budget (member_at ms i).queue (sym gave ∙ is) in
       let taken : (r : Run) → take_front i (member_at ms i) r ≡ record { took = false; run = r } = λ r. none_taken i (member_at ms i) r empty in
@@ -203,7 +203,7 @@ module _ (core : Core) (budget : ℕ) (ms ps ws : List ℕ) (i : ℕ) (ms₁ : L
         waiting_long = refl;
         members_same = refl;
         waiting_most = omega arith;
-        took = λ others log. ap (λ (v : VisitedRun). v.took) (taken (under_way core others (receive_tables ms ps ws) log budget));
+        more = λ others log. ap (λ (v : VisitedRun). v.took) (taken (under_way core others (receive_tables ms ps ws) log budget));
         state =
             λ others log.
             ap (λ (v : VisitedRun). v.run.state) (taken (under_way core others (receive_tables ms ps ws) log budget))
@@ -213,7 +213,7 @@ module _ (core : Core) (budget : ℕ) (ms ps ws : List ℕ) (i : ℕ) (ms₁ : L
 
   visits_spent_at : Continuation ≡ leg_poll budget (member_at ms i).queue
       → Visits (core.counts.waiting + 1) (take_front i (member_at ms i)) core budget (receive_tables ms ps ws)
-      record { took = 0; core = continued 1 (with_next ((i + 1) % core.counts.members) core); budget = 0 } (receive_tables ms₁ ps ws)
+      record { more = false; core = continued 1 (with_next ((i + 1) % core.counts.members) core); budget = 0 } (receive_tables ms₁ ps ws)
   unfolding bit
   visits_spent_at is =
       let s = gave_continuation budget (member_at ms i).queue is in
@@ -224,7 +224,7 @@ module _ (core : Core) (budget : ℕ) (ms ps ws : List ℕ) (i : ℕ) (ms₁ : L
         waiting_long = refl;
         members_same = refl;
         waiting_most = omega arith;
-        took =
+        more =
             λ others log.
             ap (λ (v : VisitedRun). v.took)
             (spent_taken i (member_at ms i) (under_way core others (receive_tables ms ps ws) log budget) s.event s.front s.spent);
@@ -244,19 +244,19 @@ module _ (core : Core) (budget : ℕ) (ms ps ws : List ℕ) (i : ℕ) (ms₁ : L
   pub visits_spent : {r : LegPoll} (turned next : Core) → turned ≡ with_next ((i + 1) % core.counts.members) core → next ≡ continued 1 turned
       → r ≡ Continuation → r ≡ leg_poll budget (member_at ms i).queue
       → Visits (core.counts.waiting + 1) (take_front i (member_at ms i)) core budget (receive_tables ms ps ws)
-      record { took = 0; core = next; budget = 0 } (receive_tables ms₁ ps ws)
+      record { more = false; core = next; budget = 0 } (receive_tables ms₁ ps ws)
   visits_spent turned next t c gave is =
       subst
       (λ (x : Core).
       Visits (core.counts.waiting + 1) (take_front i (member_at ms i)) core budget (receive_tables ms ps ws)
-      record { took = 0; core = x; budget = 0 } (receive_tables ms₁ ps ws))
+      record { more = false; core = x; budget = 0 } (receive_tables ms₁ ps ws))
       (sym (c ∙ ap (continued 1) t)) (visits_spent_at (sym gave ∙ is))
 
   visits_event_at : (e : Event) (left id : ℕ) (after : Core) (ms' ps' ws' : List ℕ) → PolledEvent e left ≡ leg_poll budget (member_at ms i).queue
       → id ≡ (member_at ms i).membership.id
       → Collected i id e (with_next ((i + 1) % core.counts.members) core) (receive_tables ms₁ ps ws) after (receive_tables ms' ps' ws')
       → Visits (core.counts.waiting + 1) (take_front i (member_at ms i)) core budget (receive_tables ms ps ws)
-      record { took = 1; core = after; budget = left } (receive_tables ms' ps' ws')
+      record { more = true; core = after; budget = left } (receive_tables ms' ps' ws')
   visits_event_at e left id after ms' ps' ws' is named h =
       let g = gave_event budget (member_at ms i).queue e left is in
       let popped = changed_by i ms ms₁ pop changed (ap (λ (q : List Event). with_queue q (member_at ms i)) (queue_goes budget (member_at ms i).queue g.unspent)) in
@@ -266,7 +266,7 @@ module _ (core : Core) (budget : ℕ) (ms ps ws : List ℕ) (i : ℕ) (ms₁ : L
         waiting_long = h.leaves.waiting_long;
         members_same = h.leaves.members_same;
         waiting_most = h.waiting_more;
-        took = λ others log. ap (λ (v : VisitedRun). v.took) (event_taken i (member_at ms i) (under_way core others (receive_tables ms ps ws) log budget) e g.front g.unspent);
+        more = λ others log. ap (λ (v : VisitedRun). v.took) (event_taken i (member_at ms i) (under_way core others (receive_tables ms ps ws) log budget) e g.front g.unspent);
         state =
             λ others log.
             ap (λ (v : VisitedRun). v.run.state) (event_taken i (member_at ms i) (under_way core others (receive_tables ms ps ws) log budget) e g.front g.unspent)
@@ -286,7 +286,7 @@ module _ (core : Core) (budget : ℕ) (ms ps ws : List ℕ) (i : ℕ) (ms₁ : L
       → turned ≡ with_next ((i + 1) % core.counts.members) core → r ≡ PolledEvent e left → r ≡ leg_poll budget (member_at ms i).queue
       → m ≡ (member_at ms i).membership → Collected i m.id e turned (receive_tables ms₁ ps ws) after (receive_tables ms' ps' ws')
       → Visits (core.counts.waiting + 1) (take_front i (member_at ms i)) core budget (receive_tables ms ps ws)
-      record { took = 1; core = after; budget = left } (receive_tables ms' ps' ws')
+      record { more = true; core = after; budget = left } (receive_tables ms' ps' ws')
   visits_event {m = m} turned e left after ms' ps' ws' t gave is named h =
       visits_event_at e left m.id after ms' ps' ws' (sym gave ∙ is) (ap (λ (x : Membership). x.id) named)
       (subst (λ (x : Core). Collected i m.id e x (receive_tables ms₁ ps ws) after (receive_tables ms' ps' ws')) t h)
@@ -360,7 +360,7 @@ usable_after core budget ms ps ws r ms' ps' ws' u few v =
 
 module _ (core : Core) (budget : ℕ) (ms ps ws : List ℕ) (usable : Usable core (receive_tables ms ps ws)) (few : core.counts.waiting < max_waiting) where
   pub collects_none : {r : Option ℕ} → r ≡ None → r ≡ in_turn core.visit.round (members_of core.counts.members ms)
-      → Collects (core.counts.waiting + 1) collect_one_event core budget (receive_tables ms ps ws) record { took = 0; core = core; budget = budget } (receive_tables ms ps ws)
+      → Collects (core.counts.waiting + 1) collect_one_event core budget (receive_tables ms ps ws) record { more = false; core = core; budget = budget } (receive_tables ms ps ws)
   collects_none nowhere found =
       let none_there = found_none (in_turn core.visit.round (members_of core.counts.members ms)) (sym nowhere ∙ found) in
       record {
@@ -371,7 +371,7 @@ module _ (core : Core) (budget : ℕ) (ms ps ws : List ℕ) (usable : Usable cor
               waiting_long = refl;
               members_same = refl;
               waiting_most = omega arith;
-              took = λ others log. ap (λ (v : VisitedRun). v.took) (none_in_turn (under_way core others (receive_tables ms ps ws) log budget) none_there);
+              more = λ others log. ap (λ (v : VisitedRun). v.took) (none_in_turn (under_way core others (receive_tables ms ps ws) log budget) none_there);
               state = λ others log. ap (λ (v : VisitedRun). v.run.state) (none_in_turn (under_way core others (receive_tables ms ps ws) log budget) none_there);
               left = λ others log. ap (λ (v : VisitedRun). v.run.budget) (none_in_turn (under_way core others (receive_tables ms ps ws) log budget) none_there);
             };
@@ -392,10 +392,10 @@ module _ (core : Core) (budget : ℕ) (ms ps ws : List ℕ) (usable : Usable cor
         waiting_long = v.waiting_long;
         members_same = v.members_same;
         waiting_most = v.waiting_most;
-        took =
+        more =
             λ others log.
             ap (λ (x : VisitedRun). x.took) (one_in_turn (under_way core others (receive_tables ms ps ws) log budget) i (member_at ms i) there at)
-            ∙ v.took others log;
+            ∙ v.more others log;
         state =
             λ others log.
             ap (λ (x : VisitedRun). x.run.state) (one_in_turn (under_way core others (receive_tables ms ps ws) log budget) i (member_at ms i) there at)

@@ -1,5 +1,5 @@
 -- What is proved of the definitions in specs/Delivery.antt, with what the proofs need.
-use Rattle.std.specs.Prelude.{◌≡◌, refl, Bool, true, false, ℕ, zero, suc, unwrap_or, slice_index_or, ◌+◌, ◌≤◌, ◌<◌, ◌*◌, leb, length, None, Option, Some}
+use Rattle.std.specs.Prelude.{◌≡◌, refl, Bool, true, false, ℕ, zero, suc, unwrap_or, slice_index_or, ◌+◌, ◌≤◌, ◌<◌, ◌*◌, leb, length, None, Option, Some, MatchOption}
 use Rattle.std.proofs.Math.Path.{ap, ap₂, sym}
 use Rattle.std.proofs.Common.{subst, ◌∙◌, eq-eqb, ne_eqb, arith, is_le, nat_cmp}
 use Rattle.std.proofs.lemmas.Bool.Decides.{nat_tests}
@@ -69,6 +69,17 @@ module _ (time source : ℕ) (l : Leg) where
   unfolding if_some◌give◌otherwise◌
   given_up_from moment at_moment is compared =
       rw (deadline_some (gives_up_at source l) moment (sym at_moment ∙ is)) (compared ∙ le_is_leb moment.0 time)
+
+  -- the answer by the deadline, if there is one
+  pub given_up_after : {r : Option Timestamp} {answer : Bool} → r ≡ deadline_of (gives_up_at source l)
+      → MatchOption r (answer ≡ false) (λ moment. answer ≡ is_le (nat_cmp moment.0 time)) → answer ≡ leg_given_up time source l
+  unfolding if_some◌give◌otherwise◌
+  given_up_after {r} {answer} is given = go r is given
+    where
+      go : (o : Option Timestamp) → o ≡ deadline_of (gives_up_at source l) → MatchOption o (answer ≡ false) (λ moment. answer ≡ is_le (nat_cmp moment.0 time))
+          → answer ≡ leg_given_up time source l
+      go None none_is g = rw (deadline_none (gives_up_at source l) none_is) g
+      go (Some moment) some_is g = rw (deadline_some (gives_up_at source l) moment some_is) (g ∙ le_is_leb moment.0 time)
 
   pub never_given_up : {r : Option Timestamp} → r ≡ None → r ≡ deadline_of (gives_up_at source l) → false ≡ leg_given_up time source l
   unfolding if_some◌give◌otherwise◌
