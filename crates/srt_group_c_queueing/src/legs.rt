@@ -9,9 +9,7 @@ ghost use Rattle.srt_group_words.specs.Words.{silent, words, PromisedWords, Read
 
 use cell_set::of_words;
 use srt_group_queueing::{calls, events, readings};
-use srt_group_words::record::{
-    RECORD, read_core, read_group, read_identity, read_ring, read_sending,
-};
+use srt_group_words::record::{RECORD, read_group};
 use srt_protocol::error::outcome_number;
 
 // A lifecycle event at the end of a leg's queue.
@@ -54,7 +52,7 @@ pub extern "C" fn srt_group_raw_queue_event(
 }
 
 // The same for a valid state, of which `used` shows the cells in use. The store is lent for its length.
-#[tactic(auto, using(srt_group_words::specs::Laws::Words::parts_ready))]
+#[tactic(auto, using(srt_group_words::specs::Laws::Words::group_ready))]
 #[unsafe(no_mangle)]
 pub extern "C" fn srt_group_valid_queue_event(
     record: &[u64],
@@ -80,10 +78,7 @@ pub extern "C" fn srt_group_valid_queue_event(
         (storing store.now) []) used.now }
 {
     let done = events::queue_event(
-        read_identity(record),
-        read_core(record),
-        read_sending(record),
-        read_ring(record),
+        read_group(record),
         members,
         pending,
         waiting,
@@ -138,7 +133,7 @@ pub extern "C" fn srt_group_raw_read_leg(
 }
 
 // The same for a valid state, of which `used` shows the cells in use. The store is lent for its length.
-#[tactic(auto, using(srt_group_words::specs::Laws::Words::parts_ready))]
+#[tactic(auto, using(srt_group_words::specs::Laws::Words::group_ready))]
 #[unsafe(no_mangle)]
 pub extern "C" fn srt_group_valid_read_leg(
     record: &[u64],
@@ -164,10 +159,7 @@ pub extern "C" fn srt_group_valid_read_leg(
         (storing store.now) []) used.now }
 {
     let done = readings::read_leg(
-        read_identity(record),
-        read_core(record),
-        read_sending(record),
-        read_ring(record),
+        read_group(record),
         members,
         pending,
         waiting,
