@@ -61,11 +61,9 @@ pub fn poll_data(
     let polled = polls::poll_data(
         group, members, pending, waiting, history, sources, store, output, time,
     );
-    let after = polled.group;
-    let given = polled.answer;
-    let answer = words_of(given);
+    let answer = words_of(polled.answer);
     DataPolledWords {
-        group: after,
+        group: polled.record,
         answer,
     }
 }
@@ -92,10 +90,11 @@ pub fn add_member(
     let added = addition::add_member(
         group, members, pending, waiting, history, sources, row, id, weight,
     );
-    let after = added.group;
-    let outcome = added.outcome;
-    let code = outcome_number(outcome) as u64;
-    MemberAddedWords { group: after, code }
+    let code = outcome_number(added.answer) as u64;
+    MemberAddedWords {
+        group: added.record,
+        code,
+    }
 }
 
 // `send` with its answer in words.
@@ -122,11 +121,9 @@ pub fn send(
     let sent = sends::send(
         group, members, pending, waiting, history, sources, store, list, time, payload,
     );
-    let after = sent.group;
-    let given = sent.answer;
-    let answer = words_of_send(given, sent.rows);
+    let answer = words_of_send(sent.answer, sent.rows);
     GroupSentWords {
-        group: after,
+        group: sent.record,
         answer,
     }
 }
