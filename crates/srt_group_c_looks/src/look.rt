@@ -1,5 +1,5 @@
 // A look at what C lends: each exported look is this one with what it shows.
-// Kept (5, 6): C lends each table by its name and length (docs/TABLES.md), so each is a parameter of its own.
+// Kept (5, 6): an exported look has each table by its own name, and the struct of them is made here: made at each of the looks it would be no plainer.
 ghost use Rattle.std.specs.Prelude.{◌<◌, ◌≤◌, length};
 ghost use Rattle.std.specs.Fn.{FnOnceReturnsAt};
 ghost use Rattle.srt_group_shown.specs.Tables.{tables};
