@@ -13,11 +13,11 @@ use srt_group_collecting::collecting::MAX_VISITS;
 use srt_group_data_poll::polls;
 use srt_group_words::answers::{POLLED, put};
 use srt_group_words::begin::begin_poll;
-use srt_group_words::record::{RECORD, read_core, read_identity, read_ring, read_sending};
+use srt_group_words::record::{RECORD, read_group};
 use srt_protocol::time::Timestamp;
 
 // `srt_group_raw_poll_data_bounded` for a valid state, of which `used` shows the cells in use.
-#[tactic(auto, using(srt_group_words::specs::Laws::Words::parts_ready))]
+#[tactic(auto, using(srt_group_words::specs::Laws::Words::group_ready))]
 #[unsafe(no_mangle)]
 pub extern "C" fn srt_group_valid_poll_data_bounded(
     record: &mut [u64],
@@ -45,10 +45,7 @@ pub extern "C" fn srt_group_valid_poll_data_bounded(
         (lending store.now output.new) answer.new) used.new }
 {
     let poll = polls::poll_data_bounded(
-        read_identity(record),
-        read_core(record),
-        read_sending(record),
-        read_ring(record),
+        read_group(record),
         members,
         pending,
         waiting,
@@ -65,7 +62,7 @@ pub extern "C" fn srt_group_valid_poll_data_bounded(
 
 // The next packet in order, after at most so many events, which are dropped. Its payload is written from byte 12 of the output on. The answer:
 // whether to poll again at once, and of the packet its leg, sequence, count (0: none), message number, timestamp, source time and length.
-#[tactic(auto, using(srt_group_words::specs::Laws::Words::record_refused, srt_group_words::specs::Laws::Words::answer_refused, srt_group_words::specs::Laws::Begin::poll_ready, srt_group_words::specs::Laws::Begin::poll_on))]
+#[tactic(auto, using(srt_group_words::specs::Laws::Words::record_refused, srt_group_words::specs::Laws::Words::answer_refused, srt_group_words::specs::Laws::Begin::poll_ready))]
 #[unsafe(no_mangle)]
 pub extern "C" fn srt_group_raw_poll_data_bounded(
     record: &mut [u64],
@@ -95,7 +92,7 @@ pub extern "C" fn srt_group_raw_poll_data_bounded(
         return 5;
     }
     let mut used = [0; WORDS];
-    let code = begin_poll(
+    let begun = begin_poll(
         record,
         members,
         pending,
@@ -106,9 +103,9 @@ pub extern "C" fn srt_group_raw_poll_data_bounded(
         output.len(),
         &mut used,
     );
-    if code != 0 {
+    if let Err(error) = begun {
         put(answer, [0; POLLED]);
-        return code;
+        return u32::from(error);
     }
     srt_group_valid_poll_data_bounded(
         record, members, pending, waiting, history, sources, store, output, &mut used, time,
