@@ -1,5 +1,5 @@
 // The call's own payload on one member, and what is recorded of it.
-// Kept (5, 6): what changes members, history or list takes them one beside the other: of a struct of `&mut` each clause names every field (tried).
+// Kept (5, 6): which tables a function changes differs from one to the next, so a struct of `&mut` would be another for each (docs/DECISIONS.md).
 ghost use Rattle.std.specs.Prelude.{◌≡◌, ◌+◌, ◌*◌, ◌≤◌, length};
 ghost use Rattle.srt_group_model.specs.Sending.{sent_row_size};
 ghost use Rattle.srt_group_model.specs.Backup.{max_history};
@@ -13,7 +13,7 @@ use srt_connection::legs::send_shared_with_sequence;
 use srt_connection_members::{leg_at, membership_at, put_leg_at};
 use srt_group_model::{Entry, Leg};
 use srt_group_sending::broadcast::with_number_after;
-use srt_group_sending::list::{OWN_PAYLOAD, write_sent};
+use srt_group_sending::list::{Sent, write_sent};
 use srt_group_tables::history::{HistoryWords, push_back, store};
 use srt_protocol::error::Error;
 use srt_protocol::time::Timestamp;
@@ -48,9 +48,8 @@ pub fn send_on(
         return false;
     };
     let membership = membership_at(members, index);
-    let id = membership.id;
     put_leg_at(members, index, leg);
-    write_sent(list, sent, id, sequence, OWN_PAYLOAD, time, time);
+    write_sent(list, sent, Sent::own(membership.id, sequence, time));
     true
 }
 

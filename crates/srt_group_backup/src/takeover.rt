@@ -1,6 +1,6 @@
 // The take-over: a member that is to carry the next send first replays the flight of the carrier before it, as far as it is not
 // acknowledged, at the same sequences. One that cannot replay all of it is refused.
-// Kept (5, 6): what changes members, history or list takes them one beside the other: of a struct of `&mut` each clause names every field (tried).
+// Kept (5, 6): which tables a function changes differs from one to the next, so a struct of `&mut` would be another for each (docs/DECISIONS.md).
 ghost use Rattle.std.specs.Prelude.{◌≡◌, ◌-◌, ◌*◌, ◌≤◌, ◌<◌, length};
 ghost use Rattle.srt_group_model.specs.Backup.{max_history, replay_on, replay_flight, take_over_backup_flight};
 ghost use Rattle.srt_group_model.specs.Sending.{max_sent, list_size};

@@ -61,18 +61,15 @@ pub fn trim_backup_history(mut sending: Sending, history: &HistoryWords, leg: Le
 pub fn trim_by_carrier(sending: Sending, history: &HistoryWords, rows: &[Row]) -> SendHistory
     ensures { TrimmedByCarrier (members_in rows.now) history.now.history.now sending history.now.ring result }
 {
-    if sending.carried == 0 {
-        return SendHistory {
-            sending,
-            ring: history.ring,
-        };
-    }
-    let found = find(rows, sending.carrier);
-    let Some(index) = found else {
-        return SendHistory {
-            sending,
-            ring: history.ring,
-        };
+    let untrimmed = SendHistory {
+        sending,
+        ring: history.ring,
+    };
+    let Some(carrier) = sending.carrier() else {
+        return untrimmed;
+    };
+    let Some(index) = find(rows, carrier) else {
+        return untrimmed;
     };
     trim_backup_history(sending, history, leg(&rows[index]))
 }

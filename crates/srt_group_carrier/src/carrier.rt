@@ -1,6 +1,6 @@
 // Who carries. Before a send a carrier that fell silent is demoted; after one that failed another member is promoted; and who carries in
 // another's place replays the flight that is not acknowledged, so that the receiver gets no hole.
-// Kept (5, 6): what changes members, history or list takes them one beside the other: of a struct of `&mut` each clause names every field (tried).
+// Kept (5, 6): which tables a function changes differs from one to the next, so a struct of `&mut` would be another for each (docs/DECISIONS.md).
 ghost use Rattle.std.specs.Prelude.{◌-◌, ◌*◌, ◌≤◌, ◌<◌, length};
 ghost use Rattle.srt_group_model.specs.Tools.{change};
 ghost use Rattle.srt_group_model.specs.Members.{promote_backup_member, promote_if_none};

@@ -1,7 +1,6 @@
 // The readiness tests: `can_send` and `can_send_with_pacing` after 5 and 6. They refresh the members' states and, in Backup, trim the
 // history by what the carrier's peer has acknowledged, so that cells may get free.
-// Kept (5): which tables a call changes differs from call to call (here the members, in a send the history too), so a struct of those lent
-// would be another for each kind of call.
+// Kept (5): which tables a function changes differs from one to the next, so a struct of `&mut` would be another for each (docs/DECISIONS.md).
 ghost use Rattle.std.specs.Prelude.{◌≡◌, ◌*◌, ◌≤◌, length};
 ghost use Rattle.srt_group_model.specs.Backup.{max_history};
 ghost use Rattle.srt_group_model.specs.Lent.{call_can_send, call_can_send_with_pacing};

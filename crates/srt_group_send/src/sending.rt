@@ -1,6 +1,6 @@
 // `send` for a valid state. The members' states are refreshed first; then the payload's size is tested once, against the first active
 // leg, since a payload that is too large for every leg says nothing of a leg's health; then the send is the mode's.
-// Kept (5, 6): what changes members, history or list takes them one beside the other: of a struct of `&mut` each clause names every field (tried).
+// Kept (5, 6): which tables a function changes differs from one to the next, so a struct of `&mut` would be another for each (docs/DECISIONS.md).
 ghost use Rattle.std.specs.Prelude.{◌≡◌, true, ◌*◌, ◌≤◌, ◌<◌, length, is_ok, Ok};
 ghost use Rattle.std.specs.Result.{result_and};
 ghost use Rattle.srt_protocol.specs.Cells.{cell_size, cells_of, overwritten};

@@ -1,6 +1,5 @@
 // The readiness tests for a valid state. The store is lent for its length, over which the state is valid.
-// Kept (5): which tables a call changes differs from call to call (here the members, in a send the history too), so a struct of those lent
-// would be another for each kind of call.
+// Kept (5): which tables a function changes differs from one to the next, so a struct of `&mut` would be another for each (docs/DECISIONS.md).
 ghost use Rattle.std.specs.Prelude.{length};
 ghost use Rattle.srt_group_model.specs.Guards.{shown, truth};
 ghost use Rattle.srt_group_model.specs.Lent.{call_can_send, call_can_send_with_pacing};

@@ -1,5 +1,5 @@
 // `send` and the readiness tests with their refusals, over the record and the lent tables: 5 and 6, and then what follows them.
-// Kept (5, 6): the host lends record and tables anew to each call; which are changed differs, and a struct of `&mut` needs a clause for each ghost name (tried).
+// Kept (5, 6): which tables a function changes differs from one to the next, so a struct of `&mut` would be another for each (docs/DECISIONS.md).
 ghost use Rattle.srt_group_model.specs.Lent.{call_send, call_can_send, call_can_send_with_pacing};
 ghost use Rattle.srt_group_looks.specs.Looks.{truth_code, truth_answer};
 ghost use Rattle.srt_group_shown.specs.Tables.{tables};
