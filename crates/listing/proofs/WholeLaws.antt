@@ -9,7 +9,7 @@ use mathlib.Core.Bool.{Bool, true, false, ◌&&◌, true≢false}
 use mathlib.Core.Path.{◌≡◌, refl, ap, sym, subst, ◌∙◌}
 use mathlib.Core.List.{List, [], ◌∷◌, ◌++◌}
 use lib.Dec.{leb, eqb}
-use lib.ListN.{length, take, drop, get_or, length-append, length-drop, take-append-drop}
+use lib.ListN.{length, take, drop, drop_of_length-le, get_or, length-append, length-drop, take-append-drop}
 use lib.Seq.{drop-append-add, take-append-le, drop-append-le, drop-cons, get_or_at, length-take-le}
 use borrow.Author.Tests.{le-leb, eq-eqb, ne_eqb, leb-true, eqb-true}
 use Rattle.listing.proofs.Cases.{by_cases}
@@ -189,6 +189,9 @@ module _ (block : List ℕ) (width : ℕ) (numbers after : List ℕ) (same : len
       let none : whole_here (length numbers) width block ≡ false = not_whole_here (length numbers) width block never in
       record { found = none; put = λ t. absurd (true≢false (sym t ∙ none)); same = same }
 
+  pub whole_refused : begins_with_columns (length numbers) width block ≡ false → WholeRead block width numbers after None
+  whole_refused malformed = whole_not_found (λ t inside feed. not_both (sym malformed ∙ t))
+
   -- what is left behind the columns begins with a line feed, or there is no answer
   pub whole_or_not :
       (end : ℕ) (answer : Option (Bor (List ℕ))) → begins_with_columns (length numbers) width block ≡ true → end ≡ length numbers * width
@@ -209,3 +212,10 @@ pub columns_inside : (count width end : ℕ) (bytes : List ℕ) → begins_with_
 unfolding begins_with_columns
 columns_inside count width end bytes begins is =
     let few = leb-true _ _ (both (leb (count * width) (length bytes)) (all_numbers (cut count width bytes)) begins).0 in omega (arith, is)
+
+-- behind a block's end no line stands
+pub none_whole_behind :
+    (block : List ℕ) (from width : ℕ) (numbers : List ℕ) → length block < from → WholeRead (drop from block) width numbers numbers None
+unfolding has_feed
+none_whole_behind block from width numbers behind =
+    rw (drop_of_length-le block {i = from} (omega arith)) (record { found = refl; put = λ t. absurd (not_both t); same = refl })
