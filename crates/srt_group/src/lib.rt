@@ -53,7 +53,7 @@ impl Group {
 
     pub const CELL: usize = received_payload::CELL;
 
-    // Kept (5): id, mode and length are words that a host lends for the start alone.
+    // Kept (5): id, mode and length are words that a C host lends for the start alone.
     // A fresh group over tables of which no row is in use. The mode is 0 for Broadcast, 1 for Backup. The length is the store's, which every
     // call that is lent one then asks for, or 0. Refused with 2 for an id or a mode out of range, with 1 for an id that is no group's.
     pub fn new(id: u64, mode: u64, length: usize) -> Result<Group, Error>
@@ -68,7 +68,7 @@ impl Group {
         Ok(Self::fresh(id, mode, length))
     }
 
-    // Kept (5): as `new`.
+    // Kept (5): the three words of `new` go from C to this call and no further: a struct of them is made for it alone, and no plainer.
     // The record of a group that was just made.
     fn fresh(id: u64, mode: u64, length: usize) -> Self
         ensures { Fresh result (new record { id = id; mode = mode; length = length }) }

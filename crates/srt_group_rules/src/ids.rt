@@ -1,7 +1,7 @@
 // Document 01's code 6: one id twice. And the member with an id, by a table of places: an id's place is its last bits, and the table
 // says which member's id has it. Two ids can share a place, so what the table says is compared, and where it says nothing of use
 // every member is asked.
-// Kept (5): that ids are distinct is tested once, in the pass, and then known of the host's words; a type for it would hold the same rows.
+// Kept (5): the pass tests once that the ids are distinct; a type of the rows with that fact is opened again where the rows are walked, and so no plainer.
 ghost use Rattle.std.specs.Prelude.{◌≡◌, false, ◌%◌, ◌≤◌, ◌<◌, length, replicate};
 ghost use Rattle.srt_group_model.specs.Tools.{any, each};
 ghost use Rattle.srt_group_model.specs.Members.{id_of, has_id, find};

@@ -1,8 +1,7 @@
 // Document 01's code 6 in one pass over each lent table and one over the history: each row is read once, tested by itself and against the
 // rows before it, and the cell that it names is marked. The held packets go before the members: each is added to the account of its
 // member, or to that of the group, and then each member is compared with its own.
-// Kept (5, 6): this is the test of what lent words hold, so nothing is known of them yet: a `History` states the very bounds that the pass
-// tests, and the set's marking is what each call of it changes.
+// Kept (5, 6): the tables are words that a C host lends, with their counts of rows, and this is the test of them; of the set see cells.rt.
 ghost use Rattle.std.specs.Prelude.{◌≡◌, false, ◌++◌, ◌*◌, ◌≤◌, length};
 ghost use Rattle.srt_group_model.specs.Tools.{each};
 ghost use Rattle.srt_group_model.specs.Members.{id_of};
@@ -29,7 +28,7 @@ use srt_group_rules::rows::{
     entry_breaks_rule, event_breaks_rule, leg_breaks_rule, packet_breaks_rule, queue_event,
 };
 use srt_group_rules::sums::{OWN_PLACE, account_place, data_count};
-use srt_group_tables::history::{HistoryRing, MAX_HISTORY, entry_at};
+use srt_group_tables::history::{History, HistoryRing, HistoryWords, MAX_HISTORY};
 use srt_group_tables::pending::packet;
 
 // ---- members
@@ -80,6 +79,9 @@ fn member_breaks_rule(row: &Row, held: Account, cells: usize, used: &mut CellSet
 
 // ---- held packets, and then members
 
+// Those of the members, and the group's own.
+const ACCOUNTS: usize = OWN_PLACE + 1;
+
 // The place of the account that a packet is added to, if the packet breaks no rule, its sequence is not below `lowest`, and its cell
 // can be marked.
 fn place_packet(
@@ -121,8 +123,7 @@ fn rows_break_rule(
         (pending_cells (packets held pending.now) ++ queued_cells (members_in rows.now))
         used.old result used.new }
 {
-    let none = NO_PACKETS;
-    let mut accounts = [none; 65];
+    let mut accounts = [NO_PACKETS; ACCOUNTS];
     let mut lowest: u64 = 0;
     for at in 0..held {
         let next = packet(pending, at);
@@ -172,6 +173,25 @@ pub fn tables_break_rule(
 
 // ---- the history
 
+// The entries of a ring that has a place for each.
+fn entries_break_rule(entries: &History, cells: usize, used: &mut CellSet) -> bool
+    requires { Marking cells used.old }
+    ensures { Passes cells (history_breaks_rule (entries_of entries.now.words.ring (arrays entries.now.words.history.now entries.now.sources.now)) ≡ false)
+        (history_cells (entries_of entries.now.words.ring (arrays entries.now.words.history.now entries.now.sources.now)))
+        used.old result used.new }
+{
+    for index in 0..entries.words.ring.length {
+        let entry = entries.entry_at(index);
+        if entry_breaks_rule(entry) {
+            return true;
+        }
+        if !mark(used, cells, entry.cell) {
+            return true;
+        }
+    }
+    false
+}
+
 // A history of more than MAX_HISTORY entries is not walked: its ring has no place for them.
 pub fn history_breaks_rule(
     ring: HistoryRing,
@@ -189,14 +209,6 @@ pub fn history_breaks_rule(
     if MAX_HISTORY < ring.length {
         return true;
     }
-    for index in 0..ring.length {
-        let entry = entry_at(ring, history, sources, index);
-        if entry_breaks_rule(entry) {
-            return true;
-        }
-        if !mark(used, cells, entry.cell) {
-            return true;
-        }
-    }
-    false
+    let words = HistoryWords { ring, history };
+    entries_break_rule(&History { words, sources }, cells, used)
 }

@@ -20,6 +20,7 @@ ghost use Rattle.table_bench.specs.Made.{InArrays};
 use bench_made::{core, data, sending};
 use cell_set::{WORDS, lowest_free};
 use srt_connection_members::{pop_at, push_at};
+use srt_group::Group;
 use srt_group_model::{Entry, Event, Identity, Packet};
 use srt_group_state::validity::is_invalid;
 use srt_group_tables::history::{HistoryRing, HistoryWords, push_back, store};
@@ -151,27 +152,21 @@ pub extern "C" fn table_rules(
     requires members_size_in_bounds { (members_size ≤ length members.now) × ((pending_size ≤ length pending.now) × (waiting_size ≤ length waiting.now)) }
     requires long { Long (arrays history.now sources.now) }
 {
-    let identity = Identity {
-        id: 0x4000_0001,
-        length: 0,
-    };
-    let ring = HistoryRing {
-        start: 0,
-        length: entries,
+    let group = Group {
+        identity: Identity {
+            id: 0x4000_0001,
+            length: 0,
+        },
+        core: core(many, held, 1),
+        sending: sending(),
+        ring: HistoryRing {
+            start: 0,
+            length: entries,
+        },
     };
     let mut used = [0; WORDS];
     if is_invalid(
-        identity,
-        core(many, held, 1),
-        sending(),
-        ring,
-        members,
-        pending,
-        waiting,
-        history,
-        sources,
-        MAX_CELLS,
-        &mut used,
+        group, members, pending, waiting, history, sources, MAX_CELLS, &mut used,
     ) {
         return MAX_CELLS;
     }

@@ -12,6 +12,8 @@ unfolding leg_out_of_range leg_words any_above any flight_out_of_range
 returns c =
     simp (
       c.flight_out_of_range.ensures,
+      c.is_connected.ensures,
+      c.has_sender.ensures,
       or_assoc,
       no_word_above c.args.leg.sender.oldest.0 (omega arith),
       no_word_above c.args.leg.sender.pace.0 (omega arith),
