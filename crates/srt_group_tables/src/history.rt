@@ -1,6 +1,7 @@
 // What the Backup carrier sent and its peer has not acknowledged: a ring over two lent arrays of 512 places. A word of
 // `history` is the sequence of an entry, its cell and its length; `sources` has its source time.
-// Kept (5, 6): `store` changes both arrays; `entry_at` also serves the test of code 6, whose ring may be too long for a `History`.
+// Kept (5, 6): the arrays come through the C interface. `store` changes both: of a struct of `&mut` fields each clause would name what every
+// field holds at the end by a ghost name of its own. `entry_at` also reads a state of which it is not known yet that it keeps the rules.
 ghost use Rattle.std.specs.Prelude.{◌≡◌, [], ◌+◌, ◌%◌, ◌≤◌, ◌<◌, length, get_or};
 ghost use Rattle.srt_group_model.specs.Backup.{max_history};
 ghost use Rattle.srt_group_tables.specs.Ring.{Long, arrays, cells_in_word, lengths_in_word, entry_word, word_sequence, word_cell, word_length, Packs, entry_at, with_entry, next_place, after_push, Trimmed};
@@ -110,9 +111,6 @@ pub fn push_back(ring: HistoryRing) -> HistoryRing
 }
 
 // ---- a history, lent to read
-
-// The functions that change a history take the parts: of a struct of `&mut` fields each clause would name what every field holds at the
-// end by a ghost name of its own.
 
 // The ring with the words of its entries, which show all but their source times.
 #[derive(Clone, Copy)]
