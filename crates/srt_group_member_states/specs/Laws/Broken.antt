@@ -1,11 +1,7 @@
 -- A member that is marked broken is document 01's.
-use Rattle.std.specs.Prelude.{◌≡◌, Bool, false, [], ◌∷◌, ℕ, None, Some, Option, Ok, Err, Result}
-use Rattle.std.specs.Option.{ok_or}
-use Rattle.std.specs.Result.{result_err}
-use Rattle.std.proofs.lemmas.Option.{none-some}
+use Rattle.std.specs.Prelude.{◌≡◌, Bool, false, [], ◌∷◌, ℕ}
 use Rattle.std.proofs.Math.Path.{refl, ap}
 use Rattle.std.proofs.Common.{sym}
-use Rattle.srt_protocol.specs.declared.error.Error.{Error}
 use Rattle.srt_protocol.specs.declared.error.Error.TheVariants.{UnknownMember}
 use Rattle.srt_group_model.specs.Tools.{if_true◌then◌else◌}
 use Rattle.srt_group_model.specs.Laws.Reason.{if_some_elim}
@@ -52,15 +48,3 @@ module _ (id : ℕ) where
         is = step_is;
         cells = λ fit. same_queue;
       }
-
--- ---- nothing was found: the error is the one that was named
-
-module _ (e : Error) where
-  error_in : Result ℕ Error → Error
-  error_in (Ok x) = e
-  error_in (Err d) = d
-
-  pub none_with : (o : Option ℕ) {d : Error} → ok_or o e ≡ Err d → d ≡ e
-  unfolding error_in
-  none_with None is = sym (ap error_in is)
-  none_with (Some x) {d} is = absurd (none-some d (ap result_err is))
