@@ -52,13 +52,11 @@ pub fn poll_event(
     let poll = polls::poll_event(
         group, members, pending, waiting, history, sources, store, output, &mut used, time,
     );
-    let after = poll.core;
-    let gave = poll.gave;
     Answered {
         record: Group {
-            core: after,
+            core: poll.core,
             ..group
         },
-        answer: Ok(gave),
+        answer: Ok(poll.gave),
     }
 }

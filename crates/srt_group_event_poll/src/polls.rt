@@ -21,12 +21,10 @@ use srt_protocol::time::Timestamp;
 fn packet_in(gave: Option<GroupEvent>) -> Option<Packet>
     ensures { result ≡ packet_in gave }
 {
-    let Some(given) = gave else {
-        return None;
-    };
-    match given {
-        GroupEvent::Event(_) => None,
-        GroupEvent::Packet(packet) => Some(packet),
+    match gave {
+        None => None,
+        Some(GroupEvent::Event(_)) => None,
+        Some(GroupEvent::Packet(packet)) => Some(packet),
     }
 }
 
