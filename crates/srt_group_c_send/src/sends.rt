@@ -13,7 +13,7 @@ use srt_group_send::sending;
 use srt_group_sending::list::SENT_LENGTH;
 use srt_group_words::answers::put;
 use srt_group_words::begin::begin_stored;
-use srt_group_words::record::{RECORD, read_core, read_identity, read_ring, read_sending};
+use srt_group_words::record::{RECORD, read_group};
 use srt_protocol::time::Timestamp;
 
 // `srt_group_raw_send` for a valid state, of which `used` shows the cells in use.
@@ -44,10 +44,7 @@ pub extern "C" fn srt_group_valid_send(
         (sending_into store.new list.new) answer.new) used.new }
 {
     let sent = sending::send(
-        read_identity(record),
-        read_core(record),
-        read_sending(record),
-        read_ring(record),
+        read_group(record),
         members,
         pending,
         waiting,
@@ -97,7 +94,7 @@ pub extern "C" fn srt_group_raw_send(
         return 5;
     }
     let mut used = [0; WORDS];
-    let code = begin_stored(
+    let begun = begin_stored(
         record,
         members,
         pending,
@@ -107,9 +104,9 @@ pub extern "C" fn srt_group_raw_send(
         store.len(),
         &mut used,
     );
-    if code != 0 {
+    if let Err(error) = begun {
         put(answer, [0, 0]);
-        return code;
+        return u32::from(error);
     }
     srt_group_valid_send(
         record, members, pending, waiting, history, sources, store, list, &mut used, time, payload,

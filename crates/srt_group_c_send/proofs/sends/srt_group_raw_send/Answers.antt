@@ -13,11 +13,11 @@ returns-then-answer-lt-SENT c = search sent_refused
 pub returns-then-list-lt-SENT_LENGTH : goal.returns-then-list-lt-SENT_LENGTH
 returns-then-list-lt-SENT_LENGTH c = list_short _ _ _ _ _ _ _ c.if-record-lt-RECORD.false c.if-answer-lt-SENT.false c.put.ensures c.if-list-lt-SENT_LENGTH.true
 
-pub returns-then-code-ne0 : goal.returns-then-code-ne0
-returns-then-code-ne0 c = begin_refused _ _ _ _ _ _ _ c.if-record-lt-RECORD.false c.if-answer-lt-SENT.false c.put-then-code-ne0.ensures c.if-list-lt-SENT_LENGTH.false c.begin_stored-code.ensures c.if-code-ne0.true
+pub returns-in-Err : goal.returns-in-Err
+returns-in-Err c = begin_refused _ _ _ _ _ _ _ c.if-record-lt-RECORD.false c.if-answer-lt-SENT.false c.put-in-Err.ensures c.if-list-lt-SENT_LENGTH.false c.begin_stored-begun.ensures _ c.in-Err.is c.from.ensures
 
 pub srt_group_valid_send-requires : goal.srt_group_valid_send-requires
-srt_group_valid_send-requires c = record { ready_words = stored_ready c.begin_stored-code.ensures c.if-code-ne0.false c.if-record-lt-RECORD.false; list_size_in_bounds = (c.if-list-lt-SENT_LENGTH.false, c.if-answer-lt-SENT.false) }
+srt_group_valid_send-requires c = record { ready_words = stored_ready c.begin_stored-begun.ensures c.in_default.is c.if-record-lt-RECORD.false; list_size_in_bounds = (c.if-list-lt-SENT_LENGTH.false, c.if-answer-lt-SENT.false) }
 
 pub returns : goal.returns
-returns c = stored_sent c.if-record-lt-RECORD.false c.if-answer-lt-SENT.false c.begin_stored-code.ensures c.if-code-ne0.false c.srt_group_valid_send.ensures
+returns c = stored_sent c.if-record-lt-RECORD.false c.if-answer-lt-SENT.false c.begin_stored-begun.ensures c.in_default.is c.srt_group_valid_send.ensures
