@@ -29,10 +29,7 @@ pub fn look<const N: usize, T: InWords<N>, F: FnOnce(&LentGroup) -> Result<T, Er
         → Shows N T.answer (λ lent r. FnOnceReturnsAt F.FnOnce given lent r) «record».now
         (tables members.now pending.now waiting.now history.now sources.now) answer.old result answer.new }
 {
-    if record.len() < RECORD {
-        return 5;
-    }
-    if answer.len() < N {
+    if record.len() < RECORD || answer.len() < N {
         return 5;
     }
     let lent = LentGroup {
