@@ -226,12 +226,11 @@ fn collect_member_event(
     ensures freed { Freed (freed_by_event id event (receive_of core pending.old))
         used.old used.new }
 {
-    if event.kind == 0 {
-        let content = event.content;
+    if event.is_data() {
         let packet = Packet {
             member: id,
             owned: 0,
-            content,
+            content: event.content,
         };
         return retain_group_packet(core, members, pending, used, index, packet);
     }

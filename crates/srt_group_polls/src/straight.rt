@@ -34,7 +34,7 @@ fn is_alone_at(event: Event, sequence: u64) -> bool
     ensures { result ≡ (eqb event.kind 0 && (eqb event.content.sequence sequence && eqb event.content.count 1)) }
 {
     let content = event.content;
-    (event.kind == 0) & ((content.sequence == sequence) & (content.count == 1))
+    event.is_data() & ((content.sequence == sequence) & (content.count == 1))
 }
 
 // The packet at the base, if it is next in turn, alone in its run and not held, no event waits, and `quiet` says that a refresh would change nothing.

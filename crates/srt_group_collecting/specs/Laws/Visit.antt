@@ -1,7 +1,7 @@
 -- What is proved of the definitions in specs/Visit.antt, with what the proofs need.
 use Rattle.std.specs.Prelude.{◌≡◌, refl, Bool, false, ℕ, suc, ◌+◌, ◌%◌, ◌<◌, eqb, length, drop, None, Option, Some}
 use Rattle.std.proofs.Math.Path.{ap, ap₂}
-use Rattle.std.proofs.Common.{sym, subst, ◌∙◌, arith, eq-eqb, ne_eqb}
+use Rattle.std.proofs.Common.{sym, subst, ◌∙◌, arith}
 use Rattle.std.proofs.Math.Bool.{true}
 use mathlib.Core.List.{List, [], ◌∷◌}
 use Rattle.word_rows.specs.Laws.Tab.{tab_length}
@@ -10,6 +10,7 @@ use Rattle.srt_group_model.specs.declared.Event.{Event}
 use Rattle.srt_group_model.specs.declared.Membership.{Membership}
 use Rattle.srt_group_model.specs.Tools.{if_true◌then◌else◌, if_some◌give◌otherwise◌, bit, at_place, change}
 use Rattle.srt_group_model.specs.Accounts.{reserve, Fits}
+use Rattle.srt_group_model.specs.Cells.{is_data}
 use Rattle.srt_group_model.specs.State.{Member, State, with_members, with_round, with_continuation, with_queue}
 use Rattle.srt_group_model.specs.Core.{with_next, continued}
 use Rattle.srt_group_model.specs.Members.{id_of}
@@ -48,9 +49,9 @@ unfolding collect_event if_true◌then◌else◌
 other_collected i id e s is = rw is
 
 module _ (i id : ℕ) (e : Event) (core : Core) (ms ps ws : List ℕ) {after : Core} {ms' : List ℕ} where
-  pub collected_data : {ps' : List ℕ} → e.kind ≡ 0 → Retained i (packet_from id e) core ms ps after ms' ps'
+  pub collected_data : {b : Bool} {ps' : List ℕ} → b ≡ is_data e → b ≡ true → Retained i (packet_from id e) core ms ps after ms' ps'
       → Collected i id e core (receive_tables ms ps ws) after (receive_tables ms' ps' ws)
-  collected_data is h =
+  collected_data tested is h =
       let left = h.leaves ws in
       record {
         waiting_more = omega (arith, h.waiting_same);
@@ -62,13 +63,13 @@ module _ (i id : ℕ) (e : Event) (core : Core) (ms ps ws : List ℕ) {after : C
               members_same = left.members_same;
               state =
                   λ others.
-                  data_collected i id e (shown core others ms ps ws) (eq-eqb e.kind 0 is) ∙ left.state others;
+                  data_collected i id e (shown core others ms ps ws) (sym tested ∙ is) ∙ left.state others;
             };
       }
 
-  pub collected_other : {ws' : List ℕ} → (e.kind ≡ 0 → ⊥) → Reported i (waiting_from id e) core ms ws after ms' ws'
+  pub collected_other : {b : Bool} {ws' : List ℕ} → b ≡ is_data e → b ≡ false → Reported i (waiting_from id e) core ms ws after ms' ws'
       → Collected i id e core (receive_tables ms ps ws) after (receive_tables ms' ps ws')
-  collected_other is h =
+  collected_other tested is h =
       let left = h.leaves ps in
       record {
         waiting_more = omega (arith, h.waiting_more);
@@ -80,7 +81,7 @@ module _ (i id : ℕ) (e : Event) (core : Core) (ms ps ws : List ℕ) {after : C
               members_same = left.members_same;
               state =
                   λ others.
-                  other_collected i id e (shown core others ms ps ws) (ne_eqb e.kind 0 is) ∙ left.state others;
+                  other_collected i id e (shown core others ms ps ws) (sym tested ∙ is) ∙ left.state others;
             };
       }
 
@@ -297,10 +298,10 @@ module _ (core : Core) (ms ps ws : List ℕ) (usable : Usable core (receive_tabl
   pub row_there : HasRow i ms
   row_there = omega (arith, usable.members_long, usable.members_few, inside)
 
-  data_front : (e : Event) → at_place 0 (member_at ms i).queue ≡ Some e → e.kind ≡ 0 → FrontData (shown core blank ms ps ws) (member_at ms i) e
+  data_front : (e : Event) → at_place 0 (member_at ms i).queue ≡ Some e → is_data e ≡ true → FrontData (shown core blank ms ps ws) (member_at ms i) e
   data_front e in_front is =
       front_data (shown core blank ms ps ws) i (member_at ms i) e usable.sound (members_place core.counts.members ms i inside) in_front
-      (eq-eqb e.kind 0 is)
+      is
 
   collectable_past : (budget left k id : ℕ) (ms₁ : List ℕ) (e : Event)
       → Changed i (λ m. with_queue (queue_after budget m.queue) m) ms ms₁
