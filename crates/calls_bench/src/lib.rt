@@ -49,12 +49,6 @@ pub extern "C" fn calls_run_valid(
     time: u64,
 ) -> u32 {
     let group = read_group(record);
-    let Group {
-        identity,
-        core,
-        sending,
-        ring,
-    } = group;
     let mut used = [0; WORDS];
     let lent = LentGroup {
         group,
@@ -64,22 +58,13 @@ pub extern "C" fn calls_run_valid(
         history,
         sources,
     };
-    let begun = lent.begin_poll(store.len(), output.len(), &mut used);
-    if let Err(error) = begun {
+    if let Err(error) = lent.begin_poll(store.len(), output.len(), &mut used) {
         return u32::from(error);
     }
-    let after = step_each(
-        identity, core, sending, ring, members, pending, waiting, history, sources, store, output,
-        &mut used, steps, payload, time,
+    let core = step_each(
+        group, members, pending, waiting, history, sources, store, output, &mut used, steps,
+        payload, time,
     );
-    put_group(
-        record,
-        Group {
-            identity,
-            core: after,
-            sending,
-            ring,
-        },
-    );
+    put_group(record, Group { core, ..group });
     0
 }
