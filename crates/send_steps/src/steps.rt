@@ -25,10 +25,7 @@ const ACKNOWLEDGED: u64 = 5;
 
 // On how many legs a send went.
 fn answered(answer: Result<usize, Error>) -> u64 {
-    match answer {
-        Ok(legs) => legs as u64,
-        Err(_) => NOT_SENT,
-    }
+    answer.map_or(NOT_SENT, |legs| legs as u64)
 }
 
 // A step by the public calls, which test 5 and 6. An acknowledgement is answered by the code.

@@ -68,14 +68,11 @@ pub fn above_limit(rows: &[Row], size: u64) -> bool
 }
 
 // The group's send number, else the next number of the member's leg.
-#[tactic(auto, using(crate::specs::Laws::Broadcast::numbered_number, crate::specs::Laws::Broadcast::leg_number))]
+#[tactic(auto, using(crate::specs::Laws::Broadcast::number_or))]
 pub fn sequence_for_send(row: &Row, sending: Sending) -> u64
     ensures { result ≡ number_for_send sending (member_of row.now) }
 {
-    if sending.numbered != 0 {
-        return sending.next;
-    }
-    sender(row).next
+    sending.next_send_sequence().unwrap_or(sender(row).next)
 }
 
 // Active, and not at the sequence.

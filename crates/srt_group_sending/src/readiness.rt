@@ -96,14 +96,11 @@ pub fn takes_over(sending: Sending, id: u64) -> bool
 }
 
 // The sequence of the oldest entry of the history.
-#[tactic(auto, using(crate::specs::Laws::BackupReadiness::front_missing, crate::specs::Laws::BackupReadiness::front_there))]
+#[tactic(auto, using(crate::specs::Laws::BackupReadiness::front_shown))]
 fn front_sequence(history: &HistoryWords) -> Option<u64>
     ensures { result ≡ front_sequence history.now.ring history.now.history.now }
 {
-    if history.ring.length == 0 {
-        return None;
-    }
-    Some(history.sequence_at(0))
+    (history.ring.length != 0).then_some(history.sequence_at(0))
 }
 
 // The sequence at which a leg has to stand: that of the first entry that it would replay, else the group's send number.

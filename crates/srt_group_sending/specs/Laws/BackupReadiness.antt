@@ -6,6 +6,7 @@ use Rattle.std.proofs.Math.Bool.{true, false, not}
 use Rattle.std.proofs.Math.Decide.{dec_lt}
 use borrow.Author.Tests.{eq-eqb, ne_eqb, lt-ltb, le-ltb}
 use Rattle.word_rows.specs.Laws.Tab.{tab_length}
+use Rattle.std.specs.Bool.{then_some}
 use Rattle.std.specs.Option.{option_or}
 use Rattle.srt_group_model.specs.Tools.{if_true◌then◌else◌, if_some◌give◌otherwise◌, is_set, flagged, or_else, place_of, at_place}
 use Rattle.srt_group_model.specs.State.{Member, send_side}
@@ -67,6 +68,15 @@ module _ (r : HistoryRing) (history : List ℕ) where
       → sequence ≡ word_sequence (get_or history ((r.start + 0) % max_history) 0) → Some sequence ≡ front_sequence r history
   unfolding front_sequence if_true◌then◌else◌
   front_there h is = ap (λ (n : ℕ). Some n) is ∙ sym (rw (ne_eqb r.length 0 h))
+
+  pub front_shown : {sequence : ℕ} → sequence ≡ word_sequence (get_or history ((r.start + 0) % max_history) 0)
+      → then_some (not (eqb r.length 0)) sequence ≡ front_sequence r history
+  unfolding front_sequence if_true◌then◌else◌
+  front_shown {sequence} is = by (eqb r.length 0) ∙ ap (λ (n : ℕ). if_true eqb r.length 0 then None else Some n) is
+    where
+      by : (b : Bool) → then_some (not b) sequence ≡ (if_true b then None else Some sequence)
+      by true = refl
+      by false = refl
 
   module _ (x : Sending) {takes : Bool} where
     pub no_replay : {number : Option ℕ} → takes ≡ false → number ≡ send_number x
