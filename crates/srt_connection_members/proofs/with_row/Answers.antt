@@ -1,6 +1,8 @@
 -- `with_row` meets its contract: the part between two others of the table is its row, and comes back in its place.
 use Rattle.std.proofs.Common.{refl, ◌∙◌}
-use Rattle.srt_connection_members.specs.Laws.Members.{part_lent, part_back}
+use Rattle.srt_connection_queue.specs.Rows.{row_size}
+use Rattle.srt_connection_queue.specs.Laws.Row.{put_between}
+use Rattle.srt_connection_members.specs.Laws.Members.{part_lent}
 use Rattle.srt_connection_members.proofs.with_row.Goals as goal
 
 pub returns : goal.returns
@@ -11,6 +13,6 @@ returns g c =
     let i = c.args.index in
     record {
       left = c.call.new.arg2;
-      called = record { shown = _; shows = part_lent i c.args.members.now _ _ rest.front rest.back _ (whole.same ∙ row.front); left = _; met = c.call.ensures; leaves = refl };
-      back = part_back i c.args.members.now _ _ rest.front rest.back _ _ row.back;
+      called = record { shown = _; shows = part_lent i c.args.members.now _ _ rest.back (whole.same ∙ row.front); left = _; met = c.call.ensures; leaves = refl };
+      back = put_between row_size c.args.members.now i _ _ _ _ rest.front rest.back row.back;
     }

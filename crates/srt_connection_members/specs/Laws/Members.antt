@@ -1,9 +1,9 @@
 -- What is proved of the definitions in specs/Members.antt, with what the proofs need.
 use Rattle.srt_protocol.specs.Errors.{Outcome}
-use Rattle.std.specs.Prelude.{◌≡◌, refl, List, [], ◌∷◌, ◌++◌, ℕ, zero, suc, ◌+◌, ◌-◌, ◌*◌, ◌≤◌, ◌<◌, length, take, drop, get_or, None, Option, Some}
+use Rattle.std.specs.Prelude.{◌≡◌, refl, List, [], ◌∷◌, ℕ, zero, suc, ◌+◌, ◌-◌, ◌*◌, ◌≤◌, ◌<◌, length, take, drop, get_or, None, Option, Some}
 use Rattle.std.specs.Simd.{first_chunks}
 use Rattle.std.proofs.Math.Path.{ap}
-use Rattle.std.proofs.Common.{sym, ap₂, ◌∙◌, add-one, arith}
+use Rattle.std.proofs.Common.{◌∙◌, add-one, arith}
 use Rattle.std.proofs.Math.Decide.{dec_lt}
 use borrow.Author.Tests.{eqb-true}
 use Rattle.srt_protocol.specs.Errors.{if_accepted}
@@ -99,17 +99,10 @@ members_front zero rows below = refl
 members_front (suc n) [] below = absurd (omega arith)
 members_front (suc n) (row ∷ rows) below = ap (λ (ms : List Member). member_of row ∷ ms) (members_front n rows (omega arith))
 
--- the row between two parts of the table is lent, and comes back as r
-module _ (i : ℕ) (t before rest : List ℕ) (front : before ≡ take (i * row_size) t) (back : rest ≡ drop (i * row_size) t) where
-  pub part_lent : (lent : List ℕ) → lent ≡ take row_size rest → lent ≡ row_at row_size t i
-  unfolding row_at
-  part_lent lent first = first ∙ ap (take row_size) back
-
-  pub part_back : (r behind : List ℕ) → behind ≡ drop row_size rest → before ++ (r ++ behind) ≡ put_row row_size t i r
-  part_back r behind last =
-      let size : i * row_size + row_size - i * row_size ≡ row_size = omega arith in
-      ap₂ (λ (x y : List ℕ). x ++ (r ++ y)) front (last ∙ ap (drop row_size) back)
-      ∙ sym (ap (λ (n : ℕ). take (i * row_size) t ++ (r ++ drop n (drop (i * row_size) t))) size)
+-- the row at the front of the rest of the table
+pub part_lent : (i : ℕ) (t rest lent : List ℕ) → rest ≡ drop (i * row_size) t → lent ≡ take row_size rest → lent ≡ row_at row_size t i
+unfolding row_at
+part_lent i t rest lent back first = first ∙ ap (take row_size) back
 
 -- a row was lent to a call of which it is known what it does to any row
 module _ (i : ℕ) (t u : List ℕ) {P : List ℕ → List ℕ → Type 0} (there : HasRow i t) (lent : RowLent i t P u) where
