@@ -13,6 +13,13 @@ use Rattle.srt_group_tables.specs.declared.history.HistoryRing.{HistoryRing}
 use Rattle.srt_group.specs.declared.Group.{Group}
 use Rattle.srt_group_words.specs.Record.{record_size, group_of, identity_of, core_of, sending_of, ring_of, group_words, identity_words, core_words, sending_words, ring_words, with_core, with_sent}
 
+-- numbers over the first words of a row, which is lent in two parts
+pub put_front : (whole front behind : List ℕ) (n : ℕ) → length front ≡ n → behind ≡ drop n whole → front ++ behind ≡ overwritten 0 front whole
+unfolding overwritten
+put_front whole front behind n size last =
+    let same : n ≡ 0 + length front = omega (arith, size) in
+    ap (λ (l : List ℕ). front ++ l) (last ∙ ap (λ (k : ℕ). drop k whole) same)
+
 -- a group of parts that were read
 pub group_read : (w : List ℕ) {identity : Identity} {core : Core} {sending : Sending} {ring : HistoryRing} → identity ≡ identity_of w
     → core ≡ core_of w → sending ≡ sending_of w → ring ≡ ring_of w
