@@ -84,10 +84,7 @@ pub extern "C" fn srt_group_raw_poll_event(
         (tables members.new pending.new waiting.new history.now sources.now)
         (lending store.now output.new) answer.new) }
 {
-    if record.len() < RECORD {
-        return 5;
-    }
-    if answer.len() < POLLED {
+    if record.len() < RECORD || answer.len() < POLLED {
         return 5;
     }
     let mut used = [0; WORDS];
