@@ -61,6 +61,7 @@ pub extern "C" fn srt_group_valid_send(
 
 // One payload through the group, on every active leg or on the carrier; each send that a leg takes fills a row of the list: leg, sequence,
 // history cell (4294967295 for this payload), source time, time. The answer: on how many legs, and how many rows were filled.
+#[tactic(auto, using(srt_group_words::specs::Laws::Words::record_refused, srt_group_words::specs::Laws::Words::sent_refused))]
 #[unsafe(no_mangle)]
 pub extern "C" fn srt_group_raw_send(
     record: &mut [u64],
@@ -83,10 +84,7 @@ pub extern "C" fn srt_group_raw_send(
         (tables members.new pending.now waiting.now history.new sources.new)
         (sending_into store.new list.new) answer.new) }
 {
-    if record.len() < RECORD {
-        return 5;
-    }
-    if answer.len() < SENT {
+    if record.len() < RECORD || answer.len() < SENT {
         return 5;
     }
     if list.len() < SENT_LENGTH {

@@ -1,14 +1,7 @@
 -- `srt_group_raw_send` meets its contract: 5 for the rows of words and for the list, 5 and 6 of the call, and then its form for a valid state.
-use Rattle.srt_group_words.specs.Laws.Words.{record_refused, sent_refused}
 use Rattle.srt_group_words.specs.Laws.Begin.{stored_ready, stored_sent}
 use Rattle.srt_group_c_send.specs.Laws.Sends.{list_short, begin_refused}
 use Rattle.srt_group_c_send.proofs.sends.srt_group_raw_send.Goals as goal
-
-pub returns-then-record-lt-RECORD : goal.returns-then-record-lt-RECORD
-returns-then-record-lt-RECORD c = search record_refused
-
-pub returns-then-answer-lt-SENT : goal.returns-then-answer-lt-SENT
-returns-then-answer-lt-SENT c = search sent_refused
 
 pub returns-then-list-lt-SENT_LENGTH : goal.returns-then-list-lt-SENT_LENGTH
 returns-then-list-lt-SENT_LENGTH c = list_short _ _ _ _ _ _ _ c.if-record-lt-RECORD.false c.if-answer-lt-SENT.false c.put.ensures c.if-list-lt-SENT_LENGTH.true
