@@ -1,5 +1,5 @@
 -- What is proved of a line of a replay listing, with what the proofs need.
-use Rattle.std.specs.Prelude.{◌≡◌, false, ℕ, zero, suc, ◌-◌, ◌≤◌, ◌<◌, ◌⊎◌, length, Err, None, Ok, Option, Result, Some}
+use Rattle.std.specs.Prelude.{◌≡◌, false, ℕ, zero, suc, ◌-◌, ◌≤◌, ◌<◌, ◌⊎◌, Err, None, Ok, Option, Result, Some}
 use Rattle.std.proofs.Math.Path.{refl, ap, ap₂, sym, subst}
 use Rattle.std.proofs.Common.{◌∙◌, inl, inr, arith}
 use mathlib.Core.List.{List, []}
@@ -15,15 +15,18 @@ use Rattle.srt_group_model.specs.Laws.Reason.{when_true, when_false}
 use Rattle.srt_group_traces.specs.Port.{Shown}
 use Rattle.cell_set.specs.Sets.{ShowsCells}
 use Rattle.srt_group_shown.specs.Tables.{Tables, Long, state_of}
-use Rattle.srt_group_shown.specs.Ready.{Ready, storing}
+use Rattle.srt_group_shown.specs.Ready.{storing}
 use Rattle.srt_group_shown.specs.Laws.Ready.{ready_new}
 use Rattle.srt_group.specs.Made.{parts_of, PromisedNew}
 use Rattle.srt_group.specs.declared.Group.{Group}
 use Rattle.srt_protocol.specs.declared.error.Error.{Error}
-use Rattle.srt_group_listing.specs.declared.Memory.{Memory}
+use Rattle.srt_group_replay.specs.declared.Memory.{Memory}
 use Rattle.srt_group_listing.specs.declared.Printed.{Printed}
-use Rattle.srt_group_listing.specs.Telling.{tables_of, numbers_of, ReadyFor}
-use Rattle.srt_group_replay.specs.Lines.{standing, Standing}
+use Rattle.srt_group_listing.specs.Telling.{numbers_of}
+use Rattle.srt_group_replay.specs.declared.verb.Verb.{Verb}
+use Rattle.srt_group_replay.specs.declared.verb.Verb.TheVariants.{New, Add, Reading, Data, Poll, Send, Remove, MarkBroken, Event}
+use Rattle.srt_group_replay.specs.Verb.{number_of}
+use Rattle.srt_group_replay.specs.Lines.{tables_of, ReadyIn, standing, Standing}
 use Rattle.srt_group_replay.specs.Told.{TellsLine}
 
 -- ---- verbs that are none, and no group
@@ -53,6 +56,17 @@ without_group line (suc (suc (suc (suc (suc zero))))) few = refl
 without_group line (suc (suc (suc (suc (suc (suc zero)))))) few = refl
 without_group line (suc (suc (suc (suc (suc (suc (suc zero))))))) few = refl
 without_group line (suc (suc (suc (suc (suc (suc (suc (suc k)))))))) few = absurd (omega arith)
+
+most_number : (verb : Verb) → number_of verb ≤ 9
+most_number New = omega arith
+most_number Add = omega arith
+most_number Reading = omega arith
+most_number Data = omega arith
+most_number Poll = omega arith
+most_number Send = omega arith
+most_number Remove = omega arith
+most_number MarkBroken = omega arith
+most_number Event = omega arith
 
 -- ---- verb 1
 
@@ -86,18 +100,12 @@ module _ (line : Line) where
           ∙ when_true (eqb (new_code making_of) 0) _ _ (eq-eqb (new_code making_of) 0 (accepted t))
           ∙ ap₂ (λ (x : Option State) (l : List ℕ). record { group = x; line = l }) (ap (λ (x : State). Some x) (sym (shows t))) (sym says)
 
-      pub fresh_stands : {m : Memory} → Long (tables_of m) → length m.store ≡ store_length → ShowsCells m.used [] → Standing (Some fresh) m
-      fresh_stands {m} long cells clean =
+      pub fresh_stands : {m : Memory} → Long (tables_of m) → ShowsCells m.used [] → Standing (Some fresh) m
+      fresh_stands {m} long clean =
           record {
             long = long;
-            cells = cells;
             ready =
-                record {
-                  call =
-                      subst (λ (n : ℕ). Ready (parts_of fresh) (tables_of m) n m.used) (sym cells)
-                      (ready_new (parts_of fresh) (tables_of m) making_of store_length m.used (shows (tables_of m)) (accepted (tables_of m)) long new_fits clean);
-                  cells = cells;
-                };
+                ready_new (parts_of fresh) (tables_of m) making_of store_length m.used (shows (tables_of m)) (accepted (tables_of m)) long new_fits clean;
           }
 
     -- refused: what stood in its place stays
@@ -131,18 +139,21 @@ module _ (line : Line) where
   tells_no_verb (inr beyond) s says = stays (no_verb line s (column 0 line) beyond) says
 
   -- no group was made
-  pub tells_without_group : 2 ≤ column 0 line → column 0 line ≤ 9 → {s : Option State} → None ≡ s
+  pub tells_without_group : (verb : Verb) → number_of verb ≡ column 0 line → 2 ≤ number_of verb → {s : Option State} → None ≡ s
       → {out : Printed} → numbers_of out ≡ refused_line (column 0 line) 6 → TellsLine line s out s
-  tells_without_group from to {s} is {out} says =
+  tells_without_group verb asks from {s} is {out} says =
       subst (λ (o : Option State). TellsLine line o out o) is
-      (stays (ap (λ (n : ℕ). tell n line None) verb ∙ without_group line (column 0 line - 2) (omega arith)) says)
+      (stays (ap (λ (n : ℕ). tell n line None) behind ∙ without_group line (column 0 line - 2) (omega (arith, to))) says)
     where
-      verb : column 0 line ≡ suc (suc (column 0 line - 2))
-      verb = omega arith
+      to : number_of verb ≤ 9
+      to = most_number verb
+
+      behind : column 0 line ≡ suc (suc (column 0 line - 2))
+      behind = omega arith
 
 pub none_stands : (g : Option Group) (m : Memory) {s : Option State} → standing g m ≡ s → g ≡ None → None ≡ s
 none_stands g m {s} view is = subst (λ (o : Option Group). standing o m ≡ s) is view
 
 -- a group that is ready stands
-pub stands : {g : Group} {m : Memory} → ReadyFor g m → Standing (Some g) m
-stands ready = record { long = ready.call.long; cells = ready.cells; ready = ready }
+pub stands : {g : Group} {m : Memory} → ReadyIn m g → Standing (Some g) m
+stands ready = record { long = ready.long; ready = ready }

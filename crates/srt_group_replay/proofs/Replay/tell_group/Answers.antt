@@ -4,4 +4,4 @@ use Rattle.srt_group_replay.proofs.Replay.tell_group.Goals as goal
 
 pub returns-in-None : goal.returns-in-None
 returns-in-None c =
-    tells_without_group c.args.line.now c.requires.0 c.requires.1 (none_stands c.self.inside.group c.self.inside.memory c.self.view_is c.in-None.is) c.outcome_line.ensures
+    tells_without_group c.args.line.now c.args.verb c.requires.0 c.requires.1 (none_stands c.self.inside.group c.self.inside.memory c.self.view_is c.in-None.is) c.outcome_line.ensures

@@ -5,7 +5,7 @@ use Rattle.srt_group_replay.proofs.Replay.tell_new.Goals as goal
 
 pub invariant_of-self : goal.invariant_of-self
 invariant_of-self c =
-    fresh_stands c.args.line.now c.new.ensures c.in-Ok.fresh c.in-Ok.is c.self.invariant.long c.self.invariant.cells c.clear.ensures
+    fresh_stands c.args.line.now c.new.ensures c.in-Ok.fresh c.in-Ok.is c.self.invariant.long c.clear.ensures
 
 pub returns-in-Ok : goal.returns-in-Ok
 returns-in-Ok c = tells_made c.args.line.now c.new.ensures c.in-Ok.fresh c.in-Ok.is c.requires c.outcome_line.ensures _ _
