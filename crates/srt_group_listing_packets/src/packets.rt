@@ -90,8 +90,11 @@ fn packet_line(gave: Option<Packet>, skipped: u64) -> Printed
     match gave {
         None => Printed {
             verb: 5,
+            code: 0,
+            leg: 0,
+            sequence: 0,
+            count: 0,
             skipped,
-            ..Printed::default()
         },
         Some(packet) => Printed {
             verb: 5,
@@ -156,8 +159,11 @@ fn sent_line(answer: Result<usize, Error>) -> Printed
     match answer {
         Ok(legs) => Printed {
             verb: 6,
+            code: 0,
             leg: legs as u64,
-            ..Printed::default()
+            sequence: 0,
+            count: 0,
+            skipped: 0,
         },
         Err(error) => outcome_line(6, Err(error)),
     }

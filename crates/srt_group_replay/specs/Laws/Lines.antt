@@ -57,7 +57,8 @@ without_group line (suc (suc (suc (suc (suc (suc zero)))))) few = refl
 without_group line (suc (suc (suc (suc (suc (suc (suc zero))))))) few = refl
 without_group line (suc (suc (suc (suc (suc (suc (suc (suc k)))))))) few = absurd (omega arith)
 
-most_number : (verb : Verb) → number_of verb ≤ 9
+-- no verb has a larger number
+pub most_number : (verb : Verb) → number_of verb ≤ 9
 most_number New = omega arith
 most_number Add = omega arith
 most_number Reading = omega arith
@@ -139,17 +140,14 @@ module _ (line : Line) where
   tells_no_verb (inr beyond) s says = stays (no_verb line s (column 0 line) beyond) says
 
   -- no group was made
-  pub tells_without_group : (verb : Verb) → number_of verb ≡ column 0 line → 2 ≤ number_of verb → {s : Option State} → None ≡ s
+  pub tells_without_group : 2 ≤ column 0 line → column 0 line ≤ 9 → {s : Option State} → None ≡ s
       → {out : Printed} → numbers_of out ≡ refused_line (column 0 line) 6 → TellsLine line s out s
-  tells_without_group verb asks from {s} is {out} says =
+  tells_without_group from to {s} is {out} says =
       subst (λ (o : Option State). TellsLine line o out o) is
-      (stays (ap (λ (n : ℕ). tell n line None) behind ∙ without_group line (column 0 line - 2) (omega (arith, to))) says)
+      (stays (ap (λ (n : ℕ). tell n line None) verb ∙ without_group line (column 0 line - 2) (omega arith)) says)
     where
-      to : number_of verb ≤ 9
-      to = most_number verb
-
-      behind : column 0 line ≡ suc (suc (column 0 line - 2))
-      behind = omega arith
+      verb : column 0 line ≡ suc (suc (column 0 line - 2))
+      verb = omega arith
 
 pub none_stands : (g : Option Group) (m : Memory) {s : Option State} → standing g m ≡ s → g ≡ None → None ≡ s
 none_stands g m {s} view is = subst (λ (o : Option Group). standing o m ≡ s) is view
