@@ -42,20 +42,17 @@ impl Sent {
             time,
         }
     }
+}
 
-    // The words of the row.
-    #[tactic(auto, unfolding(crate::specs::SentList::sent_words))]
-    fn words(self) -> [u64; SENT_WORDS]
-        ensures { result ≡ sent_words (sent_row self.leg self.sequence self.cell self.source.0 self.time.0) }
-    {
-        [
-            self.leg,
-            self.sequence,
-            self.cell,
-            self.source.0,
-            self.time.0,
-        ]
-    }
+fn write_row(row: &mut [u64], sent: Sent)
+    requires { length row.old ≡ sent_row_size }
+    ensures { row.new ≡ sent_words (sent_row sent.leg sent.sequence sent.cell sent.source.0 sent.time.0) }
+{
+    row[0] = sent.leg;
+    row[1] = sent.sequence;
+    row[2] = sent.cell;
+    row[3] = sent.source.0;
+    row[4] = sent.time.0;
 }
 
 // A send behind the first `count`.
@@ -65,5 +62,5 @@ pub fn write_sent(list: &mut [u64], count: usize, sent: Sent)
         list.old (count + 1) list.new }
 {
     let start = count * SENT_WORDS;
-    list[start..start + SENT_WORDS].copy_from_slice(&sent.words());
+    write_row(&mut list[start..start + SENT_WORDS], sent);
 }

@@ -4,7 +4,8 @@ use Rattle.srt_group_model.specs.Sending.{sent_row_size}
 use Rattle.srt_group_sending.specs.Laws.SentList.{five_words, wrote_one}
 use Rattle.srt_group_sending.proofs.list.write_sent.Goals as goal
 
+-- src/list.rt:27:1
 pub returns : goal.returns
 returns c =
     wrote_one _ _ _ _
-    (rw (c.copy_from_slice.ensures.after, c.words.ensures) (row_back sent_row_size _ _ _ (five_words _)))
+    (rw c.write_row.ensures (row_back sent_row_size _ _ _ (five_words _)))
