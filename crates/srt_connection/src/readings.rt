@@ -1,5 +1,6 @@
 // Readings: document 01, "Fields of 3". A leg's field by its number, with its range (code 2) and its turn (code 32).
 // Kept (5): a reading comes as two words of the C call, its field and its number, and is taken apart by the one that reads it.
+// Kept (1): kind, field and number are words of the C call: any is a legal question, and 2 refuses what is none.
 ghost use Rattle.std.specs.Prelude.{◌≡◌};
 ghost use Rattle.std.specs.Option.{MatchOption};
 ghost use Rattle.srt_group_model.specs.Legs.{goes_back, reading_of};

@@ -1,5 +1,6 @@
 // A member is added behind the others. If its leg is connected it is admitted, which may set the base and bind the group, and, if
 // that succeeds, its send sequence is aligned with the group's. Where that fails, 22, it stays added, as in the Rust.
+// Kept (1): a state is a word of the lent row: a C host may lend any number, and 6 has to read it to refuse it.
 ghost use Rattle.std.specs.Prelude.{◌≡◌, ◌≤◌, ◌<◌, length};
 ghost use Rattle.srt_group_model.specs.Validity.{max_members};
 ghost use Rattle.srt_connection_members.specs.Members.{members_size};

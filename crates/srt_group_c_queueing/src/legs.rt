@@ -1,5 +1,6 @@
 // `queue_event` and `read_leg` of the stand-in leg.
 // Kept (5, 6): C lends each table by its name and length (docs/TABLES.md), so each is a parameter of its own.
+// Kept (1): kind, field and number are words of the C call: any is a legal question, and 2 refuses what is none.
 ghost use Rattle.std.specs.Prelude.{false, [], length};
 ghost use Rattle.srt_group_model.specs.Lent.{call_queue_event, call_read_leg};
 ghost use Rattle.srt_group_shown.specs.Tables.{tables};

@@ -1,4 +1,5 @@
 // The legs as rows of one lent slice of records, for reading states: what `members` (srt_group_looks) fills, read as structs.
+// Kept (1): a state is a word of the lent row: a C host may lend any number, and 6 has to read it to refuse it.
 
 #![tactic(auto)]
 

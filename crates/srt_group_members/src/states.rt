@@ -1,4 +1,6 @@
 // What state a member is in. A test reads the few words of a row that it needs.
+// Kept (1): the mode is the record's word, which a C host lends so that 6 can refuse it; an enum of it would be `is_backup` again at each call.
+// Kept (1): a state is a word of the lent row: a C host may lend any number, and 6 has to read it to refuse it.
 ghost use Rattle.std.specs.Prelude.{◌≡◌, ◌&&◌, ◌*◌, ◌≤◌, length};
 ghost use Rattle.srt_connection_queue.specs.Rows.{member_of};
 ghost use Rattle.srt_connection_members.specs.Members.{members_in, HasRow, Changed};

@@ -36,6 +36,7 @@ pub struct Data {
 // `ConnectionEvent`. The kind is 0 data, 1 connected, 2 error, 3 disconnected. Data has no reason, the others no data.
 #[derive(Clone, Copy)]
 pub struct Event {
+    // Kept (1): a kind is a word of the lent row: a C host may lend any number, and 6 has to read it to refuse it.
     pub kind: u64,
     pub reason: u64,
     pub content: Data,
@@ -63,6 +64,7 @@ pub struct Packet {
 #[derive(Clone, Copy)]
 pub struct Waiting {
     pub member: u64,
+    // Kept (1): a kind is a word of the lent row: a C host may lend any number, and 6 has to read it to refuse it.
     pub kind: u64,
     pub reason: u64,
 }
@@ -72,6 +74,7 @@ pub struct Waiting {
 // state is 0 handshaking, 1 connected, 2 disconnected; peer is the peer group (0: none); limit is the payload limit.
 #[derive(Clone, Copy)]
 pub struct Link {
+    // Kept (1): a state is a word of the lent row: a C host may lend any number, and 6 has to read it to refuse it.
     pub state: u64,
     pub peer: u64,
     pub limit: u64,
@@ -140,6 +143,7 @@ pub struct Account {
 pub struct Membership {
     pub id: u64,
     pub weight: u64,
+    // Kept (1): a state is a word of the lent row: a C host may lend any number, and 6 has to read it to refuse it.
     pub state: u64,
     // peer_group_admitted
     pub admitted: u64,
@@ -249,6 +253,7 @@ pub struct Counts {
 #[derive(Clone, Copy)]
 pub struct Core {
     // mode
+    // Kept (1): the mode is the record's word, which a C host lends so that 6 can refuse it; an enum of it would be `is_backup` again at each call.
     pub mode: u64,
     // peer_group_id, 0 while the group is not bound
     pub peer: u64,

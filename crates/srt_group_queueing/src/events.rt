@@ -1,5 +1,6 @@
 // `queue_event` of the stand-in leg: a lifecycle event into a leg's queue.
 // Kept (5, 6): which tables a call changes differs from call to call (queued data: members and the store; an event or a reading: the members), so a struct of those that it only reads would be another for each kind of call.
+// Kept (1): kind, field and number are words of the C call: any is a legal question, and 2 refuses what is none.
 ghost use Rattle.std.specs.Prelude.{◌≡◌, ◌||◌, ◌*◌, ◌≤◌, eqb, length};
 ghost use Rattle.srt_protocol.specs.Errors.{outcome_number};
 ghost use Rattle.srt_group_model.specs.Legs.{largest_32};
