@@ -1,5 +1,6 @@
 // A member's row in the lent table: parts of nine words, in the order of the constants below. Words that a part does not use
 // are 0, those of the spare part apart. Every row of ROW words shows a member: there is no row that does not decode.
+// Kept (5): a part's place comes of the ring's arithmetic; a type of places would be made for each read and taken apart at once.
 ghost use Rattle.std.specs.Prelude.{◌≡◌, ◌<◌};
 ghost use Rattle.srt_connection_queue.specs.Rows.{link_part, receiver_part, parts, part, put_part, membership_of, membership_words, link_part_of, link_part_words, sender_of, sender_words, receiver_of, receiver_in, ring_of, ring_in, event_of, event_words, member_of, Kept, with_membership, with_link_trip, with_sender, with_receiver};
 ghost use Rattle.srt_group_model.specs.State.{with_leg, on_leg, on_membership, with_account};
