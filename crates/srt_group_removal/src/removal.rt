@@ -1,5 +1,5 @@
 // A member is taken out, and its leg given back.
-// Kept (5): the core goes by value, and the tables are lent to change: a struct of `&mut` fields, tried, needs a clause for each ghost name.
+// Kept (5): the core goes by value, and the tables are lent to change: a struct of `&mut` fields needs a clause for each of them (docs/DECISIONS.md).
 ghost use Rattle.std.specs.Prelude.{◌≡◌, ◌-◌, min};
 ghost use Rattle.srt_group_collecting.specs.Follows.{Follows};
 ghost use Rattle.srt_group_removal.specs.Removal.{Removable, TakesOut, Removes};

@@ -1,5 +1,5 @@
 // Retirement: while the counts of the group's own packets exceed a limit, the one farthest ahead of a base is retired.
-// Kept (5): `Held` is of the core, which goes by value, and of the table lent to change: as a struct, tried, it needs a clause for the ghost name.
+// Kept (5): `Held` is of the core, which goes by value, and of the table lent to change: a struct of both needs a clause for the table (docs/DECISIONS.md).
 ghost use Rattle.std.specs.Prelude.{◌≡◌, List, ℕ, ◌≤◌, ◌<◌};
 ghost use Rattle.srt_group_model.specs.Legs.{largest_sequence};
 ghost use Rattle.srt_group_model.specs.Removal.{bound_group_owned_pending, retirement_base};
