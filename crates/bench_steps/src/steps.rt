@@ -26,6 +26,7 @@ const NO_PACKET: u64 = 4294967295;
 const NOT_POLLED: u64 = 4294967294;
 
 // The group after a step, and the step's answer.
+// Kept (2): a call gives the whole record back; a form gives the core alone (`Stepped`).
 #[derive(Clone, Copy)]
 pub struct Called {
     pub group: Group,
@@ -33,6 +34,7 @@ pub struct Called {
 }
 
 // What a poll moves of the record, and the step's answer.
+// Kept (2): a form moves the core alone; the whole record, as in `Called`, would be copied in each step that is timed.
 #[derive(Clone, Copy)]
 pub struct Stepped {
     pub core: Core,

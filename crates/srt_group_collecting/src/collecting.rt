@@ -39,6 +39,7 @@ use srt_group_tables::{pending, waiting};
 use srt_protocol::srt_packet::word_before;
 
 // What a visit leaves: whether the visits may go on, since it took an event off a queue; the group's numbers, and what is left of the budget.
+// Kept (2): what several visits leave (`Gathered`) has no flag, since they have ended.
 #[derive(Clone, Copy)]
 pub struct Visited {
     pub more: bool,
@@ -56,6 +57,7 @@ pub struct Emptied {
 }
 
 // What the visits of a poll leave.
+// Kept (2): no `Visited`: these visits have ended, so a flag whether more may follow would say nothing.
 #[derive(Clone, Copy)]
 pub struct Gathered {
     pub core: Core,
