@@ -35,6 +35,7 @@ use srt_group_tables::pending::packet;
 
 // A leg's queue, whose data count for as many as are reserved. A queue of more than MAX_QUEUED events is not walked: its ring has no
 // place for them.
+#[tactic(auto, using(crate::specs::Laws::Passes::queue_long, crate::specs::Laws::Passes::queue_stopped, crate::specs::Laws::Passes::event_broken, crate::specs::Laws::Passes::event_refused, crate::specs::Laws::Passes::queue_passed, srt_group_rules::specs::Laws::Sums::queued_fits))]
 fn queue_breaks_rule(row: &Row, reserved: u64, cells: usize, used: &mut CellSet) -> bool
     requires { Marking cells used.old }
     ensures { Passes cells (QueueGood reserved (member_of row.now).queue) (queue_cells (member_of row.now))
@@ -60,6 +61,7 @@ fn queue_breaks_rule(row: &Row, reserved: u64, cells: usize, used: &mut CellSet)
 }
 
 // A member's row, whose held packets have this account: its leg reserves what they count and what is queued.
+#[tactic(auto, using(crate::specs::Laws::Passes::member_broken, crate::specs::Laws::Passes::member_short, crate::specs::Laws::Passes::member_queue))]
 fn member_breaks_rule(row: &Row, held: Account, cells: usize, used: &mut CellSet) -> bool
     requires { Marking cells used.old }
     ensures { Passes cells (MemberGood held (member_of row.now)) (queue_cells (member_of row.now))
@@ -106,6 +108,7 @@ fn place_packet(
     account_place(rows, table, packet)
 }
 
+#[tactic(auto, using(crate::specs::Laws::Passes::placed_low))]
 fn rows_break_rule(
     own: Account,
     rows: &[Row],
@@ -174,6 +177,7 @@ pub fn tables_break_rule(
 // ---- the history
 
 // The entries of a ring that has a place for each.
+#[tactic(auto, using(crate::specs::Laws::Passes::history_stopped, crate::specs::Laws::Passes::entry_broken, crate::specs::Laws::Passes::entry_refused, crate::specs::Laws::Passes::history_passed))]
 fn entries_break_rule(entries: &History, cells: usize, used: &mut CellSet) -> bool
     requires { Marking cells used.old }
     ensures { Passes cells (history_breaks_rule (entries_of entries.now.words.ring (arrays entries.now.words.history.now entries.now.sources.now)) ≡ false)
@@ -193,6 +197,7 @@ fn entries_break_rule(entries: &History, cells: usize, used: &mut CellSet) -> bo
 }
 
 // A history of more than MAX_HISTORY entries is not walked: its ring has no place for them.
+#[tactic(auto, using(crate::specs::Laws::Passes::history_long))]
 pub fn history_breaks_rule(
     ring: HistoryRing,
     history: &[u64],

@@ -35,6 +35,7 @@ pub fn is_blank(identity: Identity) -> bool
 }
 
 // The round's place is that of a member; with no member it is 0.
+#[tactic(auto, using(srt_group_model::specs::Laws::Reason::or_assoc, srt_group_model::specs::Laws::Reason::or_no, crate::specs::Laws::Outside::round_test), unfolding(srt_group_model::specs::Tools::any, srt_group_model::specs::Validity::any_above, crate::specs::Outside::core_counts))]
 pub fn count_above_limit(core: Core) -> bool
     ensures { result ≡ any_above (core_counts core) }
 {
@@ -45,6 +46,7 @@ pub fn count_above_limit(core: Core) -> bool
 }
 
 // An id beyond 32 bits, a mode or a flag above 1.
+#[tactic(auto, using(srt_group_model::specs::Laws::Reason::or_assoc, srt_group_model::specs::Laws::Reason::or_no), unfolding(srt_group_model::specs::Tools::any, srt_group_model::specs::Validity::any_above, srt_group_model::specs::Validity::making_words, srt_group_model::specs::Validity::group_words, srt_group_model::specs::Validity::record_out_of_range, crate::specs::Outside::words_out_of_range))]
 fn words_out_of_range(group: Group) -> bool
     ensures { result ≡ words_out_of_range group.identity group.core group.sending }
 {
@@ -80,6 +82,7 @@ fn numbers_break_rule(group: Group) -> bool
 
 // Document 01's code 6, whole: whether the state breaks a rule over a store of so many cells. Where it breaks none, the set
 // shows which cells are in use, whatever it held before.
+#[tactic(auto, using(crate::specs::Laws::Outside::counts_within))]
 pub fn is_invalid(
     group: Group,
     members: &[u64],
