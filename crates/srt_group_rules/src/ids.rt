@@ -25,6 +25,7 @@ fn place_of(id: u64) -> usize
 }
 
 // Whether one of the members before has the id. They are asked only where one of them has the id's place.
+#[tactic(auto, using(crate::specs::Laws::Ids::free_place))]
 fn is_repeated(before: &[Row], id: u64, table: &[u8; PLACES]) -> bool
     requires { TakenBefore before.now (length before.now) table.now }
     ensures { result ≡ any (has_id id) (members_in before.now) }
@@ -37,6 +38,7 @@ fn is_repeated(before: &[Row], id: u64, table: &[u8; PLACES]) -> bool
 
 // Whether an id stands twice. The table is filled on the way; what it then says of a place is the index of a member, or nobody, and
 // nothing rests on which.
+#[tactic(auto, using(crate::specs::Laws::Ids::once_in))]
 pub fn id_twice(rows: &[Row], table: &mut [u8; PLACES]) -> bool
     requires few { length rows.now ≤ max_members }
     requires table_value { table.old ≡ replicate places nobody }

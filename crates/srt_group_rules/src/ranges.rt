@@ -55,6 +55,7 @@ fn flight_out_of_range(leg: Leg) -> bool
 }
 
 // A connected leg has a sender.
+#[tactic(auto, using(srt_group_model::specs::Laws::Reason::or_assoc, crate::specs::Laws::Rules::no_word_above), unfolding(srt_group_model::specs::Tools::any, srt_group_model::specs::Validity::any_above, srt_group_model::specs::Validity::leg_words, srt_group_model::specs::Validity::leg_out_of_range, crate::specs::Rules::flight_out_of_range))]
 pub fn leg_out_of_range(leg: Leg) -> bool
     ensures { result ≡ leg_out_of_range leg }
 {
