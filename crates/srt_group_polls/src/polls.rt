@@ -145,14 +145,16 @@ fn pass_event(poll: Poll) -> Option<DataPoll>
     ensures { Passes poll result }
 {
     let core = poll.core;
-    match poll.gave {
-        None => Some(DataPoll {
+    let Some(given) = poll.gave else {
+        return Some(DataPoll {
             gave: None,
             continuation: core.visit.continuation,
             core,
-        }),
-        Some(GroupEvent::Event(_)) => None,
-        Some(GroupEvent::Packet(packet)) => Some(DataPoll {
+        });
+    };
+    match given {
+        GroupEvent::Event(_) => None,
+        GroupEvent::Packet(packet) => Some(DataPoll {
             gave: Some(packet),
             continuation: 0,
             core,
