@@ -1,7 +1,7 @@
 // Admission of the members whose handshake completed since the last look. As in the Rust, the first of them fixes the receive base
 // before it is compared, and the first peer group that one answers from binds the group.
 //
-// Kept (5, 6): a C host lends the members as words, with the count of rows in use; `as_chunks_mut` says nothing of what the words end as.
+// Kept (3, 5, 6): a C host lends the members as words, with the count of rows in use; `as_chunks_mut` says nothing of what the words end as.
 ghost use Rattle.std.specs.Prelude.{◌≡◌, ◌*◌, ◌≤◌, length, eqb};
 ghost use Rattle.srt_group_model.specs.Tools.{if_true◌then◌else◌};
 ghost use Rattle.srt_group_model.specs.Members.{arrives};

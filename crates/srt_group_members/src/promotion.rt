@@ -43,6 +43,7 @@ fn first_in_rank_with(rows: &[Row], index: usize, best: Option<usize>) -> Option
 }
 
 // The index of the member that is promoted.
+// Kept (3): from the last row to the first, so that of equals the first stays; a fold would carry each row with its index, and is no plainer.
 #[tactic(auto, using(crate::specs::Laws::Rank::ranking_start, crate::specs::Laws::Rank::ranking_row, crate::specs::Laws::Rank::ranking_done))]
 pub fn promotion(rows: &[Row]) -> Option<usize>
     ensures { result ≡ promotion (members_in rows.now) }
