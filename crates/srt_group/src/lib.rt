@@ -57,7 +57,7 @@ impl Group {
     // Kept (5): id, mode and length are words that a C host lends for the start alone.
     // A fresh group over tables of which no row is in use. The mode is 0 for Broadcast, 1 for Backup. The length is the store's, which every
     // call that is lent one then asks for, or 0. Refused with 2 for an id or a mode out of range, with 1 for an id that is no group's.
-    #[tactic(auto, using(crate::specs::Laws::Made::new_unfit, crate::specs::Laws::Made::new_unmarked, crate::specs::Laws::Made::new_made))]
+    #[tactic(auto, using(crate::specs::Laws::Made::new_unmarked, crate::specs::Laws::Made::new_made))]
     pub fn new(id: u64, mode: u64, length: usize) -> Result<Group, Error>
         ensures { PromisedNew record { id = id; mode = mode; length = length } result }
     {
