@@ -4,11 +4,12 @@
 #![tactic(auto)]
 
 ghost use Rattle.std.specs.Prelude.{◌≡◌, [], ◌∷◌, ◌≤◌, ◌<◌, length, eqb};
+ghost use Rattle.std.specs.Option.{MatchOption};
 ghost use Rattle.std.specs.Borrow.{Lends, Array, u64, sem};
 ghost use Rattle.srt_protocol.specs.Cells.{max_cells};
 ghost use Rattle.cell_set.specs.Bits.{set_size, bit_at};
 ghost use Rattle.cell_set.specs.Marks.{Marking, Marks};
-ghost use Rattle.cell_set.specs.Sets.{ShowsCells, Taken, Freed, FirstWord, LowestFree};
+ghost use Rattle.cell_set.specs.Sets.{ShowsCells, Taken, Freed, Passed, FirstWord, LowestFree};
 
 use srt_protocol::received_payload::MAX_CELLS;
 
@@ -85,11 +86,11 @@ pub fn clear(used: &mut CellSet)
     used.fill(0);
 }
 
-// The first word that is not full, or WORDS.
-fn first_word(used: &CellSet) -> usize
-    ensures { FirstWord used.now result }
+// The first word that is not full.
+fn first_word(used: &CellSet) -> Option<usize>
+    ensures { MatchOption result (Passed used.now set_size) (λ at. (at < set_size) × FirstWord used.now at) }
 {
-    used.iter().position(|word| *word != FULL).unwrap_or(WORDS)
+    used.iter().position(|word| *word != FULL)
 }
 
 // The lowest of so many cells that is free: where the trailing ones of the first word end that is not full.
@@ -98,10 +99,7 @@ pub fn lowest_free(used: &CellSet, cells: usize) -> Option<usize>
     requires { cells ≤ max_cells }
     ensures { LowestFree used.now cells result }
 {
-    let at = first_word(used);
-    if WORDS <= at {
-        return None;
-    }
+    let at = first_word(used)?;
     let cell = at * IN_WORD + used[at].trailing_ones() as usize;
     (cell < cells).then_some(cell)
 }

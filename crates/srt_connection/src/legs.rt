@@ -10,6 +10,13 @@ use srt_group_model::{Leg, Sender};
 use srt_protocol::srt_packet::{word_distance, word_further};
 use srt_protocol::time::Timestamp;
 
+// A leg's state, as the number that a row holds.
+pub const HANDSHAKING: u64 = 0;
+
+pub const CONNECTED: u64 = 1;
+
+pub const DISCONNECTED: u64 = 2;
+
 // The peer's first sequence where there is none.
 pub const NO_SEQUENCE: u64 = 0xffff_ffff;
 
@@ -25,13 +32,13 @@ pub const LARGEST_32: u64 = 0xffff_ffff;
 pub fn is_connected(leg: Leg) -> bool
     ensures { result ≡ is_connected leg }
 {
-    leg.link.state == 1
+    leg.link.state == CONNECTED
 }
 
 pub fn is_disconnected(leg: Leg) -> bool
     ensures { result ≡ is_disconnected leg }
 {
-    leg.link.state == 2
+    leg.link.state == DISCONNECTED
 }
 
 // The sender exists from the first connect on.
@@ -153,7 +160,7 @@ pub fn less(sum: u64, count: u64) -> u64
 pub fn disconnect(mut leg: Leg) -> Leg
     ensures { result ≡ disconnect_leg leg }
 {
-    leg.link.state = 2;
+    leg.link.state = DISCONNECTED;
     leg
 }
 
@@ -162,7 +169,7 @@ pub fn disconnect(mut leg: Leg) -> Leg
 pub fn handed_over(mut leg: Leg) -> Leg
     ensures { result ≡ handed leg }
 {
-    leg.sender.started = (leg.link.state != 0) as u64;
+    leg.sender.started = (leg.link.state != HANDSHAKING) as u64;
     leg
 }
 
@@ -172,7 +179,7 @@ pub fn read_state(mut leg: Leg, state: u64) -> Leg
     ensures { result ≡ read_state state leg }
 {
     leg.link.state = state;
-    if state == 1 {
+    if state == CONNECTED {
         leg.sender.started = 1;
     }
     leg

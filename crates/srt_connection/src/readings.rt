@@ -1,6 +1,5 @@
 // Readings: document 01, "Fields of 3". A leg's field by its number, with its range (code 2) and its turn (code 32).
-// Kept (5): a reading comes as two words of the C call, its field and its number, and is taken apart by the one that reads it.
-// Kept (1): kind, field and number are words of the C call: any is a legal question, and 2 refuses what is none.
+// Kept (1, 5): a reading comes as two words of the C call, its field and its number: any is a legal question, and 2 refuses what is none.
 ghost use Rattle.std.specs.Prelude.{◌≡◌};
 ghost use Rattle.std.specs.Option.{MatchOption};
 ghost use Rattle.srt_group_model.specs.Legs.{goes_back, reading_of};
@@ -8,8 +7,8 @@ ghost use Rattle.srt_connection.specs.Readings.{NoField, IsField, acknowledges, 
 ghost use Rattle.srt_group_model.specs.Calls.{reading_out_of_range, read_field};
 
 use crate::legs::{
-    LARGEST_16, LARGEST_32, LARGEST_SEQUENCE, acknowledge, has_sender, oldest_unacked_sequence,
-    read_state,
+    DISCONNECTED, LARGEST_16, LARGEST_32, LARGEST_SEQUENCE, acknowledge, has_sender,
+    oldest_unacked_sequence, read_state,
 };
 use srt_group_model::Leg;
 use srt_protocol::error::Error;
@@ -37,6 +36,7 @@ pub enum Field {
 
 impl Field {
     // The field of a number: 1 to 12, in document 01's order.
+    // Kept (4): a `TryFrom` is no plainer: it needs an error type of its own, which says no more than None does.
     #[tactic(auto, unfolding(crate::specs::Readings::field_number))]
     pub fn of(number: u64) -> Option<Field>
         ensures { MatchOption result (NoField number) (λ field. IsField field number) }
@@ -58,6 +58,7 @@ impl Field {
         }
     }
 }
+
 // The leg with a number read into a field; an unknown field changes nothing.
 pub fn read_field(mut leg: Leg, field: u64, number: u64) -> Leg
     ensures { result ≡ read_field field number leg }
@@ -90,7 +91,7 @@ pub fn reading_out_of_range(field: u64, number: u64) -> bool
         return true;
     };
     match field {
-        Field::State => 2 < number,
+        Field::State => DISCONNECTED < number,
         Field::Window => LARGEST_16 < number,
         Field::ReceiveWindow => LARGEST_16 < number,
         Field::Latency => false,

@@ -1,7 +1,8 @@
 // What the Backup carrier sent and its peer has not acknowledged: a ring over two lent arrays of 512 places. A word of
 // `history` is the sequence of an entry, its cell and its length; `sources` has its source time.
 // Kept (5, 6): the arrays come through the C interface. `store` changes both, and is no plainer over a struct of `&mut` fields: its clause
-// would name what each field holds at the end by a ghost name. The `entry_at` of the parts is of any ring, also of one too long for a `History`.
+// would name what each field holds at the end by a ghost name. The `entry_at` of the parts is of any ring, also of one too long for a `History`:
+// a rule of the project keeps what it promises.
 ghost use Rattle.std.specs.Prelude.{◌≡◌, [], ◌+◌, ◌%◌, ◌≤◌, ◌<◌, length, get_or};
 ghost use Rattle.srt_group_model.specs.Backup.{max_history};
 ghost use Rattle.srt_group_tables.specs.Ring.{Long, arrays, cells_in_word, lengths_in_word, entry_word, word_sequence, word_cell, word_length, Packs, entry_at, with_entry, next_place, after_push, Trimmed};

@@ -89,6 +89,7 @@ fn read_packet(word: u64, row: &[u64; ROW_WORDS]) -> Packet
 }
 
 // All of a packet but its sequence and its cell.
+// Kept (4): an array of the seven would say by place what MEMBER and OWNED say by name, and these two are read and changed alone elsewhere.
 fn write_row(row: &mut [u64], packet: Packet)
     requires { length row.old ≡ packet_size }
     ensures { row.new ≡ row_words packet }

@@ -27,6 +27,7 @@ fn read_waiting(row: &[u64; WAITING_WORDS]) -> Waiting
     }
 }
 
+// Kept (4): an array of the three, and the row as one, is no shorter than three stores.
 #[tactic(auto, using(crate::specs::Laws::PacketIndex::all_stored), unfolding(crate::specs::Waitings::waiting_words))]
 fn write_waiting(row: &mut [u64], event: Waiting)
     requires { length row.old ≡ waiting_row_size }

@@ -179,10 +179,10 @@ module _ (words : List ℕ) (at cells : ℕ) (first : FirstWord words at) (insid
       let same : (at * 64 + ones) % 64 ≡ ones = omega arith in
       in_word words at (at * 64 + ones) (omega arith) ∙ ap (λ (k : ℕ). bit k (get_or words at 0)) same ∙ zero_at (get_or words at 0) small most
 
-  found_in_word : at * 64 + ones < cells → LowestFree words cells (Some (at * 64 + ones))
+  pub found_in_word : at * 64 + ones < cells → LowestFree words cells (Some (at * 64 + ones))
   found_in_word below = lowest_found words cells (at * 64 + ones) below found_free ones_passed
 
-  beyond_store : cells ≤ at * 64 + ones → LowestFree words cells None
+  pub beyond_store : cells ≤ at * 64 + ones → LowestFree words cells None
   beyond_store beyond = none_free words cells (λ n h. ones_passed n (omega arith))
 
   pub found_if_inside : LowestFree words cells (then_some (ltb (at * 64 + ones) cells) (at * 64 + ones))
