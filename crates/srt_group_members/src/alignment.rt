@@ -1,7 +1,7 @@
 // Alignment of a member's send sequence with the group's, so that what it sends next has the group's number.
 //
 // Kept (5, 6): a C host lends the members as words, with the count of rows in use; `as_chunks_mut` says nothing of what the words end as.
-ghost use Rattle.std.specs.Prelude.{◌≡◌, ◌&&◌, ◌*◌, ◌≤◌, length, eqb};
+ghost use Rattle.std.specs.Prelude.{◌≡◌, ◌&&◌, ◌*◌, ◌≤◌, length, eqb, None};
 ghost use Rattle.std.specs.Option.{option_map};
 ghost use Rattle.srt_group_model.specs.Tools.{first_such};
 ghost use Rattle.srt_group_model.specs.Legs.{has_sender};
@@ -32,16 +32,21 @@ fn first_other_sender(rows: &[Row], id: u64) -> Option<&Row>
     rows.iter().find(|row| is_other_sender(row, id))
 }
 
+// The next number of the first other sender.
+#[tactic(auto, using(crate::specs::Laws::Alignment::source_none))]
+fn next_of_other_sender(rows: &[Row], id: u64) -> Option<u64>
+    ensures { result ≡ alignment_source None id (members_in rows.now) }
+{
+    let row = first_other_sender(rows, id)?;
+    Some(sender(row).next)
+}
+
 // The group's send number, else the next number of the first other connected leg, in order of addition.
-#[tactic(auto, using(crate::specs::Laws::Alignment::source_numbered, crate::specs::Laws::Alignment::source_none))]
+#[tactic(auto, unfolding(srt_group_model::specs::Members::alignment_source, srt_group_model::specs::Tools::or_else))]
 pub fn alignment_source(rows: &[Row], number: Option<u64>, id: u64) -> Option<u64>
     ensures { result ≡ alignment_source number id (members_in rows.now) }
 {
-    if number.is_some() {
-        return number;
-    }
-    let row = first_other_sender(rows, id)?;
-    Some(sender(row).next)
+    number.or_else(|| next_of_other_sender(rows, id))
 }
 
 // Whether the leg's next number is the sequence.

@@ -13,6 +13,7 @@ ghost use Rattle.srt_group_members.specs.Scan.{leg_disconnected};
 ghost use Rattle.srt_group_members.specs.Refresh.{requalified_state};
 
 use srt_connection::legs::is_connected;
+pub use srt_connection::legs::{CONNECTED, DISCONNECTED, HANDSHAKING};
 use srt_connection_members::{membership_at, put_membership_at};
 use srt_connection_queue::rows::{Row, link_state, member_state, sender};
 use srt_group_model::Leg;
@@ -28,13 +29,6 @@ pub const STANDBY: u64 = 2;
 pub const UNSTABLE: u64 = 3;
 
 pub const BROKEN: u64 = 4;
-
-// A leg's state, as the number that a row holds.
-pub const HANDSHAKING: u64 = 0;
-
-pub const CONNECTED: u64 = 1;
-
-pub const DISCONNECTED: u64 = 2;
 
 // The mode is 0 in Broadcast and 1 in Backup.
 // Kept (1): it is the word of the record that C lends, and an enum of it would be this test again at each call.

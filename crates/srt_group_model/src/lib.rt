@@ -8,6 +8,7 @@
 
 ghost use Rattle.std.specs.Prelude.{◌≡◌};
 ghost use Rattle.srt_group_model.specs.Cells.{is_data};
+ghost use Rattle.srt_group_model.specs.State.{based_at};
 ghost use Rattle.srt_group_model.specs.Tools.{is_set, flagged};
 
 use srt_protocol::time::Timestamp;
@@ -56,6 +57,7 @@ impl Event {
 pub struct Packet {
     // member_id
     pub member: u64,
+    // Kept (1): a flag is a word of the lent row: a C host may lend any number, and 6 has to read it to refuse it.
     pub owned: u64,
     pub content: Data,
 }
@@ -76,6 +78,7 @@ pub struct Waiting {
 pub struct Link {
     // Kept (1): a state is a word of the lent row: a C host may lend any number, and 6 has to read it to refuse it.
     pub state: u64,
+    // Kept (1): a word of the lent row, in which a C host writes 0 for no peer group.
     pub peer: u64,
     pub limit: u64,
 }
@@ -84,6 +87,7 @@ pub struct Link {
 // limit; oldest is the oldest send time; pace is the time before which pacing holds a send back.
 #[derive(Clone, Copy)]
 pub struct Sender {
+    // Kept (1): a flag is a word of the lent row: a C host may lend any number, and 6 has to read it to refuse it.
     pub started: u64,
     pub next: u64,
     pub flight: u64,
@@ -96,6 +100,7 @@ pub struct Sender {
 // of the payloads held for it; advanced the number last recorded by `advance_receive_sequence`.
 #[derive(Clone, Copy)]
 pub struct Receiver {
+    // Kept (1): a word of the lent row, in which a C host writes 4294967295 for none.
     pub first: u64,
     pub window: u64,
     pub latency: u64,
@@ -127,6 +132,7 @@ pub struct Collision {
     // expected_peer_group_id
     pub expected: u64,
     // actual_peer_group_id
+    // Kept (1): a word of the lent row, in which a C host writes 0 for no collision.
     pub actual: u64,
 }
 
@@ -146,6 +152,7 @@ pub struct Membership {
     // Kept (1): a state is a word of the lent row: a C host may lend any number, and 6 has to read it to refuse it.
     pub state: u64,
     // peer_group_admitted
+    // Kept (1): a flag is a word of the lent row: a C host may lend any number, and 6 has to read it to refuse it.
     pub admitted: u64,
     pub account: Account,
     pub collision: Collision,
@@ -193,6 +200,13 @@ impl Receiving {
     {
         (self.based != 0).then_some(self.base)
     }
+
+    pub fn set_base(&mut self, base: u64)
+        ensures { self.new ≡ based_at base self.old.skipped }
+    {
+        self.based = 1;
+        self.base = base;
+    }
 }
 
 // What sending moves, with the history.
@@ -208,6 +222,7 @@ pub struct Sending {
     pub carried: u64,
     pub carrier: u64,
     // backup_history_gap
+    // Kept (1): a C host lends the record as words, and whatever it lends has to be readable, so that 6 can refuse it.
     pub gap: u64,
 }
 
@@ -256,6 +271,7 @@ pub struct Core {
     // Kept (1): the mode is the record's word, which a C host lends so that 6 can refuse it; an enum of it would be `is_backup` again at each call.
     pub mode: u64,
     // peer_group_id, 0 while the group is not bound
+    // Kept (1): the record's word, which a C host lends; a bound group's id has the mark of one, so 0 is none.
     pub peer: u64,
     pub counts: Counts,
     pub receiving: Receiving,

@@ -61,10 +61,8 @@ pub fn find_by_place(rows: &[Row], table: &[u8; PLACES], id: u64) -> Option<usiz
     ensures { result ≡ find id (members_in rows.now) }
 {
     let index = table[place_of(id)] as usize;
-    if index < rows.len() {
-        if member_id(&rows[index]) == id {
-            return Some(index);
-        }
+    if rows.get(index).is_some_and(|row| member_id(row) == id) {
+        return Some(index);
     }
     find(rows, id)
 }
