@@ -1,6 +1,7 @@
 // The events of the legs, in turn: a packet is held or discarded, another event waits to be given. One visit takes one event; a
 // poll visits until there is something to give, and before it skips a gap until every queue is empty.
 // Kept (5, 6): a step that moves tables takes them one beside the other: a struct of `&mut` asks for loans that a call does not need, and for a clause to each field, that its slice is still the caller's (tried); what holds of them is one fact, `Usable`.
+// Kept (5): what goes by value beside them is the group's record, which a step gives back, and the one or two numbers that this step is about; a struct of those would be made for a single call and is no plainer.
 ghost use Rattle.std.specs.Prelude.{◌≡◌, true, false, ◌&&◌, ◌||◌, ◌+◌, ◌*◌, ◌%◌, ◌≤◌, ◌<◌, eqb, length};
 ghost use Rattle.srt_protocol.specs.Sequence.{sequence_before};
 ghost use Rattle.srt_group_model.specs.Tools.{is_set, bit, flagged, if_some◌give◌otherwise◌};
@@ -39,7 +40,7 @@ use srt_group_tables::{pending, waiting};
 use srt_protocol::srt_packet::word_before;
 
 // What a visit leaves: whether the visits may go on, since it took an event off a queue; the group's numbers, and what is left of the budget.
-// Kept (2): what several visits leave (`Gathered`) has no flag, since they have ended.
+// Kept (2, 5): what several visits leave (`Gathered`) has no flag, since they have ended; a `Gathered` inside would be no plainer: the record is read after each visit, and each reading would name one field more.
 #[derive(Clone, Copy)]
 pub struct Visited {
     pub more: bool,
@@ -48,7 +49,7 @@ pub struct Visited {
 }
 
 // What visits until the queues are empty leave: whether they ended so.
-// Kept (2): no `Visited`, whose flag says the opposite, that an event was there.
+// Kept (2, 5): no `Visited`, whose flag says the opposite, that an event was there; nor a `Gathered` inside, which is no plainer where the record alone is asked next.
 #[derive(Clone, Copy)]
 pub struct Emptied {
     pub emptied: bool,
@@ -68,6 +69,7 @@ pub struct Gathered {
 pub const MAX_VISITS: usize = 64;
 
 // A flag's word.
+// Kept (4): `u64::from` promises the byte of the bool, this the rules' `bit`: without it each caller would have to go from the one to the other, which is no plainer.
 #[tactic(auto, using(crate::specs::Laws::Gather::word_of_flag))]
 pub fn flag(set: bool) -> u64
     ensures { result ≡ bit set }

@@ -19,7 +19,7 @@ use srt_protocol::time::Timestamp;
 #[derive(Clone, Copy)]
 pub struct GroupDataPoll {
     pub packet: Option<Packet>,
-    // Kept (1): the record's continuation and C's answer are words (the C interface), and it goes from the one to the other as it is.
+    // Kept (1): as in `DataPoll`, a word: the record's continuation and C's answer are words (the C interface), and a bool would be made of the one word and made into the other.
     pub continuation: u64,
 }
 

@@ -1,6 +1,8 @@
 // The give-up test, delivery and the skip: a packet at the base is given, its run passed, and what the run covers released; a gap
 // is passed over once the leg of the nearest held packet gives up on it.
 // Kept (5, 6): a step that moves tables takes them one beside the other: a struct of `&mut` asks for loans that a call does not need, and for a clause to each field, that its slice is still the caller's (tried); what holds of them is one fact, `Deliverable`.
+// Kept (5): what goes by value beside them is the group's record, which a step gives back, and the one or two numbers that this step is about; a struct of those would be made for a single call and is no plainer.
+// Kept (1): `based` and `base` are two words of the record in C's layout, and `owned` is a word of the lent row (the C interface).
 ghost use Rattle.std.specs.Prelude.{◌≡◌, List, [], ◌∷◌, ℕ, ◌+◌, ◌-◌, ◌*◌, ◌≤◌, ◌<◌, min, length};
 ghost use Rattle.srt_protocol.specs.Sequence.{sequence_distance};
 ghost use Rattle.srt_group_model.specs.Legs.{largest_64};

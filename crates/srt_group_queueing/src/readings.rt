@@ -22,7 +22,7 @@ use srt_group::Group;
 use srt_group_model::Core;
 use srt_protocol::error::{Error, outcome_number};
 
-// Kept (1): any word may be asked for as a field, and srt_connection's readings answer one that is none; an enum here would be a second test of the same.
+// Kept (1): the field goes on as the word of the C call: what is promised of a reading, here and in srt_connection, is over any word, so a `Field` made of it here would need a second form of three functions there, and is no plainer.
 
 // 2: an id, a field or a number out of range.
 fn reading_unfit(id: u64, field: u64, number: u64) -> bool
