@@ -7,7 +7,7 @@ use Rattle.std.specs.Prelude.{◌≡◌, None, Bool, ◌&&◌, ℕ, leb, Err, Ok
 use Rattle.srt_protocol.specs.Sequence.{sequence_distance}
 use Rattle.srt_protocol.specs.declared.error.Error.TheVariants.{OutOfRange, OutOfTurn}
 use Rattle.srt_group_model.specs.Tools.{if_true◌then◌else◌}
-use Rattle.srt_group_model.specs.Legs.{has_sender, oldest_unacked_sequence, goes_back, reading_of}
+use Rattle.srt_group_model.specs.Legs.{Reading, largest_16, largest_32, largest_64, largest_sequence, read_state, acknowledge, on_sender, with_window, with_receive_window, with_latency, with_srtt, with_rttvar, with_heard, with_pace, with_peer, with_limit, with_oldest, has_sender, oldest_unacked_sequence, goes_back, reading_of}
 use Rattle.srt_group_model.specs.Calls.{reading_out_of_range, read_field}
 use Rattle.srt_group_model.specs.declared.Leg.{Leg}
 
@@ -26,6 +26,21 @@ field_number PaceTime = 9
 field_number PeerGroup = 10
 field_number PayloadLimit = 11
 field_number OldestSendTime = 12
+
+-- its row of the model's `readings`
+unfoldable pub row_of : Field → Reading
+row_of State = record { field = 1; largest = 2; put = read_state }
+row_of Window = record { field = 2; largest = largest_16; put = with_window }
+row_of ReceiveWindow = record { field = 3; largest = largest_16; put = with_receive_window }
+row_of Latency = record { field = 4; largest = largest_64; put = with_latency }
+row_of Acknowledged = record { field = 5; largest = largest_sequence; put = acknowledge }
+row_of Srtt = record { field = 6; largest = largest_32; put = with_srtt }
+row_of Rttvar = record { field = 7; largest = largest_32; put = with_rttvar }
+row_of LastHeard = record { field = 8; largest = largest_64; put = with_heard }
+row_of PaceTime = record { field = 9; largest = largest_64; put = with_pace }
+row_of PeerGroup = record { field = 10; largest = largest_32; put = with_peer }
+row_of PayloadLimit = record { field = 11; largest = largest_16; put = with_limit }
+row_of OldestSendTime = record { field = 12; largest = largest_64; put = λ n. on_sender (with_oldest n) }
 
 abbrev pub IsField : Field → ℕ → Type 0
 IsField field n = n ≡ field_number field

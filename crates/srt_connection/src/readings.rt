@@ -3,7 +3,7 @@
 ghost use Rattle.std.specs.Prelude.{◌≡◌};
 ghost use Rattle.std.specs.Option.{MatchOption};
 ghost use Rattle.srt_group_model.specs.Legs.{goes_back, reading_of};
-ghost use Rattle.srt_connection.specs.Readings.{NoField, IsField, acknowledges, reading};
+ghost use Rattle.srt_connection.specs.Readings.{NoField, IsField, row_of, acknowledges, reading};
 ghost use Rattle.srt_group_model.specs.Calls.{reading_out_of_range, read_field};
 
 use crate::legs::{
@@ -57,53 +57,64 @@ impl Field {
             _ => None,
         }
     }
+
+    // The largest number that it takes.
+    #[tactic(auto, unfolding(crate::specs::Readings::row_of))]
+    fn largest(self) -> u64
+        ensures { result ≡ (row_of self).largest }
+    {
+        match self {
+            Field::State => DISCONNECTED,
+            Field::Acknowledged => LARGEST_SEQUENCE,
+            Field::Window | Field::ReceiveWindow | Field::PayloadLimit => LARGEST_16,
+            Field::Srtt | Field::Rttvar | Field::PeerGroup => LARGEST_32,
+            Field::Latency | Field::LastHeard | Field::PaceTime | Field::OldestSendTime => u64::MAX,
+        }
+    }
+
+    // The leg with a number read into it.
+    #[tactic(auto, unfolding(crate::specs::Readings::row_of))]
+    fn put(self, mut leg: Leg, number: u64) -> Leg
+        ensures { result ≡ (row_of self).put number leg }
+    {
+        match self {
+            Field::State => return read_state(leg, number),
+            Field::Window => leg.sender.window = number,
+            Field::ReceiveWindow => leg.receiver.window = number,
+            Field::Latency => leg.receiver.latency = number,
+            Field::Acknowledged => return acknowledge(leg, number),
+            Field::Srtt => leg.trip.srtt = number,
+            Field::Rttvar => leg.trip.rttvar = number,
+            Field::LastHeard => leg.trip.heard.0 = number,
+            Field::PaceTime => leg.sender.pace.0 = number,
+            Field::PeerGroup => leg.link.peer = number,
+            Field::PayloadLimit => leg.link.limit = number,
+            Field::OldestSendTime => leg.sender.oldest.0 = number,
+        }
+        leg
+    }
 }
 
 // The leg with a number read into a field; an unknown field changes nothing.
-pub fn read_field(mut leg: Leg, field: u64, number: u64) -> Leg
+#[tactic(auto, using(crate::specs::Laws::Readings::read_known, crate::specs::Laws::Readings::read_unknown))]
+pub fn read_field(leg: Leg, field: u64, number: u64) -> Leg
     ensures { result ≡ read_field field number leg }
 {
     let Some(field) = Field::of(field) else {
         return leg;
     };
-    match field {
-        Field::State => return read_state(leg, number),
-        Field::Window => leg.sender.window = number,
-        Field::ReceiveWindow => leg.receiver.window = number,
-        Field::Latency => leg.receiver.latency = number,
-        Field::Acknowledged => return acknowledge(leg, number),
-        Field::Srtt => leg.trip.srtt = number,
-        Field::Rttvar => leg.trip.rttvar = number,
-        Field::LastHeard => leg.trip.heard.0 = number,
-        Field::PaceTime => leg.sender.pace.0 = number,
-        Field::PeerGroup => leg.link.peer = number,
-        Field::PayloadLimit => leg.link.limit = number,
-        Field::OldestSendTime => leg.sender.oldest.0 = number,
-    }
-    leg
+    field.put(leg, number)
 }
 
 // Code 2: an unknown field, or a number above the field's largest.
+#[tactic(auto, using(crate::specs::Laws::Readings::ranged_known, crate::specs::Laws::Readings::ranged_unknown))]
 pub fn reading_out_of_range(field: u64, number: u64) -> bool
     ensures { result ≡ reading_out_of_range field number }
 {
     let Some(field) = Field::of(field) else {
         return true;
     };
-    match field {
-        Field::State => DISCONNECTED < number,
-        Field::Window => LARGEST_16 < number,
-        Field::ReceiveWindow => LARGEST_16 < number,
-        Field::Latency => false,
-        Field::Acknowledged => LARGEST_SEQUENCE < number,
-        Field::Srtt => LARGEST_32 < number,
-        Field::Rttvar => LARGEST_32 < number,
-        Field::LastHeard => false,
-        Field::PaceTime => false,
-        Field::PeerGroup => LARGEST_32 < number,
-        Field::PayloadLimit => LARGEST_16 < number,
-        Field::OldestSendTime => false,
-    }
+    field.largest() < number
 }
 
 // Whether a number is from the oldest unacknowledged sequence up to the next, both included; no number is, without a sender.
