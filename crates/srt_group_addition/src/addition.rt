@@ -1,6 +1,6 @@
 // A member is added behind the others. If its leg is connected it is admitted, which may set the base and bind the group, and, if
 // that succeeds, its send sequence is aligned with the group's. Where that fails, 22, it stays added, as in the Rust.
-// Kept (1): a state is a word of the lent row: a C host may lend any number, and 6 has to read it to refuse it.
+// Kept (1): the state is the number that the member's word holds: an enum, made to be taken apart again at the write, would be no plainer.
 ghost use Rattle.std.specs.Prelude.{◌≡◌, ◌≤◌, ◌<◌, length};
 ghost use Rattle.srt_group_model.specs.Validity.{max_members};
 ghost use Rattle.srt_connection_members.specs.Members.{members_size};
@@ -82,21 +82,19 @@ pub fn add_member_at_end(
     let leg = handed_over(member.leg);
     let after = join(core, members, NewMember { leg, ..member });
     let membership = membership_at(members, index);
+    let kept = Answered {
+        record: after,
+        answer: Ok(()),
+    };
     if membership.admitted != 1 {
-        return Answered {
-            record: after,
-            answer: Ok(()),
-        };
+        return kept;
     }
     if align_member_sequence(members, index + 1, sending.next_send_sequence(), index) {
-        Answered {
-            record: after,
-            answer: Ok(()),
-        }
+        kept
     } else {
         Answered {
-            record: after,
             answer: Err(Error::AlignmentFailed),
+            ..kept
         }
     }
 }

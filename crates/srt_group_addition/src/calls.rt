@@ -1,5 +1,5 @@
 // `add_member` with its refusals, over the record and the lent tables: 5 and 6, and then what follows them.
-// Kept (5, 6): which tables a call changes differs (a poll: pending, waiting; a send: history, sources): a struct of those only read would be one for each kind of call.
+// Kept (5, 6): the members are changed, so they are in no struct of lent readings, and a call's promise names each table: a struct of the others alone would be no plainer.
 ghost use Rattle.srt_protocol.specs.Errors.{outcome_number};
 ghost use Rattle.srt_group_model.specs.Guards.{no_answer};
 ghost use Rattle.srt_group_shown.specs.Tables.{tables};

@@ -1,6 +1,6 @@
 // `add_member` of a leg that is handed over in a lent row of the members' table. The row's membership part is not read: the member
 // gets its own. Its queue must be empty and its reservation 0, since no payload and no packet of it is the group's.
-// Kept (5, 6): which tables a call changes differs (a poll: pending, waiting; a send: history, sources): a struct of those only read would be one for each kind of call.
+// Kept (5, 6): the members are changed, so they are in no struct of lent readings, and a call's promise names each table: a struct of the others alone would be no plainer.
 ghost use Rattle.std.specs.Prelude.{◌≡◌, not, ◌||◌, ◌≤◌, eqb, length};
 ghost use Rattle.srt_protocol.specs.Errors.{outcome_number};
 ghost use Rattle.srt_group_model.specs.Tools.{is_empty, any};

@@ -1,6 +1,6 @@
 // `refresh_member_states` and `disconnect` for a valid state. The cells in use stay the same; the store is lent for its length, over which
 // the state is valid.
-// Kept (5, 6): which tables a call changes differs (a poll: pending, waiting; a send: history, sources): a struct of those only read would be one for each kind of call.
+// Kept (5, 6): the members are changed, so they are in no struct of lent readings, and a call's promise names each table: a struct of the others alone would be no plainer.
 ghost use Rattle.std.specs.Prelude.{length};
 ghost use Rattle.srt_group_model.specs.Guards.{no_answer};
 ghost use Rattle.srt_group_model.specs.Lent.{call_refresh_member_states, call_disconnect};

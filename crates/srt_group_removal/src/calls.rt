@@ -1,6 +1,6 @@
 // `remove_member_connection` and `remove_member` with their refusals, over the record and the lent tables: 5 and 6, and then what follows
 // them.
-// Kept (5, 6): which tables a call changes differs (a poll: pending, waiting; a send: history, sources): a struct of those only read would be one for each kind of call.
+// Kept (5, 6): members, pending packets and cells are changed, so they are in no struct of lent readings, and a call's promise names each table: a struct of the others alone would be no plainer.
 ghost use Rattle.srt_protocol.specs.Errors.{outcome_number};
 ghost use Rattle.srt_group_model.specs.Lent.{call_remove_member_connection};
 ghost use Rattle.srt_group_shown.specs.Tables.{tables};
@@ -80,7 +80,7 @@ pub fn remove_member(
         result.answer (parts_of result.«record»)
         (tables members.new pending.new waiting.now history.now sources.now) }
 {
-    let mut row = [0u64; 189];
+    let mut row = [0; ROW];
     remove_member_connection(
         group, members, pending, waiting, history, sources, &mut row, id,
     )

@@ -1,6 +1,6 @@
 // `remove_member_connection` and `remove_member` after 5 and 6, and their forms for a valid state. The leg is given back in a lent row
 // of the members' table.
-// Kept (5, 6): which tables a call changes differs (a poll: pending, waiting; a send: history, sources): a struct of those only read would be one for each kind of call.
+// Kept (5, 6): members, pending packets and cells are changed, so they are in no struct of lent readings, and a call's promise names each table: a struct of the others alone would be no plainer.
 ghost use Rattle.std.specs.Prelude.{length};
 ghost use Rattle.srt_protocol.specs.Errors.{outcome_number};
 ghost use Rattle.srt_group_model.specs.Lent.{call_remove_member_connection};
@@ -15,6 +15,7 @@ use crate::removal::remove_member_at;
 use cell_set::CellSet;
 use srt_connection::legs::LARGEST_32;
 use srt_connection_members::{clear_at, find, put_leg_at, rows};
+use srt_connection_queue::rows::ROW;
 use srt_group::{Answered, Group};
 use srt_group_model::{Core, Leg};
 use srt_protocol::error::{Error, outcome_number};
@@ -116,7 +117,7 @@ pub fn remove_member(
         (tables members.new pending.new waiting.now history.now sources.now)
         (storing store.now) used.new }
 {
-    let mut row = [0u64; 189];
+    let mut row = [0; ROW];
     remove_member_connection(
         group, members, pending, waiting, history, sources, store, &mut row, used, id,
     )

@@ -14,7 +14,7 @@ use srt_group_state::cells::queued_event;
 fn free_event(used: &mut CellSet, event: Event)
     ensures { Freed (event_cells event) used.old used.new }
 {
-    if event.kind == 0 {
+    if event.is_data() {
         let content = event.content;
         free(used, content.cell as usize);
     }

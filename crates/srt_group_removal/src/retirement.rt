@@ -35,6 +35,7 @@ fn retire_at(mut core: Core, pending: &mut [u64], used: &mut CellSet, at: usize)
 }
 
 // Whether a packet is the group's own and in a walk's reach: of all packets, or of those below the base.
+// Kept (1): what either walk promises is of the base, from which the farthest is told: an option, `None` for all, would leave it unsaid there.
 #[tactic(auto, unfolding(crate::specs::Retire::is_reached))]
 fn is_reached(packet: Packet, base: u64, all: bool) -> bool
     ensures { result ≡ is_reached base all packet }
@@ -91,15 +92,15 @@ pub fn bound_group_owned_pending(
 }
 
 // Where distances are taken from: the base; while none is set, the nearest held packet.
-#[tactic(auto, using(crate::specs::Laws::Retire::based_there, crate::specs::Laws::Retire::based_nowhere, crate::specs::Laws::Retire::based_nearest, crate::specs::Laws::Retire::based_low, srt_group_tables::specs::Laws::PacketLaws::at_in_use))]
+#[tactic(auto, using(crate::specs::Laws::Retire::based_there, crate::specs::Laws::Retire::based_nowhere, crate::specs::Laws::Retire::based_nearest, crate::specs::Laws::Retire::based_upper, crate::specs::Laws::Retire::based_low, srt_group_tables::specs::Laws::PacketLaws::at_in_use))]
 pub fn retirement_base(core: Core, pending: &[u64]) -> u64
     requires { Held core pending.now }
     ensures value { (others : Rest) (members waiting : List ℕ)
         → result ≡ retirement_base (shown core others members pending.now waiting) }
     ensures upper_bound { result ≤ largest_sequence }
 {
-    if core.receiving.based != 0 {
-        return core.receiving.base;
+    if let Some(base) = core.receiving.base() {
+        return base;
     }
     let held = core.counts.pending;
     let nearest = pending::nearest(pending, held);
