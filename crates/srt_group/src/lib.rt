@@ -13,8 +13,7 @@ ghost use Rattle.srt_group_model.specs.Calls.{new};
 ghost use Rattle.srt_group.specs.Made.{Fresh, PromisedNew};
 
 use srt_connection::legs::LARGEST_32;
-use srt_group_members::accounts::NO_PACKETS;
-use srt_group_model::{Core, Counts, Identity, Receiving, Sending, Visit};
+use srt_group_model::{Core, Identity, Sending};
 use srt_group_tables::history;
 use srt_group_tables::history::HistoryRing;
 use srt_protocol::error::Error;
@@ -76,51 +75,27 @@ impl Group {
     fn fresh(id: u64, mode: u64, length: usize) -> Self
         ensures { Fresh result (new record { id = id; mode = mode; length = length }) }
     {
-        let core = Core {
-            mode,
-            peer: 0,
-            counts: Counts {
-                members: 0,
-                pending: 0,
-                waiting: 0,
-            },
-            receiving: Receiving {
-                based: 0,
-                base: 0,
-                skipped: 0,
-            },
-            visit: Visit {
-                continuation: 0,
-                round: 0,
-            },
-            own: NO_PACKETS,
-        };
         Self {
             identity: Identity { id, length },
-            core,
-            sending: Sending {
-                numbered: 0,
-                next: 0,
-                carried: 0,
-                carrier: 0,
-                gap: 0,
+            core: Core {
+                mode,
+                ..Core::default()
             },
-            ring: HistoryRing {
-                start: 0,
-                length: 0,
-            },
+            sending: Sending::default(),
+            ring: HistoryRing::default(),
         }
     }
 
     // The history's words, to be lent to every call.
-    pub fn history() -> [u64; 512]
+    pub fn history() -> [u64; Self::MAX_HISTORY]
         ensures { length result ≡ max_history }
     {
         [0; Self::MAX_HISTORY]
     }
 
     // The source times of the history's entries, to be lent to every call.
-    pub fn sources() -> [u64; 512]
+    // Kept (2): a public name, which says which of the two arrays it makes; one function for both is no plainer to call.
+    pub fn sources() -> [u64; Self::MAX_HISTORY]
         ensures { length result ≡ max_history }
     {
         [0; Self::MAX_HISTORY]

@@ -138,7 +138,7 @@ pub struct Collision {
 
 // The packets held for a member, or by the group itself: the sum of their counts. What is kept of them moves together.
 #[repr(C)]
-#[derive(Clone, Copy, PartialEq)]
+#[derive(Clone, Copy, Default, PartialEq)]
 pub struct Account {
     // reserved_packets of a member, owned_packets of the group
     pub reserved: u64,
@@ -182,7 +182,7 @@ pub struct Identity {
 
 // What receiving moves, with the pending packets.
 #[repr(C)]
-#[derive(Clone, Copy)]
+#[derive(Clone, Copy, Default)]
 pub struct Receiving {
     // next_receive_sequence, the base, and whether it is set
     // Kept (1): a C host lends the record as words, and whatever it lends has to be readable; `base` gives the option.
@@ -211,7 +211,7 @@ impl Receiving {
 
 // What sending moves, with the history.
 #[repr(C)]
-#[derive(Clone, Copy)]
+#[derive(Clone, Copy, Default)]
 pub struct Sending {
     // next_send_sequence, and whether it is set
     // Kept (1): a C host lends the record as words; `next_send_sequence` gives the option.
@@ -245,7 +245,7 @@ impl Sending {
 }
 
 #[repr(C)]
-#[derive(Clone, Copy)]
+#[derive(Clone, Copy, Default)]
 pub struct Visit {
     // receive_continuation
     // Kept (1): a C host lends the record as words; a `bool` here cost 50 ns a poll (docs/DECISIONS.md).
@@ -256,7 +256,7 @@ pub struct Visit {
 
 // How many rows of each lent table are in use: members, pending packets, waiting events.
 #[repr(C)]
-#[derive(Clone, Copy)]
+#[derive(Clone, Copy, Default)]
 pub struct Counts {
     pub members: usize,
     pub pending: usize,
@@ -265,7 +265,7 @@ pub struct Counts {
 
 // What a poll carries through by value.
 #[repr(C)]
-#[derive(Clone, Copy)]
+#[derive(Clone, Copy, Default)]
 pub struct Core {
     // mode
     // Kept (1): the mode is the record's word, which a C host lends so that 6 can refuse it; an enum of it would be `is_backup` again at each call.

@@ -20,7 +20,7 @@ const LENGTHS: u64 = 2048;
 
 // The places in use: so many from the start on, which is read modulo 512. The oldest entry stands at the start.
 #[repr(C)]
-#[derive(Clone, Copy)]
+#[derive(Clone, Copy, Default)]
 pub struct HistoryRing {
     pub start: usize,
     pub length: usize,
