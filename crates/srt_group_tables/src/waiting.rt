@@ -27,15 +27,12 @@ fn read_waiting(row: &[u64; WAITING_WORDS]) -> Waiting
     }
 }
 
-// Kept (4): an array of the three, and the row as one, is no shorter than three stores.
-#[tactic(auto, using(crate::specs::Laws::PacketIndex::all_stored), unfolding(crate::specs::Waitings::waiting_words))]
+#[tactic(auto, unfolding(crate::specs::Waitings::waiting_words))]
 fn write_waiting(row: &mut [u64], event: Waiting)
     requires { length row.old ≡ waiting_row_size }
     ensures { row.new ≡ waiting_words event }
 {
-    row[0] = event.member;
-    row[1] = event.kind;
-    row[2] = event.reason;
+    *row.as_mut_array().unwrap() = [event.member, event.kind, event.reason];
 }
 
 // The event of a row: the first is the front.
