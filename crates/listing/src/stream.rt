@@ -7,6 +7,8 @@ use crate::reading::{read_columns, read_line};
 
 // A line that is not yet whole: its bytes so far, which stand at the start, and how many they are. Of a line that is longer
 // than N only that is kept, by a larger size.
+// Kept (6): no heap, so the bytes stand in an array of a fixed length, with their count beside it.
+// Kept (1): a state of its own for a line that is too long is no plainer: `append` and `read` compare the size with N either way.
 #[derive(Clone, Copy)]
 pub struct OpenLine<const N: usize> {
     bytes: [u8; N],

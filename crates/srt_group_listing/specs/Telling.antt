@@ -1,6 +1,6 @@
 -- What the code of a verb promises: the group after it and the numbers that it prints are those of the model's listing (srt_group_model,
 -- Listing), for the call that its line asks (srt_group_traces, VerbCalls).
-use Rattle.std.specs.Prelude.{◌≡◌, List, [], ◌∷◌, ℕ, eqb, length, Err, None, Ok, Option, Result, Some}
+use Rattle.std.specs.Prelude.{◌≡◌, List, [], ◌∷◌, ℕ, eqb, Err, None, Ok, Option, Result, Some}
 use Rattle.srt_protocol.specs.declared.error.Error.{Error}
 use Rattle.srt_protocol.specs.Errors.{error_number}
 use Rattle.srt_protocol.specs.Cells.{output_size}

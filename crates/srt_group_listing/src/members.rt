@@ -23,16 +23,24 @@ use srt_group_removal::connection::remove_member;
 use srt_protocol::error::{Error, outcome_number};
 use srt_protocol::time::Timestamp;
 
-// The line of a verb that answers its outcome alone.
-// Kept (1): the verb is the printed column, 0 where a line names none; as an `Option` of an enum it is no plainer.
-pub fn outcome_line(verb: u64, outcome: Result<(), Error>) -> Printed
-    ensures { numbers_of result ≡ refused_line verb (outcome_number outcome) }
+// The line of a verb that is refused, or accepted without columns of its own (0).
+// Kept (1): verb and code are printed columns, the verb 0 where a line names none; as an `Option` of an enum they are no plainer.
+pub fn code_line(verb: u64, code: u64) -> Printed
+    ensures { numbers_of result ≡ refused_line verb code }
 {
     Printed {
         verb,
-        code: outcome_number(outcome) as u64,
+        code,
         ..Printed::default()
     }
+}
+
+// The line of a verb that answers its outcome alone.
+// Kept (1): the verb is the printed column, as in `code_line`, which prints it.
+pub fn outcome_line(verb: u64, outcome: Result<(), Error>) -> Printed
+    ensures { numbers_of result ≡ refused_line verb (outcome_number outcome) }
+{
+    code_line(verb, outcome_number(outcome) as u64)
 }
 
 // The leg of verb 2. What the line does not say of it is 0, but for the receive window and the payload limit.

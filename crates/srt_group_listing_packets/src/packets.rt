@@ -84,6 +84,7 @@ pub fn queue(
 }
 
 // The line of a poll: the packet that it gave, if any, and the skipped total.
+// Kept (2): `..Printed::default()` was tried here and in `sent_line`, and their proofs did not close.
 fn packet_line(gave: Option<Packet>, skipped: u64) -> Printed
     ensures { numbers_of result ≡ packet_line gave skipped }
 {

@@ -99,6 +99,15 @@ impl Replay {
         }
     }
 
+    // The group that stands, if any, and the memory that it was lent, given back.
+    pub fn into_parts(self) -> (Option<Group>, Memory)
+        ensures stands { Standing result.0 result.1 }
+        ensures shows { standing result.0 result.1 ≡ self }
+    {
+        let Replay { group, memory } = self;
+        (group, memory)
+    }
+
     // What a line does to the group that stands, if any, and what it prints.
     pub fn tell(&mut self, line: &Line) -> Printed
         ensures { TellsLine line.now self.old result self.new }
@@ -159,6 +168,7 @@ fn tell_made(memory: &mut Memory, group: Group, verb: Verb, line: &Line) -> Told
         used,
     } = memory;
     match verb {
+        // Kept (7): a second enum without this verb is no plainer: it would be made of the first by a second choice of eight.
         Verb::New => unreachable!(),
         Verb::Add => members::add(
             group, members, pending, waiting, history, sources, store, used, line,
