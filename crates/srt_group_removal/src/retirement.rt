@@ -103,9 +103,5 @@ pub fn retirement_base(core: Core, pending: &[u64]) -> u64
         return base;
     }
     let held = core.counts.pending;
-    let nearest = pending::nearest(pending, held);
-    let Some(at) = nearest else {
-        return 0;
-    };
-    pending::sequence_at(pending, at)
+    pending::nearest(pending, held).map_or(0, |at| pending::sequence_at(pending, at))
 }
