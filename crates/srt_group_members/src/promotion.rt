@@ -1,7 +1,7 @@
 // Promotion in Backup: of the connected Standby members the one with the highest weight, then with the lowest id.
 //
 // Kept (5, 6): a C host lends the members as words, with the count of rows in use; `as_chunks_mut` says nothing of what the words end as.
-// Kept (1): the mode is the record's word, which a C host lends so that 6 can refuse it; an enum of it would be `is_backup` again at each call.
+// Kept (1): the mode is the record's word, which a C host lends so that 6 can refuse it; an enum of two modes says what `is_backup` says, and is no plainer.
 ghost use Rattle.std.specs.Prelude.{◌≡◌, ◌*◌, ◌≤◌, ◌<◌, length, IfSome};
 ghost use Rattle.srt_connection_queue.specs.Rows.{row_size, member_of};
 ghost use Rattle.srt_connection_members.specs.Members.{members_of, members_in};

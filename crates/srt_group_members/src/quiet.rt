@@ -1,7 +1,7 @@
 // Whether a refresh of the members' states would change nothing. Polls ask it first: nearly always it is so.
 // `refresh_pending_states` goes through the members twice and `refresh_states` four times, and in Backup each looks for an
 // active member besides.
-// Kept (1): the mode is the record's word, which a C host lends so that 6 can refuse it; an enum of it would be `is_backup` again at each call.
+// Kept (1): the mode is the record's word, which a C host lends so that 6 can refuse it; an enum of two modes says what `is_backup` says, and is no plainer.
 ghost use Rattle.std.specs.Prelude.{◌≡◌};
 ghost use Rattle.srt_group_model.specs.Tools.{all};
 ghost use Rattle.srt_connection_queue.specs.Rows.{member_of};

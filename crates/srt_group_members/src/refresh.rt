@@ -1,7 +1,8 @@
 // The refresh of the members' states: what is left of `refresh_pending_states` and `refresh_states` after admission.
 //
 // Kept (3, 5, 6): a C host lends the members as words, with the count of rows in use; `as_chunks_mut` says nothing of what the words end as.
-// Kept (1): the mode is the record's word, which a C host lends so that 6 can refuse it; an enum of it would be `is_backup` again at each call.
+// Kept (1): the mode is the record's word, which a C host lends so that 6 can refuse it; an enum of two modes says what `is_backup` says, and is no plainer.
+// Kept (1): a state that is written goes into the lent row as it is; an enum that is turned into its number at once is no plainer.
 ghost use Rattle.std.specs.Prelude.{◌≡◌, ◌*◌, ◌≤◌, ◌<◌, length};
 ghost use Rattle.srt_group_model.specs.Tools.{is_set, flagged, each};
 ghost use Rattle.srt_group_model.specs.Members.{at_each_place, settle, requalify, break_disconnected};

@@ -1,6 +1,7 @@
 // What state a member is in. A test reads the few words of a row that it needs.
-// Kept (1): the mode is the record's word, which a C host lends so that 6 can refuse it; an enum of it would be `is_backup` again at each call.
-// Kept (1): a state is a word of the lent row: a C host may lend any number, and 6 has to read it to refuse it.
+// Kept (1): the mode is the record's word, which a C host lends so that 6 can refuse it; an enum of two modes says what `is_backup` says, and is no plainer.
+// Kept (1): a state is a word of the lent row: a C host may lend any number, and 6 has to read it to refuse it. What is written goes into
+// the row as it is, and the definitions compare words; an enum that is turned into its number at once is no plainer.
 ghost use Rattle.std.specs.Prelude.{◌≡◌, ◌&&◌, ◌*◌, ◌≤◌, length};
 ghost use Rattle.srt_connection_queue.specs.Rows.{member_of};
 ghost use Rattle.srt_connection_members.specs.Members.{members_in, HasRow, Changed};
@@ -19,7 +20,6 @@ use srt_connection_queue::rows::{Row, link_state, member_state, sender};
 use srt_group_model::Leg;
 
 // `GroupMemberState` as the numbers that a row holds.
-// Kept (1): a row is lent by a C host and may hold any number, which the tests compare as it is; an enum would stand beside the numbers.
 pub const PENDING: u64 = 0;
 
 pub const ACTIVE: u64 = 1;
@@ -31,7 +31,6 @@ pub const UNSTABLE: u64 = 3;
 pub const BROKEN: u64 = 4;
 
 // The mode is 0 in Broadcast and 1 in Backup.
-// Kept (1): it is the word of the record that C lends, and an enum of it would be this test again at each call.
 pub fn is_backup(mode: u64) -> bool
     ensures { result ≡ is_backup mode }
 {
@@ -80,7 +79,8 @@ pub fn is_standby(row: &Row) -> bool
     is_connected_in(row, STANDBY)
 }
 
-// Kept (5): it changes a row of the host's words (no heap), and a row lent to be changed leaves the table unsaid.
+// Kept (5): the membership is put whole, by the writer that srt_connection_members has of it; one of the state's word alone would be
+// faster, but a further way into a row, and is no plainer.
 pub fn turn_at(members: &mut [u64], index: usize, state: u64)
     requires { HasRow index members.old }
     ensures { Changed index (turned state) members.old members.new }

@@ -268,7 +268,7 @@ pub struct Counts {
 #[derive(Clone, Copy, Default)]
 pub struct Core {
     // mode
-    // Kept (1): the mode is the record's word, which a C host lends so that 6 can refuse it; an enum of it would be `is_backup` again at each call.
+    // Kept (1): the mode is the record's word, which a C host lends so that 6 can refuse it; an enum of two modes says what `is_backup` says, and is no plainer.
     pub mode: u64,
     // peer_group_id, 0 while the group is not bound
     // Kept (1): the record's word, which a C host lends; a bound group's id has the mark of one, so 0 is none.
