@@ -1,5 +1,5 @@
 // `add_member`.
-// Kept (5, 6): C lends each table by its name and length (docs/TABLES.md), so each is a parameter of its own.
+// Kept (2, 5, 6): C calls each by its name, and lends each table by its own name and length (docs/TABLES.md).
 ghost use Rattle.std.specs.Prelude.{[], length};
 ghost use Rattle.srt_connection_members.specs.Members.{HasRow};
 ghost use Rattle.srt_group_shown.specs.Tables.{tables};
@@ -10,7 +10,7 @@ ghost use Rattle.srt_group_words.specs.Words.{silent, words, PromisedWords, Read
 
 use cell_set::of_words;
 use srt_group_addition::{calls, handed};
-use srt_group_words::record::{RECORD, put_back, put_back_core, read_group};
+use srt_group_words::record::{RECORD, SHORT, put_back, put_back_core, read_group};
 
 // A leg is added, handed over in a row of the members' table, of which the membership part is not read. 22 leaves it added.
 #[tactic(auto, using(srt_group_words::specs::Laws::Words::record_refused))]
@@ -35,7 +35,7 @@ pub extern "C" fn srt_group_raw_add_member(
         nothing_lent []) }
 {
     if record.len() < RECORD {
-        return 5;
+        return SHORT;
     }
     let added = calls::add_member(
         read_group(record),

@@ -1,5 +1,5 @@
 // `remove_member` and `remove_member_connection`.
-// Kept (5, 6): C lends each table by its name and length (docs/TABLES.md), so each is a parameter of its own.
+// Kept (2, 5, 6): C calls each by its name, and lends each table by its own name and length (docs/TABLES.md).
 ghost use Rattle.std.specs.Prelude.{false, [], length};
 ghost use Rattle.srt_group_model.specs.Lent.{call_remove_member_connection};
 ghost use Rattle.srt_connection_members.specs.Members.{HasRow};
@@ -11,7 +11,7 @@ ghost use Rattle.srt_group_c_members.specs.LegBack.{PromisedLegBack, PerformsLeg
 
 use cell_set::of_words_mut;
 use srt_group_removal::{calls, connection};
-use srt_group_words::record::{RECORD, put_back, put_back_core, read_group};
+use srt_group_words::record::{RECORD, SHORT, put_back, put_back_core, read_group};
 
 // A member is removed, and its leg dropped.
 #[tactic(auto, using(srt_group_words::specs::Laws::Words::record_refused))]
@@ -34,7 +34,7 @@ pub extern "C" fn srt_group_raw_remove_member(
         nothing_lent []) }
 {
     if record.len() < RECORD {
-        return 5;
+        return SHORT;
     }
     let removed = calls::remove_member(
         read_group(record),
@@ -107,7 +107,7 @@ pub extern "C" fn srt_group_raw_remove_member_connection(
         nothing_lent []) row.old row.new }
 {
     if record.len() < RECORD {
-        return 5;
+        return SHORT;
     }
     let removed = calls::remove_member_connection(
         read_group(record),

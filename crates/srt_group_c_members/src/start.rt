@@ -7,7 +7,7 @@ ghost use Rattle.srt_group_words.specs.Words.{PromisedNewWords, BeginsValid};
 use cell_set::{WORDS, of_words_mut};
 use srt_group::Group;
 use srt_group_words::begin::begin_stored;
-use srt_group_words::record::{RECORD, put_group};
+use srt_group_words::record::{RECORD, SHORT, put_group};
 use srt_protocol::error::outcome_number;
 
 // A fresh group over tables of which no row is in use: its id, its mode (0 Broadcast, 1 Backup), and the length of the store that every call
@@ -19,7 +19,7 @@ pub extern "C" fn srt_group_raw_new(record: &mut [u64], id: u64, mode: u64, leng
         «record».old result «record».new }
 {
     if record.len() < RECORD {
-        return 5;
+        return SHORT;
     }
     match Group::new(id, mode, length) {
         Ok(group) => {
@@ -48,10 +48,11 @@ pub extern "C" fn srt_group_valid_begin(
         store used.old result used.new }
 {
     if record.len() < RECORD {
-        return 5;
+        return SHORT;
     }
+    // Kept (4): one test of both by `||` was tried: the goal of what it refuses stays open.
     if used.len() != WORDS {
-        return 5;
+        return SHORT;
     }
     let begun = begin_stored(
         record,

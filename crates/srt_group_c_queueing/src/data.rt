@@ -1,5 +1,5 @@
 // `queue_data` of the stand-in leg.
-// Kept (5, 6): C lends each table by its name and length (docs/TABLES.md), so each is a parameter of its own.
+// Kept (2, 5, 6): C calls each by its name, and lends each table by its own name and length (docs/TABLES.md).
 ghost use Rattle.std.specs.Prelude.{false, [], length};
 ghost use Rattle.srt_group_model.specs.Lent.{call_queue_data};
 ghost use Rattle.srt_group_shown.specs.Tables.{tables};
@@ -11,7 +11,7 @@ use cell_set::{WORDS, of_words_mut};
 use srt_group_model::Data;
 use srt_group_queueing::queueing;
 use srt_group_words::begin::begin_stored;
-use srt_group_words::record::{RECORD, read_group};
+use srt_group_words::record::{RECORD, SHORT, read_group};
 use srt_protocol::error::outcome_number;
 use srt_protocol::time::Timestamp;
 
@@ -97,7 +97,7 @@ pub extern "C" fn srt_group_raw_queue_data(
         (storing store.new) []) }
 {
     if record.len() < RECORD {
-        return 5;
+        return SHORT;
     }
     let mut used = [0; WORDS];
     let begun = begin_stored(

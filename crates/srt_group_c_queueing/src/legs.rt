@@ -1,5 +1,5 @@
 // `queue_event` and `read_leg` of the stand-in leg.
-// Kept (5, 6): C lends each table by its name and length (docs/TABLES.md), so each is a parameter of its own.
+// Kept (2, 5, 6): C calls each by its name, and lends each table by its own name and length (docs/TABLES.md).
 // Kept (1): kind, field and number are words of the C call: any is a legal question, and 2 refuses what is none.
 ghost use Rattle.std.specs.Prelude.{false, [], length};
 ghost use Rattle.srt_group_model.specs.Lent.{call_queue_event, call_read_leg};
@@ -10,7 +10,7 @@ ghost use Rattle.srt_group_words.specs.Words.{silent, words, PromisedWords, Read
 
 use cell_set::of_words;
 use srt_group_queueing::{calls, events, readings};
-use srt_group_words::record::{RECORD, read_group};
+use srt_group_words::record::{RECORD, SHORT, read_group};
 use srt_protocol::error::outcome_number;
 
 // A lifecycle event at the end of a leg's queue.
@@ -36,7 +36,7 @@ pub extern "C" fn srt_group_raw_queue_event(
         nothing_lent []) }
 {
     if record.len() < RECORD {
-        return 5;
+        return SHORT;
     }
     let done = calls::queue_event(
         read_group(record),
@@ -117,7 +117,7 @@ pub extern "C" fn srt_group_raw_read_leg(
         nothing_lent []) }
 {
     if record.len() < RECORD {
-        return 5;
+        return SHORT;
     }
     let done = calls::read_leg(
         read_group(record),

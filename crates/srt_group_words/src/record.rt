@@ -16,6 +16,9 @@ use srt_protocol::error::{Error, outcome_number};
 // The words of a record.
 pub const RECORD: usize = 20;
 
+// What a call answers that is lent too few words for its record, its answer or its list: the number of `Error::InsufficientBuffer`.
+pub const SHORT: u32 = 5;
+
 // ---- what the words show, by the record's parts
 
 #[tactic(auto, unfolding(crate::specs::Record::identity_of))]

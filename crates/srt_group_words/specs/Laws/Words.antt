@@ -10,6 +10,9 @@ use Rattle.srt_group_model.specs.Laws.Reason.{when_true, when_false, or_yes_righ
 use Rattle.srt_group_model.specs.Guards.{Answer, no_answer}
 use Rattle.srt_group_model.specs.Lent.{Lent, Call, takes, perform}
 use Rattle.srt_group_model.specs.declared.Core.{Core}
+use Rattle.srt_group_model.specs.declared.Identity.{Identity}
+use Rattle.srt_group_model.specs.declared.Sending.{Sending}
+use Rattle.srt_group_tables.specs.declared.history.HistoryRing.{HistoryRing}
 use Rattle.srt_group_model.specs.Answers.{values_of}
 use Rattle.srt_group_traces.specs.Port.{Promise}
 use Rattle.srt_group_traces.specs.Laws.Rows.{only_sends_fill_rows}
@@ -19,8 +22,8 @@ use Rattle.srt_group.specs.Made.{parts_of}
 use Rattle.srt_group.specs.declared.Group.{Group}
 use Rattle.srt_group_refusals.specs.Begins.{are_short}
 use Rattle.srt_group_refusals.specs.Promised.{asking, showing, Promised, PromisedRow, row_short, nothing_lent}
-use Rattle.srt_group_words.specs.Record.{record_size, group_of, group_words, with_core}
-use Rattle.srt_group_words.specs.Laws.Record.{group_put, put_length, put_behind}
+use Rattle.srt_group_words.specs.Record.{record_size, identity_of, core_of, sending_of, ring_of, group_of, group_words, with_core}
+use Rattle.srt_group_words.specs.Laws.Record.{group_read, group_put, put_length, put_behind}
 use Rattle.srt_group_words.specs.Words.{zeros, Says, silent, in_words, sent_words, Words, words, parts_in, state_in, are_few, PromisedWords, Gives, Said, PutSaid, PutBack, ReadyWords, PerformsWords, PerformsGives}
 
 -- ---- how many words an answer has
@@ -231,8 +234,13 @@ in_words_of call says w t bytes answer enough w' t' bytes' answer' code given ro
 
 -- ---- a form for a valid state
 
+-- the parts read one by one are those of the group that the words show
+pub parts_read_each : (w : List ℕ) {identity : Identity} {core : Core} {sending : Sending} {ring : HistoryRing} → identity ≡ identity_of w
+    → core ≡ core_of w → sending ≡ sending_of w → ring ≡ ring_of w → parts identity core sending ring ≡ parts_of (group_of w)
+parts_read_each w one two three four = ap parts_of (group_read w one two three four)
+
 module _ (w : List ℕ) {g : Group} (read : g ≡ group_of w) where
-  parts_read : parts_of g ≡ parts_of (group_of w)
+  pub parts_read : parts_of g ≡ parts_of (group_of w)
   parts_read = ap parts_of read
 
   -- what a form requires
