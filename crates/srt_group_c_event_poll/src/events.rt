@@ -1,5 +1,5 @@
 // `poll_event`.
-// Kept (5, 6): C lends each table by its name and length (docs/TABLES.md), so each is a parameter of its own.
+// Kept (2, 5, 6): C calls each by its name, and lends each table by its own name and length (docs/TABLES.md).
 ghost use Rattle.std.specs.Prelude.{false, ◌≤◌, length};
 ghost use Rattle.srt_protocol.specs.Cells.{output_size};
 ghost use Rattle.srt_group_model.specs.Lent.{call_poll_event};
@@ -12,7 +12,7 @@ use cell_set::{WORDS, of_words_mut};
 use srt_group_event_poll::polls;
 use srt_group_words::answers::{POLLED, put};
 use srt_group_words::begin::begin_poll;
-use srt_group_words::record::{RECORD, read_group};
+use srt_group_words::record::{RECORD, SHORT, read_group};
 use srt_protocol::time::Timestamp;
 
 // The next event, or the next packet in order, its payload written from byte 12 of the output on. The answer's words: of an event its
@@ -85,7 +85,7 @@ pub extern "C" fn srt_group_raw_poll_event(
         (lending store.now output.new) answer.new) }
 {
     if record.len() < RECORD || answer.len() < POLLED {
-        return 5;
+        return SHORT;
     }
     let mut used = [0; WORDS];
     let begun = begin_poll(

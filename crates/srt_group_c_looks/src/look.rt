@@ -8,7 +8,7 @@ ghost use Rattle.srt_group_c_looks.specs.Look.{Shows, SaysNothing};
 
 use crate::answers::{InWords, put_given};
 use srt_group_refusals::refusals::LentGroup;
-use srt_group_words::record::{RECORD, read_group};
+use srt_group_words::record::{RECORD, SHORT, read_group};
 use srt_protocol::error::Error;
 
 // 5 where the record or the answer has too few words; else what `given` gives of the group and its tables.
@@ -30,7 +30,7 @@ pub fn look<const N: usize, T: InWords<N>, F: FnOnce(&LentGroup) -> Result<T, Er
         (tables members.now pending.now waiting.now history.now sources.now) answer.old result answer.new }
 {
     if record.len() < RECORD || answer.len() < N {
-        return 5;
+        return SHORT;
     }
     let lent = LentGroup {
         group: read_group(record),

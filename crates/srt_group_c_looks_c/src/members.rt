@@ -12,7 +12,7 @@ use srt_group_c_looks::answers::{SHOWN, put_given};
 use srt_group_c_looks::look::look;
 use srt_group_looks::{member, members};
 use srt_group_refusals::refusals::LentGroup;
-use srt_group_words::record::{RECORD, read_group};
+use srt_group_words::record::{RECORD, SHORT, read_group};
 
 // A member: its id, weight, label, its leg's state, whether it was admitted, its reserved sum, and its collision's expected and actual peer group.
 #[unsafe(no_mangle)]
@@ -99,7 +99,7 @@ pub extern "C" fn srt_group_raw_members(
         nothing_lent answer.new) list.old list.new }
 {
     if record.len() < RECORD || answer.len() < SHOWN {
-        return 5;
+        return SHORT;
     }
     let lent = LentGroup {
         group: read_group(record),

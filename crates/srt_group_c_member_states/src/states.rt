@@ -1,5 +1,5 @@
 // `mark_member_broken`, `refresh_member_states` and `disconnect`.
-// Kept (5, 6): C lends each table by its name and length (docs/TABLES.md), so each is a parameter of its own.
+// Kept (2, 5, 6): C calls each by its name, and lends each table by its own name and length (docs/TABLES.md).
 ghost use Rattle.std.specs.Prelude.{false, [], length};
 ghost use Rattle.srt_group_model.specs.Lent.{call_mark_member_broken, call_refresh_member_states, call_disconnect};
 ghost use Rattle.srt_group_shown.specs.Tables.{tables};
@@ -9,7 +9,7 @@ ghost use Rattle.srt_group_words.specs.Words.{silent, words, PromisedWords, Read
 
 use cell_set::of_words;
 use srt_group_member_states::{broken, calls, forms};
-use srt_group_words::record::{RECORD, put_back, put_back_core, read_group};
+use srt_group_words::record::{RECORD, SHORT, put_back, put_back_core, read_group};
 use srt_protocol::error::outcome_number;
 use srt_protocol::time::Timestamp;
 
@@ -34,7 +34,7 @@ pub extern "C" fn srt_group_raw_mark_member_broken(
         nothing_lent []) }
 {
     if record.len() < RECORD {
-        return 5;
+        return SHORT;
     }
     let done = calls::mark_member_broken(
         read_group(record),
@@ -106,7 +106,7 @@ pub extern "C" fn srt_group_raw_refresh_member_states(
         nothing_lent []) }
 {
     if record.len() < RECORD {
-        return 5;
+        return SHORT;
     }
     let group = read_group(record);
     let refreshed = calls::refresh_member_states(
@@ -172,7 +172,7 @@ pub extern "C" fn srt_group_raw_disconnect(
         nothing_lent []) }
 {
     if record.len() < RECORD {
-        return 5;
+        return SHORT;
     }
     let done = calls::disconnect(
         read_group(record),
