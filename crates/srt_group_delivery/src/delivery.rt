@@ -2,7 +2,7 @@
 // is passed over once the leg of the nearest held packet gives up on it.
 // Kept (5, 6): a step that moves tables takes them one beside the other: a struct of `&mut` asks for loans that a call does not need, and for a clause to each field, that its slice is still the caller's (tried); what holds of them is one fact, `Deliverable`.
 // Kept (5): what goes by value beside them is the group's record, which a step gives back, and the one or two numbers that this step is about; a struct of those would be made for a single call and is no plainer.
-// Kept (1): `based` and `base` are two words of the record in C's layout, and `owned` is a word of the lent row (the C interface).
+// Kept (1): a packet's `owned` is a word of the lent row (the C interface).
 ghost use Rattle.std.specs.Prelude.{◌≡◌, List, [], ◌∷◌, ℕ, ◌+◌, ◌-◌, ◌*◌, ◌≤◌, ◌<◌, min, length};
 ghost use Rattle.srt_protocol.specs.Sequence.{sequence_distance};
 ghost use Rattle.srt_group_model.specs.Legs.{largest_64};
@@ -208,8 +208,7 @@ fn deliver_packet(
     advance_receive_sequence_of_all(members, count, next);
     let left = pending::remove_covered(pending, held, covered);
     after.counts.pending = left;
-    after.receiving.based = 1;
-    after.receiving.base = next;
+    after.receiving.set_base(next);
     after
 }
 
@@ -276,8 +275,7 @@ pub fn skip_to(mut core: Core, base: u64, next: u64) -> Core
     ensures { Skips base next core result }
 {
     core.receiving.skipped = skipped_after(core.receiving.skipped, base, next);
-    core.receiving.based = 1;
-    core.receiving.base = next;
+    core.receiving.set_base(next);
     core
 }
 
@@ -285,13 +283,12 @@ pub fn skip_to(mut core: Core, base: u64, next: u64) -> Core
 pub fn set_base(mut core: Core, base: Option<u64>) -> Core
     ensures { Bases base core result }
 {
-    if core.receiving.based != 0 {
+    if core.receiving.base().is_some() {
         return core;
     }
     let Some(base) = base else {
         return core;
     };
-    core.receiving.based = 1;
-    core.receiving.base = base;
+    core.receiving.set_base(base);
     core
 }

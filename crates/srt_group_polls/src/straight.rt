@@ -97,8 +97,7 @@ pub fn give_straight(
     let round = (index + 1) % count;
     core.visit.continuation = 0;
     core.visit.round = round;
-    core.receiving.based = 1;
-    core.receiving.base = next;
+    core.receiving.set_base(next);
     Poll {
         gave: Some(GroupEvent::Packet(packet)),
         core,

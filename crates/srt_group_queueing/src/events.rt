@@ -32,6 +32,7 @@ fn event_unfit(id: u64, kind: u64, reason: u64) -> bool
 }
 
 // The event, without data.
+// Kept (4): `Data` derives no Default: a packet of zeros is no value to fall back on, and the zeros here are this event's own.
 fn lifecycle_event(kind: u64, reason: u64) -> Event
     ensures { result ≡ lifecycle_event kind reason }
 {

@@ -43,8 +43,7 @@ fn skip_to_nearest(
     let Some(at) = nearest else {
         return Poll { gave: None, core };
     };
-    let packet = pending::packet(pending, at);
-    let next = packet.content.sequence;
+    let next = pending::sequence_at(pending, at);
     let skipped = skip_to(core, base, next);
     deliver(skipped, members, pending, used, next)
 }
@@ -138,8 +137,7 @@ fn deliver_nearest(core: Core, members: &mut [u64], pending: &mut [u64], used: &
     let Some(at) = nearest else {
         return Poll { gave: None, core };
     };
-    let packet = pending::packet(pending, at);
-    let first = packet.content.sequence;
+    let first = pending::sequence_at(pending, at);
     let based = set_base(core, Some(first));
     deliver(based, members, pending, used, first)
 }

@@ -126,10 +126,10 @@ module _ (core : Core) (ms ps ws : List ℕ) {r : Option ℕ} (near : FoundPacke
     near_is : nearest (packets core.counts.pending ps) ≡ Some p
     near_is = sym near.is ∙ ap (packet_found ps) e ∙ ap (λ (q : Packet). Some q) (sym is)
 
-    pub skipped_to : (tested : State) (time base : ℕ) → Skips base (sequence_of p) core after
+    packet_skipped_to : (tested : State) (time base : ℕ) → Skips base (sequence_of p) core after
         → Polls (deliver (sequence_of p)) after (receive_tables ms ps ws) answer (receive_tables ms' ps' ws)
         → Polls (skip_nearest tested time base) core (receive_tables ms ps ws) answer (receive_tables ms' ps' ws)
-    skipped_to tested time base skip =
+    packet_skipped_to tested time base skip =
         polls_on (skip_nearest tested time base) (deliver (sequence_of p)) core after ms ps ws answer ms' ps' ws
         (skip.leaves (receive_tables ms ps ws)).members_same skip.waiting_same
         (λ others log budget. gap_skipped tested time (sequence_distance base (sequence_of p)) ∷ log) goes_on
@@ -163,10 +163,17 @@ module _ (core : Core) (ms ps ws : List ℕ) {r : Option ℕ} (near : FoundPacke
             nearest_delivered (under_way core others (receive_tables ms ps ws) log budget) p near_is
             ∙ ap (deliver (sequence_of p)) (run_is based (shown after others ms ps ws) budget at.state at.budget)
 
-    pub delivered_first : Bases (Some (sequence_of p)) core after → Polls (deliver (sequence_of p)) after (receive_tables ms ps ws) answer (receive_tables ms' ps' ws)
+  -- the packet's sequence is all that is read of it
+  module _ (i : ℕ) (e : r ≡ Some i) {next : ℕ} (is : next ≡ sequence_of (packet_at ps i)) (after : Core) (answer : Poll) (ms' ps' : List ℕ) where
+    pub skipped_to : (tested : State) (time base : ℕ) → Skips base next core after
+        → Polls (deliver next) after (receive_tables ms ps ws) answer (receive_tables ms' ps' ws)
+        → Polls (skip_nearest tested time base) core (receive_tables ms ps ws) answer (receive_tables ms' ps' ws)
+    skipped_to tested time base skip polls =
+        packet_skipped_to i e refl after answer ms' ps' tested time base (rw is at skip) (rw is at polls)
+
+    pub delivered_first : Bases (Some next) core after → Polls (deliver next) after (receive_tables ms ps ws) answer (receive_tables ms' ps' ws)
         → Polls deliver_nearest core (receive_tables ms ps ws) answer (receive_tables ms' ps' ws)
-    unfolding flagged
-    delivered_first bases = delivered_based bases
+    delivered_first bases polls = delivered_based i e refl after answer ms' ps' (rw is at bases) (rw is at polls)
 
 -- ---- after the queues were collected
 
