@@ -1,5 +1,5 @@
 // `can_send` and `can_send_with_pacing`.
-// Kept (5, 6): C lends each table by its name and length (docs/TABLES.md), so each is a parameter of its own.
+// Kept (2, 5, 6): C calls each by its name, and lends each table by its own name and length (docs/TABLES.md).
 ghost use Rattle.std.specs.Prelude.{false, ◌≤◌, length};
 ghost use Rattle.srt_group_model.specs.Lent.{call_can_send, call_can_send_with_pacing};
 ghost use Rattle.srt_group_shown.specs.Tables.{tables};
@@ -12,7 +12,7 @@ use cell_set::of_words_mut;
 use srt_group_c_looks::answers::SHOWN;
 use srt_group_send::valid;
 use srt_group_send_calls::calls;
-use srt_group_words::record::{RECORD, read_group};
+use srt_group_words::record::{RECORD, SHORT, read_group};
 use srt_protocol::time::Timestamp;
 
 // Whether the group could send now. The test refreshes and trims.
@@ -36,7 +36,7 @@ pub extern "C" fn srt_group_raw_can_send(
         nothing_lent answer.new) }
 {
     if record.len() < RECORD || answer.len() < SHOWN {
-        return 5;
+        return SHORT;
     }
     let tested = calls::can_send(
         read_group(record),
@@ -109,7 +109,7 @@ pub extern "C" fn srt_group_raw_can_send_with_pacing(
         nothing_lent answer.new) }
 {
     if record.len() < RECORD || answer.len() < SHOWN {
-        return 5;
+        return SHORT;
     }
     let tested = calls::can_send_with_pacing(
         read_group(record),

@@ -1,5 +1,5 @@
 // `send` and `send_shared`.
-// Kept (5, 6): C lends each table by its name and length (docs/TABLES.md), so each is a parameter of its own.
+// Kept (2, 5, 6): C calls each by its name, and lends each table by its own name and length (docs/TABLES.md).
 ghost use Rattle.std.specs.Prelude.{false, ◌≤◌, length};
 ghost use Rattle.srt_group_model.specs.Sending.{list_size};
 ghost use Rattle.srt_group_model.specs.Lent.{call_send};
@@ -13,7 +13,7 @@ use srt_group_send::sending;
 use srt_group_sending::list::SENT_LENGTH;
 use srt_group_words::answers::put;
 use srt_group_words::begin::begin_stored;
-use srt_group_words::record::{RECORD, read_group};
+use srt_group_words::record::{RECORD, SHORT, read_group};
 use srt_protocol::time::Timestamp;
 
 // `srt_group_raw_send` for a valid state, of which `used` shows the cells in use.
@@ -85,11 +85,11 @@ pub extern "C" fn srt_group_raw_send(
         (sending_into store.new list.new) answer.new) }
 {
     if record.len() < RECORD || answer.len() < SENT {
-        return 5;
+        return SHORT;
     }
     if list.len() < SENT_LENGTH {
         put(answer, [0, 0]);
-        return 5;
+        return SHORT;
     }
     let mut used = [0; WORDS];
     let begun = begin_stored(
