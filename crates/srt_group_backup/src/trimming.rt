@@ -21,6 +21,7 @@ pub struct SendHistory {
 }
 
 // Whether the oldest entry is after a sequence: older ones were lost.
+// Kept (1): the gap is the rules' word of a flag, and `u64::from` promises the byte of the bool: a step from one to the other would be no plainer.
 #[tactic(auto, using(crate::specs::Laws::Trimming::none_after, crate::specs::Laws::Trimming::first_after, crate::specs::Laws::Trimming::first_not_after))]
 fn starts_after(history: &HistoryWords, oldest: u64) -> u64
     ensures { result ≡ bit (front_after oldest history.now.history.now history.now.ring) }

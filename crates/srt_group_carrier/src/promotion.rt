@@ -1,5 +1,6 @@
 // After a failed send another member is promoted, and tried once with the same sequence.
 // Kept (5, 6): which tables a function changes differs from one to the next, so a struct of `&mut` would be another for each (docs/DECISIONS.md).
+// Kept (5): the rules take a payload's time, size, cell and sequence one by one, so a struct of them would be taken apart in each clause, and is no plainer.
 ghost use Rattle.std.specs.Prelude.{◌-◌, ◌≤◌};
 ghost use Rattle.srt_group_model.specs.Sending.{max_sent};
 ghost use Rattle.srt_group_model.specs.Backup.{max_history, send_after_promotion};

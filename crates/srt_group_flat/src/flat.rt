@@ -1,4 +1,5 @@
 // `poll_data`, `add_member` and `send` by value with answers of words: each makes the call and turns its answer into words.
+// Kept (2): C is answered plain words and no Result, so srt_group's `Answered` does not fit these three, and each holds the words of its call.
 // Kept (1, 5, 6): srt_group_lent exports these calls to C, which has no Result and lends each table by its own name.
 ghost use Rattle.srt_group_model.specs.Guards.{no_answer};
 ghost use Rattle.srt_group_model.specs.Lent.{call_poll_data, call_send};

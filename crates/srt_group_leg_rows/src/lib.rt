@@ -24,6 +24,7 @@ pub struct LegRow {
 }
 
 // The answer for an id that no row has. It is document 01's code for an unknown leg, and no state of a leg.
+// Kept (1): a host reads one number, a leg's state or this code; an Option would be turned into that number at once, which is no plainer.
 pub const UNKNOWN_LEG: u64 = 3;
 
 // The state in the first row that has the id.

@@ -86,6 +86,7 @@ pub fn group_time_until_send(rows: &[Row], time: Timestamp) -> u64
 // ---- Backup: whether the next send could go, with the take-over that it would make
 
 // Another member carried the last send.
+// Kept (1): `is_some_and` was tried, and the proof did not close: what its closure promises is out of an answer's reach.
 #[tactic(auto, using(crate::specs::Laws::BackupReadiness::nobody_carries, crate::specs::Laws::BackupReadiness::some_carry))]
 pub fn takes_over(sending: Sending, id: u64) -> bool
     ensures { result ≡ is_other_carrier id sending }
@@ -124,6 +125,7 @@ fn gap_allows(takes: bool, replay: usize, gap: u64) -> bool
 }
 
 // Whether the leg stands at the sequence, or can be brought there because nothing of it is in flight.
+// Kept (1): `is_none_or` was tried, and the proof did not close, as in `takes_over`.
 #[tactic(auto, using(crate::specs::Laws::BackupReadiness::stands_anywhere, crate::specs::Laws::BackupReadiness::stands_if))]
 fn stands_at(leg: Leg, sequence: Option<u64>) -> bool
     ensures { result ≡ stands_at sequence leg }
