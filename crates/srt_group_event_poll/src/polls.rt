@@ -22,9 +22,8 @@ fn packet_in(gave: Option<GroupEvent>) -> Option<Packet>
     ensures { result ≡ packet_in gave }
 {
     match gave {
-        None => None,
-        Some(GroupEvent::Event(_)) => None,
         Some(GroupEvent::Packet(packet)) => Some(packet),
+        _ => None,
     }
 }
 
