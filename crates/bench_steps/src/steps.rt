@@ -25,19 +25,10 @@ const NO_PACKET: u64 = 4294967295;
 
 const NOT_POLLED: u64 = 4294967294;
 
-// The group after a step, and the step's answer.
-// Kept (2): a call gives the whole record back; a form gives the core alone (`Stepped`).
+// What a step leaves of the record, the whole after a call and the core after a form, and the step's answer.
 #[derive(Clone, Copy)]
-pub struct Called {
-    pub group: Group,
-    pub answer: u64,
-}
-
-// What a poll moves of the record, and the step's answer.
-// Kept (2): a form moves the core alone; the whole record, as in `Called`, would be copied in each step that is timed.
-#[derive(Clone, Copy)]
-pub struct Stepped {
-    pub core: Core,
+pub struct Stepped<R> {
+    pub record: R,
     pub answer: u64,
 }
 
@@ -66,7 +57,7 @@ fn call(
     word: u64,
     payload: &[u8],
     time: u64,
-) -> Called {
+) -> Stepped<Group> {
     let leg = word / LEG;
     if leg == 0 {
         let polled = calls::poll_data(
@@ -80,8 +71,8 @@ fn call(
             output,
             Timestamp(time),
         );
-        return Called {
-            group: polled.record,
+        return Stepped {
+            record: polled.record,
             answer: answered(polled.answer),
         };
     }
@@ -97,8 +88,8 @@ fn call(
         data(word % LEG, 0, 0),
         payload,
     );
-    Called {
-        group,
+    Stepped {
+        record: group,
         answer: outcome_number(outcome) as u64,
     }
 }
@@ -121,7 +112,7 @@ pub fn call_each(
         let called = call(
             group, members, pending, waiting, history, sources, store, output, *word, payload, time,
         );
-        group = called.group;
+        group = called.record;
         *word = called.answer;
     }
     group
@@ -141,11 +132,11 @@ fn step(
     word: u64,
     payload: &[u8],
     time: u64,
-) -> Stepped
+) -> Stepped<Core>
     requires ready { Ready (parts_of group)
         (tables members.old pending.old waiting.old history.now sources.now) (length store.old) used.old }
     requires output_size_in_bounds { output_size ≤ length output.old }
-    ensures { Ready (parts group.identity result.core group.sending group.ring)
+    ensures { Ready (parts group.identity result.record group.sending group.ring)
         (tables members.new pending.new waiting.new history.now sources.now)
         (length store.new) used.new }
 {
@@ -165,7 +156,7 @@ fn step(
             MAX_VISITS,
         );
         return Stepped {
-            core: poll.core,
+            record: poll.core,
             answer: given(poll.gave),
         };
     }
@@ -183,7 +174,7 @@ fn step(
         payload,
     );
     Stepped {
-        core: group.core,
+        record: group.core,
         answer: outcome_number(outcome) as u64,
     }
 }
@@ -212,7 +203,7 @@ pub fn step_each(
             group, members, pending, waiting, history, sources, store, output, used, *word,
             payload, time,
         );
-        group.core = stepped.core;
+        group.core = stepped.record;
         *word = stepped.answer;
     }
     group.core
