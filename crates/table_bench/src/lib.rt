@@ -126,10 +126,7 @@ pub extern "C" fn table_history(
     requires in_arrays { InArrays 0 (arrays history.old sources.old) }
     requires rounds_le_largest_sequence { (rounds ≤ largest_sequence) × (kept ≤ rounds) }
 {
-    let mut ring = HistoryRing {
-        start: 0,
-        length: 0,
-    };
+    let mut ring = HistoryRing::default();
     for sequence in 0..rounds {
         ring = sent(ring, history, sources, sequence, kept);
     }
@@ -160,8 +157,8 @@ pub extern "C" fn table_rules(
         core: core(many, held, 1),
         sending: sending(),
         ring: HistoryRing {
-            start: 0,
             length: entries,
+            ..HistoryRing::default()
         },
     };
     let mut used = [0; WORDS];
