@@ -55,10 +55,7 @@ fn made(members: usize) -> Group
         },
         core: core(members, 0, 0),
         sending: sending(),
-        ring: HistoryRing {
-            start: 0,
-            length: 0,
-        },
+        ring: HistoryRing::default(),
     }
 }
 
