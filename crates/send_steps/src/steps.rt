@@ -7,7 +7,7 @@ ghost use Rattle.srt_group_shown.specs.Tables.{tables};
 ghost use Rattle.srt_group_shown.specs.Ready.{Ready};
 ghost use Rattle.srt_group.specs.Made.{parts_of};
 
-use bench_steps::steps::{Called, LEG};
+use bench_steps::steps::{LEG, Stepped};
 use cell_set::CellSet;
 use srt_group::Group;
 use srt_group_queueing::calls as queueing_calls;
@@ -40,7 +40,7 @@ fn call(
     list: &mut [u64],
     word: u64,
     payload: &[u8],
-) -> Called {
+) -> Stepped<Group> {
     let leg = word / LEG;
     if leg == 0 {
         let sent = calls::send(
@@ -55,8 +55,8 @@ fn call(
             Timestamp(word),
             payload,
         );
-        return Called {
-            group: sent.record,
+        return Stepped {
+            record: sent.record,
             answer: answered(sent.answer),
         };
     }
@@ -71,8 +71,8 @@ fn call(
         ACKNOWLEDGED,
         word % LEG,
     );
-    Called {
-        group,
+    Stepped {
+        record: group,
         answer: outcome_number(outcome) as u64,
     }
 }
@@ -94,7 +94,7 @@ pub fn call_each(
         let called = call(
             group, members, pending, waiting, history, sources, store, list, *word, payload,
         );
-        group = called.group;
+        group = called.record;
         *word = called.answer;
     }
     group
@@ -113,11 +113,11 @@ fn step(
     used: &mut CellSet,
     word: u64,
     payload: &[u8],
-) -> Called
+) -> Stepped<Group>
     requires ready { Ready (parts_of group)
         (tables members.old pending.now waiting.now history.old sources.old) (length store.old) used.old }
     requires list_size_in_bounds { list_size ≤ length list.old }
-    ensures { Ready (parts_of result.group)
+    ensures { Ready (parts_of result.«record»)
         (tables members.new pending.now waiting.now history.new sources.new)
         (length store.new) used.new }
 {
@@ -136,8 +136,8 @@ fn step(
             Timestamp(word),
             payload,
         );
-        return Called {
-            group: sent.record,
+        return Stepped {
+            record: sent.record,
             answer: answered(sent.answer),
         };
     }
@@ -154,8 +154,8 @@ fn step(
         ACKNOWLEDGED,
         word % LEG,
     );
-    Called {
-        group,
+    Stepped {
+        record: group,
         answer: outcome_number(outcome) as u64,
     }
 }
@@ -182,7 +182,7 @@ pub fn step_each(
         let stepped = step(
             group, members, pending, waiting, history, sources, store, list, used, *word, payload,
         );
-        group = stepped.group;
+        group = stepped.record;
         *word = stepped.answer;
     }
     group
