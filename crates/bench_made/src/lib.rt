@@ -5,8 +5,7 @@
 ghost use Rattle.std.specs.Prelude.{◌≡◌};
 ghost use Rattle.bench_made.specs.Made.{core_of, nothing_sent, data_of};
 
-use srt_group_members::accounts::NO_PACKETS;
-use srt_group_model::{Core, Counts, Data, Receiving, Sending, Visit};
+use srt_group_model::{Core, Counts, Data, Receiving, Sending};
 use srt_protocol::time::Timestamp;
 
 // A Broadcast group of so many members and held packets, with `based` 0 before its first packet.
@@ -15,23 +14,16 @@ pub fn core(members: usize, pending: usize, based: u64) -> Core
     ensures { result ≡ core_of members pending based }
 {
     Core {
-        mode: 0,
-        peer: 0,
         counts: Counts {
             members,
             pending,
-            waiting: 0,
+            ..Counts::default()
         },
         receiving: Receiving {
             based,
-            base: 0,
-            skipped: 0,
+            ..Receiving::default()
         },
-        visit: Visit {
-            continuation: 0,
-            round: 0,
-        },
-        own: NO_PACKETS,
+        ..Core::default()
     }
 }
 
@@ -39,13 +31,7 @@ pub fn core(members: usize, pending: usize, based: u64) -> Core
 pub fn sending() -> Sending
     ensures { result ≡ nothing_sent }
 {
-    Sending {
-        numbered: 0,
-        next: 0,
-        carried: 0,
-        carrier: 0,
-        gap: 0,
-    }
+    Sending::default()
 }
 
 // A packet of this sequence, its source time the same number.

@@ -5,6 +5,7 @@ ghost use Rattle.std.specs.Prelude.{◌≤◌, length};
 ghost use Rattle.srt_protocol.specs.Cells.{output_size};
 ghost use Rattle.srt_group_shown.specs.Tables.{parts, tables};
 ghost use Rattle.srt_group_shown.specs.Ready.{Ready};
+ghost use Rattle.srt_group.specs.Made.{parts_of};
 
 use bench_made::data;
 use cell_set::CellSet;
@@ -13,10 +14,9 @@ use srt_group_collecting::collecting::MAX_VISITS;
 use srt_group_data_poll::calls;
 use srt_group_data_poll::calls::GroupDataPoll;
 use srt_group_data_poll::polls::poll_data_bounded;
-use srt_group_model::{Core, Identity, Packet, Sending};
+use srt_group_model::{Core, Packet};
 use srt_group_queueing::calls as queueing_calls;
 use srt_group_queueing::queueing::queue_data;
-use srt_group_tables::history::HistoryRing;
 use srt_protocol::error::{Error, outcome_number};
 use srt_protocol::time::Timestamp;
 
@@ -25,17 +25,10 @@ const NO_PACKET: u64 = 4294967295;
 
 const NOT_POLLED: u64 = 4294967294;
 
-// The group after a step, and the step's answer.
+// What a step leaves of the record, the whole after a call and the core after a form, and the step's answer.
 #[derive(Clone, Copy)]
-pub struct Called {
-    pub group: Group,
-    pub answer: u64,
-}
-
-// What a poll moves of the record, and the step's answer.
-#[derive(Clone, Copy)]
-pub struct Stepped {
-    pub core: Core,
+pub struct Stepped<R> {
+    pub record: R,
     pub answer: u64,
 }
 
@@ -44,20 +37,11 @@ pub const LEG: u64 = 4294967296;
 
 // The sequence of the packet that a poll gave.
 fn given(gave: Option<Packet>) -> u64 {
-    match gave {
-        Some(packet) => packet.content.sequence,
-        None => NO_PACKET,
-    }
+    gave.map_or(NO_PACKET, |packet| packet.content.sequence)
 }
 
 fn answered(answer: Result<GroupDataPoll, Error>) -> u64 {
-    match answer {
-        Err(_) => NOT_POLLED,
-        Ok(poll) => {
-            let packet = poll.packet;
-            given(packet)
-        }
-    }
+    answer.map_or(NOT_POLLED, |poll| given(poll.packet))
 }
 
 // A step by the public calls, which test 5 and 6. A packet that is queued is answered by the code.
@@ -73,7 +57,7 @@ fn call(
     word: u64,
     payload: &[u8],
     time: u64,
-) -> Called {
+) -> Stepped<Group> {
     let leg = word / LEG;
     if leg == 0 {
         let polled = calls::poll_data(
@@ -87,11 +71,9 @@ fn call(
             output,
             Timestamp(time),
         );
-        let after = polled.group;
-        let answer = polled.answer;
-        return Called {
-            group: after,
-            answer: answered(answer),
+        return Stepped {
+            record: polled.record,
+            answer: answered(polled.answer),
         };
     }
     let outcome = queueing_calls::queue_data(
@@ -106,8 +88,8 @@ fn call(
         data(word % LEG, 0, 0),
         payload,
     );
-    Called {
-        group,
+    Stepped {
+        record: group,
         answer: outcome_number(outcome) as u64,
     }
 }
@@ -130,7 +112,7 @@ pub fn call_each(
         let called = call(
             group, members, pending, waiting, history, sources, store, output, *word, payload, time,
         );
-        group = called.group;
+        group = called.record;
         *word = called.answer;
     }
     group
@@ -138,10 +120,7 @@ pub fn call_each(
 
 // A step by the forms for a valid state, which test neither.
 fn step(
-    identity: Identity,
-    core: Core,
-    sending: Sending,
-    ring: HistoryRing,
+    group: Group,
     members: &mut [u64],
     pending: &mut [u64],
     waiting: &mut [u64],
@@ -153,21 +132,18 @@ fn step(
     word: u64,
     payload: &[u8],
     time: u64,
-) -> Stepped
-    requires ready { Ready (parts identity core sending ring)
+) -> Stepped<Core>
+    requires ready { Ready (parts_of group)
         (tables members.old pending.old waiting.old history.now sources.now) (length store.old) used.old }
     requires output_size_in_bounds { output_size ≤ length output.old }
-    ensures { Ready (parts identity result.core sending ring)
+    ensures { Ready (parts group.identity result.record group.sending group.ring)
         (tables members.new pending.new waiting.new history.now sources.now)
         (length store.new) used.new }
 {
     let leg = word / LEG;
     if leg == 0 {
         let poll = poll_data_bounded(
-            identity,
-            core,
-            sending,
-            ring,
+            group,
             members,
             pending,
             waiting,
@@ -179,18 +155,13 @@ fn step(
             Timestamp(time),
             MAX_VISITS,
         );
-        let after = poll.core;
-        let gave = poll.gave;
         return Stepped {
-            core: after,
-            answer: given(gave),
+            record: poll.core,
+            answer: given(poll.gave),
         };
     }
     let outcome = queue_data(
-        identity,
-        core,
-        sending,
-        ring,
+        group,
         members,
         pending,
         waiting,
@@ -203,17 +174,14 @@ fn step(
         payload,
     );
     Stepped {
-        core,
+        record: group.core,
         answer: outcome_number(outcome) as u64,
     }
 }
 
 // Each step in turn by the forms for a valid state.
 pub fn step_each(
-    identity: Identity,
-    mut core: Core,
-    sending: Sending,
-    ring: HistoryRing,
+    mut group: Group,
     members: &mut [u64],
     pending: &mut [u64],
     waiting: &mut [u64],
@@ -226,17 +194,17 @@ pub fn step_each(
     payload: &[u8],
     time: u64,
 ) -> Core
-    requires ready { Ready (parts identity core sending ring)
+    requires ready { Ready (parts_of group)
         (tables members.old pending.old waiting.old history.now sources.now) (length store.old) used.old }
     requires output_size_in_bounds { output_size ≤ length output.old }
 {
     for word in steps.iter_mut() {
         let stepped = step(
-            identity, core, sending, ring, members, pending, waiting, history, sources, store,
-            output, used, *word, payload, time,
+            group, members, pending, waiting, history, sources, store, output, used, *word,
+            payload, time,
         );
-        core = stepped.core;
+        group.core = stepped.record;
         *word = stepped.answer;
     }
-    core
+    group.core
 }

@@ -8,12 +8,12 @@ use bench_steps::steps::{call_each, step_each};
 use cell_set::WORDS;
 use srt_group::Group;
 use srt_group_refusals::refusals::LentGroup;
-use srt_group_words::record::{put_group, read_group};
+use srt_group_words::record::{RECORD, put_group, read_group};
 
 // The steps in turn by the public calls.
 #[unsafe(no_mangle)]
 pub extern "C" fn calls_run(
-    record: &mut [u64; 20],
+    record: &mut [u64; RECORD],
     members: &mut [u64],
     pending: &mut [u64],
     waiting: &mut [u64],
@@ -36,7 +36,7 @@ pub extern "C" fn calls_run(
 // The same by the forms for a valid state: 5 and 6 are tested once, before the first step. Answers their code.
 #[unsafe(no_mangle)]
 pub extern "C" fn calls_run_valid(
-    record: &mut [u64; 20],
+    record: &mut [u64; RECORD],
     members: &mut [u64],
     pending: &mut [u64],
     waiting: &mut [u64],
@@ -49,12 +49,6 @@ pub extern "C" fn calls_run_valid(
     time: u64,
 ) -> u32 {
     let group = read_group(record);
-    let Group {
-        identity,
-        core,
-        sending,
-        ring,
-    } = group;
     let mut used = [0; WORDS];
     let lent = LentGroup {
         group,
@@ -64,22 +58,13 @@ pub extern "C" fn calls_run_valid(
         history,
         sources,
     };
-    let begun = lent.begin_poll(store.len(), output.len(), &mut used);
-    if let Err(error) = begun {
+    if let Err(error) = lent.begin_poll(store.len(), output.len(), &mut used) {
         return u32::from(error);
     }
-    let after = step_each(
-        identity, core, sending, ring, members, pending, waiting, history, sources, store, output,
-        &mut used, steps, payload, time,
+    let core = step_each(
+        group, members, pending, waiting, history, sources, store, output, &mut used, steps,
+        payload, time,
     );
-    put_group(
-        record,
-        Group {
-            identity,
-            core: after,
-            sending,
-            ring,
-        },
-    );
+    put_group(record, Group { core, ..group });
     0
 }

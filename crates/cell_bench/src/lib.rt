@@ -27,11 +27,7 @@ use srt_protocol::received_payload::MAX_CELLS;
 pub extern "C" fn set_lowest(used: &[u64], cells: usize) -> usize
     requires { (length used.now ≡ set_size) × (cells ≤ max_cells) }
 {
-    let found = lowest_free(of_words(used), cells);
-    match found {
-        Some(cell) => cell,
-        None => MAX_CELLS,
-    }
+    lowest_free(of_words(used), cells).unwrap_or(MAX_CELLS)
 }
 
 #[unsafe(no_mangle)]
@@ -59,10 +55,7 @@ fn made(members: usize) -> Group
         },
         core: core(members, 0, 0),
         sending: sending(),
-        ring: HistoryRing {
-            start: 0,
-            length: 0,
-        },
+        ring: HistoryRing::default(),
     }
 }
 
@@ -84,12 +77,8 @@ pub extern "C" fn queue_one(
     requires { Ready (parts_of (group_of count))
         (tables members.old pending.now waiting.now history.now sources.now) (length store.old) used.old }
 {
-    let group = made(count);
     let outcome = queue_data(
-        group.identity,
-        group.core,
-        group.sending,
-        group.ring,
+        made(count),
         members,
         pending,
         waiting,

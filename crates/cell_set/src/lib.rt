@@ -4,16 +4,20 @@
 #![tactic(auto)]
 
 ghost use Rattle.std.specs.Prelude.{◌≡◌, [], ◌∷◌, ◌≤◌, ◌<◌, length, eqb};
+ghost use Rattle.std.specs.Option.{MatchOption};
 ghost use Rattle.std.specs.Borrow.{Lends, Array, u64, sem};
 ghost use Rattle.srt_protocol.specs.Cells.{max_cells};
 ghost use Rattle.cell_set.specs.Bits.{set_size, bit_at};
 ghost use Rattle.cell_set.specs.Marks.{Marking, Marks};
-ghost use Rattle.cell_set.specs.Sets.{ShowsCells, Taken, Freed, FirstWord, LowestFree};
+ghost use Rattle.cell_set.specs.Sets.{ShowsCells, Taken, Freed, Passed, FirstWord, LowestFree};
 
 use srt_protocol::received_payload::MAX_CELLS;
 
-// The words of a set: 64 cells in each.
-pub const WORDS: usize = MAX_CELLS / 64;
+// The cells of a word, a bit to each.
+const IN_WORD: usize = u64::BITS as usize;
+
+// The words of a set.
+pub const WORDS: usize = MAX_CELLS / IN_WORD;
 
 // A set in its words; their number is the type's.
 pub type CellSet = [u64; WORDS];
@@ -35,15 +39,14 @@ pub fn of_words_mut(words: &mut [u64]) -> &mut CellSet
 }
 
 // A word whose cells are all taken.
-const FULL: u64 = 0xffff_ffff_ffff_ffff;
+const FULL: u64 = u64::MAX;
 
 #[tactic(auto, unfolding(crate::specs::Bits::bit, crate::specs::Bits::bit_at))]
 pub fn is_used(used: &CellSet, cell: usize) -> bool
     requires { cell < max_cells }
     ensures { result ≡ eqb (bit_at used.now cell) 1 }
 {
-    let word = used[cell / 64];
-    (word >> (cell % 64)) % 2 == 1
+    used[cell / IN_WORD] >> (cell % IN_WORD) & 1 == 1
 }
 
 // A cell is taken.
@@ -51,8 +54,7 @@ pub fn take(used: &mut CellSet, cell: usize)
     requires { cell < max_cells }
     ensures { Taken cell used.old used.new }
 {
-    let at = cell / 64;
-    used[at] = used[at] | (1 << (cell % 64));
+    used[cell / IN_WORD] |= 1 << (cell % IN_WORD);
 }
 
 // A cell is free again; a number that is no cell changes nothing.
@@ -60,8 +62,7 @@ pub fn free(used: &mut CellSet, cell: usize)
     ensures { Freed (cell ∷ []) used.old used.new }
 {
     if cell < MAX_CELLS {
-        let at = cell / 64;
-        used[at] = used[at] & !(1 << (cell % 64));
+        used[cell / IN_WORD] &= !(1 << (cell % IN_WORD));
     }
 }
 
@@ -71,14 +72,10 @@ pub fn mark(used: &mut CellSet, cells: usize, cell: u64) -> bool
     requires { Marking cells used.old }
     ensures { Marks cells (cell ∷ []) used.old result used.new }
 {
-    if cells as u64 <= cell {
+    if cells as u64 <= cell || is_used(used, cell as usize) {
         return false;
     }
-    let at = cell as usize;
-    if is_used(used, at) {
-        return false;
-    }
-    take(used, at);
+    take(used, cell as usize);
     true
 }
 
@@ -89,11 +86,11 @@ pub fn clear(used: &mut CellSet)
     used.fill(0);
 }
 
-// The first word that is not full, or WORDS.
-fn first_word(used: &CellSet) -> usize
-    ensures { FirstWord used.now result }
+// The first word that is not full.
+fn first_word(used: &CellSet) -> Option<usize>
+    ensures { MatchOption result (Passed used.now set_size) (λ at. (at < set_size) × FirstWord used.now at) }
 {
-    used.iter().position(|word| *word != FULL).unwrap_or(WORDS)
+    used.iter().position(|word| *word != FULL)
 }
 
 // The lowest of so many cells that is free: where the trailing ones of the first word end that is not full.
@@ -102,13 +99,7 @@ pub fn lowest_free(used: &CellSet, cells: usize) -> Option<usize>
     requires { cells ≤ max_cells }
     ensures { LowestFree used.now cells result }
 {
-    let at = first_word(used);
-    if WORDS <= at {
-        return None;
-    }
-    let cell = at * 64 + u64::trailing_zeros(!used[at]) as usize;
-    if cell < cells {
-        return Some(cell);
-    }
-    None
+    let at = first_word(used)?;
+    let cell = at * IN_WORD + used[at].trailing_ones() as usize;
+    (cell < cells).then_some(cell)
 }

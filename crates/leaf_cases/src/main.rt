@@ -27,6 +27,7 @@ fn in_range(a: u64, b: u64) -> Option<(u32, u32)> {
 
 // 1: a is before b. 2: microseconds from b to a. 3: b microseconds after a. 4: a is a group's id. No answer is there for an
 // unknown operation or an argument beyond its range.
+// Kept (1): a column of the question: any number is one, and what is no operation gets no answer here.
 fn run_leaf(operation: u64, a: u64, b: u64) -> Option<u64> {
     match operation {
         1 => in_range(a, b).map(|(a, b)| u64::from(srt_packet::sequence_less_than(a, b))),
@@ -50,7 +51,7 @@ fn answer_line(line: &[u8], out: &mut [u8]) -> usize
         Some(number) => [numbers[0], number],
         None => [0, 2],
     };
-    listing::write_line(out, WIDTH, &pair).unwrap_or(0)
+    listing::write_line(out, 0, WIDTH, &pair).unwrap_or(0)
 }
 
 // The answers of all lines, from the start of an output, and their end.

@@ -3,11 +3,15 @@ use Prim.Native.Nat.{ℕ, suc, ◌+◌, ◌-◌, ◌<◌, ◌≤◌}
 use native.Mathlib.Omega.{arith}
 use native.Mathlib.Nat.{zero-add}
 use native.Mathlib.Numerals.{add-one}
+use mathlib.Core.Bool.{true, false}
+use lib.Dec.{leb}
+use borrow.Author.Tests.{le-leb, lt-leb}
 use mathlib.Core.Path.{◌≡◌, refl, ap, sym, subst, ◌∙◌}
 use mathlib.Core.List.{List, [], ◌∷◌, ◌++◌, append_assoc}
 use lib.ListN.{length, take, drop, set, length-append, length-drop, length-set, drop_of_length-le}
 use lib.Seq.{append_snoc, drop-cons, drop-set-lt, get_or-set_same, take-set-le, length-take-le, take_at, drop-append-add, drop-drop, set_split, take_all}
-use Rattle.listing.specs.Placed.{placed, begun}
+use Rattle.std.specs.Prelude.{Some, None}
+use Rattle.listing.specs.Placed.{placed, begun, Placed, PlacedOrRefused}
 
 pub append_nil : (s : List ℕ) → s ++ [] ≡ s
 append_nil [] = refl
@@ -81,22 +85,44 @@ begun_more buffer s u =
       append_assoc s u (drop (length s + length u) buffer),
     )
 
+-- a text put at the start of what is behind a place
+placed_behind :
+    (out : List ℕ) (at : ℕ) (text part : List ℕ) → at ≤ length out → part ≡ begun (take (length out - at) (drop at out)) text
+    → take at out ++ (part ++ drop (length out - at) (drop at out)) ≡ placed out at text
+placed_behind out at text part inside put =
+    let left = length-drop at out in
+    rw (
+      put,
+      take_all (length out - at) (drop at out) (omega arith),
+      drop_of_length-le (drop at out) {i = length out - at} (omega arith),
+      append_nil (text ++ drop (length text) (drop at out)),
+      drop-drop (length text) at out,
+    ) (placed_is out at text)
+
+-- a text at a place, where it has room, and where it has none
+module _ (out : List ℕ) (at : ℕ) (text : List ℕ) where
+  pub text_placed :
+      (part : List ℕ) (end : ℕ) → at + length text ≤ length out → Placed (take (length out - at) (drop at out)) text part end
+      → PlacedOrRefused out at text (take at out ++ (part ++ drop (length out - at) (drop at out))) (Some (at + end))
+  text_placed part end room put =
+      let here : leb (at + length text) (length out) ≡ true = le-leb _ _ room in
+      record {
+        bytes = rw here (placed_behind out at text part (omega arith) put.bytes);
+        end_of = rw (here, put.end_of) refl;
+      }
+
+  pub text_refused : length out < at + length text → PlacedOrRefused out at text out None
+  text_refused beyond =
+      let none : leb (at + length text) (length out) ≡ false = lt-leb _ _ beyond in record { bytes = rw none refl; end_of = rw none refl }
+
 module _ (buffer out : List ℕ) (end : ℕ) (s : List ℕ) (inside : end ≤ length out) (begins : out ≡ begun buffer s) (e : end ≡ length s) where
   -- the same where it is put at the start of what is left
   pub begun_further :
       (u part : List ℕ) → part ≡ begun (take (length out - end) (drop end out)) u
       → take end out ++ (part ++ drop (length out - end) (drop end out)) ≡ begun buffer (s ++ u)
   begun_further u part put =
-      let left = length-drop end out in
-      let behind : take end out ++ (part ++ drop (length out - end) (drop end out)) ≡ placed out end u =
-      rw (
-        put,
-        take_all (length out - end) (drop end out) (omega arith),
-        drop_of_length-le (drop end out) {i = length out - end} (omega arith),
-        append_nil (u ++ drop (length u) (drop end out)),
-        drop-drop (length u) end out,
-      ) (placed_is out end u) in
-      behind ∙ (ap (λ (n : ℕ). placed out n u) e ∙ ap (λ (t : List ℕ). placed t (length s) u) begins ∙ begun_more buffer s u)
+      placed_behind out end u part inside put
+      ∙ (ap (λ (n : ℕ). placed out n u) e ∙ ap (λ (t : List ℕ). placed t (length s) u) begins ∙ begun_more buffer s u)
 
   -- a byte stored behind the text
   pub begun_byte_more : (byte : ℕ) → end < length out → set out end byte ≡ begun buffer (s ++ (byte ∷ []))

@@ -1,13 +1,15 @@
 -- Laws of the lines of a stream, byte by byte, of a line that a buffer holds, and of streams that come in blocks.
-use Prim.Native.Nat.{ℕ, suc, ◌+◌, ◌<◌, ◌≤◌}
+use Prim.Native.Nat.{ℕ, suc, ◌+◌, ◌-◌, ◌<◌, ◌≤◌}
 use native.Mathlib.Omega.{arith}
 use mathlib.Core.Bool.{true, false, true≢false}
 use mathlib.Core.Path.{◌≡◌, refl, subst, ap, sym, ◌∙◌}
 use mathlib.Core.List.{List, [], ◌∷◌, ◌++◌, append_assoc}
 use lib.Dec.{leb, eqb}
-use lib.ListN.{length, take, drop}
-use lib.Seq.{append_snoc, length-take-le}
-use Rattle.std.specs.Prelude.{nat_eq, nat_lt, Some, None}
+use lib.ListN.{length, take, drop, length-drop, drop_of_length-le}
+use lib.Seq.{append_snoc, length-take-le, take_all}
+use denote.Ref.{Bor}
+use Rattle.std.specs.Prelude.{nat_eq, nat_lt, slice_range, Some, None, ◌⊎◌}
+use Rattle.std.proofs.Common.{inl, inr}
 use Rattle.std.specs.List.{position, position_or_len}
 use Rattle.std.proofs.lemmas.Option.{cond_some, none-some}
 use borrow.Author.Tests.{ltb-true, ltb-false, leb-true, leb-false}
@@ -15,7 +17,7 @@ use Rattle.listing.proofs.Cases.{by_cases}
 use Rattle.listing.proofs.PlacedLaws.{append_nil}
 use Rattle.listing.specs.Stream.{lines, in_front, joined, has_feed, first_line, after_feed, ended, open_line, last_line}
 use Rattle.listing.specs.Laws.Stream.{lines_of_blocks}
-use Rattle.listing.specs.Held.{Held}
+use Rattle.listing.specs.Held.{Held, TakenFrom}
 use Rattle.listing.specs.declared.stream.OpenLine.{OpenLine}
 
 -- the place of a stream's first line feed, or its end where it has none
@@ -161,6 +163,22 @@ ended_without_feed before (byte ∷ block) h = by_cases (eqb byte 10)
 -- an empty line is held at size 0, and nothing else is
 pub held_nothing : {n : ℕ} (held : OpenLine n) → held.size ≡ 0 → Held [] held
 held_nothing held none = record { within = λ h. rw none; beyond = λ h. absurd (omega arith) }
+
+-- a part from a place on that is lent
+pub lent_from :
+    (block : List ℕ) (from : ℕ) (part : Bor (List ℕ)) → part.now ≡ slice_range block from (length block) → part.now ≡ drop from block
+lent_from block from part is = is ∙ take_all (length block - from) (drop from block) (omega (arith, length-drop from block))
+
+-- where a part from a place on to the end is refused
+pub beyond_end : {from end : ℕ} → (end < from) ⊎ (end < end) → end < from
+beyond_end (inl beyond) = beyond
+beyond_end (inr never) = absurd (omega (arith, never))
+
+-- behind a block's end there is no line, and what is held stays
+pub none_taken_behind : {n : ℕ} (block : List ℕ) (from : ℕ) (held : OpenLine n) → length block < from → TakenFrom (drop from block) held held None
+unfolding has_feed first_line
+none_taken_behind block from held behind =
+    rw (drop_of_length-le block {i = from} (omega arith)) (record { holds = λ line h. rw (append_nil line) h; behind = refl })
 
 pub held_is_nothing : {n : ℕ} (line : List ℕ) (held : OpenLine n) → held.size ≡ 0 → Held line held → line ≡ []
 held_is_nothing line held none h = sym (h.within (omega arith)) ∙ rw none

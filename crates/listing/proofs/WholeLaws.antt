@@ -3,12 +3,13 @@
 use Prim.Native.Nat.{ℕ, zero, suc, ◌+◌, ◌*◌, ◌<◌, ◌≤◌}
 use native.Mathlib.Omega.{arith}
 use native.Mathlib.Nat.{zero-mul, suc-mul}
+use native.Mathlib.Numerals.{add-one}
 use denote.Ref.{Bor}
 use mathlib.Core.Bool.{Bool, true, false, ◌&&◌, true≢false}
 use mathlib.Core.Path.{◌≡◌, refl, ap, sym, subst, ◌∙◌}
 use mathlib.Core.List.{List, [], ◌∷◌, ◌++◌}
 use lib.Dec.{leb, eqb}
-use lib.ListN.{length, take, drop, get_or, length-append, length-drop, take-append-drop}
+use lib.ListN.{length, take, drop, drop_of_length-le, get_or, length-append, length-drop, take-append-drop}
 use lib.Seq.{drop-append-add, take-append-le, drop-append-le, drop-cons, get_or_at, length-take-le}
 use borrow.Author.Tests.{le-leb, eq-eqb, ne_eqb, leb-true, eqb-true}
 use Rattle.listing.proofs.Cases.{by_cases}
@@ -16,7 +17,8 @@ use Rattle.listing.specs.Column.{column, after_spaces, all_digits, digits_read, 
 use Rattle.listing.specs.Line.{cut, is_number, all_numbers, values, begins_with_columns, well_formed, line_numbers}
 use Rattle.listing.specs.Stream.{has_feed, first_line, after_feed}
 use Rattle.listing.specs.Held.{WholeRead, whole_here}
-use Rattle.std.specs.Prelude.{Some, None}
+use Rattle.std.specs.Prelude.{Option, Some, None, ◌≢◌}
+use Rattle.std.specs.Option.{MatchOption}
 
 pub both : (a b : Bool) → (a && b) ≡ true → (a ≡ true) × (b ≡ true)
 both true b h = (refl, h)
@@ -186,3 +188,34 @@ module _ (block : List ℕ) (width : ℕ) (numbers after : List ℕ) (same : len
   whole_not_found never =
       let none : whole_here (length numbers) width block ≡ false = not_whole_here (length numbers) width block never in
       record { found = none; put = λ t. absurd (true≢false (sym t ∙ none)); same = same }
+
+  pub whole_refused : begins_with_columns (length numbers) width block ≡ false → WholeRead block width numbers after None
+  whole_refused malformed = whole_not_found (λ t inside feed. not_both (sym malformed ∙ t))
+
+  -- what is left behind the columns begins with a line feed, or there is no answer
+  pub whole_or_not :
+      (end : ℕ) (answer : Option (Bor (List ℕ))) → begins_with_columns (length numbers) width block ≡ true → end ≡ length numbers * width
+      → after ≡ values (cut (length numbers) width block)
+      → MatchOption answer ((rest : List ℕ) → drop end block ≢ 10 ∷ rest) (λ x. drop end block ≡ 10 ∷ x.now)
+      → WholeRead block width numbers after answer
+  whole_or_not end (Some rest) begins is put feed =
+      let size = length numbers * width in
+      let here : drop size block ≡ 10 ∷ rest.now = rw is at feed in
+      let inside : size < length block = omega (arith, ap length here, length-drop size block) in
+      let split = sym (drop-cons block size 0 inside) ∙ here in
+      whole_found rest begins inside (ap (λ (l : List ℕ). get_or l 0 0) split) put (rw (add-one size) (sym (ap (drop 1) split)))
+  whole_or_not end None begins is put never =
+      whole_not_found (λ t inside feed. (rw is at never) _ (drop-cons block (length numbers * width) 0 inside ∙ ap (λ (b : ℕ). b ∷ drop (suc (length numbers * width)) block) feed))
+
+-- columns end inside the bytes that begin with them
+pub columns_inside : (count width end : ℕ) (bytes : List ℕ) → begins_with_columns count width bytes ≡ true → end ≡ count * width → end ≤ length bytes
+unfolding begins_with_columns
+columns_inside count width end bytes begins is =
+    let few = leb-true _ _ (both (leb (count * width) (length bytes)) (all_numbers (cut count width bytes)) begins).0 in omega (arith, is)
+
+-- behind a block's end no line stands
+pub none_whole_behind :
+    (block : List ℕ) (from width : ℕ) (numbers : List ℕ) → length block < from → WholeRead (drop from block) width numbers numbers None
+unfolding has_feed
+none_whole_behind block from width numbers behind =
+    rw (drop_of_length-le block {i = from} (omega arith)) (record { found = refl; put = λ t. absurd (not_both t); same = refl })

@@ -15,7 +15,7 @@ pub record Placed (buffer text after : List ℕ) (end : ℕ) : Type 0 where
   pub bytes : after ≡ begun buffer text
   pub end_of : end ≡ length text
 
--- a text is put at the start of a buffer, or refused where there is no room for it
-pub record PlacedOrRefused (buffer text after : List ℕ) (answer : Option ℕ) : Type 0 where
-  pub bytes : after ≡ cond (leb (length text) (length buffer)) (begun buffer text) buffer
-  pub end_of : answer ≡ cond (leb (length text) (length buffer)) (Some (length text)) None
+-- a text is put at a place, or refused where there is no room for it
+pub record PlacedOrRefused (buffer : List ℕ) (at : ℕ) (text after : List ℕ) (answer : Option ℕ) : Type 0 where
+  pub bytes : after ≡ cond (leb (at + length text) (length buffer)) (placed buffer at text) buffer
+  pub end_of : answer ≡ cond (leb (at + length text) (length buffer)) (Some (at + length text)) None

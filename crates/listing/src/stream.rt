@@ -1,5 +1,5 @@
 // Lines from blocks.
-ghost use Rattle.std.specs.Prelude.{◌≡◌, eqb};
+ghost use Rattle.std.specs.Prelude.{◌≡◌, drop, eqb};
 ghost use Rattle.listing.specs.Held.{Appended, TakenFrom, HeldRead, WholeRead};
 
 use crate::MalformedLine;
@@ -7,6 +7,8 @@ use crate::reading::{read_columns, read_line};
 
 // A line that is not yet whole: its bytes so far, which stand at the start, and how many they are. Of a line that is longer
 // than N only that is kept, by a larger size.
+// Kept (6): no heap, so the bytes stand in an array of a fixed length, with their count beside it.
+// Kept (1): a state of its own for a line that is too long is no plainer: `append` and `read` compare the size with N either way.
 #[derive(Clone, Copy)]
 pub struct OpenLine<const N: usize> {
     bytes: [u8; N],
@@ -48,17 +50,19 @@ impl<const N: usize> OpenLine<N> {
         self.size = end;
     }
 
-    // Takes a line from a block, up to its line feed or the block's end, and answers the block behind the line feed.
-    pub fn take<'a>(&mut self, block: &'a [u8]) -> Option<&'a [u8]>
-        ensures { TakenFrom block.now self.old self.new result }
+    // Takes a line from a block from a place on, up to its line feed or the block's end, and answers the block behind the line feed. Behind
+    // the block's end no byte stands.
+    pub fn take<'a>(&mut self, block: &'a [u8], from: usize) -> Option<&'a [u8]>
+        ensures { TakenFrom (drop from block.now) self.old self.new result }
     {
-        match block.iter().position(|byte| *byte == b'\n') {
+        let stream = block.get(from..)?;
+        match stream.iter().position(|byte| *byte == b'\n') {
             Some(feed) => {
-                self.append(&block[..feed]);
-                Some(&block[feed + 1..])
+                self.append(&stream[..feed]);
+                Some(&stream[feed + 1..])
             }
             None => {
-                self.append(block);
+                self.append(stream);
                 None
             }
         }
@@ -76,15 +80,18 @@ impl<const N: usize> OpenLine<N> {
     }
 }
 
-// Reads a well-formed line where it stands at a block's start with its line feed, and answers the block behind it: no search
-// for the line feed and no copy. For any other line there is no answer.
-#[tactic(auto, using(crate::proofs::LineLaws::columns_end, crate::proofs::LineLaws::columns_refused, crate::proofs::WholeLaws::whole_found, crate::proofs::WholeLaws::whole_not_found))]
-pub fn read_whole_line<'a>(block: &'a [u8], width: usize, numbers: &mut [u64]) -> Option<&'a [u8]>
-    ensures { WholeRead block.now width numbers.old numbers.new result }
+// Reads a well-formed line where it stands in a block from a place on, with its line feed, and answers the block behind it: no search for
+// the line feed and no copy. For any other line, and behind the block's end, there is no answer.
+#[tactic(auto, using(crate::proofs::LineLaws::columns_end, crate::proofs::LineLaws::columns_refused, crate::proofs::WholeLaws::whole_found, crate::proofs::WholeLaws::whole_not_found, crate::proofs::WholeLaws::none_whole_behind))]
+pub fn read_whole_line<'a>(
+    block: &'a [u8],
+    from: usize,
+    width: usize,
+    numbers: &mut [u64],
+) -> Option<&'a [u8]>
+    ensures { WholeRead (drop from block.now) width numbers.old numbers.new result }
 {
-    let end = read_columns(block, width, numbers)?;
-    if end < block.len() && block[end] == b'\n' {
-        return Some(&block[end + 1..]);
-    }
-    None
+    let stream = block.get(from..)?;
+    let end = read_columns(stream, width, numbers)?;
+    stream[end..].strip_prefix(b"\n")
 }

@@ -81,12 +81,16 @@ fn put_line(out: &mut [u8], width: usize, numbers: &[u64]) -> usize
     end + 1
 }
 
-// Writes a line of numbers at the start, with its line feed, or changes nothing where there is no room for it.
-pub fn write_line(out: &mut [u8], width: usize, numbers: &[u64]) -> Option<usize>
-    ensures { PlacedOrRefused out.old (line_text width numbers.now) out.new result }
+// Writes a line of numbers at a place, with its line feed, and answers its end; or changes nothing where there is no room for it, as behind the
+// end of all.
+#[tactic(auto, using(crate::proofs::PlacedLaws::text_refused, crate::proofs::PlacedLaws::text_placed))]
+pub fn write_line(out: &mut [u8], at: usize, width: usize, numbers: &[u64]) -> Option<usize>
+    ensures { PlacedOrRefused out.old at (line_text width numbers.now) out.new result }
 {
-    if !has_room_for_line(width, numbers, out.len()) {
+    let room = out.len().checked_sub(at)?;
+    // Kept (1): `then`, by a closure that borrows `out`, was tried, and its proof did not close.
+    if !has_room_for_line(width, numbers, room) {
         return None;
     }
-    Some(put_line(out, width, numbers))
+    Some(at + put_line(&mut out[at..], width, numbers))
 }

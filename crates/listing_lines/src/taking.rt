@@ -20,7 +20,7 @@ fn take_through<'a, const N: usize>(
     requires { 88 ≤ N }
     ensures { LineTakenFrom block.now line.old line.new row.new result }
 {
-    let rest = line.take(block)?;
+    let rest = line.take(block, 0)?;
     // The numbers of a malformed line are 0.
     let _ = line.read(WIDTH, row);
     *line = OpenLine::new();
@@ -37,7 +37,7 @@ fn take_next<'a, const N: usize>(
     ensures { LineTakenFrom block.now line.old line.new row.new result }
 {
     if line.is_empty() {
-        if let Some(rest) = listing::read_whole_line(block, WIDTH, row) {
+        if let Some(rest) = listing::read_whole_line(block, 0, WIDTH, row) {
             return Some(rest);
         }
     }

@@ -10,7 +10,7 @@ fn write_row(row: &[u64; 6], out: &mut [u8]) -> usize
     requires { 121 ≤ length out.old }
     ensures { LineWritten row.now out.old out.new result }
 {
-    listing::write_line(out, WIDTH, row).unwrap_or(0)
+    listing::write_line(out, 0, WIDTH, row).unwrap_or(0)
 }
 
 // Writes rows, a line each, and answers the text's end.

@@ -1,5 +1,5 @@
 // The blocks of a listing: the lines that a block ends are taken, told and written as text. `main` only reads blocks and writes texts.
-ghost use Rattle.std.specs.Prelude.{◌*◌, ◌≤◌, length};
+ghost use Rattle.std.specs.Prelude.{◌≡◌, ◌*◌, ◌≤◌, length, replicate};
 ghost use Rattle.replay_blocks.specs.Blocks.{RowsAnswered, BlockAnswered, LastAnswered};
 
 use listing::OpenLine;
@@ -33,8 +33,10 @@ fn answer_rows(
 }
 
 impl<const LINES: usize, const TEXT: usize> Room<LINES, TEXT> {
+    // No text yet.
     pub fn new() -> Self
         requires { 121 * LINES ≤ TEXT }
+        ensures { result.text ≡ replicate TEXT 0 }
     {
         Room {
             rows: [[0; 8]; LINES],

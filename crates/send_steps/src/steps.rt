@@ -3,18 +3,17 @@
 // Kept (5, 6): each table is a parameter of its own, as C lends it and the calls that are timed take it.
 ghost use Rattle.std.specs.Prelude.{◌≤◌, length};
 ghost use Rattle.srt_group_model.specs.Sending.{list_size};
-ghost use Rattle.srt_group_shown.specs.Tables.{parts, tables};
+ghost use Rattle.srt_group_shown.specs.Tables.{tables};
 ghost use Rattle.srt_group_shown.specs.Ready.{Ready};
+ghost use Rattle.srt_group.specs.Made.{parts_of};
 
-use bench_steps::steps::{Called, LEG};
+use bench_steps::steps::{LEG, Stepped};
 use cell_set::CellSet;
 use srt_group::Group;
-use srt_group_model::{Core, Identity, Sending};
 use srt_group_queueing::calls as queueing_calls;
 use srt_group_queueing::readings::read_leg;
 use srt_group_send::sending;
 use srt_group_send_calls::calls;
-use srt_group_tables::history::HistoryRing;
 use srt_protocol::error::{Error, outcome_number};
 use srt_protocol::time::Timestamp;
 
@@ -24,27 +23,9 @@ const NOT_SENT: u64 = 4294967295;
 // The field of a leg that says up to where it is acknowledged.
 const ACKNOWLEDGED: u64 = 5;
 
-// What a send moves of the record.
-#[derive(Clone, Copy)]
-pub struct Moved {
-    pub core: Core,
-    pub sending: Sending,
-    pub ring: HistoryRing,
-}
-
-// What a step leaves of the record, and the step's answer.
-#[derive(Clone, Copy)]
-pub struct Stepped {
-    pub moved: Moved,
-    pub answer: u64,
-}
-
 // On how many legs a send went.
 fn answered(answer: Result<usize, Error>) -> u64 {
-    match answer {
-        Ok(legs) => legs as u64,
-        Err(_) => NOT_SENT,
-    }
+    answer.map_or(NOT_SENT, |legs| legs as u64)
 }
 
 // A step by the public calls, which test 5 and 6. An acknowledgement is answered by the code.
@@ -59,7 +40,7 @@ fn call(
     list: &mut [u64],
     word: u64,
     payload: &[u8],
-) -> Called {
+) -> Stepped<Group> {
     let leg = word / LEG;
     if leg == 0 {
         let sent = calls::send(
@@ -74,11 +55,9 @@ fn call(
             Timestamp(word),
             payload,
         );
-        let after = sent.group;
-        let answer = sent.answer;
-        return Called {
-            group: after,
-            answer: answered(answer),
+        return Stepped {
+            record: sent.record,
+            answer: answered(sent.answer),
         };
     }
     let outcome = queueing_calls::read_leg(
@@ -92,8 +71,8 @@ fn call(
         ACKNOWLEDGED,
         word % LEG,
     );
-    Called {
-        group,
+    Stepped {
+        record: group,
         answer: outcome_number(outcome) as u64,
     }
 }
@@ -115,7 +94,7 @@ pub fn call_each(
         let called = call(
             group, members, pending, waiting, history, sources, store, list, *word, payload,
         );
-        group = called.group;
+        group = called.record;
         *word = called.answer;
     }
     group
@@ -123,10 +102,7 @@ pub fn call_each(
 
 // A step by the forms for a valid state, which test neither.
 fn step(
-    identity: Identity,
-    core: Core,
-    sending: Sending,
-    ring: HistoryRing,
+    group: Group,
     members: &mut [u64],
     pending: &[u64],
     waiting: &[u64],
@@ -137,21 +113,18 @@ fn step(
     used: &mut CellSet,
     word: u64,
     payload: &[u8],
-) -> Stepped
-    requires ready { Ready (parts identity core sending ring)
+) -> Stepped<Group>
+    requires ready { Ready (parts_of group)
         (tables members.old pending.now waiting.now history.old sources.old) (length store.old) used.old }
     requires list_size_in_bounds { list_size ≤ length list.old }
-    ensures { Ready (parts identity result.moved.core result.moved.sending result.moved.ring)
+    ensures { Ready (parts_of result.«record»)
         (tables members.new pending.now waiting.now history.new sources.new)
         (length store.new) used.new }
 {
     let leg = word / LEG;
     if leg == 0 {
         let sent = sending::send(
-            identity,
-            core,
-            sending,
-            ring,
+            group,
             members,
             pending,
             waiting,
@@ -163,24 +136,13 @@ fn step(
             Timestamp(word),
             payload,
         );
-        let after = sent.core;
-        let numbers = sent.sending;
-        let left = sent.ring;
-        let answer = sent.answer;
         return Stepped {
-            moved: Moved {
-                core: after,
-                sending: numbers,
-                ring: left,
-            },
-            answer: answered(answer),
+            record: sent.record,
+            answer: answered(sent.answer),
         };
     }
     let outcome = read_leg(
-        identity,
-        core,
-        sending,
-        ring,
+        group,
         members,
         pending,
         waiting,
@@ -193,21 +155,14 @@ fn step(
         word % LEG,
     );
     Stepped {
-        moved: Moved {
-            core,
-            sending,
-            ring,
-        },
+        record: group,
         answer: outcome_number(outcome) as u64,
     }
 }
 
 // Each step in turn by the forms for a valid state.
 pub fn step_each(
-    identity: Identity,
-    mut core: Core,
-    mut sending: Sending,
-    mut ring: HistoryRing,
+    mut group: Group,
     members: &mut [u64],
     pending: &[u64],
     waiting: &[u64],
@@ -218,25 +173,17 @@ pub fn step_each(
     used: &mut CellSet,
     steps: &mut [u64],
     payload: &[u8],
-) -> Moved
-    requires ready { Ready (parts identity core sending ring)
+) -> Group
+    requires ready { Ready (parts_of group)
         (tables members.old pending.now waiting.now history.old sources.old) (length store.old) used.old }
     requires list_size_in_bounds { list_size ≤ length list.old }
 {
     for word in steps.iter_mut() {
         let stepped = step(
-            identity, core, sending, ring, members, pending, waiting, history, sources, store,
-            list, used, *word, payload,
+            group, members, pending, waiting, history, sources, store, list, used, *word, payload,
         );
-        let moved = stepped.moved;
-        core = moved.core;
-        sending = moved.sending;
-        ring = moved.ring;
+        group = stepped.record;
         *word = stepped.answer;
     }
-    Moved {
-        core,
-        sending,
-        ring,
-    }
+    group
 }

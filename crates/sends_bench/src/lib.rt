@@ -6,7 +6,6 @@
 
 use cell_set::WORDS;
 use send_steps::steps::{call_each, step_each};
-use srt_group::Group;
 use srt_group_refusals::refusals::LentGroup;
 use srt_group_sending::list::SENT_LENGTH;
 use srt_group_words::record::{put_group, read_group};
@@ -52,12 +51,6 @@ pub extern "C" fn calls_sends_valid(
         return u32::from(Error::InsufficientBuffer);
     }
     let group = read_group(record);
-    let Group {
-        identity,
-        core,
-        sending,
-        ring,
-    } = group;
     let mut used = [0; WORDS];
     let lent = LentGroup {
         group,
@@ -71,21 +64,9 @@ pub extern "C" fn calls_sends_valid(
     if let Err(error) = begun {
         return u32::from(error);
     }
-    let moved = step_each(
-        identity, core, sending, ring, members, pending, waiting, history, sources, store, list,
-        &mut used, steps, payload,
+    let after = step_each(
+        group, members, pending, waiting, history, sources, store, list, &mut used, steps, payload,
     );
-    let after = moved.core;
-    let numbers = moved.sending;
-    let left = moved.ring;
-    put_group(
-        record,
-        Group {
-            identity,
-            core: after,
-            sending: numbers,
-            ring: left,
-        },
-    );
+    put_group(record, after);
     0
 }

@@ -2,7 +2,6 @@
 use Rattle.srt_protocol.specs.declared.time.Timestamp.{Timestamp}
 use Rattle.std.specs.Prelude.{ℕ, None, Option, Some}
 use Rattle.srt_group_model.specs.Legs.{moment}
-use Rattle.srt_group_model.specs.declared.Leg.{Leg}
 
 abbrev pub deadline_of : Option ℕ → Option Timestamp
 deadline_of None = None

@@ -1,5 +1,6 @@
 // A leg by value: what it can do, what a send, a synchronising and a release do to it. The names are those of `SrtConnection`
 // and of its sender.
+// Kept (1): a state is a word of the lent row: a C host may lend any number, and 6 has to read it to refuse it.
 ghost use Rattle.std.specs.Prelude.{◌≡◌, ◌+◌, ◌-◌, ◌<◌};
 ghost use Rattle.srt_group_model.specs.Legs.{is_connected, is_disconnected, has_sender, remaining_window_packets, can_send, can_send_with_pacing, time_until_send, oldest_unacked_sequence, gives_up_at, peer_initial_sequence, after_send};
 ghost use Rattle.srt_group_model.specs.Legs.{send_shared_with_sequence, synchronize_send_sequence, disconnect_leg, handed, read_state, acknowledge};
@@ -8,6 +9,13 @@ ghost use Rattle.srt_connection.specs.Answers.{deadline_of};
 use srt_group_model::{Leg, Sender};
 use srt_protocol::srt_packet::{word_distance, word_further};
 use srt_protocol::time::Timestamp;
+
+// A leg's state, as the number that a row holds.
+pub const HANDSHAKING: u64 = 0;
+
+pub const CONNECTED: u64 = 1;
+
+pub const DISCONNECTED: u64 = 2;
 
 // The peer's first sequence where there is none.
 pub const NO_SEQUENCE: u64 = 0xffff_ffff;
@@ -24,13 +32,13 @@ pub const LARGEST_32: u64 = 0xffff_ffff;
 pub fn is_connected(leg: Leg) -> bool
     ensures { result ≡ is_connected leg }
 {
-    leg.link.state == 1
+    leg.link.state == CONNECTED
 }
 
 pub fn is_disconnected(leg: Leg) -> bool
     ensures { result ≡ is_disconnected leg }
 {
-    leg.link.state == 2
+    leg.link.state == DISCONNECTED
 }
 
 // The sender exists from the first connect on.
@@ -44,27 +52,22 @@ pub fn has_sender(leg: Leg) -> bool
 pub fn peer_initial_sequence(leg: Leg) -> Option<u64>
     ensures { result ≡ peer_initial_sequence leg }
 {
-    if leg.receiver.first == NO_SEQUENCE {
-        return None;
-    }
-    Some(leg.receiver.first)
+    let first = leg.receiver.first;
+    (first != NO_SEQUENCE).then_some(first)
 }
 
 // The window less the flight, least 0.
 pub fn remaining_window_packets(leg: Leg) -> u64
     ensures { result ≡ remaining_window_packets leg }
 {
-    if leg.sender.window < leg.sender.flight {
-        return 0;
-    }
-    leg.sender.window - leg.sender.flight
+    leg.sender.window.saturating_sub(leg.sender.flight)
 }
 
 #[tactic(auto, unfolding(srt_group_model::specs::Legs::can_send))]
 pub fn can_send(leg: Leg) -> bool
     ensures { result ≡ can_send leg }
 {
-    leg.link.state == 1 && 0 < remaining_window_packets(leg)
+    is_connected(leg) && 0 < remaining_window_packets(leg)
 }
 
 #[tactic(auto, unfolding(srt_group_model::specs::Legs::can_send_with_pacing))]
@@ -95,10 +98,8 @@ pub fn oldest_unacked_sequence(leg: Leg) -> u64
 pub fn gives_up_at(leg: Leg, source: Timestamp) -> Option<Timestamp>
     ensures { result ≡ deadline_of (gives_up_at source.0 leg) }
 {
-    if leg.receiver.latency == 0 {
-        return None;
-    }
-    Some(source.add_micros(leg.receiver.latency))
+    let latency = leg.receiver.latency;
+    (latency != 0).then_some(source.add_micros(latency))
 }
 
 // ---- what is done to it
@@ -110,18 +111,15 @@ fn after_send(mut sender: Sender, time: Timestamp) -> Sender
     requires { sender.flight < sender.window }
     ensures { result ≡ after_send time.0 sender }
 {
-    let next = word_further(sender.next, 1);
-    let flight = sender.flight + 1;
-    sender.next = next;
-    sender.flight = flight;
-    if flight == 1 {
+    sender.next = word_further(sender.next, 1);
+    sender.flight += 1;
+    if sender.flight == 1 {
         sender.oldest = time;
-        return sender;
     }
     sender
 }
 
-// Kept (5): the three words of one call, which C hands over; only this function reads them all.
+// Kept (5): a time, a size and a sequence, as the Rust's method takes them; a struct of the three would be made at each call and taken apart here.
 // A send of `size` bytes at a sequence fails unless the leg can send, the sequence is its next, and the payload is within its
 // limit. The next sequence and the flight rise by one.
 #[tactic(auto, using(crate::specs::Laws::Answers::window_left, srt_group_model::specs::Laws::Reason::when_true, srt_group_model::specs::Laws::Reason::when_false), unfolding(srt_group_model::specs::Legs::send_shared_with_sequence))]
@@ -133,17 +131,10 @@ pub fn send_shared_with_sequence(
 ) -> Option<Leg>
     ensures { result ≡ send_shared_with_sequence time.0 size sequence leg }
 {
-    if !can_send(leg) {
+    if !can_send(leg) || sequence != leg.sender.next || leg.link.limit < size {
         return None;
     }
-    if sequence != leg.sender.next {
-        return None;
-    }
-    if leg.link.limit < size {
-        return None;
-    }
-    let sender = after_send(leg.sender, time);
-    leg.sender = sender;
+    leg.sender = after_send(leg.sender, time);
     Some(leg)
 }
 
@@ -163,16 +154,13 @@ pub fn synchronize_send_sequence(mut leg: Leg, sequence: u64) -> Option<Leg>
 pub fn less(sum: u64, count: u64) -> u64
     ensures { result ≡ sum - count }
 {
-    if sum < count {
-        return 0;
-    }
-    sum - count
+    sum.saturating_sub(count)
 }
 
 pub fn disconnect(mut leg: Leg) -> Leg
     ensures { result ≡ disconnect_leg leg }
 {
-    leg.link.state = 2;
+    leg.link.state = DISCONNECTED;
     leg
 }
 
@@ -181,11 +169,7 @@ pub fn disconnect(mut leg: Leg) -> Leg
 pub fn handed_over(mut leg: Leg) -> Leg
     ensures { result ≡ handed leg }
 {
-    if leg.link.state == 0 {
-        leg.sender.started = 0;
-        return leg;
-    }
-    leg.sender.started = 1;
+    leg.sender.started = (leg.link.state != HANDSHAKING) as u64;
     leg
 }
 
@@ -195,9 +179,8 @@ pub fn read_state(mut leg: Leg, state: u64) -> Leg
     ensures { result ≡ read_state state leg }
 {
     leg.link.state = state;
-    if state == 1 {
+    if state == CONNECTED {
         leg.sender.started = 1;
-        return leg;
     }
     leg
 }
@@ -206,7 +189,6 @@ pub fn read_state(mut leg: Leg, state: u64) -> Leg
 pub fn acknowledge(mut leg: Leg, sequence: u64) -> Leg
     ensures { result ≡ acknowledge sequence leg }
 {
-    let flight = word_distance(sequence, leg.sender.next);
-    leg.sender.flight = flight;
+    leg.sender.flight = word_distance(sequence, leg.sender.next);
     leg
 }

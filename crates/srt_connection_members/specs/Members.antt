@@ -13,6 +13,7 @@ use Rattle.srt_group_model.specs.declared.Membership.{Membership}
 use Rattle.srt_connection_queue.specs.declared.queue.LegPoll.{LegPoll}
 use Rattle.word_rows.specs.Tab.{tab}
 use Rattle.word_rows.specs.Rows.{row_at}
+use Rattle.srt_connection_queue.specs.Row.{put_row}
 use Rattle.srt_connection_queue.specs.Rows.{row_size, member_of, member_from}
 use Rattle.srt_connection_queue.specs.Queue.{push_outcome, leg_poll, queue_after}
 
@@ -45,6 +46,12 @@ abbrev pub new_member : Membership → Leg → Member
 new_member x l = member_from x l []
 
 -- ---- what a call does to a table, t before and u after
+
+-- row i was lent to a call that does P to it, and stands as the call left it
+pub record RowLent (i : ℕ) (t : List ℕ) (P : List ℕ → List ℕ → Type 0) (u : List ℕ) : Type 0 where
+  pub left : List ℕ
+  pub called : P (row_at row_size t i) left
+  pub back : u ≡ put_row row_size t i left
 
 -- row i is changed by f, and no other
 pub record Changed (i : ℕ) (f : Member → Member) (t u : List ℕ) : Type 0 where

@@ -1,18 +1,18 @@
 // The lent table of members, row by row. A row is lent as a part of the table, so that what is proved of a row holds of the
 // table: the row at the index is changed, and no other. Rows past the count of members are free.
-// Kept (5): the host lends the table as words through the C interface, so each function that takes an index needs that row there.
-// Kept (2, 3, 6): what changes members keeps the flat table and walks it by index: `as_chunks_mut` says nothing of the words after it, and
-// no function that lends a `&mut Row` out of a part of them gets a clause on how they stand when it comes back.
+// Kept (5): the table comes as words through the C interface, and which of its rows are there is said of each call's own index or count.
+// Kept (3, 6): what changes every member goes by the index, since of the words that `as_chunks_mut` lends nothing is promised once they are back.
 
 #![tactic(auto)]
 
 ghost use Rattle.std.specs.Prelude.{◌≡◌, ◌*◌, ◌≤◌, ◌<◌, length};
+ghost use Rattle.std.specs.Fn.{FnOnceReturnsAtMut};
 ghost use Rattle.srt_group_model.specs.State.{with_leg, on_leg, on_membership, with_account};
 ghost use Rattle.srt_group_model.specs.Tools.{at_place, is_empty};
 ghost use Rattle.srt_group_model.specs.Members.{find};
 ghost use Rattle.srt_connection_queue.specs.Rows.{row_size, member_of, Kept, with_membership};
 ghost use Rattle.srt_connection_queue.specs.Queue.{popped, cleared};
-ghost use Rattle.srt_connection_members.specs.Members.{member_at, members_of, members_in, HasRow, new_member, Changed, PushedAt, PolledAt, Appended, Removed, ChangedAll};
+ghost use Rattle.srt_connection_members.specs.Members.{member_at, members_of, members_in, HasRow, new_member, RowLent, Changed, PushedAt, PolledAt, Appended, Removed, ChangedAll};
 ghost use Rattle.srt_group_model.specs.Legs.{with_reservation, advance_receive_sequence, release_data_reservation, disconnect_leg};
 
 use srt_connection::legs::{disconnect, less};
@@ -51,8 +51,8 @@ pub fn row(members: &[u64], index: usize) -> &Row
     requires { HasRow index members.now }
     ensures { member_of result.now ≡ member_at members.now index }
 {
-    let (rows, _) = members.as_chunks::<ROW>();
-    &rows[index]
+    let start = index * ROW;
+    members[start..start + ROW].as_array().unwrap()
 }
 
 pub fn membership_at(members: &[u64], index: usize) -> Membership
@@ -134,68 +134,71 @@ pub fn front_at(members: &[u64], index: usize) -> Option<Event>
 
 // ---- one row is changed
 
+// The row at the index is lent to a call, and stands in the table as the call leaves it.
+fn with_row<R, F: FnOnce(&mut Row) -> R>(members: &mut [u64], index: usize, call: F) -> R
+    requires there { HasRow index members.old }
+    requires callable { F.IsAlwaysCallable call }
+    ensures { RowLent index members.old (λ lent left. FnOnceReturnsAtMut F.FnOnce call lent result left) members.new }
+{
+    let (_, rest) = members.split_at_mut(index * ROW);
+    let (row, _) = rest.split_at_mut(ROW);
+    call(row.as_mut_array().unwrap())
+}
+
 pub fn put_membership_at(members: &mut [u64], index: usize, membership: Membership)
     requires { HasRow index members.old }
     ensures { Changed index (with_membership membership) members.old members.new }
 {
-    let (_, rest) = members.split_at_mut(index * ROW);
-    put_membership(rest.first_chunk_mut().unwrap(), membership);
+    with_row(members, index, |row| put_membership(row, membership));
 }
 
 pub fn put_leg_at(members: &mut [u64], index: usize, leg: Leg)
     requires { HasRow index members.old }
     ensures { Changed index (with_leg leg) members.old members.new }
 {
-    let (_, rest) = members.split_at_mut(index * ROW);
-    put_leg(rest.first_chunk_mut().unwrap(), leg);
+    with_row(members, index, |row| put_leg(row, leg));
 }
 
 pub fn put_account_at(members: &mut [u64], index: usize, account: Account)
     requires { HasRow index members.old }
     ensures { Changed index (on_membership (with_account account)) members.old members.new }
 {
-    let (_, rest) = members.split_at_mut(index * ROW);
-    put_account(rest.first_chunk_mut().unwrap(), account);
+    with_row(members, index, |row| put_account(row, account));
 }
 
 pub fn put_reservation_at(members: &mut [u64], index: usize, reserved: u64)
     requires { HasRow index members.old }
     ensures { Changed index (on_leg (with_reservation reserved)) members.old members.new }
 {
-    let (_, rest) = members.split_at_mut(index * ROW);
-    put_reservation(rest.first_chunk_mut().unwrap(), reserved);
+    with_row(members, index, |row| put_reservation(row, reserved));
 }
 
 pub fn pop_at(members: &mut [u64], index: usize)
     requires { HasRow index members.old }
     ensures { Changed index popped members.old members.new }
 {
-    let (_, rest) = members.split_at_mut(index * ROW);
-    pop(rest.first_chunk_mut().unwrap());
+    with_row(members, index, |row| pop(row));
 }
 
 pub fn clear_at(members: &mut [u64], index: usize)
     requires { HasRow index members.old }
     ensures { Changed index cleared members.old members.new }
 {
-    let (_, rest) = members.split_at_mut(index * ROW);
-    clear(rest.first_chunk_mut().unwrap());
+    with_row(members, index, |row| clear(row));
 }
 
 pub fn push_at(members: &mut [u64], index: usize, event: Event) -> Result<(), Error>
     requires { HasRow index members.old }
     ensures { PushedAt index event members.old result members.new }
 {
-    let (_, rest) = members.split_at_mut(index * ROW);
-    push(rest.first_chunk_mut().unwrap(), event)
+    with_row(members, index, |row| push(row, event))
 }
 
 pub fn poll_event_for_group_at(members: &mut [u64], index: usize, budget: u64) -> LegPoll
     requires { HasRow index members.old }
     ensures { PolledAt index budget members.old result members.new }
 {
-    let (_, rest) = members.split_at_mut(index * ROW);
-    poll_event_for_group(rest.first_chunk_mut().unwrap(), budget)
+    with_row(members, index, |row| poll_event_for_group(row, budget))
 }
 
 // ---- what the group does to one leg, or to every leg
@@ -205,8 +208,11 @@ pub fn advance_receive_sequence_at(members: &mut [u64], index: usize, sequence: 
     requires { HasRow index members.old }
     ensures { Changed index (on_leg (advance_receive_sequence sequence)) members.old members.new }
 {
-    let (_, rest) = members.split_at_mut(index * ROW);
-    advance_receive_sequence(rest.first_chunk_mut().unwrap(), sequence);
+    with_row(
+        members,
+        index,
+        |row| advance_receive_sequence(row, sequence),
+    );
 }
 
 pub fn release_data_reservation_at(members: &mut [u64], index: usize, count: u64)
@@ -263,8 +269,7 @@ pub fn append_member(members: &mut [u64], count: usize, membership: Membership, 
     requires { HasRow count members.old }
     ensures { Appended count (new_member membership leg) members.old members.new }
 {
-    let (_, rest) = members.split_at_mut(count * ROW);
-    put_new_member(rest.first_chunk_mut().unwrap(), membership, leg);
+    with_row(members, count, |row| put_new_member(row, membership, leg));
 }
 
 // Of the first `count` members the one at the index goes, with its queue; the later ones move down.

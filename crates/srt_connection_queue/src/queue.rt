@@ -98,10 +98,7 @@ fn budget_after(event: Event, budget: u64) -> u64
     requires { 0 < budget }
     ensures { result ≡ budget_after event budget }
 {
-    if event.kind == 0 {
-        return budget - 1;
-    }
-    budget
+    budget - event.is_data() as u64
 }
 
 // One event of the leg. An empty queue gives nothing; with the budget spent and an event in front, the continuation is asked

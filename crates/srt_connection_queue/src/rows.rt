@@ -1,8 +1,8 @@
 // A member's row in the lent table: parts of nine words, in the order of the constants below. Words that a part does not use
 // are 0, those of the spare part apart. Every row of ROW words shows a member: there is no row that does not decode.
-// Kept (5): a part that is written is lent as a slice of the row, since an array lent out of such a slice is not followed back into the row.
-ghost use Rattle.std.specs.Prelude.{◌≡◌, ◌<◌, length};
-ghost use Rattle.srt_connection_queue.specs.Rows.{part_size, link_part, receiver_part, parts, row_size, part, put_part, membership_of, membership_words, link_part_of, link_part_words, sender_of, sender_words, receiver_of, receiver_in, ring_of, ring_in, event_of, event_words, member_of, Kept, with_membership, with_link_trip, with_sender, with_receiver};
+// Kept (5): a part's place comes of the ring's arithmetic; a type of places would be made for each read and taken apart at once.
+ghost use Rattle.std.specs.Prelude.{◌≡◌, ◌<◌};
+ghost use Rattle.srt_connection_queue.specs.Rows.{link_part, receiver_part, parts, part, put_part, membership_of, membership_words, link_part_of, link_part_words, sender_of, sender_words, receiver_of, receiver_in, ring_of, ring_in, event_of, event_words, member_of, Kept, with_membership, with_link_trip, with_sender, with_receiver};
 ghost use Rattle.srt_group_model.specs.State.{with_leg, on_leg, on_membership, with_account};
 ghost use Rattle.srt_group_model.specs.Legs.{with_reservation, advance_receive_sequence};
 
@@ -16,7 +16,6 @@ use srt_protocol::time::Timestamp;
 // The words of a part of a row.
 const PART: usize = 9;
 
-// A part that is read.
 type Part = [u64; PART];
 
 // The parts of a row, in their order.
@@ -94,20 +93,21 @@ fn read_membership(words: &Part) -> Membership
     }
 }
 
-#[tactic(auto, using(crate::specs::Laws::Rows::nine), unfolding(crate::specs::Rows::membership_words))]
-fn write_membership(words: &mut [u64], membership: Membership)
-    requires { length words.old ≡ part_size }
-    ensures { words.new ≡ membership_words membership }
+#[tactic(auto, unfolding(crate::specs::Rows::membership_words))]
+fn membership_words(membership: Membership) -> Part
+    ensures { result ≡ membership_words membership }
 {
-    words[0] = membership.id;
-    words[1] = membership.weight;
-    words[2] = membership.state;
-    words[3] = membership.admitted;
-    words[4] = membership.account.reserved;
-    words[5] = membership.collision.expected;
-    words[6] = membership.collision.actual;
-    words[7] = 0;
-    words[8] = 0;
+    [
+        membership.id,
+        membership.weight,
+        membership.state,
+        membership.admitted,
+        membership.account.reserved,
+        membership.collision.expected,
+        membership.collision.actual,
+        0,
+        0,
+    ]
 }
 
 #[tactic(auto, unfolding(crate::specs::Rows::link_part_of))]
@@ -128,20 +128,21 @@ fn read_link_part(words: &Part) -> LinkPart
     }
 }
 
-#[tactic(auto, using(crate::specs::Laws::Rows::nine), unfolding(crate::specs::Rows::link_part_words))]
-fn write_link_part(words: &mut [u64], part: LinkPart)
-    requires { length words.old ≡ part_size }
-    ensures { words.new ≡ link_part_words part }
+#[tactic(auto, unfolding(crate::specs::Rows::link_part_words))]
+fn link_part_words(part: LinkPart) -> Part
+    ensures { result ≡ link_part_words part }
 {
-    words[0] = part.link.state;
-    words[1] = part.link.peer;
-    words[2] = part.link.limit;
-    words[3] = part.trip.srtt;
-    words[4] = part.trip.rttvar;
-    words[5] = part.trip.heard.0;
-    words[6] = 0;
-    words[7] = 0;
-    words[8] = 0;
+    [
+        part.link.state,
+        part.link.peer,
+        part.link.limit,
+        part.trip.srtt,
+        part.trip.rttvar,
+        part.trip.heard.0,
+        0,
+        0,
+        0,
+    ]
 }
 
 #[tactic(auto, unfolding(crate::specs::Rows::sender_of))]
@@ -158,20 +159,21 @@ fn read_sender(words: &Part) -> Sender
     }
 }
 
-#[tactic(auto, using(crate::specs::Laws::Rows::nine), unfolding(crate::specs::Rows::sender_words))]
-fn write_sender(words: &mut [u64], sender: Sender)
-    requires { length words.old ≡ part_size }
-    ensures { words.new ≡ sender_words sender }
+#[tactic(auto, unfolding(crate::specs::Rows::sender_words))]
+fn sender_words(sender: Sender) -> Part
+    ensures { result ≡ sender_words sender }
 {
-    words[0] = sender.started;
-    words[1] = sender.next;
-    words[2] = sender.flight;
-    words[3] = sender.window;
-    words[4] = sender.oldest.0;
-    words[5] = sender.pace.0;
-    words[6] = 0;
-    words[7] = 0;
-    words[8] = 0;
+    [
+        sender.started,
+        sender.next,
+        sender.flight,
+        sender.window,
+        sender.oldest.0,
+        sender.pace.0,
+        0,
+        0,
+        0,
+    ]
 }
 
 #[tactic(auto, unfolding(crate::specs::Rows::receiver_of))]
@@ -188,15 +190,16 @@ fn read_receiver(words: &Part) -> Receiver
 }
 
 #[tactic(auto, unfolding(crate::specs::Rows::receiver_in))]
-fn write_receiver(words: &mut [u64], receiver: Receiver)
-    requires { length words.old ≡ part_size }
-    ensures { words.new ≡ receiver_in receiver words.old }
+fn receiver_words(receiver: Receiver, words: &Part) -> Part
+    ensures { result ≡ receiver_in receiver words.now }
 {
+    let mut words = *words;
     words[0] = receiver.first;
     words[1] = receiver.window;
     words[2] = receiver.latency;
     words[3] = receiver.reserved;
     words[4] = receiver.advanced;
+    words
 }
 
 #[tactic(auto, unfolding(crate::specs::Rows::ring_of))]
@@ -210,12 +213,13 @@ fn read_ring(words: &Part) -> Ring
 }
 
 #[tactic(auto, unfolding(crate::specs::Rows::ring_in))]
-fn write_ring(words: &mut [u64], ring: Ring)
-    requires { length words.old ≡ part_size }
-    ensures { words.new ≡ ring_in ring words.old }
+fn ring_words(ring: Ring, words: &Part) -> Part
+    ensures { result ≡ ring_in ring words.now }
 {
+    let mut words = *words;
     words[5] = ring.start;
     words[6] = ring.length;
+    words
 }
 
 #[tactic(auto, unfolding(crate::specs::Rows::event_of))]
@@ -237,20 +241,21 @@ fn read_event(words: &Part) -> Event
     }
 }
 
-#[tactic(auto, using(crate::specs::Laws::Rows::nine), unfolding(crate::specs::Rows::event_words))]
-fn write_event(words: &mut [u64], event: Event)
-    requires { length words.old ≡ part_size }
-    ensures { words.new ≡ event_words event }
+#[tactic(auto, unfolding(crate::specs::Rows::event_words))]
+fn event_words(event: Event) -> Part
+    ensures { result ≡ event_words event }
 {
-    words[0] = event.kind;
-    words[1] = event.reason;
-    words[2] = event.content.sequence;
-    words[3] = event.content.count;
-    words[4] = event.content.message;
-    words[5] = event.content.timestamp;
-    words[6] = event.content.source.0;
-    words[7] = event.content.cell;
-    words[8] = event.content.length;
+    [
+        event.kind,
+        event.reason,
+        event.content.sequence,
+        event.content.count,
+        event.content.message,
+        event.content.timestamp,
+        event.content.source.0,
+        event.content.cell,
+        event.content.length,
+    ]
 }
 
 // ---- the parts of a row
@@ -262,6 +267,16 @@ fn part(row: &Row, place: usize) -> &Part
 {
     let (parts, _) = row.as_chunks::<PART>();
     &parts[place]
+}
+
+#[tactic(auto, using(crate::specs::Laws::Row::put_between))]
+fn put_part(row: &mut Row, place: usize, words: Part)
+    requires { place < parts }
+    ensures { row.new ≡ put_part row.old place words }
+{
+    let (_, rest) = row.split_at_mut(place * PART);
+    let (part, _) = rest.split_at_mut(PART);
+    *part.as_mut_array().unwrap() = words;
 }
 
 fn link_part(row: &Row) -> LinkPart
@@ -276,11 +291,11 @@ pub fn ring_of(row: &Row) -> Ring
     read_ring(part(row, RECEIVER))
 }
 
-#[tactic(auto, unfolding(word_rows::specs::Rows::row_at))]
 pub fn put_ring(row: &mut Row, ring: Ring)
     ensures { row.new ≡ put_part row.old receiver_part (ring_in ring (part row.old receiver_part)) }
 {
-    write_ring(&mut row[RECEIVER * PART..(RECEIVER + 1) * PART], ring);
+    let words = ring_words(ring, part(row, RECEIVER));
+    put_part(row, RECEIVER, words);
 }
 
 #[tactic(auto, using(word_rows::specs::Laws::Rows::row_part))]
@@ -295,8 +310,7 @@ pub fn put_event_part(row: &mut Row, place: usize, event: Event)
     requires { place < parts }
     ensures { row.new ≡ put_part row.old place (event_words event) }
 {
-    let start = place * PART;
-    write_event(&mut row[start..start + PART], event);
+    put_part(row, place, event_words(event));
 }
 
 // ---- a member's row
@@ -311,19 +325,13 @@ pub fn membership(row: &Row) -> Membership
 pub fn put_membership(row: &mut Row, membership: Membership)
     ensures { Kept row.new (with_membership membership (member_of row.old)) }
 {
-    write_membership(
-        &mut row[MEMBERSHIP * PART..(MEMBERSHIP + 1) * PART],
-        membership,
-    );
+    put_part(row, MEMBERSHIP, membership_words(membership));
 }
 
 pub fn put_link_trip(row: &mut Row, link: Link, trip: Trip)
     ensures { Kept row.new (with_link_trip link trip (member_of row.old)) }
 {
-    write_link_part(
-        &mut row[LINK * PART..(LINK + 1) * PART],
-        LinkPart { link, trip },
-    );
+    put_part(row, LINK, link_part_words(LinkPart { link, trip }));
 }
 
 #[tactic(auto, using(crate::specs::Laws::Rows::sender_read))]
@@ -336,7 +344,7 @@ pub fn sender(row: &Row) -> Sender
 pub fn put_sender(row: &mut Row, sender: Sender)
     ensures { Kept row.new (with_sender sender (member_of row.old)) }
 {
-    write_sender(&mut row[SENDER * PART..(SENDER + 1) * PART], sender);
+    put_part(row, SENDER, sender_words(sender));
 }
 
 #[tactic(auto, using(crate::specs::Laws::Rows::receiver_read))]
@@ -349,7 +357,8 @@ pub fn receiver(row: &Row) -> Receiver
 pub fn put_receiver(row: &mut Row, receiver: Receiver)
     ensures { Kept row.new (with_receiver receiver (member_of row.old)) }
 {
-    write_receiver(&mut row[RECEIVER * PART..(RECEIVER + 1) * PART], receiver);
+    let words = receiver_words(receiver, part(row, RECEIVER));
+    put_part(row, RECEIVER, words);
 }
 
 #[tactic(auto, using(crate::specs::Laws::Rows::leg_read))]

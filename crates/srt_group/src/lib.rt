@@ -1,6 +1,7 @@
 // `SrtGroup` of srt_group/mod.rs: the group's record, by value, with `new` and its limits. All that is large is lent: the members with
 // their legs and queues, the held packets, the waiting events, the history's two arrays, the store. The public calls over it stand in the
 // crates of their subjects, in modules `calls`; no public function there has a `requires`.
+// Kept (1): the mode is the record's word, which a C host lends so that 6 can refuse it; an enum of two modes says what `is_backup` says, and is no plainer.
 
 #![tactic(auto)]
 
@@ -12,8 +13,7 @@ ghost use Rattle.srt_group_model.specs.Calls.{new};
 ghost use Rattle.srt_group.specs.Made.{Fresh, PromisedNew};
 
 use srt_connection::legs::LARGEST_32;
-use srt_group_members::accounts::NO_PACKETS;
-use srt_group_model::{Core, Counts, Identity, Receiving, Sending, Visit};
+use srt_group_model::{Core, Identity, Sending};
 use srt_group_tables::history;
 use srt_group_tables::history::HistoryRing;
 use srt_protocol::error::Error;
@@ -31,6 +31,13 @@ pub struct Group {
     pub ring: HistoryRing,
 }
 
+// The answer of a call, and the record after it: as it was where the call is refused.
+#[derive(Clone, Copy)]
+pub struct Answered<R, T> {
+    pub record: R,
+    pub answer: Result<T, Error>,
+}
+
 // 2: an id beyond 32 bits, or a mode above 1.
 fn making_out_of_range(id: u64, mode: u64) -> bool
     ensures { result ≡ (above largest_32 id || above 1 mode) }
@@ -46,9 +53,10 @@ impl Group {
 
     pub const CELL: usize = received_payload::CELL;
 
-    // Kept (5): id, mode and length are words that a host lends for the start alone.
+    // Kept (5): id, mode and length are words that a C host lends for the start alone.
     // A fresh group over tables of which no row is in use. The mode is 0 for Broadcast, 1 for Backup. The length is the store's, which every
     // call that is lent one then asks for, or 0. Refused with 2 for an id or a mode out of range, with 1 for an id that is no group's.
+    #[tactic(auto, using(crate::specs::Laws::Made::new_unmarked, crate::specs::Laws::Made::new_made))]
     pub fn new(id: u64, mode: u64, length: usize) -> Result<Group, Error>
         ensures { PromisedNew record { id = id; mode = mode; length = length } result }
     {
@@ -61,56 +69,33 @@ impl Group {
         Ok(Self::fresh(id, mode, length))
     }
 
-    // Kept (5): as `new`.
+    // Kept (5): the three words of `new` go from C to this call and no further: a struct of them is made for it alone, and no plainer.
     // The record of a group that was just made.
+    #[tactic(auto, unfolding(srt_group_model::specs::Calls::new, word_rows::specs::Tab::tab, srt_connection_members::specs::Members::members_of))]
     fn fresh(id: u64, mode: u64, length: usize) -> Self
         ensures { Fresh result (new record { id = id; mode = mode; length = length }) }
     {
-        let core = Core {
-            mode,
-            peer: 0,
-            counts: Counts {
-                members: 0,
-                pending: 0,
-                waiting: 0,
-            },
-            receiving: Receiving {
-                based: 0,
-                base: 0,
-                skipped: 0,
-            },
-            visit: Visit {
-                continuation: 0,
-                round: 0,
-            },
-            own: NO_PACKETS,
-        };
         Self {
             identity: Identity { id, length },
-            core,
-            sending: Sending {
-                numbered: 0,
-                next: 0,
-                carried: 0,
-                carrier: 0,
-                gap: 0,
+            core: Core {
+                mode,
+                ..Core::default()
             },
-            ring: HistoryRing {
-                start: 0,
-                length: 0,
-            },
+            sending: Sending::default(),
+            ring: HistoryRing::default(),
         }
     }
 
     // The history's words, to be lent to every call.
-    pub fn history() -> [u64; 512]
+    pub fn history() -> [u64; Self::MAX_HISTORY]
         ensures { length result ≡ max_history }
     {
         [0; Self::MAX_HISTORY]
     }
 
     // The source times of the history's entries, to be lent to every call.
-    pub fn sources() -> [u64; 512]
+    // Kept (2): a public name, which says which of the two arrays it makes; one function for both is no plainer to call.
+    pub fn sources() -> [u64; Self::MAX_HISTORY]
         ensures { length result ≡ max_history }
     {
         [0; Self::MAX_HISTORY]

@@ -16,7 +16,7 @@ use Rattle.srt_connection_members.specs.Members.{member_at}
 use Rattle.srt_group_shown.specs.Shown.{Rest, shown}
 use Rattle.srt_group_shown.specs.Steps.{Left}
 use Rattle.srt_group_collecting.specs.Leaves.{sends}
-use Rattle.srt_group_addition.specs.declared.addition.Added.{Added}
+use Rattle.srt_group.specs.declared.Answered.{Answered}
 
 -- a membership as it is made: nothing is held, it is not admitted and has no collision
 abbrev pub membership_at_addition : (id weight state : ℕ) → Membership
@@ -47,8 +47,8 @@ pub record Joins (id weight : ℕ) (l : Leg) (core : Core) (ms : List ℕ) (afte
       → joined_by (new_member id weight l (shown core others ms ps ws)) (shown core others ms ps ws) ≡ shown after others ms' ps ws
 
 -- the member is added as defined
-pub record Adds (id weight : ℕ) (l : Leg) (core : Core) (sending : Sending) (ms : List ℕ) (answer : Added) (ms' : List ℕ) : Type 0 where
+pub record Adds (id weight : ℕ) (l : Leg) (core : Core) (sending : Sending) (ms : List ℕ) (answer : Answered Core (Unit {0})) (ms' : List ℕ) : Type 0 where
   pub long : length ms' ≡ length ms
   pub step : (others : Rest) → sends sending others → (ps ws : List ℕ)
-      → Left (add_body id weight l (shown core others ms ps ws)) (outcome_number answer.outcome) no_answer
-      (shown answer.core others ms' ps ws)
+      → Left (add_body id weight l (shown core others ms ps ws)) (outcome_number answer.answer) no_answer
+      (shown answer.«record» others ms' ps ws)

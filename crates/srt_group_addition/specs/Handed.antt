@@ -19,7 +19,7 @@ use Rattle.srt_connection_members.specs.Members.{member_at}
 use Rattle.srt_group_tables.specs.declared.history.HistoryRing.{HistoryRing}
 use Rattle.srt_group_shown.specs.Tables.{parts, tables}
 use Rattle.srt_group_shown.specs.Steps.{Unbroken, StepsKeeping}
-use Rattle.srt_group_addition.specs.declared.addition.Added.{Added}
+use Rattle.srt_group.specs.declared.Answered.{Answered}
 
 -- ---- what refuses it, after 5 and 6 of the group's own state
 
@@ -51,9 +51,9 @@ abbrev pub call_of_row : (id weight : ℕ) → (row : List ℕ) → Call
 call_of_row id weight row = call_of_member id weight (member_at row 0)
 
 -- it is its definition after 5 and 6 of the group's own state, and the same cells are in use, over whatever it does not touch
-pub record StepsAdding (call : Call) (core : Core) (sending : Sending) (members : List ℕ) (answer : Added) (members' : List ℕ) : Type 0 where
+pub record StepsAdding (call : Call) (core : Core) (sending : Sending) (members : List ℕ) (answer : Answered Core (Unit {0})) (members' : List ℕ) : Type 0 where
   pub over : (identity : Identity) (ring : HistoryRing) (pending waiting history sources : List ℕ)
       → Unbroken (parts identity core sending ring) (tables members pending waiting history sources)
       → StepsKeeping call (parts identity core sending ring) (tables members pending waiting history sources)
-      (outcome_number answer.outcome) no_answer (parts identity answer.core sending ring)
+      (outcome_number answer.answer) no_answer (parts identity answer.«record» sending ring)
       (tables members' pending waiting history sources)

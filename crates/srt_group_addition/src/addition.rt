@@ -1,5 +1,6 @@
 // A member is added behind the others. If its leg is connected it is admitted, which may set the base and bind the group, and, if
 // that succeeds, its send sequence is aligned with the group's. Where that fails, 22, it stays added, as in the Rust.
+// Kept (1): the state is the number that the member's word holds: an enum, made to be taken apart again at the write, would be no plainer.
 ghost use Rattle.std.specs.Prelude.{◌≡◌, ◌≤◌, ◌<◌, length};
 ghost use Rattle.srt_group_model.specs.Validity.{max_members};
 ghost use Rattle.srt_connection_members.specs.Members.{members_size};
@@ -7,6 +8,7 @@ ghost use Rattle.srt_group_addition.specs.Addition.{membership_at_addition, Join
 
 use srt_connection::legs::handed_over;
 use srt_connection_members::{append_member, membership_at, rows};
+use srt_group::Answered;
 use srt_group_delivery::delivery::set_base;
 use srt_group_members::accounts::NO_PACKETS;
 use srt_group_members::admission::{Admission, admit_peer_group};
@@ -21,13 +23,6 @@ pub struct NewMember {
     pub id: u64,
     pub weight: u64,
     pub leg: Leg,
-}
-
-// The group's record after an addition, and how it ended.
-#[derive(Clone, Copy)]
-pub struct Added {
-    pub core: Core,
-    pub outcome: Result<(), Error>,
 }
 
 // A member for which nothing is held yet, not admitted, without collision.
@@ -67,21 +62,19 @@ fn join(core: Core, members: &mut [u64], member: NewMember) -> Core
     };
     let admission = admit_peer_group(members, count, before);
     let mut after = set_base(core, admission.base);
-    let peer = admission.peer;
-    let one_more = count + 1;
-    after.peer = peer;
-    after.counts.members = one_more;
+    after.peer = admission.peer;
+    after.counts.members = count + 1;
     after
 }
 
 // `add_member` once no code refuses it but 22.
-// Kept (5): the core is given back changed, the members are lent to be changed, and of sending the number is read.
+// Kept (5): the two parts of the record that it reads: what is proved holds over any identity and ring, so the whole group would be no plainer.
 pub fn add_member_at_end(
     core: Core,
     sending: Sending,
     members: &mut [u64],
     member: NewMember,
-) -> Added
+) -> Answered<Core, ()>
     requires { (core.counts.members < max_members) × (members_size ≤ length members.old) }
     ensures { Adds member.id member.weight member.leg core sending members.old result members.new }
 {
@@ -89,22 +82,19 @@ pub fn add_member_at_end(
     let leg = handed_over(member.leg);
     let after = join(core, members, NewMember { leg, ..member });
     let membership = membership_at(members, index);
+    let kept = Answered {
+        record: after,
+        answer: Ok(()),
+    };
     if membership.admitted != 1 {
-        return Added {
-            core: after,
-            outcome: Ok(()),
-        };
+        return kept;
     }
-    let count = index + 1;
-    if align_member_sequence(members, count, sending.next_send_sequence(), index) {
-        Added {
-            core: after,
-            outcome: Ok(()),
-        }
+    if align_member_sequence(members, index + 1, sending.next_send_sequence(), index) {
+        kept
     } else {
-        Added {
-            core: after,
-            outcome: Err(Error::AlignmentFailed),
+        Answered {
+            answer: Err(Error::AlignmentFailed),
+            ..kept
         }
     }
 }

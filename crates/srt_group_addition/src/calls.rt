@@ -1,5 +1,5 @@
 // `add_member` with its refusals, over the record and the lent tables: 5 and 6, and then what follows them.
-// Kept (5, 6): the host lends record and tables anew to each call; which are changed differs, and a struct of `&mut` needs a clause for each ghost name.
+// Kept (5, 6): the members are changed, so they are in no struct of lent readings, and a call's promise names each table: a struct of the others alone would be no plainer.
 ghost use Rattle.srt_protocol.specs.Errors.{outcome_number};
 ghost use Rattle.srt_group_model.specs.Guards.{no_answer};
 ghost use Rattle.srt_group_shown.specs.Tables.{tables};
@@ -9,16 +9,9 @@ ghost use Rattle.srt_group_addition.specs.Handed.{call_of_row};
 
 use crate::handed::add_leg;
 use srt_connection_queue::rows::ROW;
-use srt_group::Group;
+use srt_group::{Answered, Group};
 use srt_group_refusals::refusals::LentGroup;
 use srt_protocol::error::{Error, outcome_number};
-
-// How an addition ended, and the record after it: as it was where the call is refused with another code than 22.
-#[derive(Clone, Copy)]
-pub struct MemberAdded {
-    pub group: Group,
-    pub outcome: Result<(), Error>,
-}
 
 // A leg is added, handed over in a row of the members' table, of which the membership part is not read. 22 leaves it added.
 pub fn add_member(
@@ -31,18 +24,18 @@ pub fn add_member(
     row: &[u64],
     id: u64,
     weight: u64,
-) -> MemberAdded
+) -> Answered<Group, ()>
     ensures { PromisedRow (call_of_row id weight row.now) (parts_of group)
         (tables members.old pending.now waiting.now history.now sources.now)
         row.now
-        (showing (parts_of result.group)
+        (showing (parts_of result.«record»)
         (tables members.new pending.now waiting.now history.now sources.now)
-        nothing_lent (outcome_number result.outcome) no_answer 0) }
+        nothing_lent (outcome_number result.answer) no_answer 0) }
 {
     if row.len() < ROW {
-        return MemberAdded {
-            group,
-            outcome: Err(Error::InsufficientBuffer),
+        return Answered {
+            record: group,
+            answer: Err(Error::InsufficientBuffer),
         };
     }
     let lent = LentGroup {
@@ -53,21 +46,18 @@ pub fn add_member(
         history,
         sources,
     };
-    let begun = lent.begin();
-    if let Err(error) = begun {
-        return MemberAdded {
-            group,
-            outcome: Err(error),
+    if let Err(error) = lent.begin() {
+        return Answered {
+            record: group,
+            answer: Err(error),
         };
     }
     let added = add_leg(group.core, group.sending, members, row, id, weight);
-    let after = added.core;
-    let outcome = added.outcome;
-    MemberAdded {
-        group: Group {
-            core: after,
+    Answered {
+        record: Group {
+            core: added.record,
             ..group
         },
-        outcome,
+        answer: added.answer,
     }
 }

@@ -1,6 +1,6 @@
 // `add_member` of a leg that is handed over in a lent row of the members' table. The row's membership part is not read: the member
 // gets its own. Its queue must be empty and its reservation 0, since no payload and no packet of it is the group's.
-// Kept (5, 6): the host lends record and tables anew to each call; which are changed differs, and a struct of `&mut` needs a clause for each ghost name.
+// Kept (5, 6): the members are changed, so they are in no struct of lent readings, and a call's promise names each table: a struct of the others alone would be no plainer.
 ghost use Rattle.std.specs.Prelude.{◌≡◌, not, ◌||◌, ◌≤◌, eqb, length};
 ghost use Rattle.srt_protocol.specs.Errors.{outcome_number};
 ghost use Rattle.srt_group_model.specs.Tools.{is_empty, any};
@@ -8,19 +8,20 @@ ghost use Rattle.srt_group_model.specs.Members.{has_id};
 ghost use Rattle.srt_group_model.specs.Guards.{no_answer};
 ghost use Rattle.srt_connection_queue.specs.Rows.{member_of};
 ghost use Rattle.srt_connection_members.specs.Members.{members_size, members_of, members_in, HasRow};
+ghost use Rattle.srt_group.specs.Made.{parts_of};
 ghost use Rattle.srt_group_shown.specs.Tables.{parts, tables};
 ghost use Rattle.srt_group_shown.specs.Ready.{Ready, storing, Performs};
 ghost use Rattle.srt_group_addition.specs.Handed.{in_use, unfit, addition_refused, call_of_member, call_of_row, StepsAdding};
 
-use crate::addition::{Added, NewMember, add_member_at_end};
+use crate::addition::{NewMember, add_member_at_end};
 use cell_set::CellSet;
 use srt_connection::legs::{LARGEST_16, LARGEST_32, handed_over};
 use srt_connection_members::{MAX_MEMBERS, find, rows};
 use srt_connection_queue::queue::queue_is_empty;
 use srt_connection_queue::rows::{Row, leg};
-use srt_group_model::{Core, Identity, Leg, Sending};
+use srt_group::{Answered, Group};
+use srt_group_model::{Core, Leg, Sending};
 use srt_group_rules::ranges::{leg_out_of_range, leg_sequence_too_large};
-use srt_group_tables::history::HistoryRing;
 use srt_protocol::error::{Error, outcome_number};
 
 // 6: the leg has an event in its queue, or a reservation.
@@ -80,19 +81,17 @@ fn add_row(
     row: &Row,
     id: u64,
     weight: u64,
-) -> Added
+) -> Answered<Core, ()>
     requires { members_size ≤ length members.old }
     ensures { StepsAdding (call_of_member id weight (member_of row.now)) core sending members.old
         result members.new }
 {
     let leg = leg(row);
     let member = NewMember { id, weight, leg };
-    let count = core.counts.members;
-    let refused = refusal(members, count, row, member);
-    if let Err(error) = refused {
-        return Added {
-            core,
-            outcome: Err(error),
+    if let Err(error) = refusal(members, core.counts.members, row, member) {
+        return Answered {
+            record: core,
+            answer: Err(error),
         };
     }
     add_member_at_end(core, sending, members, member)
@@ -106,7 +105,7 @@ pub fn add_leg(
     row: &[u64],
     id: u64,
     weight: u64,
-) -> Added
+) -> Answered<Core, ()>
     requires { (members_size ≤ length members.old) × HasRow 0 row.now }
     ensures { StepsAdding (call_of_row id weight row.now) core sending members.old
         result members.new }
@@ -117,10 +116,7 @@ pub fn add_leg(
 
 // `add_member` for a valid state. The cells in use stay the same; the store is lent for its length, over which the state is valid.
 pub fn add_member(
-    identity: Identity,
-    core: Core,
-    sending: Sending,
-    ring: HistoryRing,
+    group: Group,
     members: &mut [u64],
     pending: &[u64],
     waiting: &[u64],
@@ -131,15 +127,15 @@ pub fn add_member(
     row: &[u64],
     id: u64,
     weight: u64,
-) -> Added
-    requires ready { Ready (parts identity core sending ring)
+) -> Answered<Core, ()>
+    requires ready { Ready (parts_of group)
         (tables members.old pending.now waiting.now history.now sources.now) (length store.now) used.now }
     requires has_row { HasRow 0 row.now }
-    ensures { Performs (call_of_row id weight row.now) (parts identity core sending ring)
+    ensures { Performs (call_of_row id weight row.now) (parts_of group)
         (tables members.old pending.now waiting.now history.now sources.now)
-        (storing store.now) (outcome_number result.outcome) no_answer (parts identity result.core sending ring)
+        (storing store.now) (outcome_number result.answer) no_answer (parts group.identity result.«record» group.sending group.ring)
         (tables members.new pending.now waiting.now history.now sources.now)
         (storing store.now) used.now }
 {
-    add_leg(core, sending, members, row, id, weight)
+    add_leg(group.core, group.sending, members, row, id, weight)
 }

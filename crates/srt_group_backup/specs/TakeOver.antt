@@ -12,7 +12,7 @@ use Rattle.srt_group_tables.specs.Ring.{Arrays, send_of}
 use Rattle.srt_group_tables.specs.declared.history.HistoryRing.{HistoryRing}
 use Rattle.srt_group_sending.specs.SentList.{SendTables, Wrote}
 use Rattle.srt_group_backup.specs.declared.takeover.Flight.{Flight}
-use Rattle.srt_group_backup.specs.declared.takeover.TakenOver.{TakenOver}
+use Rattle.srt_group_backup.specs.declared.send.BackupSend.{BackupSend}
 
 -- ---- definitions
 
@@ -38,16 +38,16 @@ pub record CarrierAligned (i n : ℕ) (x : Sending) (t : List ℕ) (answer : Out
   pub flow : (s : State) → s.members ≡ members_of n t → s.send.numbers ≡ x
       → align_carrier i s ≡ record { state = with_members (members_of n u) s; sends = []; code = outcome_number answer }
 
-pub record TookOver (f : State → Flow) (n : ℕ) (x : Sending) (r : HistoryRing) (a : Arrays) (sent : ℕ) (before : SendTables) (answer : TakenOver) (after : SendTables) : Type 0 where
+pub record TookOver (f : State → Flow) (n : ℕ) (x : Sending) (r : HistoryRing) (a : Arrays) (sent : ℕ) (before : SendTables) (answer : BackupSend) (after : SendTables) : Type 0 where
   pub long : length after.members ≡ length before.members
-  pub fits : answer.ring.length ≤ max_history
+  pub fits : answer.send.ring.length ≤ max_history
   pub few : answer.sent ≤ sent + max_history
   pub sends : List Sent
   pub written : Wrote sent sends before.list answer.sent after.list
   pub flow : (s : State) → s.members ≡ members_of n before.members → s.send ≡ send_of x r a
       → f s
       ≡ record {
-        state = with_send (send_of answer.sending answer.ring a) (with_members (members_of n after.members) s);
+        state = with_send (send_of answer.send.sending answer.send.ring a) (with_members (members_of n after.members) s);
         sends = sends;
         code = outcome_number answer.outcome;
       }

@@ -9,7 +9,7 @@ ghost use Rattle.srt_group_backup.specs.Replay.{EntryReplayed, EntriesReplayed};
 
 use srt_connection::legs::send_shared_with_sequence;
 use srt_group_model::{Entry, Leg};
-use srt_group_sending::list::write_sent;
+use srt_group_sending::list::{Sent, write_sent};
 use srt_group_tables::history::History;
 use srt_protocol::error::Error;
 use srt_protocol::time::Timestamp;
@@ -36,12 +36,15 @@ fn replay_entry(
     requires { sent * sent_row_size + sent_row_size ≤ length list.old }
     ensures { EntryReplayed time.0 id entry leg sent list.old result list.new }
 {
-    let result = send_shared_with_sequence(leg, time, entry.length, entry.sequence);
-    let Some(after) = result else {
-        return None;
+    let after = send_shared_with_sequence(leg, time, entry.length, entry.sequence)?;
+    let row = Sent {
+        leg: id,
+        sequence: entry.sequence,
+        cell: entry.cell,
+        source: entry.source,
+        time,
     };
-    let source = entry.source;
-    write_sent(list, sent, id, entry.sequence, entry.cell, source, time);
+    write_sent(list, sent, row);
     Some(after)
 }
 

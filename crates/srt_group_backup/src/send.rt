@@ -1,5 +1,6 @@
 // The call's own payload on one member, and what is recorded of it.
-// Kept (5, 6): what changes members, history or list takes them one beside the other: of a struct of `&mut` each clause names every field (tried).
+// Kept (5, 6): which tables a function changes differs from one to the next, so a struct of `&mut` would be another for each (docs/DECISIONS.md).
+// Kept (5): the rules take a payload's time, size, cell and sequence one by one, so a struct of them would be taken apart in each clause, and is no plainer.
 ghost use Rattle.std.specs.Prelude.{◌≡◌, ◌+◌, ◌*◌, ◌≤◌, length};
 ghost use Rattle.srt_group_model.specs.Sending.{sent_row_size};
 ghost use Rattle.srt_group_model.specs.Backup.{max_history};
@@ -11,11 +12,21 @@ ghost use Rattle.srt_group_backup.specs.OwnSend.{SentOn, SendRecorded};
 use crate::trimming::{SendHistory, trim_backup_history};
 use srt_connection::legs::send_shared_with_sequence;
 use srt_connection_members::{leg_at, membership_at, put_leg_at};
-use srt_group_model::{Entry, Leg, Sending};
+use srt_group_model::{Entry, Leg};
 use srt_group_sending::broadcast::with_number_after;
-use srt_group_sending::list::{OWN_PAYLOAD, write_sent};
-use srt_group_tables::history::{HistoryRing, HistoryWords, push_back, store};
+use srt_group_sending::list::{Sent, write_sent};
+use srt_group_tables::history::{HistoryWords, push_back, store};
+use srt_protocol::error::Error;
 use srt_protocol::time::Timestamp;
+
+// What a Backup send, or a part of it, leaves of what sending moves, and how many rows of the list are in use then; or why it was refused,
+// with the same of what it did before.
+#[derive(Clone, Copy)]
+pub struct BackupSend {
+    pub outcome: Result<(), Error>,
+    pub send: SendHistory,
+    pub sent: usize,
+}
 
 // A payload of `size` bytes on the member at an index, at a sequence: whether it was sent. If it was, the list has its row.
 pub fn send_on(
@@ -38,34 +49,32 @@ pub fn send_on(
         return false;
     };
     let membership = membership_at(members, index);
-    let id = membership.id;
     put_leg_at(members, index, leg);
-    write_sent(list, sent, id, sequence, OWN_PAYLOAD, time, time);
+    write_sent(list, sent, Sent::own(membership.id, sequence, time));
     true
 }
 
 // The payload that was sent is kept until its carrier's peer acknowledges it. `leg` is the carrier's leg after the send.
 pub fn record_backup_send(
-    sending: Sending,
-    ring: HistoryRing,
+    send: SendHistory,
     history: &mut [u64],
     sources: &mut [u64],
     entry: Entry,
     leg: Leg,
     carrier: u64,
 ) -> SendHistory
-    requires length_le_max_history { (ring.length ≤ max_history) × Long (arrays history.old sources.old) }
+    requires length_le_max_history { (send.ring.length ≤ max_history) × Long (arrays history.old sources.old) }
     requires packs { Packs entry.sequence entry.cell entry.length }
-    ensures { SendRecorded leg carrier entry sending ring
+    ensures { SendRecorded leg carrier entry send.sending send.ring
         (arrays history.old sources.old) result
         (arrays history.new sources.new) }
 {
-    store(ring, history, sources, entry);
-    let mut numbers = with_number_after(sending, entry.sequence);
+    store(send.ring, history, sources, entry);
+    let mut numbers = with_number_after(send.sending, entry.sequence);
     numbers.carried = 1;
     numbers.carrier = carrier;
     let pushed = HistoryWords {
-        ring: push_back(ring),
+        ring: push_back(send.ring),
         history,
     };
     trim_backup_history(numbers, &pushed, leg)

@@ -1,6 +1,6 @@
 // A carrier that fell silent turns Unstable, so that a Standby member takes over.
-// Kept (5, 6): what changes members, history or list takes them one beside the other: of a struct of `&mut` each clause names every field (tried).
-ghost use Rattle.std.specs.Prelude.{◌≡◌, ◌&&◌, ◌*◌, ◌≤◌, max, length};
+// Kept (5, 6): which tables a function changes differs from one to the next, so a struct of `&mut` would be another for each (docs/DECISIONS.md).
+ghost use Rattle.std.specs.Prelude.{◌≡◌, ◌&&◌, ◌*◌, ◌≤◌, length};
 ghost use Rattle.srt_group_model.specs.Tools.{any};
 ghost use Rattle.srt_group_model.specs.Members.{is_standby};
 ghost use Rattle.srt_group_model.specs.Backup.{stability_timeout, is_stale, demote_stale_backup_carrier};
@@ -20,12 +20,6 @@ use srt_protocol::time::Timestamp;
 // The least stability timeout, in microseconds.
 const LEAST_TIMEOUT: u64 = 60_000;
 
-fn larger(a: u64, b: u64) -> u64
-    ensures { result ≡ max a b }
-{
-    if a < b { b } else { a }
-}
-
 // How long a carrier may be silent: twice the round trip and four times its variance, but not less than 60 ms.
 #[tactic(auto, unfolding(srt_group_model::specs::Backup::stability_timeout))]
 pub fn stability_timeout(leg: Leg) -> u64
@@ -33,7 +27,7 @@ pub fn stability_timeout(leg: Leg) -> u64
     ensures { result ≡ stability_timeout leg }
 {
     let estimate = 2 * leg.trip.srtt + 4 * leg.trip.rttvar;
-    larger(LEAST_TIMEOUT, estimate)
+    estimate.max(LEAST_TIMEOUT)
 }
 
 // Data is outstanding, and the peer has been silent for longer than the timeout. Silence is counted from the oldest send or, if
@@ -50,7 +44,7 @@ pub fn is_stale(leg: Leg, time: Timestamp) -> bool
         return false;
     }
     let timeout = stability_timeout(leg);
-    let since = larger(leg.trip.heard.0, leg.sender.oldest.0);
+    let since = leg.trip.heard.0.max(leg.sender.oldest.0);
     let silence = time.saturating_sub(Timestamp(since));
     timeout < silence
 }

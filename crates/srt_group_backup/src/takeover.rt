@@ -1,6 +1,6 @@
 // The take-over: a member that is to carry the next send first replays the flight of the carrier before it, as far as it is not
 // acknowledged, at the same sequences. One that cannot replay all of it is refused.
-// Kept (5, 6): what changes members, history or list takes them one beside the other: of a struct of `&mut` each clause names every field (tried).
+// Kept (5, 6): which tables a function changes differs from one to the next, so a struct of `&mut` would be another for each (docs/DECISIONS.md).
 ghost use Rattle.std.specs.Prelude.{◌≡◌, ◌-◌, ◌*◌, ◌≤◌, ◌<◌, length};
 ghost use Rattle.srt_group_model.specs.Backup.{max_history, replay_on, replay_flight, take_over_backup_flight};
 ghost use Rattle.srt_group_model.specs.Sending.{max_sent, list_size};
@@ -11,13 +11,14 @@ ghost use Rattle.srt_group_sending.specs.SentList.{send_tables};
 ghost use Rattle.srt_group_backup.specs.TakeOver.{HistoryIs, SendIs, FlightReplayed, CarrierAligned, TookOver};
 
 use crate::replay::replay_entries;
-use crate::trimming::trim_by_carrier;
+use crate::send::BackupSend;
+use crate::trimming::{SendHistory, trim_by_carrier};
 use srt_connection::legs::remaining_window_packets;
 use srt_connection_members::{leg_at, membership_at, put_leg_at, rows};
 use srt_group_members::alignment::{align_leg, align_member_sequence};
 use srt_group_model::{Leg, Sending};
 use srt_group_sending::readiness::takes_over;
-use srt_group_tables::history::{History, HistoryRing, HistoryWords};
+use srt_group_tables::history::{History, HistoryWords};
 use srt_protocol::error::Error;
 use srt_protocol::time::Timestamp;
 
@@ -25,15 +26,6 @@ use srt_protocol::time::Timestamp;
 #[derive(Clone, Copy)]
 pub struct Flight {
     pub outcome: Result<(), Error>,
-    pub sent: usize,
-}
-
-// Whether the member is ready to carry the next send, with the numbers of sending, the ring and the rows in use as they are then.
-#[derive(Clone, Copy)]
-pub struct TakenOver {
-    pub outcome: Result<(), Error>,
-    pub sending: Sending,
-    pub ring: HistoryRing,
     pub sent: usize,
 }
 
@@ -131,7 +123,7 @@ pub fn align_carrier(
     Ok(())
 }
 
-// The member at an index is made ready to carry the next send.
+// The member at an index is made ready to carry the next send; or it cannot be.
 #[tactic(auto, using(crate::specs::Laws::TakeOver::no_take_over))]
 pub fn take_over_backup_flight(
     sending: Sending,
@@ -142,7 +134,7 @@ pub fn take_over_backup_flight(
     list: &mut [u64],
     sent: usize,
     time: Timestamp,
-) -> TakenOver
+) -> BackupSend
     requires index_lt_count { (index < count) × (count * row_size ≤ length members.old) }
     requires list_size_in_bounds { (list_size ≤ length list.old) × (sent ≤ max_sent - max_history) }
     ensures { TookOver (take_over_backup_flight time.0 index) count sending history.now.words.ring
@@ -154,39 +146,36 @@ pub fn take_over_backup_flight(
     let id = membership.id;
     if !takes_over(sending, id) {
         let outcome = align_carrier(sending, members, count, index);
-        return TakenOver {
+        return BackupSend {
             outcome,
-            sending,
-            ring: history.words.ring,
+            send: SendHistory {
+                sending,
+                ring: history.words.ring,
+            },
             sent,
         };
     }
     // Acknowledgements may have arrived since the carrier's last send.
     let trimmed = trim_by_carrier(sending, &history.words, rows(members, count));
-    let numbers = trimmed.sending;
-    let left = trimmed.ring;
-    if left.length == 0 {
-        let outcome = align_carrier(numbers, members, count, index);
-        return TakenOver {
+    if trimmed.ring.length == 0 {
+        let outcome = align_carrier(trimmed.sending, members, count, index);
+        return BackupSend {
             outcome,
-            sending: numbers,
-            ring: left,
+            send: trimmed,
             sent,
         };
     }
     let rest = History {
         words: HistoryWords {
-            ring: left,
+            ring: trimmed.ring,
             history: history.words.history,
         },
         sources: history.sources,
     };
-    let flight = replay_flight(numbers, &rest, members, index, list, sent, time);
-    let outcome = flight.outcome;
-    TakenOver {
-        outcome,
-        sending: numbers,
-        ring: left,
+    let flight = replay_flight(trimmed.sending, &rest, members, index, list, sent, time);
+    BackupSend {
+        outcome: flight.outcome,
+        send: trimmed,
         sent: flight.sent,
     }
 }

@@ -21,6 +21,7 @@ pub struct SendHistory {
 }
 
 // Whether the oldest entry is after a sequence: older ones were lost.
+// Kept (1): the gap is the rules' word of a flag, and `u64::from` promises the byte of the bool: a step from one to the other would be no plainer.
 #[tactic(auto, using(crate::specs::Laws::Trimming::none_after, crate::specs::Laws::Trimming::first_after, crate::specs::Laws::Trimming::first_not_after))]
 fn starts_after(history: &HistoryWords, oldest: u64) -> u64
     ensures { result ≡ bit (front_after oldest history.now.history.now history.now.ring) }
@@ -61,18 +62,15 @@ pub fn trim_backup_history(mut sending: Sending, history: &HistoryWords, leg: Le
 pub fn trim_by_carrier(sending: Sending, history: &HistoryWords, rows: &[Row]) -> SendHistory
     ensures { TrimmedByCarrier (members_in rows.now) history.now.history.now sending history.now.ring result }
 {
-    if sending.carried == 0 {
-        return SendHistory {
-            sending,
-            ring: history.ring,
-        };
-    }
-    let found = find(rows, sending.carrier);
-    let Some(index) = found else {
-        return SendHistory {
-            sending,
-            ring: history.ring,
-        };
+    let untrimmed = SendHistory {
+        sending,
+        ring: history.ring,
+    };
+    let Some(carrier) = sending.carrier() else {
+        return untrimmed;
+    };
+    let Some(index) = find(rows, carrier) else {
+        return untrimmed;
     };
     trim_backup_history(sending, history, leg(&rows[index]))
 }

@@ -1,6 +1,8 @@
 // One Backup send. A carrier that fell silent is demoted first; a member that takes over from another carrier replays the flight that
 // is not acknowledged, so that the receiver gets no hole; after a failed send another member is promoted, and tried once.
-// Kept (5, 6): what changes members, history or list takes them one beside the other: of a struct of `&mut` each clause names every field (tried).
+// Kept (5, 6): which tables a function changes differs from one to the next, so a struct of `&mut` would be another for each (docs/DECISIONS.md).
+// Kept (5): the rules take a payload's time, size, cell and sequence one by one, so a struct of them would be taken apart in each clause, and is no plainer.
+// Kept (1): the mode is the record's word, which a C host lends so that 6 can refuse it; an enum of it would be `is_backup` again at each call.
 ghost use Rattle.std.specs.Prelude.{◌-◌, ◌≤◌, ◌<◌};
 ghost use Rattle.srt_group_model.specs.Sending.{max_sent};
 ghost use Rattle.srt_group_model.specs.Backup.{max_history, send_at_place, send_backup};
@@ -13,21 +15,20 @@ ghost use Rattle.srt_group_backup_send.specs.BackupSend.{on_carrier};
 
 use cell_set::CellSet;
 use srt_connection_members::{row, rows, sender_at};
-use srt_group_backup::send::send_on;
+use srt_group_backup::send::{BackupSend, send_on};
+use srt_group_backup::trimming::SendHistory;
 use srt_group_carrier::carrier::{ready_members, take_over};
 use srt_group_carrier::promotion::send_after_promotion;
-use srt_group_carrier::recording::{BackupSend, keep_sent};
+use srt_group_carrier::recording::keep_sent;
 use srt_group_members::states::first_active;
-use srt_group_model::Sending;
 use srt_group_sending::broadcast::sequence_for_send;
-use srt_group_tables::history::{History, HistoryRing, HistoryWords};
+use srt_group_tables::history::{History, HistoryWords};
 use srt_protocol::error::Error;
 use srt_protocol::time::Timestamp;
 
 // The call's own payload on the member at an index, which is ready to carry it.
 fn send_at_place(
-    sending: Sending,
-    ring: HistoryRing,
+    send: SendHistory,
     history: &mut [u64],
     sources: &mut [u64],
     members: &mut [u64],
@@ -40,37 +41,34 @@ fn send_at_place(
     size: u64,
     cell: u64,
 ) -> BackupSend
-    requires sendable { Sendable count index ring (backup_tables members.old history.old sources.old list.old used.old) }
-    requires sent_bound { (sent ≤ max_sent - max_history - 1) × Packs (number_for_send sending (member_at members.old index)) cell size }
-    ensures { BackupFlows every (send_at_place time.0 size cell index) cell count sending ring sent
+    requires sendable { Sendable count index send.ring (backup_tables members.old history.old sources.old list.old used.old) }
+    requires sent_bound { (sent ≤ max_sent - max_history - 1) × Packs (number_for_send send.sending (member_at members.old index)) cell size }
+    ensures { BackupFlows every (send_at_place time.0 size cell index) cell count send.sending send.ring sent
         (backup_tables members.old history.old sources.old list.old used.old) result
         (backup_tables members.new history.new sources.new list.new used.new) }
 {
-    let sequence = sequence_for_send(row(members, index), sending);
+    let sequence = sequence_for_send(row(members, index), send.sending);
     let sender = sender_at(members, index);
     if sender.next != sequence {
         return BackupSend {
             outcome: Err(Error::SequenceMismatch),
-            sending,
-            ring,
+            send,
             sent,
         };
     }
     if send_on(members, index, time, size, sequence, list, sent) {
         return keep_sent(
-            sending, ring, history, sources, members, index, sent, used, time, size, cell, sequence,
+            send, history, sources, members, index, sent, used, time, size, cell, sequence,
         );
     }
     send_after_promotion(
-        sending, ring, history, sources, members, count, index, list, sent, used, time, size, cell,
-        sequence,
+        send, history, sources, members, count, index, list, sent, used, time, size, cell, sequence,
     )
 }
 
 // The first active member carries: it takes over if another did, and then the payload is sent.
 fn send_on_carrier(
-    sending: Sending,
-    ring: HistoryRing,
+    send: SendHistory,
     history: &mut [u64],
     sources: &mut [u64],
     members: &mut [u64],
@@ -82,29 +80,34 @@ fn send_on_carrier(
     size: u64,
     cell: u64,
 ) -> BackupSend
-    requires sendable { Sendable count index ring (backup_tables members.old history.old sources.old list.old used.old) }
-    requires numbers_fit { NumbersFit (send_of sending ring (arrays history.old sources.old)) (members_of count members.old) }
+    requires sendable { Sendable count index send.ring (backup_tables members.old history.old sources.old list.old used.old) }
+    requires numbers_fit { NumbersFit (send_of send.sending send.ring (arrays history.old sources.old)) (members_of count members.old) }
     requires cell_lt_cells_in_word { (cell < cells_in_word) × (size < lengths_in_word) }
-    ensures { BackupFlows every (on_carrier time.0 size cell index) cell count sending ring 0
+    ensures { BackupFlows every (on_carrier time.0 size cell index) cell count send.sending send.ring 0
         (backup_tables members.old history.old sources.old list.old used.old) result
         (backup_tables members.new history.new sources.new list.new used.new) }
 {
-    let words = HistoryWords { ring, history };
+    let words = HistoryWords {
+        ring: send.ring,
+        history,
+    };
     let flight = History { words, sources };
-    let taken = take_over(sending, &flight, members, count, index, list, 0, used, time);
-    let outcome = taken.outcome;
-    let numbers = taken.sending;
-    let left = taken.ring;
-    if let Err(error) = outcome {
-        return BackupSend {
-            outcome: Err(error),
-            sending: numbers,
-            ring: left,
-            sent: taken.sent,
-        };
+    let taken = take_over(
+        send.sending,
+        &flight,
+        members,
+        count,
+        index,
+        list,
+        0,
+        used,
+        time,
+    );
+    if taken.outcome.is_err() {
+        return taken;
     }
     send_at_place(
-        numbers, left, history, sources, members, count, index, list, taken.sent, used, time, size,
+        taken.send, history, sources, members, count, index, list, taken.sent, used, time, size,
         cell,
     )
 }
@@ -112,8 +115,7 @@ fn send_on_carrier(
 // One Backup send of a payload of `size` bytes, which is kept under the cell if it succeeds.
 pub fn send_backup(
     mode: u64,
-    sending: Sending,
-    ring: HistoryRing,
+    send: SendHistory,
     history: &mut [u64],
     sources: &mut [u64],
     members: &mut [u64],
@@ -124,10 +126,10 @@ pub fn send_backup(
     size: u64,
     cell: u64,
 ) -> BackupSend
-    requires lendable { Lendable count ring (backup_tables members.old history.old sources.old list.old used.old) }
-    requires numbers_fit { NumbersFit (send_of sending ring (arrays history.old sources.old)) (members_of count members.old) }
+    requires lendable { Lendable count send.ring (backup_tables members.old history.old sources.old list.old used.old) }
+    requires numbers_fit { NumbersFit (send_of send.sending send.ring (arrays history.old sources.old)) (members_of count members.old) }
     requires cell_lt_cells_in_word { (cell < cells_in_word) × (size < lengths_in_word) }
-    ensures { BackupFlows (InMode mode) (send_backup time.0 size cell) cell count sending ring 0
+    ensures { BackupFlows (InMode mode) (send_backup time.0 size cell) cell count send.sending send.ring 0
         (backup_tables members.old history.old sources.old list.old used.old) result
         (backup_tables members.new history.new sources.new list.new used.new) }
 {
@@ -136,12 +138,11 @@ pub fn send_backup(
     let Some(index) = found else {
         return BackupSend {
             outcome: Err(Error::NoActiveMember),
-            sending,
-            ring,
+            send,
             sent: 0,
         };
     };
     send_on_carrier(
-        sending, ring, history, sources, members, count, index, list, used, time, size, cell,
+        send, history, sources, members, count, index, list, used, time, size, cell,
     )
 }

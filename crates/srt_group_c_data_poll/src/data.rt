@@ -1,5 +1,5 @@
 // `poll_data_bounded` and `poll_data`.
-// Kept (5, 6): C lends each table by its name and length (docs/TABLES.md), so each is a parameter of its own.
+// Kept (2, 5, 6): C calls each by its name, and lends each table by its own name and length (docs/TABLES.md).
 ghost use Rattle.std.specs.Prelude.{false, ◌≤◌, length};
 ghost use Rattle.srt_protocol.specs.Cells.{output_size};
 ghost use Rattle.srt_group_model.specs.Lent.{call_poll_data, call_poll_data_bounded};
@@ -13,11 +13,11 @@ use srt_group_collecting::collecting::MAX_VISITS;
 use srt_group_data_poll::polls;
 use srt_group_words::answers::{POLLED, put};
 use srt_group_words::begin::begin_poll;
-use srt_group_words::record::{RECORD, read_core, read_identity, read_ring, read_sending};
+use srt_group_words::record::{RECORD, SHORT, read_group};
 use srt_protocol::time::Timestamp;
 
 // `srt_group_raw_poll_data_bounded` for a valid state, of which `used` shows the cells in use.
-#[tactic(auto, using(srt_group_words::specs::Laws::Words::parts_ready))]
+#[tactic(auto, using(srt_group_words::specs::Laws::Words::group_ready))]
 #[unsafe(no_mangle)]
 pub extern "C" fn srt_group_valid_poll_data_bounded(
     record: &mut [u64],
@@ -45,10 +45,7 @@ pub extern "C" fn srt_group_valid_poll_data_bounded(
         (lending store.now output.new) answer.new) used.new }
 {
     let poll = polls::poll_data_bounded(
-        read_identity(record),
-        read_core(record),
-        read_sending(record),
-        read_ring(record),
+        read_group(record),
         members,
         pending,
         waiting,
@@ -65,7 +62,7 @@ pub extern "C" fn srt_group_valid_poll_data_bounded(
 
 // The next packet in order, after at most so many events, which are dropped. Its payload is written from byte 12 of the output on. The answer:
 // whether to poll again at once, and of the packet its leg, sequence, count (0: none), message number, timestamp, source time and length.
-#[tactic(auto, using(srt_group_words::specs::Laws::Words::record_refused, srt_group_words::specs::Laws::Words::answer_refused, srt_group_words::specs::Laws::Begin::poll_ready, srt_group_words::specs::Laws::Begin::poll_on))]
+#[tactic(auto, using(srt_group_words::specs::Laws::Words::record_refused, srt_group_words::specs::Laws::Words::answer_refused, srt_group_words::specs::Laws::Begin::poll_ready))]
 #[unsafe(no_mangle)]
 pub extern "C" fn srt_group_raw_poll_data_bounded(
     record: &mut [u64],
@@ -88,14 +85,11 @@ pub extern "C" fn srt_group_raw_poll_data_bounded(
         (tables members.new pending.new waiting.new history.now sources.now)
         (lending store.now output.new) answer.new) }
 {
-    if record.len() < RECORD {
-        return 5;
-    }
-    if answer.len() < POLLED {
-        return 5;
+    if record.len() < RECORD || answer.len() < POLLED {
+        return SHORT;
     }
     let mut used = [0; WORDS];
-    let code = begin_poll(
+    let begun = begin_poll(
         record,
         members,
         pending,
@@ -106,9 +100,9 @@ pub extern "C" fn srt_group_raw_poll_data_bounded(
         output.len(),
         &mut used,
     );
-    if code != 0 {
+    if let Err(error) = begun {
         put(answer, [0; POLLED]);
-        return code;
+        return u32::from(error);
     }
     srt_group_valid_poll_data_bounded(
         record, members, pending, waiting, history, sources, store, output, &mut used, time,

@@ -1,5 +1,5 @@
 // `poll_event`.
-// Kept (5, 6): C lends each table by its name and length (docs/TABLES.md), so each is a parameter of its own.
+// Kept (2, 5, 6): C calls each by its name, and lends each table by its own name and length (docs/TABLES.md).
 ghost use Rattle.std.specs.Prelude.{false, ◌≤◌, length};
 ghost use Rattle.srt_protocol.specs.Cells.{output_size};
 ghost use Rattle.srt_group_model.specs.Lent.{call_poll_event};
@@ -12,13 +12,13 @@ use cell_set::{WORDS, of_words_mut};
 use srt_group_event_poll::polls;
 use srt_group_words::answers::{POLLED, put};
 use srt_group_words::begin::begin_poll;
-use srt_group_words::record::{RECORD, read_core, read_identity, read_ring, read_sending};
+use srt_group_words::record::{RECORD, SHORT, read_group};
 use srt_protocol::time::Timestamp;
 
 // The next event, or the next packet in order, its payload written from byte 12 of the output on. The answer's words: of an event its
 // kind (1 connected, 2 error, 3 disconnected), its leg, its reason, and zeros; of a packet 0, its leg, sequence, count, message number, timestamp,
 // source time and length; of neither zeros. A packet's count is never 0. For a valid state, of which `used` shows the cells in use.
-#[tactic(auto, using(srt_group_words::specs::Laws::Words::parts_ready))]
+#[tactic(auto, using(srt_group_words::specs::Laws::Words::group_ready))]
 #[unsafe(no_mangle)]
 pub extern "C" fn srt_group_valid_poll_event(
     record: &mut [u64],
@@ -45,10 +45,7 @@ pub extern "C" fn srt_group_valid_poll_event(
         (lending store.now output.new) answer.new) used.new }
 {
     let poll = polls::poll_event(
-        read_identity(record),
-        read_core(record),
-        read_sending(record),
-        read_ring(record),
+        read_group(record),
         members,
         pending,
         waiting,
@@ -65,7 +62,7 @@ pub extern "C" fn srt_group_valid_poll_event(
 // The next event, or the next packet in order, with 5 and 6 tested. The answer's words: of an event its kind (1 connected, 2 error,
 // 3 disconnected), its leg, its reason, and zeros; of a packet 0, its leg, sequence, count, message number, timestamp, source time and length;
 // of neither zeros. A packet's count is never 0.
-#[tactic(auto, using(srt_group_words::specs::Laws::Words::record_refused, srt_group_words::specs::Laws::Words::answer_refused, srt_group_words::specs::Laws::Begin::poll_ready, srt_group_words::specs::Laws::Begin::poll_on))]
+#[tactic(auto, using(srt_group_words::specs::Laws::Words::record_refused, srt_group_words::specs::Laws::Words::answer_refused, srt_group_words::specs::Laws::Begin::poll_ready))]
 #[unsafe(no_mangle)]
 pub extern "C" fn srt_group_raw_poll_event(
     record: &mut [u64],
@@ -87,14 +84,11 @@ pub extern "C" fn srt_group_raw_poll_event(
         (tables members.new pending.new waiting.new history.now sources.now)
         (lending store.now output.new) answer.new) }
 {
-    if record.len() < RECORD {
-        return 5;
-    }
-    if answer.len() < POLLED {
-        return 5;
+    if record.len() < RECORD || answer.len() < POLLED {
+        return SHORT;
     }
     let mut used = [0; WORDS];
-    let code = begin_poll(
+    let begun = begin_poll(
         record,
         members,
         pending,
@@ -105,9 +99,9 @@ pub extern "C" fn srt_group_raw_poll_event(
         output.len(),
         &mut used,
     );
-    if code != 0 {
+    if let Err(error) = begun {
         put(answer, [0; POLLED]);
-        return code;
+        return u32::from(error);
     }
     srt_group_valid_poll_event(
         record, members, pending, waiting, history, sources, store, output, &mut used, time, answer,

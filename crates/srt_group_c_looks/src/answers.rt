@@ -61,6 +61,7 @@ impl InWords<SHOWN> for bool {
     }
 }
 
+// Kept (2): a list's row of the same words is written in place, word by word (srt_group_looks); here they are an array, as all of a look's numbers.
 impl InWords<MEMBER> for MemberShown {
     ghost answer = { λ m. shown (one_member (Some m)) };
 

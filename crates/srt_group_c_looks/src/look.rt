@@ -1,5 +1,5 @@
 // A look at what C lends: each exported look is this one with what it shows.
-// Kept (5, 6): C lends each table by its name and length (docs/TABLES.md), so each is a parameter of its own.
+// Kept (5, 6): an exported look has each table by its own name, and the struct of them is made here: made at each of the looks it would be no plainer.
 ghost use Rattle.std.specs.Prelude.{◌<◌, ◌≤◌, length};
 ghost use Rattle.std.specs.Fn.{FnOnceReturnsAt};
 ghost use Rattle.srt_group_shown.specs.Tables.{tables};
@@ -8,7 +8,7 @@ ghost use Rattle.srt_group_c_looks.specs.Look.{Shows, SaysNothing};
 
 use crate::answers::{InWords, put_given};
 use srt_group_refusals::refusals::LentGroup;
-use srt_group_words::record::{RECORD, read_group};
+use srt_group_words::record::{RECORD, SHORT, read_group};
 use srt_protocol::error::Error;
 
 // 5 where the record or the answer has too few words; else what `given` gives of the group and its tables.
@@ -29,11 +29,8 @@ pub fn look<const N: usize, T: InWords<N>, F: FnOnce(&LentGroup) -> Result<T, Er
         → Shows N T.answer (λ lent r. FnOnceReturnsAt F.FnOnce given lent r) «record».now
         (tables members.now pending.now waiting.now history.now sources.now) answer.old result answer.new }
 {
-    if record.len() < RECORD {
-        return 5;
-    }
-    if answer.len() < N {
-        return 5;
+    if record.len() < RECORD || answer.len() < N {
+        return SHORT;
     }
     let lent = LentGroup {
         group: read_group(record),

@@ -12,7 +12,7 @@ use srt_group_c_looks::answers::{SHOWN, put_given};
 use srt_group_c_looks::look::look;
 use srt_group_looks::{member, members};
 use srt_group_refusals::refusals::LentGroup;
-use srt_group_words::record::{RECORD, read_group};
+use srt_group_words::record::{RECORD, SHORT, read_group};
 
 // A member: its id, weight, label, its leg's state, whether it was admitted, its reserved sum, and its collision's expected and actual peer group.
 #[unsafe(no_mangle)]
@@ -79,6 +79,7 @@ pub extern "C" fn srt_group_raw_backup_stability_timeout_micros(
 }
 
 // All members as rows of a lent list, in the order of their addition. The answer is how many rows were filled.
+#[tactic(auto, using(srt_group_c_looks::specs::Laws::Listed::listed_few, srt_group_c_looks::specs::Laws::Listed::listed_no_room))]
 #[unsafe(no_mangle)]
 pub extern "C" fn srt_group_raw_members(
     record: &[u64],
@@ -97,11 +98,8 @@ pub extern "C" fn srt_group_raw_members(
         (tables members.now pending.now waiting.now history.now sources.now)
         nothing_lent answer.new) list.old list.new }
 {
-    if record.len() < RECORD {
-        return 5;
-    }
-    if answer.len() < SHOWN {
-        return 5;
+    if record.len() < RECORD || answer.len() < SHOWN {
+        return SHORT;
     }
     let lent = LentGroup {
         group: read_group(record),
@@ -111,6 +109,5 @@ pub extern "C" fn srt_group_raw_members(
         history,
         sources,
     };
-    let given = members::members(&lent, list);
-    put_given(answer, given)
+    put_given(answer, members::members(&lent, list))
 }

@@ -1,5 +1,5 @@
 // `mark_member_broken`, `refresh_member_states` and `disconnect`.
-// Kept (5, 6): C lends each table by its name and length (docs/TABLES.md), so each is a parameter of its own.
+// Kept (2, 5, 6): C calls each by its name, and lends each table by its own name and length (docs/TABLES.md).
 ghost use Rattle.std.specs.Prelude.{false, [], length};
 ghost use Rattle.srt_group_model.specs.Lent.{call_mark_member_broken, call_refresh_member_states, call_disconnect};
 ghost use Rattle.srt_group_shown.specs.Tables.{tables};
@@ -9,9 +9,7 @@ ghost use Rattle.srt_group_words.specs.Words.{silent, words, PromisedWords, Read
 
 use cell_set::of_words;
 use srt_group_member_states::{broken, calls, forms};
-use srt_group_words::record::{
-    RECORD, put_back, put_back_core, read_core, read_group, read_identity, read_ring, read_sending,
-};
+use srt_group_words::record::{RECORD, SHORT, put_back, put_back_core, read_group};
 use srt_protocol::error::outcome_number;
 use srt_protocol::time::Timestamp;
 
@@ -36,7 +34,7 @@ pub extern "C" fn srt_group_raw_mark_member_broken(
         nothing_lent []) }
 {
     if record.len() < RECORD {
-        return 5;
+        return SHORT;
     }
     let done = calls::mark_member_broken(
         read_group(record),
@@ -51,7 +49,7 @@ pub extern "C" fn srt_group_raw_mark_member_broken(
 }
 
 // The same for a valid state, of which `used` shows the cells in use. The store is lent for its length.
-#[tactic(auto, using(srt_group_words::specs::Laws::Words::parts_ready))]
+#[tactic(auto, using(srt_group_words::specs::Laws::Words::group_ready))]
 #[unsafe(no_mangle)]
 pub extern "C" fn srt_group_valid_mark_member_broken(
     record: &[u64],
@@ -75,10 +73,7 @@ pub extern "C" fn srt_group_valid_mark_member_broken(
         (storing store.now) []) used.now }
 {
     let done = broken::mark_member_broken(
-        read_identity(record),
-        read_core(record),
-        read_sending(record),
-        read_ring(record),
+        read_group(record),
         members,
         pending,
         waiting,
@@ -111,17 +106,17 @@ pub extern "C" fn srt_group_raw_refresh_member_states(
         nothing_lent []) }
 {
     if record.len() < RECORD {
-        return 5;
+        return SHORT;
     }
     let group = read_group(record);
     let refreshed = calls::refresh_member_states(
         group, members, pending, waiting, history, sources,
     );
-    put_back(record, refreshed.group, refreshed.outcome)
+    put_back(record, refreshed.record, refreshed.answer)
 }
 
 // The same for a valid state, of which `used` shows the cells in use. The store is lent for its length.
-#[tactic(auto, using(srt_group_words::specs::Laws::Words::parts_ready))]
+#[tactic(auto, using(srt_group_words::specs::Laws::Words::group_ready))]
 #[unsafe(no_mangle)]
 pub extern "C" fn srt_group_valid_refresh_member_states(
     record: &mut [u64],
@@ -144,10 +139,7 @@ pub extern "C" fn srt_group_valid_refresh_member_states(
         (storing store.now) []) used.now }
 {
     let core = forms::refresh_member_states(
-        read_identity(record),
-        read_core(record),
-        read_sending(record),
-        read_ring(record),
+        read_group(record),
         members,
         pending,
         waiting,
@@ -180,7 +172,7 @@ pub extern "C" fn srt_group_raw_disconnect(
         nothing_lent []) }
 {
     if record.len() < RECORD {
-        return 5;
+        return SHORT;
     }
     let done = calls::disconnect(
         read_group(record),
@@ -195,7 +187,7 @@ pub extern "C" fn srt_group_raw_disconnect(
 }
 
 // The same for a valid state, of which `used` shows the cells in use. The store is lent for its length.
-#[tactic(auto, using(srt_group_words::specs::Laws::Words::parts_ready))]
+#[tactic(auto, using(srt_group_words::specs::Laws::Words::group_ready))]
 #[unsafe(no_mangle)]
 pub extern "C" fn srt_group_valid_disconnect(
     record: &[u64],
@@ -219,10 +211,7 @@ pub extern "C" fn srt_group_valid_disconnect(
         (storing store.now) []) used.now }
 {
     forms::disconnect(
-        read_identity(record),
-        read_core(record),
-        read_sending(record),
-        read_ring(record),
+        read_group(record),
         members,
         pending,
         waiting,

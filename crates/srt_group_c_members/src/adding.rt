@@ -1,5 +1,5 @@
 // `add_member`.
-// Kept (5, 6): C lends each table by its name and length (docs/TABLES.md), so each is a parameter of its own.
+// Kept (2, 5, 6): C calls each by its name, and lends each table by its own name and length (docs/TABLES.md).
 ghost use Rattle.std.specs.Prelude.{[], length};
 ghost use Rattle.srt_connection_members.specs.Members.{HasRow};
 ghost use Rattle.srt_group_shown.specs.Tables.{tables};
@@ -10,9 +10,7 @@ ghost use Rattle.srt_group_words.specs.Words.{silent, words, PromisedWords, Read
 
 use cell_set::of_words;
 use srt_group_addition::{calls, handed};
-use srt_group_words::record::{
-    RECORD, put_back, put_back_core, read_core, read_group, read_identity, read_ring, read_sending,
-};
+use srt_group_words::record::{RECORD, SHORT, put_back, put_back_core, read_group};
 
 // A leg is added, handed over in a row of the members' table, of which the membership part is not read. 22 leaves it added.
 #[tactic(auto, using(srt_group_words::specs::Laws::Words::record_refused))]
@@ -37,7 +35,7 @@ pub extern "C" fn srt_group_raw_add_member(
         nothing_lent []) }
 {
     if record.len() < RECORD {
-        return 5;
+        return SHORT;
     }
     let added = calls::add_member(
         read_group(record),
@@ -50,11 +48,11 @@ pub extern "C" fn srt_group_raw_add_member(
         id,
         weight,
     );
-    put_back(record, added.group, added.outcome)
+    put_back(record, added.record, added.answer)
 }
 
 // The same for a valid state, of which `used` shows the cells in use. The store is lent for its length.
-#[tactic(auto, using(srt_group_words::specs::Laws::Words::parts_ready))]
+#[tactic(auto, using(srt_group_words::specs::Laws::Words::group_ready))]
 #[unsafe(no_mangle)]
 pub extern "C" fn srt_group_valid_add_member(
     record: &mut [u64],
@@ -81,10 +79,7 @@ pub extern "C" fn srt_group_valid_add_member(
         (storing store.now) []) used.now }
 {
     let added = handed::add_member(
-        read_identity(record),
-        read_core(record),
-        read_sending(record),
-        read_ring(record),
+        read_group(record),
         members,
         pending,
         waiting,
@@ -96,5 +91,5 @@ pub extern "C" fn srt_group_valid_add_member(
         id,
         weight,
     );
-    put_back_core(record, added.core, added.outcome)
+    put_back_core(record, added.record, added.answer)
 }

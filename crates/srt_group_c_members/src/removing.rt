@@ -1,5 +1,5 @@
 // `remove_member` and `remove_member_connection`.
-// Kept (5, 6): C lends each table by its name and length (docs/TABLES.md), so each is a parameter of its own.
+// Kept (2, 5, 6): C calls each by its name, and lends each table by its own name and length (docs/TABLES.md).
 ghost use Rattle.std.specs.Prelude.{false, [], length};
 ghost use Rattle.srt_group_model.specs.Lent.{call_remove_member_connection};
 ghost use Rattle.srt_connection_members.specs.Members.{HasRow};
@@ -11,9 +11,7 @@ ghost use Rattle.srt_group_c_members.specs.LegBack.{PromisedLegBack, PerformsLeg
 
 use cell_set::of_words_mut;
 use srt_group_removal::{calls, connection};
-use srt_group_words::record::{
-    RECORD, put_back, put_back_core, read_core, read_group, read_identity, read_ring, read_sending,
-};
+use srt_group_words::record::{RECORD, SHORT, put_back, put_back_core, read_group};
 
 // A member is removed, and its leg dropped.
 #[tactic(auto, using(srt_group_words::specs::Laws::Words::record_refused))]
@@ -36,7 +34,7 @@ pub extern "C" fn srt_group_raw_remove_member(
         nothing_lent []) }
 {
     if record.len() < RECORD {
-        return 5;
+        return SHORT;
     }
     let removed = calls::remove_member(
         read_group(record),
@@ -47,11 +45,11 @@ pub extern "C" fn srt_group_raw_remove_member(
         sources,
         id,
     );
-    put_back(record, removed.group, removed.outcome)
+    put_back(record, removed.record, removed.answer)
 }
 
 // The same for a valid state, of which `used` shows the cells in use. The store is lent for its length.
-#[tactic(auto, using(srt_group_words::specs::Laws::Words::parts_ready))]
+#[tactic(auto, using(srt_group_words::specs::Laws::Words::group_ready))]
 #[unsafe(no_mangle)]
 pub extern "C" fn srt_group_valid_remove_member(
     record: &mut [u64],
@@ -75,10 +73,7 @@ pub extern "C" fn srt_group_valid_remove_member(
         (storing store.now) []) used.new }
 {
     let removed = connection::remove_member(
-        read_identity(record),
-        read_core(record),
-        read_sending(record),
-        read_ring(record),
+        read_group(record),
         members,
         pending,
         waiting,
@@ -88,7 +83,7 @@ pub extern "C" fn srt_group_valid_remove_member(
         of_words_mut(used),
         id,
     );
-    put_back_core(record, removed.core, removed.outcome)
+    put_back_core(record, removed.record, removed.answer)
 }
 
 // A member is removed, and its leg given back in a row of the members' table.
@@ -112,7 +107,7 @@ pub extern "C" fn srt_group_raw_remove_member_connection(
         nothing_lent []) row.old row.new }
 {
     if record.len() < RECORD {
-        return 5;
+        return SHORT;
     }
     let removed = calls::remove_member_connection(
         read_group(record),
@@ -124,11 +119,11 @@ pub extern "C" fn srt_group_raw_remove_member_connection(
         row,
         id,
     );
-    put_back(record, removed.group, removed.outcome)
+    put_back(record, removed.record, removed.answer)
 }
 
 // The same for a valid state, of which `used` shows the cells in use. The store is lent for its length.
-#[tactic(auto, using(srt_group_words::specs::Laws::Words::parts_ready))]
+#[tactic(auto, using(srt_group_words::specs::Laws::Words::group_ready))]
 #[unsafe(no_mangle)]
 pub extern "C" fn srt_group_valid_remove_member_connection(
     record: &mut [u64],
@@ -153,10 +148,7 @@ pub extern "C" fn srt_group_valid_remove_member_connection(
         (storing store.now) []) used.new row.old row.new }
 {
     let removed = connection::remove_member_connection(
-        read_identity(record),
-        read_core(record),
-        read_sending(record),
-        read_ring(record),
+        read_group(record),
         members,
         pending,
         waiting,
@@ -167,5 +159,5 @@ pub extern "C" fn srt_group_valid_remove_member_connection(
         of_words_mut(used),
         id,
     );
-    put_back_core(record, removed.core, removed.outcome)
+    put_back_core(record, removed.record, removed.answer)
 }

@@ -1,12 +1,14 @@
 // A group's start.
 // Kept (5, 6): C lends each table by its name and length (docs/TABLES.md), so each is a parameter of its own.
+// Kept (1): the mode is the record's word, which a C host lends so that 6 can refuse it; an enum of it would be `is_backup` again at each call.
 ghost use Rattle.srt_group_shown.specs.Tables.{tables};
 ghost use Rattle.srt_group_words.specs.Words.{PromisedNewWords, BeginsValid};
 
 use cell_set::{WORDS, of_words_mut};
 use srt_group::Group;
 use srt_group_words::begin::begin_stored;
-use srt_group_words::record::{RECORD, put_group};
+use srt_group_words::record::{RECORD, SHORT, put_group};
+use srt_protocol::error::outcome_number;
 
 // A fresh group over tables of which no row is in use: its id, its mode (0 Broadcast, 1 Backup), and the length of the store that every call
 // is then to be lent, or 0.
@@ -17,10 +19,9 @@ pub extern "C" fn srt_group_raw_new(record: &mut [u64], id: u64, mode: u64, leng
         «record».old result «record».new }
 {
     if record.len() < RECORD {
-        return 5;
+        return SHORT;
     }
-    let made = Group::new(id, mode, length);
-    match made {
+    match Group::new(id, mode, length) {
         Ok(group) => {
             put_group(record, group);
             0
@@ -47,12 +48,13 @@ pub extern "C" fn srt_group_valid_begin(
         store used.old result used.new }
 {
     if record.len() < RECORD {
-        return 5;
+        return SHORT;
     }
+    // Kept (4): one test of both by `||` was tried: the goal of what it refuses stays open.
     if used.len() != WORDS {
-        return 5;
+        return SHORT;
     }
-    begin_stored(
+    let begun = begin_stored(
         record,
         members,
         pending,
@@ -61,5 +63,6 @@ pub extern "C" fn srt_group_valid_begin(
         sources,
         store,
         of_words_mut(used),
-    )
+    );
+    outcome_number(begun)
 }

@@ -1,5 +1,5 @@
 // `queue_data` of the stand-in leg.
-// Kept (5, 6): C lends each table by its name and length (docs/TABLES.md), so each is a parameter of its own.
+// Kept (2, 5, 6): C calls each by its name, and lends each table by its own name and length (docs/TABLES.md).
 ghost use Rattle.std.specs.Prelude.{false, [], length};
 ghost use Rattle.srt_group_model.specs.Lent.{call_queue_data};
 ghost use Rattle.srt_group_shown.specs.Tables.{tables};
@@ -11,12 +11,12 @@ use cell_set::{WORDS, of_words_mut};
 use srt_group_model::Data;
 use srt_group_queueing::queueing;
 use srt_group_words::begin::begin_stored;
-use srt_group_words::record::{RECORD, read_core, read_identity, read_ring, read_sending};
+use srt_group_words::record::{RECORD, SHORT, read_group};
 use srt_protocol::error::outcome_number;
 use srt_protocol::time::Timestamp;
 
 // `srt_group_raw_queue_data` for a valid state, of which `used` shows the cells in use.
-#[tactic(auto, using(srt_group_words::specs::Laws::Words::parts_ready))]
+#[tactic(auto, using(srt_group_words::specs::Laws::Words::group_ready))]
 #[unsafe(no_mangle)]
 pub extern "C" fn srt_group_valid_queue_data(
     record: &[u64],
@@ -46,10 +46,7 @@ pub extern "C" fn srt_group_valid_queue_data(
         (storing store.new) []) used.new }
 {
     let queued = queueing::queue_data(
-        read_identity(record),
-        read_core(record),
-        read_sending(record),
-        read_ring(record),
+        read_group(record),
         members,
         pending,
         waiting,
@@ -100,10 +97,10 @@ pub extern "C" fn srt_group_raw_queue_data(
         (storing store.new) []) }
 {
     if record.len() < RECORD {
-        return 5;
+        return SHORT;
     }
     let mut used = [0; WORDS];
-    let code = begin_stored(
+    let begun = begin_stored(
         record,
         members,
         pending,
@@ -113,8 +110,8 @@ pub extern "C" fn srt_group_raw_queue_data(
         store.len(),
         &mut used,
     );
-    if code != 0 {
-        return code;
+    if let Err(error) = begun {
+        return u32::from(error);
     }
     srt_group_valid_queue_data(
         record, members, pending, waiting, history, sources, store, &mut used, id, sequence, count,

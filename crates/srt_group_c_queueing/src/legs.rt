@@ -1,5 +1,6 @@
 // `queue_event` and `read_leg` of the stand-in leg.
-// Kept (5, 6): C lends each table by its name and length (docs/TABLES.md), so each is a parameter of its own.
+// Kept (2, 5, 6): C calls each by its name, and lends each table by its own name and length (docs/TABLES.md).
+// Kept (1): kind, field and number are words of the C call: any is a legal question, and 2 refuses what is none.
 ghost use Rattle.std.specs.Prelude.{false, [], length};
 ghost use Rattle.srt_group_model.specs.Lent.{call_queue_event, call_read_leg};
 ghost use Rattle.srt_group_shown.specs.Tables.{tables};
@@ -9,9 +10,7 @@ ghost use Rattle.srt_group_words.specs.Words.{silent, words, PromisedWords, Read
 
 use cell_set::of_words;
 use srt_group_queueing::{calls, events, readings};
-use srt_group_words::record::{
-    RECORD, read_core, read_group, read_identity, read_ring, read_sending,
-};
+use srt_group_words::record::{RECORD, SHORT, read_group};
 use srt_protocol::error::outcome_number;
 
 // A lifecycle event at the end of a leg's queue.
@@ -37,7 +36,7 @@ pub extern "C" fn srt_group_raw_queue_event(
         nothing_lent []) }
 {
     if record.len() < RECORD {
-        return 5;
+        return SHORT;
     }
     let done = calls::queue_event(
         read_group(record),
@@ -54,7 +53,7 @@ pub extern "C" fn srt_group_raw_queue_event(
 }
 
 // The same for a valid state, of which `used` shows the cells in use. The store is lent for its length.
-#[tactic(auto, using(srt_group_words::specs::Laws::Words::parts_ready))]
+#[tactic(auto, using(srt_group_words::specs::Laws::Words::group_ready))]
 #[unsafe(no_mangle)]
 pub extern "C" fn srt_group_valid_queue_event(
     record: &[u64],
@@ -80,10 +79,7 @@ pub extern "C" fn srt_group_valid_queue_event(
         (storing store.now) []) used.now }
 {
     let done = events::queue_event(
-        read_identity(record),
-        read_core(record),
-        read_sending(record),
-        read_ring(record),
+        read_group(record),
         members,
         pending,
         waiting,
@@ -121,7 +117,7 @@ pub extern "C" fn srt_group_raw_read_leg(
         nothing_lent []) }
 {
     if record.len() < RECORD {
-        return 5;
+        return SHORT;
     }
     let done = calls::read_leg(
         read_group(record),
@@ -138,7 +134,7 @@ pub extern "C" fn srt_group_raw_read_leg(
 }
 
 // The same for a valid state, of which `used` shows the cells in use. The store is lent for its length.
-#[tactic(auto, using(srt_group_words::specs::Laws::Words::parts_ready))]
+#[tactic(auto, using(srt_group_words::specs::Laws::Words::group_ready))]
 #[unsafe(no_mangle)]
 pub extern "C" fn srt_group_valid_read_leg(
     record: &[u64],
@@ -164,10 +160,7 @@ pub extern "C" fn srt_group_valid_read_leg(
         (storing store.now) []) used.now }
 {
     let done = readings::read_leg(
-        read_identity(record),
-        read_core(record),
-        read_sending(record),
-        read_ring(record),
+        read_group(record),
         members,
         pending,
         waiting,

@@ -2,25 +2,27 @@
 ghost use Rattle.std.specs.Prelude.{◌≤◌, length};
 ghost use Rattle.srt_group_model.specs.Guards.{shown, truth};
 ghost use Rattle.srt_group_looks.specs.Looks.{truth_code, truth_answer};
-ghost use Rattle.srt_group_words.specs.Record.{record_size, group_of, with_sent};
+ghost use Rattle.srt_group_words.specs.Record.{record_size};
 ghost use Rattle.srt_group_words.specs.Words.{in_words, PutSaid};
 
+use srt_group::{Answered, Group};
 use srt_group_c_looks::answers::put_given;
 use srt_group_collecting::collecting::flag;
 use srt_group_send::readiness::Readiness;
-use srt_group_send_calls::calls::GroupReady;
 use srt_group_words::answers::put;
-use srt_group_words::record::{put_group, put_sent};
+use srt_group_words::record::put_group;
 
 // The record that a readiness test leaves, and its answer.
 #[tactic(auto, using(srt_group_c_looks::specs::Laws::Look::said_truth))]
-pub fn put_tested(record: &mut [u64], answer: &mut [u64], tested: GroupReady) -> u32
+pub fn put_tested(record: &mut [u64], answer: &mut [u64], tested: Answered<Group, bool>) -> u32
     requires { (record_size ≤ length «record».old) × (1 ≤ length answer.old) }
-    ensures { PutSaid tested.group (truth_code tested.answer) (in_words 1 (truth_answer tested.answer) 0)
+    ensures { PutSaid tested.«record» (truth_code tested.answer) (in_words 1 (truth_answer tested.answer) 0)
         «record».old answer.old result «record».new answer.new }
 {
-    let after = tested.group;
-    let given = tested.answer;
+    let Answered {
+        record: after,
+        answer: given,
+    } = tested;
     put_group(record, after);
     put_given(answer, given)
 }
@@ -28,14 +30,11 @@ pub fn put_tested(record: &mut [u64], answer: &mut [u64], tested: GroupReady) ->
 // The same of a valid state, which is not refused: 0.
 pub fn put_readiness(record: &mut [u64], answer: &mut [u64], tested: Readiness) -> u32
     requires { (record_size ≤ length «record».old) × (1 ≤ length answer.old) }
-    ensures { PutSaid (with_sent tested.core tested.sending tested.ring (group_of «record».old)) 0
+    ensures { PutSaid tested.«record» 0
         (in_words 1 (shown (truth tested.ready)) 0)
         «record».old answer.old result «record».new answer.new }
 {
-    let after = tested.core;
-    let numbers = tested.sending;
-    let left = tested.ring;
-    put_sent(record, after, numbers, left);
+    put_group(record, tested.record);
     put(answer, [flag(tested.ready)]);
     0
 }

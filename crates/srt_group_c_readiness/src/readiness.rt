@@ -1,5 +1,5 @@
 // `can_send` and `can_send_with_pacing`.
-// Kept (5, 6): C lends each table by its name and length (docs/TABLES.md), so each is a parameter of its own.
+// Kept (2, 5, 6): C calls each by its name, and lends each table by its own name and length (docs/TABLES.md).
 ghost use Rattle.std.specs.Prelude.{false, ◌≤◌, length};
 ghost use Rattle.srt_group_model.specs.Lent.{call_can_send, call_can_send_with_pacing};
 ghost use Rattle.srt_group_shown.specs.Tables.{tables};
@@ -12,9 +12,7 @@ use cell_set::of_words_mut;
 use srt_group_c_looks::answers::SHOWN;
 use srt_group_send::valid;
 use srt_group_send_calls::calls;
-use srt_group_words::record::{
-    RECORD, read_core, read_group, read_identity, read_ring, read_sending,
-};
+use srt_group_words::record::{RECORD, SHORT, read_group};
 use srt_protocol::time::Timestamp;
 
 // Whether the group could send now. The test refreshes and trims.
@@ -37,11 +35,8 @@ pub extern "C" fn srt_group_raw_can_send(
         (tables members.new pending.now waiting.now history.now sources.now)
         nothing_lent answer.new) }
 {
-    if record.len() < RECORD {
-        return 5;
-    }
-    if answer.len() < SHOWN {
-        return 5;
+    if record.len() < RECORD || answer.len() < SHOWN {
+        return SHORT;
     }
     let tested = calls::can_send(
         read_group(record),
@@ -55,7 +50,7 @@ pub extern "C" fn srt_group_raw_can_send(
 }
 
 // The same for a valid state, of which `used` shows the cells in use. The store is lent for its length.
-#[tactic(auto, using(srt_group_words::specs::Laws::Words::parts_ready))]
+#[tactic(auto, using(srt_group_words::specs::Laws::Words::group_ready))]
 #[unsafe(no_mangle)]
 pub extern "C" fn srt_group_valid_can_send(
     record: &mut [u64],
@@ -80,10 +75,7 @@ pub extern "C" fn srt_group_valid_can_send(
         (storing store.now) answer.new) used.new }
 {
     let tested = valid::can_send(
-        read_identity(record),
-        read_core(record),
-        read_sending(record),
-        read_ring(record),
+        read_group(record),
         members,
         pending,
         waiting,
@@ -116,11 +108,8 @@ pub extern "C" fn srt_group_raw_can_send_with_pacing(
         (tables members.new pending.now waiting.now history.now sources.now)
         nothing_lent answer.new) }
 {
-    if record.len() < RECORD {
-        return 5;
-    }
-    if answer.len() < SHOWN {
-        return 5;
+    if record.len() < RECORD || answer.len() < SHOWN {
+        return SHORT;
     }
     let tested = calls::can_send_with_pacing(
         read_group(record),
@@ -135,7 +124,7 @@ pub extern "C" fn srt_group_raw_can_send_with_pacing(
 }
 
 // The same for a valid state, of which `used` shows the cells in use. The store is lent for its length.
-#[tactic(auto, using(srt_group_words::specs::Laws::Words::parts_ready))]
+#[tactic(auto, using(srt_group_words::specs::Laws::Words::group_ready))]
 #[unsafe(no_mangle)]
 pub extern "C" fn srt_group_valid_can_send_with_pacing(
     record: &mut [u64],
@@ -161,10 +150,7 @@ pub extern "C" fn srt_group_valid_can_send_with_pacing(
         (storing store.now) answer.new) used.new }
 {
     let tested = valid::can_send_with_pacing(
-        read_identity(record),
-        read_core(record),
-        read_sending(record),
-        read_ring(record),
+        read_group(record),
         members,
         pending,
         waiting,

@@ -1,5 +1,5 @@
 // `send` and `send_shared`.
-// Kept (5, 6): C lends each table by its name and length (docs/TABLES.md), so each is a parameter of its own.
+// Kept (2, 5, 6): C calls each by its name, and lends each table by its own name and length (docs/TABLES.md).
 ghost use Rattle.std.specs.Prelude.{false, ◌≤◌, length};
 ghost use Rattle.srt_group_model.specs.Sending.{list_size};
 ghost use Rattle.srt_group_model.specs.Lent.{call_send};
@@ -13,7 +13,7 @@ use srt_group_send::sending;
 use srt_group_sending::list::SENT_LENGTH;
 use srt_group_words::answers::put;
 use srt_group_words::begin::begin_stored;
-use srt_group_words::record::{RECORD, read_core, read_identity, read_ring, read_sending};
+use srt_group_words::record::{RECORD, SHORT, read_group};
 use srt_protocol::time::Timestamp;
 
 // `srt_group_raw_send` for a valid state, of which `used` shows the cells in use.
@@ -44,10 +44,7 @@ pub extern "C" fn srt_group_valid_send(
         (sending_into store.new list.new) answer.new) used.new }
 {
     let sent = sending::send(
-        read_identity(record),
-        read_core(record),
-        read_sending(record),
-        read_ring(record),
+        read_group(record),
         members,
         pending,
         waiting,
@@ -64,6 +61,7 @@ pub extern "C" fn srt_group_valid_send(
 
 // One payload through the group, on every active leg or on the carrier; each send that a leg takes fills a row of the list: leg, sequence,
 // history cell (4294967295 for this payload), source time, time. The answer: on how many legs, and how many rows were filled.
+#[tactic(auto, using(srt_group_words::specs::Laws::Words::record_refused, srt_group_words::specs::Laws::Words::sent_refused))]
 #[unsafe(no_mangle)]
 pub extern "C" fn srt_group_raw_send(
     record: &mut [u64],
@@ -86,18 +84,15 @@ pub extern "C" fn srt_group_raw_send(
         (tables members.new pending.now waiting.now history.new sources.new)
         (sending_into store.new list.new) answer.new) }
 {
-    if record.len() < RECORD {
-        return 5;
-    }
-    if answer.len() < SENT {
-        return 5;
+    if record.len() < RECORD || answer.len() < SENT {
+        return SHORT;
     }
     if list.len() < SENT_LENGTH {
         put(answer, [0, 0]);
-        return 5;
+        return SHORT;
     }
     let mut used = [0; WORDS];
-    let code = begin_stored(
+    let begun = begin_stored(
         record,
         members,
         pending,
@@ -107,9 +102,9 @@ pub extern "C" fn srt_group_raw_send(
         store.len(),
         &mut used,
     );
-    if code != 0 {
+    if let Err(error) = begun {
         put(answer, [0, 0]);
-        return code;
+        return u32::from(error);
     }
     srt_group_valid_send(
         record, members, pending, waiting, history, sources, store, list, &mut used, time, payload,

@@ -9,7 +9,7 @@ use Rattle.srt_connection_members.specs.Members.{members_of}
 use Rattle.srt_group_tables.specs.declared.history.HistoryRing.{HistoryRing}
 use Rattle.srt_group_tables.specs.Ring.{Long, entries_of, send_of}
 use Rattle.srt_group_sending.specs.SentList.{Wrote}
-use Rattle.srt_group_carrier.specs.declared.recording.BackupSend.{BackupSend}
+use Rattle.srt_group_backup.specs.declared.send.BackupSend.{BackupSend}
 use Rattle.srt_group_carrier.specs.Freeing.{SendFollows}
 use Rattle.srt_group_carrier.specs.Lendable.{BackupTables, arrays_in}
 
@@ -28,15 +28,15 @@ InMode mode s = s.making.mode ≡ mode
 pub record BackupFlows (among : State → Type 0) (f : State → Flow) (cell n : ℕ) (x : Sending) (r : HistoryRing) (sent : ℕ) (before : BackupTables) (answer : BackupSend) (after : BackupTables) : Type 0 where
   pub members_long : length after.members ≡ length before.members
   pub arrays_long : Long (arrays_in after)
-  pub fits : answer.ring.length ≤ max_history
+  pub fits : answer.send.ring.length ≤ max_history
   pub few : answer.sent ≤ max_sent
   pub sends : List Sent
   pub written : Wrote sent sends before.list answer.sent after.list
-  pub follows : SendFollows cell (entries_of r (arrays_in before)) before.used (entries_of answer.ring (arrays_in after)) after.used
+  pub follows : SendFollows cell (entries_of r (arrays_in before)) before.used (entries_of answer.send.ring (arrays_in after)) after.used
   pub flow : (s : State) → among s → s.members ≡ members_of n before.members → s.send ≡ send_of x r (arrays_in before)
       → f s
       ≡ record {
-        state = with_send (send_of answer.sending answer.ring (arrays_in after)) (with_members (members_of n after.members) s);
+        state = with_send (send_of answer.send.sending answer.send.ring (arrays_in after)) (with_members (members_of n after.members) s);
         sends = sends;
         code = outcome_number answer.outcome;
       }

@@ -1,6 +1,7 @@
 // Who carries. Before a send a carrier that fell silent is demoted; after one that failed another member is promoted; and who carries in
 // another's place replays the flight that is not acknowledged, so that the receiver gets no hole.
-// Kept (5, 6): what changes members, history or list takes them one beside the other: of a struct of `&mut` each clause names every field (tried).
+// Kept (5, 6): which tables a function changes differs from one to the next, so a struct of `&mut` would be another for each (docs/DECISIONS.md).
+// Kept (1): the mode is the record's word, which a C host lends so that 6 can refuse it; an enum of it would be `is_backup` again at each call.
 ghost use Rattle.std.specs.Prelude.{◌-◌, ◌*◌, ◌≤◌, ◌<◌, length};
 ghost use Rattle.srt_group_model.specs.Tools.{change};
 ghost use Rattle.srt_group_model.specs.Members.{promote_backup_member, promote_if_none};
@@ -18,8 +19,9 @@ ghost use Rattle.srt_group_carrier.specs.Lendable.{backup_tables, Sendable};
 
 use crate::freeing::free_dropped;
 use cell_set::CellSet;
+use srt_group_backup::send::BackupSend;
 use srt_group_backup::stale::demote_stale_backup_carrier;
-use srt_group_backup::takeover::{TakenOver, take_over_backup_flight};
+use srt_group_backup::takeover::take_over_backup_flight;
 use srt_group_members::promotion::{promote_backup_member, promote_if_none};
 use srt_group_model::Sending;
 use srt_group_sending::broadcast::mark_send_failure_at;
@@ -60,7 +62,7 @@ pub fn take_over(
     sent: usize,
     used: &mut CellSet,
     time: Timestamp,
-) -> TakenOver
+) -> BackupSend
     requires sendable { Sendable count index history.now.words.ring (backup_tables members.old history.now.words.history.now history.now.sources.now list.old used.old) }
     requires sent_bound { sent ≤ max_sent - max_history }
     ensures took_over { TookOver (take_over_backup_flight time.0 index) count sending history.now.words.ring
@@ -69,10 +71,9 @@ pub fn take_over(
         (send_tables members.new list.new) }
     ensures trim_follows { TrimFollows
         (entries_of history.now.words.ring (arrays history.now.words.history.now history.now.sources.now)) used.old
-        (entries_of result.ring (arrays history.now.words.history.now history.now.sources.now)) used.new }
+        (entries_of result.send.ring (arrays history.now.words.history.now history.now.sources.now)) used.new }
 {
     let taken = take_over_backup_flight(sending, history, members, count, index, list, sent, time);
-    let left = taken.ring;
-    free_dropped(&history.words, left.length, used);
+    free_dropped(&history.words, taken.send.ring.length, used);
     taken
 }

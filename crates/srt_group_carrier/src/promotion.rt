@@ -1,5 +1,6 @@
 // After a failed send another member is promoted, and tried once with the same sequence.
-// Kept (5, 6): what changes members, history or list takes them one beside the other: of a struct of `&mut` each clause names every field (tried).
+// Kept (5, 6): which tables a function changes differs from one to the next, so a struct of `&mut` would be another for each (docs/DECISIONS.md).
+// Kept (5): the rules take a payload's time, size, cell and sequence one by one, so a struct of them would be taken apart in each clause, and is no plainer.
 ghost use Rattle.std.specs.Prelude.{◌-◌, ◌≤◌};
 ghost use Rattle.srt_group_model.specs.Sending.{max_sent};
 ghost use Rattle.srt_group_model.specs.Backup.{max_history, send_after_promotion};
@@ -9,20 +10,19 @@ ghost use Rattle.srt_group_carrier.specs.Lendable.{backup_tables, Sendable};
 ghost use Rattle.srt_group_carrier.specs.Flows.{on_promoted, every, BackupFlows};
 
 use crate::carrier::{promote_after_failure, take_over};
-use crate::recording::{BackupSend, keep_sent};
+use crate::recording::keep_sent;
 use cell_set::CellSet;
 use srt_connection_members::rows;
-use srt_group_backup::send::send_on;
+use srt_group_backup::send::{BackupSend, send_on};
+use srt_group_backup::trimming::SendHistory;
 use srt_group_members::states::first_active;
-use srt_group_model::Sending;
-use srt_group_tables::history::{History, HistoryRing, HistoryWords};
+use srt_group_tables::history::{History, HistoryWords};
 use srt_protocol::error::Error;
 use srt_protocol::time::Timestamp;
 
 // A promoted member takes over, and is tried with the sequence of the send that failed.
 fn send_on_promoted(
-    sending: Sending,
-    ring: HistoryRing,
+    send: SendHistory,
     history: &mut [u64],
     sources: &mut [u64],
     members: &mut [u64],
@@ -36,46 +36,45 @@ fn send_on_promoted(
     cell: u64,
     sequence: u64,
 ) -> BackupSend
-    requires sendable { Sendable count index ring (backup_tables members.old history.old sources.old list.old used.old) }
+    requires sendable { Sendable count index send.ring (backup_tables members.old history.old sources.old list.old used.old) }
     requires sent_bound { (sent ≤ max_sent - max_history - 1) × Packs sequence cell size }
-    ensures { BackupFlows every (on_promoted time.0 size cell sequence index) cell count sending ring sent
+    ensures { BackupFlows every (on_promoted time.0 size cell sequence index) cell count send.sending send.ring sent
         (backup_tables members.old history.old sources.old list.old used.old) result
         (backup_tables members.new history.new sources.new list.new used.new) }
 {
-    let words = HistoryWords { ring, history };
+    let words = HistoryWords {
+        ring: send.ring,
+        history,
+    };
     let flight = History { words, sources };
     let taken = take_over(
-        sending, &flight, members, count, index, list, sent, used, time,
+        send.sending,
+        &flight,
+        members,
+        count,
+        index,
+        list,
+        sent,
+        used,
+        time,
     );
-    let outcome = taken.outcome;
-    let numbers = taken.sending;
-    let left = taken.ring;
-    if let Err(error) = outcome {
-        return BackupSend {
-            outcome: Err(error),
-            sending: numbers,
-            ring: left,
-            sent: taken.sent,
-        };
+    if taken.outcome.is_err() {
+        return taken;
     }
     if !send_on(members, index, time, size, sequence, list, taken.sent) {
         return BackupSend {
             outcome: Err(Error::PromotionSendFailed),
-            sending: numbers,
-            ring: left,
-            sent: taken.sent,
+            ..taken
         };
     }
     keep_sent(
-        numbers, left, history, sources, members, index, taken.sent, used, time, size, cell,
-        sequence,
+        taken.send, history, sources, members, index, taken.sent, used, time, size, cell, sequence,
     )
 }
 
 // After a failed send at an index another member is promoted and tried.
 pub fn send_after_promotion(
-    sending: Sending,
-    ring: HistoryRing,
+    send: SendHistory,
     history: &mut [u64],
     sources: &mut [u64],
     members: &mut [u64],
@@ -89,10 +88,10 @@ pub fn send_after_promotion(
     cell: u64,
     sequence: u64,
 ) -> BackupSend
-    requires sendable { Sendable count index ring (backup_tables members.old history.old sources.old list.old used.old) }
+    requires sendable { Sendable count index send.ring (backup_tables members.old history.old sources.old list.old used.old) }
     requires sent_bound { (sent ≤ max_sent - max_history - 1) × Packs sequence cell size }
     ensures { BackupFlows every
-        (send_after_promotion time.0 size cell sequence index (member_at members.old index)) cell count sending ring sent
+        (send_after_promotion time.0 size cell sequence index (member_at members.old index)) cell count send.sending send.ring sent
         (backup_tables members.old history.old sources.old list.old used.old) result
         (backup_tables members.new history.new sources.new list.new used.new) }
 {
@@ -101,13 +100,12 @@ pub fn send_after_promotion(
     let Some(promoted) = found else {
         return BackupSend {
             outcome: Err(Error::AllBackupFailed),
-            sending,
-            ring,
+            send,
             sent,
         };
     };
     send_on_promoted(
-        sending, ring, history, sources, members, count, promoted, list, sent, used, time, size,
-        cell, sequence,
+        send, history, sources, members, count, promoted, list, sent, used, time, size, cell,
+        sequence,
     )
 }

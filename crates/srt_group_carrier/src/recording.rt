@@ -1,5 +1,6 @@
 // A payload that was sent joins the history in its cell, until its carrier's peer acknowledges it.
-// Kept (5, 6): what changes members, history or list takes them one beside the other: of a struct of `&mut` each clause names every field (tried).
+// Kept (5, 6): which tables a function changes differs from one to the next, so a struct of `&mut` would be another for each (docs/DECISIONS.md).
+// Kept (5): the rules take a payload's time, size, cell and sequence one by one, so a struct of them would be taken apart in each clause, and is no plainer.
 ghost use Rattle.std.specs.Prelude.{◌≤◌, ◌<◌};
 ghost use Rattle.srt_group_model.specs.Sending.{max_sent};
 ghost use Rattle.srt_group_model.specs.Backup.{max_history};
@@ -12,27 +13,16 @@ ghost use Rattle.srt_group_carrier.specs.Recording.{Kept};
 use crate::freeing::free_dropped;
 use cell_set::{CellSet, take};
 use srt_connection_members::{leg_at, membership_at};
-use srt_group_backup::send::record_backup_send;
+use srt_group_backup::send::{BackupSend, record_backup_send};
 use srt_group_backup::trimming::SendHistory;
-use srt_group_model::{Entry, Leg, Sending};
-use srt_group_tables::history::{HistoryRing, HistoryWords, MAX_HISTORY, push_back};
-use srt_protocol::error::Error;
+use srt_group_model::{Entry, Leg};
+use srt_group_tables::history::{HistoryWords, MAX_HISTORY, push_back};
 use srt_protocol::time::Timestamp;
-
-// What a send answers: the numbers of sending and the ring after it, and how many rows of the list are in use.
-#[derive(Clone, Copy)]
-pub struct BackupSend {
-    pub outcome: Result<(), Error>,
-    pub sending: Sending,
-    pub ring: HistoryRing,
-    pub sent: usize,
-}
 
 // The entry's cell is taken. A full history loses its oldest entry before, and what the carrier's peer acknowledged after: their cells
 // are free. `leg` is the carrier's leg after the send.
 pub fn remember_send(
-    sending: Sending,
-    ring: HistoryRing,
+    send: SendHistory,
     history: &mut [u64],
     sources: &mut [u64],
     used: &mut CellSet,
@@ -40,32 +30,33 @@ pub fn remember_send(
     leg: Leg,
     carrier: u64,
 ) -> SendHistory
-    requires length_le_max_history { (ring.length ≤ max_history) × Long (arrays history.old sources.old) }
+    requires length_le_max_history { (send.ring.length ≤ max_history) × Long (arrays history.old sources.old) }
     requires packs { Packs entry.sequence entry.cell entry.length }
-    ensures send_recorded { SendRecorded leg carrier entry sending ring
+    ensures send_recorded { SendRecorded leg carrier entry send.sending send.ring
         (arrays history.old sources.old) result
         (arrays history.new sources.new) }
     ensures send_follows { SendFollows entry.cell
-        (entries_of ring (arrays history.old sources.old)) used.old
+        (entries_of send.ring (arrays history.old sources.old)) used.old
         (entries_of result.ring (arrays history.new sources.new)) used.new }
 {
-    let before = HistoryWords { ring, history };
-    free_dropped(&before, MAX_HISTORY - 1, used);
-    take(used, entry.cell as usize);
-    let kept = record_backup_send(sending, ring, history, sources, entry, leg, carrier);
-    let left = kept.ring;
-    let pushed = HistoryWords {
-        ring: push_back(ring),
+    let before = HistoryWords {
+        ring: send.ring,
         history,
     };
-    free_dropped(&pushed, left.length, used);
+    free_dropped(&before, MAX_HISTORY - 1, used);
+    take(used, entry.cell as usize);
+    let kept = record_backup_send(send, history, sources, entry, leg, carrier);
+    let pushed = HistoryWords {
+        ring: push_back(send.ring),
+        history,
+    };
+    free_dropped(&pushed, kept.ring.length, used);
     kept
 }
 
 // The payload that the member at an index has just sent is kept under its cell. `sent` rows were in use before.
 pub fn keep_sent(
-    sending: Sending,
-    ring: HistoryRing,
+    send: SendHistory,
     history: &mut [u64],
     sources: &mut [u64],
     members: &[u64],
@@ -78,10 +69,10 @@ pub fn keep_sent(
     sequence: u64,
 ) -> BackupSend
     requires has_row { HasRow index members.now }
-    requires length_le_max_history { (ring.length ≤ max_history) × Long (arrays history.old sources.old) }
+    requires length_le_max_history { (send.ring.length ≤ max_history) × Long (arrays history.old sources.old) }
     requires packs { Packs sequence cell size }
     requires sent_lt_max_sent { sent < max_sent }
-    ensures { Kept time.0 size cell sequence (member_at members.now index) sending ring sent
+    ensures { Kept time.0 size cell sequence (member_at members.now index) send.sending send.ring sent
         (arrays history.old sources.old) used.old result
         (arrays history.new sources.new) used.new }
 {
@@ -93,22 +84,10 @@ pub fn keep_sent(
         length: size,
         source: time,
     };
-    let kept = remember_send(
-        sending,
-        ring,
-        history,
-        sources,
-        used,
-        entry,
-        leg,
-        membership.id,
-    );
-    let numbers = kept.sending;
-    let left = kept.ring;
+    let kept = remember_send(send, history, sources, used, entry, leg, membership.id);
     BackupSend {
         outcome: Ok(()),
-        sending: numbers,
-        ring: left,
+        send: kept,
         sent: sent + 1,
     }
 }

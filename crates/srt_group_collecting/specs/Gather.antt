@@ -3,14 +3,14 @@
 -- and is kept beside the code's state.
 use Rattle.std.specs.Prelude.{◌≡◌, Bool, List, ℕ, suc, length}
 use Rattle.srt_group_model.specs.declared.Core.{Core}
-use Rattle.srt_group_model.specs.Tools.{if_true◌then◌else◌, is_set}
+use Rattle.srt_group_model.specs.Tools.{if_true◌then◌else◌}
 use Rattle.srt_group_model.specs.State.{State}
 use Rattle.srt_group_model.specs.Run.{Mark, Run}
 use Rattle.srt_group_model.specs.Collecting.{collect_until_held, collect_until_empty}
 use Rattle.srt_group_model.specs.Delivery.{max_visits}
 use Rattle.srt_group_shown.specs.Shown.{Rest}
 use Rattle.srt_group_shown.specs.Tables.{ReceiveTables, shown_by}
-use Rattle.srt_group_collecting.specs.declared.collecting.Visiting.{Visiting}
+use Rattle.srt_group_collecting.specs.declared.collecting.Visited.{Visited}
 use Rattle.srt_group_collecting.specs.declared.collecting.Emptied.{Emptied}
 use Rattle.srt_group_collecting.specs.declared.collecting.Gathered.{Gathered}
 use Rattle.srt_group_collecting.specs.Leaves.{Usable, under_way, At}
@@ -24,11 +24,11 @@ pub record Shows (test : State → Bool) (core : Core) (r : Bool) : Type 0 where
 -- ---- a visit until something is held
 
 -- a call under way, as the code's answer and the tables have it
-abbrev pub run_of : Visiting → Rest → ReceiveTables → List Mark → Run
+abbrev pub run_of : Visited → Rest → ReceiveTables → List Mark → Run
 run_of v others t log = under_way v.core others t log v.budget
 
 -- what one visit leaves, and whether the visits go on
-pub record HeldVisit (visits : ℕ) (before : Visiting) (t : ReceiveTables) (r : Visiting) (t' : ReceiveTables) : Type 0 where
+pub record HeldVisit (visits : ℕ) (before : Visited) (t : ReceiveTables) (r : Visited) (t' : ReceiveTables) : Type 0 where
   pub members_long : length t'.members ≡ length t.members
   pub pending_long : length t'.pending ≡ length t.pending
   pub waiting_long : length t'.waiting ≡ length t.waiting
@@ -37,7 +37,7 @@ pub record HeldVisit (visits : ℕ) (before : Visiting) (t : ReceiveTables) (r :
   pub marks : Rest → List Mark → List Mark
   pub is : (others : Rest) (log : List Mark)
       → collect_until_held (suc visits) (run_of before others t log)
-      ≡ (if_true is_set r.more then collect_until_held visits (run_of r others t' (marks others log))
+      ≡ (if_true r.more then collect_until_held visits (run_of r others t' (marks others log))
       else run_of r others t' (marks others log))
 
 -- ---- the loop until something is held
@@ -62,6 +62,6 @@ pub record Empties (sequence : ℕ) (core : Core) (budget : ℕ) (t : ReceiveTab
   pub members_same : r.core.counts.members ≡ core.counts.members
   pub usable : Usable r.core t'
   pub emptied : (others : Rest) (log : List Mark)
-      → (collect_until_empty max_visits sequence (under_way core others t log budget)).emptied ≡ is_set r.emptied
+      → (collect_until_empty max_visits sequence (under_way core others t log budget)).emptied ≡ r.emptied
   pub run : (others : Rest) (log : List Mark)
       → At (collect_until_empty max_visits sequence (under_way core others t log budget)).run r.core others t' r.budget

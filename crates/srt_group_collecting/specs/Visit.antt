@@ -1,9 +1,10 @@
 -- What a visit of the legs leaves: one event, of the first member in turn, is held, discarded or reported.
-use Rattle.std.specs.Prelude.{◌≡◌, List, [], ℕ, ◌+◌, ◌*◌, ◌≤◌, ◌<◌, eqb, length}
+use Rattle.std.specs.Prelude.{◌≡◌, true, List, [], ℕ, ◌+◌, ◌*◌, ◌≤◌, ◌<◌, eqb, length}
 use Rattle.srt_group_model.specs.declared.Core.{Core}
 use Rattle.srt_group_model.specs.declared.Event.{Event}
-use Rattle.srt_group_model.specs.Tools.{if_true◌then◌else◌, is_set}
+use Rattle.srt_group_model.specs.Tools.{if_true◌then◌else◌}
 use Rattle.srt_group_model.specs.State.{Receive, State}
+use Rattle.srt_group_model.specs.Cells.{is_data}
 use Rattle.srt_group_model.specs.Run.{Mark, Run}
 use Rattle.srt_group_model.specs.Collecting.{retain_group_packet, report_event, Visited as VisitedRun, packet_from, waiting_from}
 use Rattle.srt_group_model.specs.Validity.{max_waiting}
@@ -35,7 +36,7 @@ pub record Collectable (i id : ℕ) (e : Event) (core : Core) (t : ReceiveTables
   pub members_long : core.counts.members * row_size ≤ length t.members
   pub waiting_long : waiting_size ≤ length t.waiting
   pub waiting_few : core.counts.waiting < max_waiting
-  pub holdable : e.kind ≡ 0 → Holdable core.counts.pending t.pending (packet_from id e) (member_at t.members i)
+  pub holdable : is_data e ≡ true → Holdable core.counts.pending t.pending (packet_from id e) (member_at t.members i)
 
 pub record Collected (i id : ℕ) (e : Event) (core : Core) (t : ReceiveTables) (after : Core) (t' : ReceiveTables) : Type 0 where
   pub waiting_more : after.counts.waiting ≤ core.counts.waiting + 1
@@ -49,7 +50,7 @@ pub record Visits (most : ℕ) (f : Run → VisitedRun) (core : Core) (budget : 
   pub waiting_long : length t'.waiting ≡ length t.waiting
   pub members_same : r.core.counts.members ≡ core.counts.members
   pub waiting_most : r.core.counts.waiting ≤ most
-  pub took : (others : Rest) (log : List Mark) → (f (under_way core others t log budget)).took ≡ is_set r.took
+  pub more : (others : Rest) (log : List Mark) → (f (under_way core others t log budget)).took ≡ r.more
   pub state : (others : Rest) (log : List Mark) → (f (under_way core others t log budget)).run.state ≡ shown_by r.core others t'
   pub left : (others : Rest) (log : List Mark) → (f (under_way core others t log budget)).run.budget ≡ r.budget
 

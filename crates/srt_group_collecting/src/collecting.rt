@@ -1,6 +1,7 @@
 // The events of the legs, in turn: a packet is held or discarded, another event waits to be given. One visit takes one event; a
 // poll visits until there is something to give, and before it skips a gap until every queue is empty.
 // Kept (5, 6): a step that moves tables takes them one beside the other: a struct of `&mut` asks for loans that a call does not need, and for a clause to each field, that its slice is still the caller's (tried); what holds of them is one fact, `Usable`.
+// Kept (5): what goes by value beside them is the group's record, which a step gives back, and the one or two numbers that this step is about; a struct of those would be made for a single call and is no plainer.
 ghost use Rattle.std.specs.Prelude.{◌≡◌, true, false, ◌&&◌, ◌||◌, ◌+◌, ◌*◌, ◌%◌, ◌≤◌, ◌<◌, eqb, length};
 ghost use Rattle.srt_protocol.specs.Sequence.{sequence_before};
 ghost use Rattle.srt_group_model.specs.Tools.{is_set, bit, flagged, if_some◌give◌otherwise◌};
@@ -38,34 +39,26 @@ use srt_group_model::{Core, Event, Packet, Receiving, Waiting};
 use srt_group_tables::{pending, waiting};
 use srt_protocol::srt_packet::word_before;
 
-// What a visit leaves: whether an event was taken off a queue, the group's numbers, and what is left of the budget.
+// What a visit leaves: whether the visits may go on, since it took an event off a queue; the group's numbers, and what is left of the budget.
+// Kept (2, 5): what several visits leave (`Gathered`) has no flag, since they have ended; a `Gathered` inside would be no plainer: the record is read after each visit, and each reading would name one field more.
 #[derive(Clone, Copy)]
 pub struct Visited {
-    // Kept (1): as a `bool` beside a record that goes by value, one cost 50 ns a poll (tried).
-    pub took: u64,
+    pub more: bool,
     pub core: Core,
     pub budget: u64,
 }
 
-// Visits until something is held, under way: whether more of them follow.
-#[derive(Clone, Copy)]
-struct Visiting {
-    // Kept (1): a word, as in `Visited`.
-    more: u64,
-    core: Core,
-    budget: u64,
-}
-
 // What visits until the queues are empty leave: whether they ended so.
+// Kept (2, 5): no `Visited`, whose flag says the opposite, that an event was there; nor a `Gathered` inside, which is no plainer where the record alone is asked next.
 #[derive(Clone, Copy)]
 pub struct Emptied {
-    // Kept (1): a word, as in `Visited`.
-    pub emptied: u64,
+    pub emptied: bool,
     pub core: Core,
     pub budget: u64,
 }
 
 // What the visits of a poll leave.
+// Kept (2): no `Visited`: these visits have ended, so a flag whether more may follow would say nothing.
 #[derive(Clone, Copy)]
 pub struct Gathered {
     pub core: Core,
@@ -76,6 +69,7 @@ pub struct Gathered {
 pub const MAX_VISITS: usize = 64;
 
 // A flag's word.
+// Kept (4): `u64::from` promises the byte of the bool, this the rules' `bit`: without it each caller would have to go from the one to the other, which is no plainer.
 #[tactic(auto, using(crate::specs::Laws::Gather::word_of_flag))]
 pub fn flag(set: bool) -> u64
     ensures { result ≡ bit set }
@@ -86,6 +80,7 @@ pub fn flag(set: bool) -> u64
 // ---- a packet is held or discarded
 
 // Whether a sequence is before the base.
+// Kept (1): tried with the base as an option, in a step that cost 3 instructions more for each event that is collected (callgrind).
 #[tactic(auto, using(crate::specs::Laws::Collect::late_based, crate::specs::Laws::Collect::late_unbased))]
 fn is_late(receiving: Receiving, sequence: u64) -> bool
     ensures { result ≡ (if_some flagged (is_set receiving.based) receiving.base
@@ -156,18 +151,16 @@ fn retain_group_packet(
         free(used, content.cell as usize);
         return core;
     }
-    let held = core.counts.pending;
-    pending::insert(pending, held, packet);
+    pending::insert(pending, core.counts.pending, packet);
     reserve_at(members, index, content.count);
-    let more = held + 1;
-    core.counts.pending = more;
+    core.counts.pending += 1;
     core
 }
 
 // ---- an event is reported
 
 // An error or a disconnect breaks its member and, in Backup, promotes another, even if one is Active.
-// Kept (1): the kind is the word of the row that C lends and of the event that waits, read here and in `collect_member_event`; an enum would be made and undone at once.
+// Kept (1): a kind is a word of the lent row and of the lent waiting events, asked only whether it is data and whether it breaks the member; an enum would be made of the word for each question.
 #[tactic(auto, using(crate::specs::Laws::Collect::not_broken, crate::specs::Laws::Collect::broken_alone, crate::specs::Laws::Collect::broken_promoted))]
 fn break_member(members: &mut [u64], count: usize, mode: u64, kind: u64, index: usize)
     requires { (HasRow index members.old) × (count * row_size ≤ length members.old) }
@@ -199,10 +192,8 @@ fn report_event(
         result members.new waiting.new }
 {
     break_member(members, core.counts.members, core.mode, event.kind, index);
-    let waits = core.counts.waiting;
-    waiting::push_back(waiting, waits, event);
-    let more = waits + 1;
-    core.counts.waiting = more;
+    waiting::push_back(waiting, core.counts.waiting, event);
+    core.counts.waiting += 1;
     core
 }
 
@@ -213,8 +204,7 @@ fn turn_past(mut core: Core, index: usize) -> Core
     requires { (index < core.counts.members) × (core.counts.members ≤ max_members) }
     ensures { result ≡ with_next ((index + 1) % core.counts.members) core }
 {
-    let next = (index + 1) % core.counts.members;
-    core.visit.round = next;
+    core.visit.round = (index + 1) % core.counts.members;
     core
 }
 
@@ -243,12 +233,11 @@ fn collect_member_event(
     ensures freed { Freed (freed_by_event id event (receive_of core pending.old))
         used.old used.new }
 {
-    if event.kind == 0 {
-        let content = event.content;
+    if event.is_data() {
         let packet = Packet {
             member: id,
             owned: 0,
-            content,
+            content: event.content,
         };
         return retain_group_packet(core, members, pending, used, index, packet);
     }
@@ -279,17 +268,16 @@ fn take_front(
         result.core members.new pending.new used.new }
 {
     let membership = membership_at(members, index);
-    let polled = poll_event_for_group_at(members, index, budget);
-    match polled {
+    match poll_event_for_group_at(members, index, budget) {
         LegPoll::Nothing => Visited {
-            took: 0,
+            more: false,
             core,
             budget,
         },
         LegPoll::Continuation => {
             let next = ask_to_continue(turn_past(core, index));
             Visited {
-                took: 0,
+                more: false,
                 core: next,
                 budget: 0,
             }
@@ -310,7 +298,7 @@ fn take_front(
                 event,
             );
             Visited {
-                took: 1,
+                more: true,
                 core: after,
                 budget: left,
             }
@@ -339,7 +327,7 @@ pub fn collect_one_event(
     let found = in_turn(rows(members, core.counts.members), core.visit.round);
     let Some(index) = found else {
         return Visited {
-            took: 0,
+            more: false,
             core,
             budget,
         };
@@ -385,13 +373,13 @@ fn ends_with_none_held(visits: usize, held: usize) -> bool
 // One visit, unless an event waits, with so many left behind it.
 #[tactic(auto, using(crate::specs::Laws::Gather::held_waits, crate::specs::Laws::Used::follows_continued))]
 fn visit_until_held(
-    before: Visiting,
+    before: Visited,
     members: &mut [u64],
     pending: &mut [u64],
     waiting: &mut [u64],
     used: &mut CellSet,
     visits: usize,
-) -> Visiting
+) -> Visited
     requires { Usable before.core (receive_tables members.old pending.old waiting.old) }
     ensures held_visit { HeldVisit visits before
         (receive_tables members.old pending.old waiting.old) result
@@ -401,26 +389,25 @@ fn visit_until_held(
 {
     let here = before.core;
     if 0 < here.counts.waiting {
-        return Visiting {
-            more: 0,
+        return Visited {
+            more: false,
             core: here,
             budget: before.budget,
         };
     }
     let visited = collect_one_event(here, members, pending, waiting, used, before.budget);
     let collected = visited.core;
-    if visited.took == 0 {
-        return Visiting {
-            more: 0,
+    if !visited.more {
+        return Visited {
+            more: false,
             core: collected,
             budget: visited.budget,
         };
     }
     let asked = ends_with_none_held(visits, collected.counts.pending);
     let after = or_continue(collected, asked);
-    let more = flag(!has_pending_data(after));
-    Visiting {
-        more,
+    Visited {
+        more: !has_pending_data(after),
         core: after,
         budget: visited.budget,
     }
@@ -444,24 +431,22 @@ pub fn collect_until_held(
     ensures follows { Follows core members.old pending.old used.old
         result.core members.new pending.new used.new }
 {
-    let mut visited = Visiting {
-        more: 1,
+    let mut visited = Visited {
+        more: true,
         core,
         budget,
     };
     for left in (0..MAX_VISITS).rev() {
         visited = visit_until_held(visited, members, pending, waiting, used, left);
-        if visited.more == 0 {
-            let after = visited.core;
+        if !visited.more {
             return Gathered {
-                core: after,
+                core: visited.core,
                 budget: visited.budget,
             };
         }
     }
-    let after = visited.core;
     Gathered {
-        core: after,
+        core: visited.core,
         budget: visited.budget,
     }
 }
@@ -503,7 +488,7 @@ pub fn collect_until_empty(
         result.core members.new pending.new used.new }
 {
     let mut visited = Visited {
-        took: 0,
+        more: false,
         core,
         budget,
     };
@@ -511,18 +496,16 @@ pub fn collect_until_empty(
         let here = visited.core;
         if is_settled(here, pending, sequence) {
             return Emptied {
-                emptied: 0,
+                emptied: false,
                 core: here,
                 budget: visited.budget,
             };
         }
         visited = collect_one_event(here, members, pending, waiting, used, visited.budget);
-        if visited.took == 0 {
-            let after = visited.core;
-            let emptied = flag(after.visit.continuation == 0);
+        if !visited.more {
             return Emptied {
-                emptied,
-                core: after,
+                emptied: visited.core.visit.continuation == 0,
+                core: visited.core,
                 budget: visited.budget,
             };
         }
@@ -531,7 +514,7 @@ pub fn collect_until_empty(
     let held = is_held(pending, here.counts.pending, sequence);
     let after = or_continue(here, !held);
     Emptied {
-        emptied: 0,
+        emptied: false,
         core: after,
         budget: visited.budget,
     }

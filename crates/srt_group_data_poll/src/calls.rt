@@ -1,5 +1,5 @@
 // `poll_data_bounded` with its refusals, over the record and the lent tables: 5 and 6, and then the form for a valid state.
-// Kept (5, 6): the host lends record and tables anew to each call; which are changed differs, and a struct of `&mut` needs a clause for each ghost name (tried).
+// Kept (5, 6): which tables a call changes differs from call to call (a poll: members, pending and waiting; a send: history and sources), so a struct of those that it only reads would be another for each kind of call.
 ghost use Rattle.srt_group_model.specs.Lent.{call_poll_data_bounded, call_poll_data};
 ghost use Rattle.srt_group_shown.specs.Tables.{tables};
 ghost use Rattle.srt_group_shown.specs.Ready.{lending};
@@ -9,26 +9,18 @@ ghost use Rattle.srt_group_data_poll.specs.Answers.{data_number, data_answer};
 
 use crate::polls;
 use cell_set::{CellSet, WORDS};
-use srt_group::Group;
+use srt_group::{Answered, Group};
 use srt_group_collecting::collecting::MAX_VISITS;
 use srt_group_model::Packet;
 use srt_group_refusals::refusals::LentGroup;
-use srt_protocol::error::Error;
 use srt_protocol::time::Timestamp;
 
 // A packet or none, and whether the poll should be called again at once.
 #[derive(Clone, Copy)]
 pub struct GroupDataPoll {
     pub packet: Option<Packet>,
-    // Kept (1): as a `bool` beside a record that goes by value it cost 50 ns a poll (tried).
+    // Kept (1): as in `DataPoll`, a word: the record's continuation and C's answer are words (the C interface), and a bool would be made of the one word and made into the other.
     pub continuation: u64,
-}
-
-// The answer, and the record after the call: as it was where the call is refused.
-#[derive(Clone, Copy)]
-pub struct DataPolled {
-    pub group: Group,
-    pub answer: Result<GroupDataPoll, Error>,
 }
 
 // The next packet in order, after at most so many events, which are dropped. Its payload is written from byte 12 of the output on.
@@ -43,20 +35,14 @@ pub fn poll_data_bounded(
     output: &mut [u8],
     time: Timestamp,
     max_events: usize,
-) -> DataPolled
+) -> Answered<Group, GroupDataPoll>
     ensures { Promised (call_poll_data_bounded time.0 max_events) (parts_of group)
         (tables members.old pending.old waiting.old history.now sources.now)
         (lending store.now output.old)
-        (showing (parts_of result.group)
+        (showing (parts_of result.record)
         (tables members.new pending.new waiting.new history.now sources.now)
         (lending store.now output.new) (data_number result.answer) (data_answer result.answer) 0) }
 {
-    let Group {
-        identity,
-        core,
-        sending,
-        ring,
-    } = group;
     let mut used: CellSet = [0; WORDS];
     let lent = LentGroup {
         group,
@@ -68,26 +54,22 @@ pub fn poll_data_bounded(
     };
     let begun = lent.begin_poll(store.len(), output.len(), &mut used);
     if let Err(error) = begun {
-        return DataPolled {
-            group,
+        return Answered {
+            record: group,
             answer: Err(error),
         };
     }
     let poll = polls::poll_data_bounded(
-        identity, core, sending, ring, members, pending, waiting, history, sources, store, output,
-        &mut used, time, max_events,
+        group, members, pending, waiting, history, sources, store, output, &mut used, time,
+        max_events,
     );
-    let after = poll.core;
-    let packet = poll.gave;
-    DataPolled {
-        group: Group {
-            identity,
-            core: after,
-            sending,
-            ring,
+    Answered {
+        record: Group {
+            core: poll.core,
+            ..group
         },
         answer: Ok(GroupDataPoll {
-            packet,
+            packet: poll.gave,
             continuation: poll.continuation,
         }),
     }
@@ -104,11 +86,11 @@ pub fn poll_data(
     store: &[u8],
     output: &mut [u8],
     time: Timestamp,
-) -> DataPolled
+) -> Answered<Group, GroupDataPoll>
     ensures { Promised (call_poll_data time.0) (parts_of group)
         (tables members.old pending.old waiting.old history.now sources.now)
         (lending store.now output.old)
-        (showing (parts_of result.group)
+        (showing (parts_of result.record)
         (tables members.new pending.new waiting.new history.now sources.now)
         (lending store.now output.new) (data_number result.answer) (data_answer result.answer) 0) }
 {

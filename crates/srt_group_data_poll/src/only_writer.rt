@@ -1,24 +1,23 @@
 // A caller that is the only writer: packets are queued and polled for, and nothing is tested again from call to call.
-// Kept (5, 6): the host lends record and tables anew to each call; which are changed differs, and a struct of `&mut` needs a clause for each ghost name (tried).
+// Kept (5, 6): which tables a call changes differs from call to call (queued data: members and the store; a poll: members, pending and waiting), so a struct of those that it only reads would be another for each kind of call.
 ghost use Rattle.std.specs.Prelude.{◌≤◌, length};
 ghost use Rattle.srt_protocol.specs.Cells.{output_size};
 ghost use Rattle.srt_group_shown.specs.Tables.{parts, tables};
 ghost use Rattle.srt_group_shown.specs.Ready.{Ready};
+ghost use Rattle.srt_group.specs.Made.{parts_of};
 
 use crate::polls::poll_data_bounded;
 use cell_set::CellSet;
-use srt_group_model::{Core, Data, Identity, Sending};
+use srt_group::Group;
+use srt_group_collecting::collecting::MAX_VISITS;
+use srt_group_model::Data;
 use srt_group_polls::polls::DataPoll;
 use srt_group_queueing::queueing::queue_data;
-use srt_group_tables::history::HistoryRing;
 use srt_protocol::time::Timestamp;
 
 // One packet is queued, and one poll made.
 pub fn queue_and_poll(
-    identity: Identity,
-    core: Core,
-    sending: Sending,
-    ring: HistoryRing,
+    group: Group,
     members: &mut [u64],
     pending: &mut [u64],
     waiting: &mut [u64],
@@ -32,19 +31,17 @@ pub fn queue_and_poll(
     payload: &[u8],
     time: Timestamp,
 ) -> DataPoll
-    requires ready { Ready (parts identity core sending ring)
+    requires ready { Ready (parts_of group)
         (tables members.old pending.old waiting.old history.now sources.now) (length store.old) used.old }
     requires output_size_in_bounds { output_size ≤ length output.old }
-    ensures { Ready (parts identity result.core sending ring)
+    ensures { Ready (parts group.identity result.core group.sending group.ring)
         (tables members.new pending.new waiting.new history.now sources.now)
         (length store.new) used.new }
 {
     let _ = queue_data(
-        identity, core, sending, ring, members, pending, waiting, history, sources, store, used,
-        id, content, payload,
+        group, members, pending, waiting, history, sources, store, used, id, content, payload,
     );
     poll_data_bounded(
-        identity, core, sending, ring, members, pending, waiting, history, sources, store, output,
-        used, time, 64,
+        group, members, pending, waiting, history, sources, store, output, used, time, MAX_VISITS,
     )
 }

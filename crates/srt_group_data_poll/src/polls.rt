@@ -1,17 +1,18 @@
 // `poll_data_bounded` for a valid state: the poll, the payload of the packet that it gives, and the set of used cells after it.
-// Kept (5, 6): the host lends record and tables anew to each call; which are changed differs, and a struct of `&mut` needs a clause for each ghost name (tried).
+// Kept (5, 6): which tables a call changes differs from call to call (a poll: members, pending and waiting; a send: history and sources), so a struct of those that it only reads would be another for each kind of call.
 ghost use Rattle.std.specs.Prelude.{◌≡◌, ◌≤◌, length};
 ghost use Rattle.srt_group_model.specs.Lent.{call_poll_data_bounded, written_out};
 ghost use Rattle.srt_protocol.specs.Cells.{output_size};
 ghost use Rattle.srt_group_shown.specs.Tables.{parts, tables};
 ghost use Rattle.srt_group_shown.specs.Ready.{Ready, lending, Performs};
+ghost use Rattle.srt_group.specs.Made.{parts_of};
 ghost use Rattle.srt_group_data_poll.specs.Polling.{Writable, answer_of};
 
 use cell_set::CellSet;
-use srt_group_model::{Core, Identity, Packet, Sending};
+use srt_group::Group;
+use srt_group_model::Packet;
 use srt_group_polls::polls;
 use srt_group_polls::polls::DataPoll;
-use srt_group_tables::history::HistoryRing;
 use srt_protocol::received_payload::copy_payload;
 use srt_protocol::time::Timestamp;
 
@@ -31,10 +32,7 @@ pub fn write_payload(store: &[u8], output: &mut [u8], gave: Option<Packet>)
 
 // `poll_data_bounded` for a valid state, of which `used` shows the cells in use. It refuses nothing.
 pub fn poll_data_bounded(
-    identity: Identity,
-    core: Core,
-    sending: Sending,
-    ring: HistoryRing,
+    group: Group,
     members: &mut [u64],
     pending: &mut [u64],
     waiting: &mut [u64],
@@ -46,24 +44,25 @@ pub fn poll_data_bounded(
     time: Timestamp,
     max_events: usize,
 ) -> DataPoll
-    requires ready { Ready (parts identity core sending ring)
+    requires ready { Ready (parts_of group)
         (tables members.old pending.old waiting.old history.now sources.now) (length store.now) used.old }
     requires output_size_in_bounds { output_size ≤ length output.old }
-    ensures { Performs (call_poll_data_bounded time.0 max_events) (parts identity core sending ring)
+    ensures { Performs (call_poll_data_bounded time.0 max_events) (parts_of group)
         (tables members.old pending.old waiting.old history.now sources.now)
-        (lending store.now output.old) 0 (answer_of result) (parts identity result.core sending ring)
+        (lending store.now output.old) 0 (answer_of result) (parts group.identity result.core group.sending group.ring)
         (tables members.new pending.new waiting.new history.now sources.now)
         (lending store.now output.new) used.new }
 {
     let polled = polls::poll_data_bounded(
-        core, sending, members, pending, waiting, used, time, max_events,
+        group.core,
+        group.sending,
+        members,
+        pending,
+        waiting,
+        used,
+        time,
+        max_events,
     );
-    let gave = polled.gave;
-    write_payload(store, output, gave);
-    let after = polled.core;
-    DataPoll {
-        gave,
-        continuation: polled.continuation,
-        core: after,
-    }
+    write_payload(store, output, polled.gave);
+    polled
 }

@@ -1,6 +1,8 @@
 // The give-up test, delivery and the skip: a packet at the base is given, its run passed, and what the run covers released; a gap
 // is passed over once the leg of the nearest held packet gives up on it.
 // Kept (5, 6): a step that moves tables takes them one beside the other: a struct of `&mut` asks for loans that a call does not need, and for a clause to each field, that its slice is still the caller's (tried); what holds of them is one fact, `Deliverable`.
+// Kept (5): what goes by value beside them is the group's record, which a step gives back, and the one or two numbers that this step is about; a struct of those would be made for a single call and is no plainer.
+// Kept (1): a packet's `owned` is a word of the lent row (the C interface).
 ghost use Rattle.std.specs.Prelude.{◌≡◌, List, [], ◌∷◌, ℕ, ◌+◌, ◌-◌, ◌*◌, ◌≤◌, ◌<◌, min, length};
 ghost use Rattle.srt_protocol.specs.Sequence.{sequence_distance};
 ghost use Rattle.srt_group_model.specs.Legs.{largest_64};
@@ -52,15 +54,10 @@ pub struct Poll {
 // ---- the give-up test
 
 // Whether a leg has given up by a time on a packet of that source time.
-#[tactic(auto, using(crate::specs::Laws::Delivery::given_up_from, crate::specs::Laws::Delivery::never_given_up))]
 fn leg_given_up(leg: Leg, source: Timestamp, time: Timestamp) -> bool
     ensures { result ≡ leg_given_up time.0 source.0 leg }
 {
-    let deadline = legs::gives_up_at(leg, source);
-    match deadline {
-        Some(moment) => moment <= time,
-        None => false,
-    }
+    legs::gives_up_at(leg, source).is_some_and(|moment| moment <= time)
 }
 
 // The leg of the packet's member gives up on it; where that member is gone, the first leg.
@@ -115,8 +112,7 @@ fn release_pending_reservation(mut core: Core, members: &mut [u64], packet: Pack
 {
     let run = packet.content.count;
     if packet.owned == 1 {
-        let own = accounts::release_packet(core.own, run);
-        core.own = own;
+        core.own = accounts::release_packet(core.own, run);
         return core;
     }
     let found = find(rows(members, core.counts.members), packet.member);
@@ -179,11 +175,8 @@ fn release_covered(
     ensures released { Released (packets_at covered pending.now) core members.old result members.new }
     ensures freed { Freed (pending_cells (packets_at covered pending.now)) used.old used.new }
 {
-    let low = covered.low;
-    let from = covered.from;
-    let end = covered.end;
-    let begun = release_range(core, members, pending, used, 0, low);
-    release_range(begun, members, pending, used, from, end)
+    let begun = release_range(core, members, pending, used, 0, covered.low);
+    release_range(begun, members, pending, used, covered.from, covered.end)
 }
 
 // ---- delivery
@@ -215,8 +208,7 @@ fn deliver_packet(
     advance_receive_sequence_of_all(members, count, next);
     let left = pending::remove_covered(pending, held, covered);
     after.counts.pending = left;
-    after.receiving.based = 1;
-    after.receiving.base = next;
+    after.receiving.set_base(next);
     after
 }
 
@@ -264,8 +256,7 @@ pub fn give_waiting(mut core: Core, waiting: &mut [u64]) -> Poll
     }
     let event = waiting::waiting_event(waiting, 0);
     waiting::pop_front(waiting, waits);
-    let left = waits - 1;
-    core.counts.waiting = left;
+    core.counts.waiting = waits - 1;
     Poll {
         gave: Some(GroupEvent::Event(event)),
         core,
@@ -283,10 +274,8 @@ fn skipped_after(skipped: u64, base: u64, next: u64) -> u64
 pub fn skip_to(mut core: Core, base: u64, next: u64) -> Core
     ensures { Skips base next core result }
 {
-    let skipped = skipped_after(core.receiving.skipped, base, next);
-    core.receiving.based = 1;
-    core.receiving.base = next;
-    core.receiving.skipped = skipped;
+    core.receiving.skipped = skipped_after(core.receiving.skipped, base, next);
+    core.receiving.set_base(next);
     core
 }
 
@@ -294,13 +283,12 @@ pub fn skip_to(mut core: Core, base: u64, next: u64) -> Core
 pub fn set_base(mut core: Core, base: Option<u64>) -> Core
     ensures { Bases base core result }
 {
-    if core.receiving.based != 0 {
+    if core.receiving.base().is_some() {
         return core;
     }
     let Some(base) = base else {
         return core;
     };
-    core.receiving.based = 1;
-    core.receiving.base = base;
+    core.receiving.set_base(base);
     core
 }

@@ -1,5 +1,5 @@
 // `poll_event` with its refusals, over the record and the lent tables: 5 and 6, and then the form for a valid state.
-// Kept (5, 6): the host lends record and tables anew to each call; which are changed differs, and a struct of `&mut` needs a clause for each ghost name (tried).
+// Kept (5, 6): which tables a call changes differs from call to call (a poll: members, pending and waiting; a send: history and sources), so a struct of those that it only reads would be another for each kind of call.
 ghost use Rattle.srt_group_model.specs.Lent.{call_poll_event};
 ghost use Rattle.srt_group_shown.specs.Tables.{tables};
 ghost use Rattle.srt_group_shown.specs.Ready.{lending};
@@ -9,18 +9,10 @@ ghost use Rattle.srt_group_event_poll.specs.Answers.{event_number, event_answer}
 
 use crate::polls;
 use cell_set::{CellSet, WORDS};
-use srt_group::Group;
+use srt_group::{Answered, Group};
 use srt_group_delivery::delivery::GroupEvent;
 use srt_group_refusals::refusals::LentGroup;
-use srt_protocol::error::Error;
 use srt_protocol::time::Timestamp;
-
-// The answer, and the record after the call: as it was where the call is refused.
-#[derive(Clone, Copy)]
-pub struct EventPolled {
-    pub group: Group,
-    pub answer: Result<Option<GroupEvent>, Error>,
-}
 
 // The next event, or the next packet in order, its payload written from byte 12 of the output on.
 pub fn poll_event(
@@ -33,20 +25,14 @@ pub fn poll_event(
     store: &[u8],
     output: &mut [u8],
     time: Timestamp,
-) -> EventPolled
+) -> Answered<Group, Option<GroupEvent>>
     ensures { Promised (call_poll_event time.0) (parts_of group)
         (tables members.old pending.old waiting.old history.now sources.now)
         (lending store.now output.old)
-        (showing (parts_of result.group)
+        (showing (parts_of result.record)
         (tables members.new pending.new waiting.new history.now sources.now)
         (lending store.now output.new) (event_number result.answer) (event_answer result.answer) 0) }
 {
-    let Group {
-        identity,
-        core,
-        sending,
-        ring,
-    } = group;
     let mut used: CellSet = [0; WORDS];
     let lent = LentGroup {
         group,
@@ -58,24 +44,19 @@ pub fn poll_event(
     };
     let begun = lent.begin_poll(store.len(), output.len(), &mut used);
     if let Err(error) = begun {
-        return EventPolled {
-            group,
+        return Answered {
+            record: group,
             answer: Err(error),
         };
     }
     let poll = polls::poll_event(
-        identity, core, sending, ring, members, pending, waiting, history, sources, store, output,
-        &mut used, time,
+        group, members, pending, waiting, history, sources, store, output, &mut used, time,
     );
-    let after = poll.core;
-    let gave = poll.gave;
-    EventPolled {
-        group: Group {
-            identity,
-            core: after,
-            sending,
-            ring,
+    Answered {
+        record: Group {
+            core: poll.core,
+            ..group
         },
-        answer: Ok(gave),
+        answer: Ok(poll.gave),
     }
 }

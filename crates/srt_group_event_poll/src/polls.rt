@@ -1,18 +1,19 @@
 // `poll_event` for a valid state: the poll, the payload if it gives a packet, and the set of used cells after it.
-// Kept (5, 6): the host lends record and tables anew to each call; which are changed differs, and a struct of `&mut` needs a clause for each ghost name (tried).
+// Kept (5, 6): which tables a call changes differs from call to call (a poll: members, pending and waiting; a send: history and sources), so a struct of those that it only reads would be another for each kind of call.
 ghost use Rattle.std.specs.Prelude.{◌≡◌, ◌≤◌, length};
 ghost use Rattle.srt_group_model.specs.Lent.{call_poll_event};
 ghost use Rattle.srt_protocol.specs.Cells.{output_size};
 ghost use Rattle.srt_group_shown.specs.Tables.{parts, tables};
 ghost use Rattle.srt_group_shown.specs.Ready.{Ready, lending, Performs};
+ghost use Rattle.srt_group.specs.Made.{parts_of};
 ghost use Rattle.srt_group_event_poll.specs.Polling.{packet_in, answer_of};
 
 use cell_set::CellSet;
+use srt_group::Group;
 use srt_group_data_poll::polls::write_payload;
 use srt_group_delivery::delivery::{GroupEvent, Poll};
-use srt_group_model::{Core, Identity, Packet, Sending};
+use srt_group_model::Packet;
 use srt_group_polls::polls;
-use srt_group_tables::history::HistoryRing;
 use srt_protocol::time::Timestamp;
 
 // The packet, if that is what an event poll gives.
@@ -20,21 +21,15 @@ use srt_protocol::time::Timestamp;
 fn packet_in(gave: Option<GroupEvent>) -> Option<Packet>
     ensures { result ≡ packet_in gave }
 {
-    let Some(given) = gave else {
-        return None;
-    };
-    match given {
-        GroupEvent::Event(_) => None,
-        GroupEvent::Packet(packet) => Some(packet),
+    match gave {
+        Some(GroupEvent::Packet(packet)) => Some(packet),
+        _ => None,
     }
 }
 
 // `poll_event` for a valid state, of which `used` shows the cells in use. It refuses nothing.
 pub fn poll_event(
-    identity: Identity,
-    core: Core,
-    sending: Sending,
-    ring: HistoryRing,
+    group: Group,
     members: &mut [u64],
     pending: &mut [u64],
     waiting: &mut [u64],
@@ -45,19 +40,24 @@ pub fn poll_event(
     used: &mut CellSet,
     time: Timestamp,
 ) -> Poll
-    requires ready { Ready (parts identity core sending ring)
+    requires ready { Ready (parts_of group)
         (tables members.old pending.old waiting.old history.now sources.now) (length store.now) used.old }
     requires output_size_in_bounds { output_size ≤ length output.old }
-    ensures { Performs (call_poll_event time.0) (parts identity core sending ring)
+    ensures { Performs (call_poll_event time.0) (parts_of group)
         (tables members.old pending.old waiting.old history.now sources.now)
-        (lending store.now output.old) 0 (answer_of result) (parts identity result.core sending ring)
+        (lending store.now output.old) 0 (answer_of result) (parts group.identity result.core group.sending group.ring)
         (tables members.new pending.new waiting.new history.now sources.now)
         (lending store.now output.new) used.new }
 {
-    let polled = polls::poll_event(core, sending, members, pending, waiting, used, time);
-    let gave = polled.gave;
-    let packet = packet_in(gave);
-    write_payload(store, output, packet);
-    let after = polled.core;
-    Poll { gave, core: after }
+    let polled = polls::poll_event(
+        group.core,
+        group.sending,
+        members,
+        pending,
+        waiting,
+        used,
+        time,
+    );
+    write_payload(store, output, packet_in(polled.gave));
+    polled
 }

@@ -1,4 +1,5 @@
 // `poll_data`, `add_member` and `send` by value with answers of words: each makes the call and turns its answer into words.
+// Kept (2): C is answered plain words and no Result, so srt_group's `Answered` does not fit these three, and each holds the words of its call.
 // Kept (1, 5, 6): srt_group_lent exports these calls to C, which has no Result and lends each table by its own name.
 ghost use Rattle.srt_group_model.specs.Guards.{no_answer};
 ghost use Rattle.srt_group_model.specs.Lent.{call_poll_data, call_send};
@@ -61,11 +62,9 @@ pub fn poll_data(
     let polled = polls::poll_data(
         group, members, pending, waiting, history, sources, store, output, time,
     );
-    let after = polled.group;
-    let given = polled.answer;
-    let answer = words_of(given);
+    let answer = words_of(polled.answer);
     DataPolledWords {
-        group: after,
+        group: polled.record,
         answer,
     }
 }
@@ -92,10 +91,11 @@ pub fn add_member(
     let added = addition::add_member(
         group, members, pending, waiting, history, sources, row, id, weight,
     );
-    let after = added.group;
-    let outcome = added.outcome;
-    let code = outcome_number(outcome) as u64;
-    MemberAddedWords { group: after, code }
+    let code = outcome_number(added.answer) as u64;
+    MemberAddedWords {
+        group: added.record,
+        code,
+    }
 }
 
 // `send` with its answer in words.
@@ -122,11 +122,9 @@ pub fn send(
     let sent = sends::send(
         group, members, pending, waiting, history, sources, store, list, time, payload,
     );
-    let after = sent.group;
-    let given = sent.answer;
-    let answer = words_of_send(given, sent.rows);
+    let answer = words_of_send(sent.answer, sent.rows);
     GroupSentWords {
-        group: after,
+        group: sent.record,
         answer,
     }
 }

@@ -1,4 +1,5 @@
 // The legs as rows of one lent slice of records, for reading states: what `members` (srt_group_looks) fills, read as structs.
+// Kept (1): a state is a word of the lent row: a C host may lend any number, and 6 has to read it to refuse it.
 
 #![tactic(auto)]
 
@@ -23,6 +24,7 @@ pub struct LegRow {
 }
 
 // The answer for an id that no row has. It is document 01's code for an unknown leg, and no state of a leg.
+// Kept (1): a host reads one number, a leg's state or this code; an Option would be turned into that number at once, which is no plainer.
 pub const UNKNOWN_LEG: u64 = 3;
 
 // The state in the first row that has the id.

@@ -1,6 +1,6 @@
 -- What the code of a verb promises: the group after it and the numbers that it prints are those of the model's listing (srt_group_model,
 -- Listing), for the call that its line asks (srt_group_traces, VerbCalls).
-use Rattle.std.specs.Prelude.{◌≡◌, List, [], ◌∷◌, ℕ, eqb, length, Err, None, Ok, Option, Result, Some}
+use Rattle.std.specs.Prelude.{◌≡◌, List, [], ◌∷◌, ℕ, eqb, Err, None, Ok, Option, Result, Some}
 use Rattle.srt_protocol.specs.declared.error.Error.{Error}
 use Rattle.srt_protocol.specs.Errors.{error_number}
 use Rattle.srt_protocol.specs.Cells.{output_size}
@@ -9,32 +9,16 @@ use Rattle.srt_group_model.specs.State.{State}
 use Rattle.srt_group_model.specs.Sending.{list_size}
 use Rattle.srt_group_model.specs.Guards.{Answer, Step}
 use Rattle.srt_group_model.specs.Lent.{Call, step_of}
-use Rattle.srt_group_model.specs.Listing.{store_length, with_byte, columns, refused_line, printed}
+use Rattle.srt_group_model.specs.Listing.{with_byte, columns, refused_line, printed}
 use Rattle.srt_group_model.specs.declared.Leg.{Leg}
 use Rattle.srt_group_model.specs.declared.Packet.{Packet}
 use Rattle.srt_connection_members.specs.Members.{member_at, HasRow}
-use Rattle.srt_group_shown.specs.Tables.{Tables, tables, state_of}
+use Rattle.srt_group_shown.specs.Tables.{Tables, state_of}
 use Rattle.srt_group_shown.specs.Ready.{Ready}
 use Rattle.srt_group.specs.Made.{parts_of}
 use Rattle.srt_group.specs.declared.Group.{Group}
-use Rattle.srt_group_listing.specs.declared.Memory.{Memory}
 use Rattle.srt_group_listing.specs.declared.Printed.{Printed}
 use Rattle.srt_group_listing.specs.declared.Told.{Told}
-
--- ---- the memory of a replay
-
--- its tables
-abbrev pub tables_of : Memory → Tables
-tables_of m = tables m.members m.pending m.waiting m.history m.sources
-
--- the state that a group shows over it
-abbrev pub shown_in : Memory → Group → State
-shown_in m g = state_of (parts_of g) (tables_of m)
-
--- it is ready for the group's next call, and its store has 40 cells
-pub record ReadyFor (g : Group) (m : Memory) : Type 0 where
-  pub call : Ready (parts_of g) (tables_of m) (length m.store) m.used
-  pub cells : length m.store ≡ store_length
 
 -- ---- what is printed
 
@@ -58,23 +42,23 @@ sent_line (Err e) = refused_line 6 (error_number e)
 
 -- ---- what the code of a verb promises
 
--- a call that is lent a store of 40 cells, and the program's own output and list of sends
-abbrev pub asks : Call → State → Step
-asks call s = step_of store_length output_size list_size call s
+-- a call that is lent a store of this length, and the program's own output and list of sends
+abbrev pub asks : (store : ℕ) → Call → State → Step
+asks store call s = step_of store output_size list_size call s
 
 -- The group after a step of the model's listing and what its line prints are the model's; and the group is ready for the next.
-pub record TellsStep (verb : ℕ) (step : State → Step) (g : Group) (m : Memory) (r : Told) (m' : Memory) : Type 0 where
-  pub state : shown_in m' r.group ≡ (step (shown_in m g)).state
-  pub line : numbers_of r.line ≡ printed verb (step (shown_in m g))
-  pub ready : ReadyFor r.group m'
+pub record TellsStep (verb : ℕ) (step : State → Step) (g : Group) (t : Tables) (store : ℕ) (r : Told) (t' : Tables) (used' : List ℕ) : Type 0 where
+  pub state : state_of (parts_of r.group) t' ≡ (step (state_of (parts_of g) t)).state
+  pub line : numbers_of r.line ≡ printed verb (step (state_of (parts_of g) t))
+  pub ready : Ready (parts_of r.group) t' store used'
 
 -- so are those of a call
-abbrev pub Tells : (verb : ℕ) → Call → Group → Memory → Told → Memory → Type 0
-Tells verb call g m r m' = TellsStep verb (asks call) g m r m'
+abbrev pub Tells : (verb : ℕ) → Call → Group → Tables → (store : ℕ) → Told → Tables → (used' : List ℕ) → Type 0
+Tells verb call g t store r t' used' = TellsStep verb (asks store call) g t store r t' used'
 
 -- and of one whose line gives a byte, which is refused (2) above 255
-abbrev pub TellsByte : (byte verb : ℕ) → Call → Group → Memory → Told → Memory → Type 0
-TellsByte byte verb call g m r m' = TellsStep verb (λ s. with_byte byte (asks call s) s) g m r m'
+abbrev pub TellsByte : (byte verb : ℕ) → Call → Group → Tables → (store : ℕ) → Told → Tables → (used' : List ℕ) → Type 0
+TellsByte byte verb call g t store r t' used' = TellsStep verb (λ s. with_byte byte (asks store call s) s) g t store r t' used'
 
 -- ---- verb 2
 

@@ -1,12 +1,16 @@
 // The verbs that add, remove or change a member, and those that queue an event or read a leg's field.
-// Kept (5): the group stands in an Option beside the memory (srt_group_replay), so a struct of both would be made and taken apart at each line.
-ghost use Rattle.std.specs.Prelude.{◌≡◌};
+// Kept (5, 6): tables and store are lent anew to each verb, of any length that suffices; of a struct of `&mut`, no plainer, each clause names each field.
+ghost use Rattle.std.specs.Prelude.{◌≡◌, length};
 ghost use Rattle.srt_protocol.specs.Errors.{outcome_number};
 ghost use Rattle.srt_group_model.specs.Listing.{leg_of_line, refused_line};
+ghost use Rattle.srt_group_shown.specs.Tables.{tables};
+ghost use Rattle.srt_group_shown.specs.Ready.{Ready};
+ghost use Rattle.srt_group.specs.Made.{parts_of};
 ghost use Rattle.srt_group_traces.specs.VerbCalls.{addition, reading, removing, breaking, event};
-ghost use Rattle.srt_group_listing.specs.Telling.{ReadyFor, numbers_of, HandedOver, Tells};
+ghost use Rattle.srt_group_listing.specs.Telling.{numbers_of, HandedOver, Tells};
 
-use crate::{Line, Memory, Printed, Told};
+use crate::{Line, Printed, Told};
+use cell_set::CellSet;
 use srt_connection_members::{clear_at, put_leg_at};
 use srt_connection_queue::rows::{ROW, Row};
 use srt_group::Group;
@@ -19,18 +23,24 @@ use srt_group_removal::connection::remove_member;
 use srt_protocol::error::{Error, outcome_number};
 use srt_protocol::time::Timestamp;
 
-// The line of a verb that answers its outcome alone.
-pub fn outcome_line(verb: u64, outcome: Result<(), Error>) -> Printed
-    ensures { numbers_of result ≡ refused_line verb (outcome_number outcome) }
+// The line of a verb that is refused, or accepted without columns of its own (0).
+// Kept (1): verb and code are printed columns, the verb 0 where a line names none; as an `Option` of an enum they are no plainer.
+pub fn code_line(verb: u64, code: u64) -> Printed
+    ensures { numbers_of result ≡ refused_line verb code }
 {
     Printed {
         verb,
-        code: outcome_number(outcome) as u64,
-        leg: 0,
-        sequence: 0,
-        count: 0,
-        skipped: 0,
+        code,
+        ..Printed::default()
     }
+}
+
+// The line of a verb that answers its outcome alone.
+// Kept (1): the verb is the printed column, as in `code_line`, which prints it.
+pub fn outcome_line(verb: u64, outcome: Result<(), Error>) -> Printed
+    ensures { numbers_of result ≡ refused_line verb (outcome_number outcome) }
+{
+    code_line(verb, outcome_number(outcome) as u64)
 }
 
 // The leg of verb 2. What the line does not say of it is 0, but for the receive window and the payload limit.
@@ -77,57 +87,61 @@ fn hand_over(line: &Line) -> Row
 }
 
 // Verb 2: a leg is added.
-pub fn add(memory: &mut Memory, group: Group, line: &Line) -> Told
-    requires { ReadyFor group memory.old }
-    ensures { Tells 2 (addition line.now) group memory.old result memory.new }
+pub fn add(
+    group: Group,
+    members: &mut [u64],
+    pending: &[u64],
+    waiting: &[u64],
+    history: &[u64],
+    sources: &[u64],
+    store: &[u8],
+    used: &CellSet,
+    line: &Line,
+) -> Told
+    requires { Ready (parts_of group)
+        (tables members.old pending.now waiting.now history.now sources.now) (length store.now) used.now }
+    ensures { Tells 2 (addition line.now) group
+        (tables members.old pending.now waiting.now history.now sources.now)
+        (length store.now) result
+        (tables members.new pending.now waiting.now history.now sources.now)
+        used.now }
 {
     let row = hand_over(line);
     let added = add_member(
-        group.identity,
-        group.core,
-        group.sending,
-        group.ring,
-        &mut memory.members,
-        &memory.pending,
-        &memory.waiting,
-        &memory.history,
-        &memory.sources,
-        &memory.store,
-        &memory.used,
-        &row,
-        line[1],
-        line[2],
+        group, members, pending, waiting, history, sources, store, used, &row, line[1], line[2],
     );
     Told {
         group: Group {
-            core: added.core,
+            core: added.record,
             ..group
         },
-        line: outcome_line(2, added.outcome),
+        line: outcome_line(2, added.answer),
     }
 }
 
-// Kept (2): `read` and `queue` differ in the call that they make; a closure for it would take the eleven words and tables that the call takes.
+// Kept (2): `read` and `queue` differ in the call that they make; a closure for it is no plainer, since it takes all that the call takes.
 // Verb 3: a number is read into a leg's field.
-pub fn read(memory: &mut Memory, group: Group, line: &Line) -> Told
-    requires { ReadyFor group memory.old }
-    ensures { Tells 3 (reading line.now) group memory.old result memory.new }
+pub fn read(
+    group: Group,
+    members: &mut [u64],
+    pending: &[u64],
+    waiting: &[u64],
+    history: &[u64],
+    sources: &[u64],
+    store: &[u8],
+    used: &CellSet,
+    line: &Line,
+) -> Told
+    requires { Ready (parts_of group)
+        (tables members.old pending.now waiting.now history.now sources.now) (length store.now) used.now }
+    ensures { Tells 3 (reading line.now) group
+        (tables members.old pending.now waiting.now history.now sources.now)
+        (length store.now) result
+        (tables members.new pending.now waiting.now history.now sources.now)
+        used.now }
 {
     let outcome = read_leg(
-        group.identity,
-        group.core,
-        group.sending,
-        group.ring,
-        &mut memory.members,
-        &memory.pending,
-        &memory.waiting,
-        &memory.history,
-        &memory.sources,
-        &memory.store,
-        &memory.used,
-        line[1],
-        line[2],
-        line[3],
+        group, members, pending, waiting, history, sources, store, used, line[1], line[2], line[3],
     );
     Told {
         group,
@@ -136,51 +150,59 @@ pub fn read(memory: &mut Memory, group: Group, line: &Line) -> Told
 }
 
 // Verb 7: a member is removed, and its leg dropped.
-pub fn remove(memory: &mut Memory, group: Group, line: &Line) -> Told
-    requires { ReadyFor group memory.old }
-    ensures { Tells 7 (removing line.now) group memory.old result memory.new }
+pub fn remove(
+    group: Group,
+    members: &mut [u64],
+    pending: &mut [u64],
+    waiting: &[u64],
+    history: &[u64],
+    sources: &[u64],
+    store: &[u8],
+    used: &mut CellSet,
+    line: &Line,
+) -> Told
+    requires { Ready (parts_of group)
+        (tables members.old pending.old waiting.now history.now sources.now) (length store.now) used.old }
+    ensures { Tells 7 (removing line.now) group
+        (tables members.old pending.old waiting.now history.now sources.now)
+        (length store.now) result
+        (tables members.new pending.new waiting.now history.now sources.now)
+        used.new }
 {
     let removed = remove_member(
-        group.identity,
-        group.core,
-        group.sending,
-        group.ring,
-        &mut memory.members,
-        &mut memory.pending,
-        &memory.waiting,
-        &memory.history,
-        &memory.sources,
-        &memory.store,
-        &mut memory.used,
-        line[1],
+        group, members, pending, waiting, history, sources, store, used, line[1],
     );
     Told {
         group: Group {
-            core: removed.core,
+            core: removed.record,
             ..group
         },
-        line: outcome_line(7, removed.outcome),
+        line: outcome_line(7, removed.answer),
     }
 }
 
 // Verb 8: a member is marked broken.
-pub fn mark_broken(memory: &mut Memory, group: Group, line: &Line) -> Told
-    requires { ReadyFor group memory.old }
-    ensures { Tells 8 (breaking line.now) group memory.old result memory.new }
+pub fn mark_broken(
+    group: Group,
+    members: &mut [u64],
+    pending: &[u64],
+    waiting: &[u64],
+    history: &[u64],
+    sources: &[u64],
+    store: &[u8],
+    used: &CellSet,
+    line: &Line,
+) -> Told
+    requires { Ready (parts_of group)
+        (tables members.old pending.now waiting.now history.now sources.now) (length store.now) used.now }
+    ensures { Tells 8 (breaking line.now) group
+        (tables members.old pending.now waiting.now history.now sources.now)
+        (length store.now) result
+        (tables members.new pending.now waiting.now history.now sources.now)
+        used.now }
 {
     let outcome = mark_member_broken(
-        group.identity,
-        group.core,
-        group.sending,
-        group.ring,
-        &mut memory.members,
-        &memory.pending,
-        &memory.waiting,
-        &memory.history,
-        &memory.sources,
-        &memory.store,
-        &memory.used,
-        line[1],
+        group, members, pending, waiting, history, sources, store, used, line[1],
     );
     Told {
         group,
@@ -188,27 +210,29 @@ pub fn mark_broken(memory: &mut Memory, group: Group, line: &Line) -> Told
     }
 }
 
-// Kept (2): `read` and `queue` differ in the call that they make; a closure for it would take the eleven words and tables that the call takes.
+// Kept (2): `read` and `queue` differ in the call that they make; a closure for it is no plainer, since it takes all that the call takes.
 // Verb 9: an event is queued at a leg.
-pub fn queue(memory: &mut Memory, group: Group, line: &Line) -> Told
-    requires { ReadyFor group memory.old }
-    ensures { Tells 9 (event line.now) group memory.old result memory.new }
+pub fn queue(
+    group: Group,
+    members: &mut [u64],
+    pending: &[u64],
+    waiting: &[u64],
+    history: &[u64],
+    sources: &[u64],
+    store: &[u8],
+    used: &CellSet,
+    line: &Line,
+) -> Told
+    requires { Ready (parts_of group)
+        (tables members.old pending.now waiting.now history.now sources.now) (length store.now) used.now }
+    ensures { Tells 9 (event line.now) group
+        (tables members.old pending.now waiting.now history.now sources.now)
+        (length store.now) result
+        (tables members.new pending.now waiting.now history.now sources.now)
+        used.now }
 {
     let outcome = queue_event(
-        group.identity,
-        group.core,
-        group.sending,
-        group.ring,
-        &mut memory.members,
-        &memory.pending,
-        &memory.waiting,
-        &memory.history,
-        &memory.sources,
-        &memory.store,
-        &memory.used,
-        line[1],
-        line[2],
-        line[3],
+        group, members, pending, waiting, history, sources, store, used, line[1], line[2], line[3],
     );
     Told {
         group,

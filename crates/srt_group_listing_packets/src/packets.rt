@@ -1,15 +1,21 @@
 // The verbs that queue a packet, poll for one and send one.
-// Kept (5): the group stands in an Option beside the memory (srt_group_replay), so a struct of both would be made and taken apart at each line.
-ghost use Rattle.std.specs.Prelude.{◌≡◌};
+// Kept (5, 6): tables and store are lent anew to each verb, of any length that suffices; of a struct of `&mut`, no plainer, each clause names each field.
+ghost use Rattle.std.specs.Prelude.{◌≡◌, length};
+ghost use Rattle.srt_protocol.specs.Cells.{output_size};
+ghost use Rattle.srt_group_model.specs.Sending.{list_size};
 ghost use Rattle.srt_group_model.specs.Listing.{column};
+ghost use Rattle.srt_group_shown.specs.Tables.{tables};
+ghost use Rattle.srt_group_shown.specs.Ready.{Ready};
+ghost use Rattle.srt_group.specs.Made.{parts_of};
 ghost use Rattle.srt_group_traces.specs.VerbCalls.{data_of_line, queueing, polling, sending};
-ghost use Rattle.srt_group_listing.specs.Telling.{ReadyFor, numbers_of, packet_line, sent_line, Tells, TellsByte};
+ghost use Rattle.srt_group_listing.specs.Telling.{numbers_of, packet_line, sent_line, Tells, TellsByte};
 
+use cell_set::CellSet;
 use srt_group::Group;
 use srt_group_collecting::collecting::MAX_VISITS;
 use srt_group_data_poll::polls::poll_data_bounded;
 use srt_group_listing::members::outcome_line;
-use srt_group_listing::{Line, Memory, Printed, Told};
+use srt_group_listing::{Line, Printed, Told};
 use srt_group_model::{Data, Packet};
 use srt_group_queueing::queueing::queue_data;
 use srt_group_send::sending;
@@ -32,9 +38,24 @@ fn data_of_line(line: &Line) -> Data
 }
 
 // Verb 4: a packet is queued at a leg. A byte above 255 is refused.
-pub fn queue(memory: &mut Memory, group: Group, line: &Line) -> Told
-    requires { ReadyFor group memory.old }
-    ensures { TellsByte (column 5 line.now) 4 (queueing line.now) group memory.old result memory.new }
+pub fn queue(
+    group: Group,
+    members: &mut [u64],
+    pending: &[u64],
+    waiting: &[u64],
+    history: &[u64],
+    sources: &[u64],
+    store: &mut [u8],
+    used: &mut CellSet,
+    line: &Line,
+) -> Told
+    requires { Ready (parts_of group)
+        (tables members.old pending.now waiting.now history.now sources.now) (length store.old) used.old }
+    ensures { TellsByte (column 5 line.now) 4 (queueing line.now) group
+        (tables members.old pending.now waiting.now history.now sources.now)
+        (length store.old) result
+        (tables members.new pending.now waiting.now history.now sources.now)
+        used.new }
 {
     if 255 < line[5] {
         return Told {
@@ -44,17 +65,14 @@ pub fn queue(memory: &mut Memory, group: Group, line: &Line) -> Told
     }
     let payload = [line[5] as u8];
     let outcome = queue_data(
-        group.identity,
-        group.core,
-        group.sending,
-        group.ring,
-        &mut memory.members,
-        &memory.pending,
-        &memory.waiting,
-        &memory.history,
-        &memory.sources,
-        &mut memory.store,
-        &mut memory.used,
+        group,
+        members,
+        pending,
+        waiting,
+        history,
+        sources,
+        store,
+        used,
         line[1],
         data_of_line(line),
         &payload,
@@ -66,6 +84,7 @@ pub fn queue(memory: &mut Memory, group: Group, line: &Line) -> Told
 }
 
 // The line of a poll: the packet that it gave, if any, and the skipped total.
+// Kept (2): `..Printed::default()` was tried here and in `sent_line`, and their proofs did not close.
 fn packet_line(gave: Option<Packet>, skipped: u64) -> Printed
     ensures { numbers_of result ≡ packet_line gave skipped }
 {
@@ -90,23 +109,37 @@ fn packet_line(gave: Option<Packet>, skipped: u64) -> Printed
 }
 
 // Verb 5: a poll for data.
-pub fn poll(memory: &mut Memory, group: Group, line: &Line) -> Told
-    requires { ReadyFor group memory.old }
-    ensures { Tells 5 (polling line.now) group memory.old result memory.new }
+pub fn poll(
+    group: Group,
+    members: &mut [u64],
+    pending: &mut [u64],
+    waiting: &mut [u64],
+    history: &[u64],
+    sources: &[u64],
+    store: &[u8],
+    output: &mut [u8],
+    used: &mut CellSet,
+    line: &Line,
+) -> Told
+    requires ready { Ready (parts_of group)
+        (tables members.old pending.old waiting.old history.now sources.now) (length store.now) used.old }
+    requires output_len { length output.old ≡ output_size }
+    ensures { Tells 5 (polling line.now) group
+        (tables members.old pending.old waiting.old history.now sources.now)
+        (length store.now) result
+        (tables members.new pending.new waiting.new history.now sources.now)
+        used.new }
 {
     let polled = poll_data_bounded(
-        group.identity,
-        group.core,
-        group.sending,
-        group.ring,
-        &mut memory.members,
-        &mut memory.pending,
-        &mut memory.waiting,
-        &memory.history,
-        &memory.sources,
-        &memory.store,
-        &mut memory.output,
-        &mut memory.used,
+        group,
+        members,
+        pending,
+        waiting,
+        history,
+        sources,
+        store,
+        output,
+        used,
         Timestamp(line[1]),
         MAX_VISITS,
     );
@@ -138,9 +171,26 @@ fn sent_line(answer: Result<usize, Error>) -> Printed
 }
 
 // Verb 6: a packet is sent. A byte above 255 is refused.
-pub fn send(memory: &mut Memory, group: Group, line: &Line) -> Told
-    requires { ReadyFor group memory.old }
-    ensures { TellsByte (column 1 line.now) 6 (sending line.now) group memory.old result memory.new }
+pub fn send(
+    group: Group,
+    members: &mut [u64],
+    pending: &[u64],
+    waiting: &[u64],
+    history: &mut [u64],
+    sources: &mut [u64],
+    store: &mut [u8],
+    list: &mut [u64],
+    used: &mut CellSet,
+    line: &Line,
+) -> Told
+    requires ready { Ready (parts_of group)
+        (tables members.old pending.now waiting.now history.old sources.old) (length store.old) used.old }
+    requires list_len { length list.old ≡ list_size }
+    ensures { TellsByte (column 1 line.now) 6 (sending line.now) group
+        (tables members.old pending.now waiting.now history.old sources.old)
+        (length store.old) result
+        (tables members.new pending.now waiting.now history.new sources.new)
+        used.new }
 {
     if 255 < line[1] {
         return Told {
@@ -150,28 +200,20 @@ pub fn send(memory: &mut Memory, group: Group, line: &Line) -> Told
     }
     let payload = [line[1] as u8];
     let sent = sending::send(
-        group.identity,
-        group.core,
-        group.sending,
-        group.ring,
-        &mut memory.members,
-        &memory.pending,
-        &memory.waiting,
-        &mut memory.history,
-        &mut memory.sources,
-        &mut memory.store,
-        &mut memory.list,
-        &mut memory.used,
+        group,
+        members,
+        pending,
+        waiting,
+        history,
+        sources,
+        store,
+        list,
+        used,
         Timestamp(line[2]),
         &payload,
     );
     Told {
-        group: Group {
-            identity: group.identity,
-            core: sent.core,
-            sending: sent.sending,
-            ring: sent.ring,
-        },
+        group: sent.record,
         line: sent_line(sent.answer),
     }
 }

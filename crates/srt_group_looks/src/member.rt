@@ -37,9 +37,7 @@ fn member_row<'a>(lent: &LentGroup<'a>, id: u64) -> Result<&'a Row, Error>
         return Err(Error::OutOfRange);
     }
     let rows = rows(lent.members, lent.group.core.counts.members);
-    let Some(index) = find(rows, id) else {
-        return Err(Error::UnknownMember);
-    };
+    let index = find(rows, id).ok_or(Error::UnknownMember)?;
     Ok(row(lent.members, index))
 }
 

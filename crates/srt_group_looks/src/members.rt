@@ -27,16 +27,14 @@ fn write_row(row: &mut [u64], shown: MemberShown)
     requires { length row.old ≡ member_row_size }
     ensures { row.new ≡ member_values shown }
 {
-    row.copy_from_slice(&[
-        shown.membership.id,
-        shown.membership.weight,
-        shown.membership.state,
-        shown.connection,
-        shown.membership.admitted,
-        shown.membership.account.reserved,
-        shown.membership.collision.expected,
-        shown.membership.collision.actual,
-    ]);
+    row[0] = shown.membership.id;
+    row[1] = shown.membership.weight;
+    row[2] = shown.membership.state;
+    row[3] = shown.connection;
+    row[4] = shown.membership.admitted;
+    row[5] = shown.membership.account.reserved;
+    row[6] = shown.membership.collision.expected;
+    row[7] = shown.membership.collision.actual;
 }
 
 // The member in a row is written as the list's row at the index.

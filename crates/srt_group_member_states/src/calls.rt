@@ -1,5 +1,5 @@
 // The calls that change the members' states with their refusals, over the record and the lent tables: 5 and 6, and then what follows them.
-// Kept (5, 6): the host lends record and tables anew to each call; which are changed differs, and a struct of `&mut` needs a clause for each ghost name.
+// Kept (5, 6): the members are changed, so they are in no struct of lent readings, and a call's promise names each table: a struct of the others alone would be no plainer.
 ghost use Rattle.srt_protocol.specs.Errors.{outcome_number};
 ghost use Rattle.srt_group_model.specs.Guards.{no_answer};
 ghost use Rattle.srt_group_model.specs.Lent.{call_mark_member_broken, call_refresh_member_states, call_disconnect};
@@ -9,18 +9,11 @@ ghost use Rattle.srt_group_refusals.specs.Promised.{nothing_lent, showing, Promi
 
 use crate::broken::turn_broken;
 use srt_connection_members::disconnect_all;
-use srt_group::Group;
+use srt_group::{Answered, Group};
 use srt_group_polls::refresh::refresh_states;
 use srt_group_refusals::refusals::LentGroup;
 use srt_protocol::error::{Error, outcome_number};
 use srt_protocol::time::Timestamp;
-
-// The record after a refresh of the states: as it was where the call is refused; and how it ended.
-#[derive(Clone, Copy)]
-pub struct Refreshed {
-    pub group: Group,
-    pub outcome: Result<(), Error>,
-}
 
 // A member turns Broken. The record stays as it was.
 pub fn mark_member_broken(
@@ -59,13 +52,13 @@ pub fn refresh_member_states(
     waiting: &[u64],
     history: &[u64],
     sources: &[u64],
-) -> Refreshed
+) -> Answered<Group, ()>
     ensures { Promised call_refresh_member_states (parts_of group)
         (tables members.old pending.now waiting.now history.now sources.now)
         nothing_lent
-        (showing (parts_of result.group)
+        (showing (parts_of result.«record»)
         (tables members.new pending.now waiting.now history.now sources.now)
-        nothing_lent (outcome_number result.outcome) no_answer 0) }
+        nothing_lent (outcome_number result.answer) no_answer 0) }
 {
     let lent = LentGroup {
         group,
@@ -75,20 +68,16 @@ pub fn refresh_member_states(
         history,
         sources,
     };
-    let begun = lent.begin();
-    if let Err(error) = begun {
-        return Refreshed {
-            group,
-            outcome: Err(error),
+    if let Err(error) = lent.begin() {
+        return Answered {
+            record: group,
+            answer: Err(error),
         };
     }
-    let after = refresh_states(group.core, group.sending, members);
-    Refreshed {
-        group: Group {
-            core: after,
-            ..group
-        },
-        outcome: Ok(()),
+    let core = refresh_states(group.core, group.sending, members);
+    Answered {
+        record: Group { core, ..group },
+        answer: Ok(()),
     }
 }
 

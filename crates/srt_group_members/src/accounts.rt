@@ -40,5 +40,5 @@ pub fn add_account(member: Account, own: Account) -> Account
 pub fn is_unlike(a: Account, b: Account) -> bool
     ensures { result ≡ unlike a b }
 {
-    a.reserved != b.reserved
+    a != b
 }

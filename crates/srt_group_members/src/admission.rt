@@ -1,7 +1,7 @@
 // Admission of the members whose handshake completed since the last look. As in the Rust, the first of them fixes the receive base
 // before it is compared, and the first peer group that one answers from binds the group.
 //
-// Kept (5, 6): what changes members takes the host's words (no heap) and the count of rows in use; of `as_chunks_mut` nothing is said of what the words end as.
+// Kept (3, 5, 6): a C host lends the members as words, with the count of rows in use; `as_chunks_mut` says nothing of what the words end as.
 ghost use Rattle.std.specs.Prelude.{◌≡◌, ◌*◌, ◌≤◌, length, eqb};
 ghost use Rattle.srt_group_model.specs.Tools.{if_true◌then◌else◌};
 ghost use Rattle.srt_group_model.specs.Members.{arrives};
@@ -12,7 +12,7 @@ ghost use Rattle.srt_group_members.specs.Admission.{membership_after, Answered, 
 use crate::states::{BROKEN, leg_connected};
 use srt_connection::legs::peer_initial_sequence;
 use srt_connection_members::{put_membership_at, row};
-use srt_connection_queue::rows::{Row, leg, membership};
+use srt_connection_queue::rows::{Row, admitted, leg, member_state, membership};
 use srt_group_model::{Collision, Leg, Membership};
 
 // The peer group that the group is bound to, 0 while it is not, and the base if the members that arrived gave one.
@@ -24,11 +24,10 @@ pub struct Admission {
 
 // Not admitted yet, not Broken, and connected.
 #[tactic(auto, unfolding(srt_group_model::specs::Members::arrives))]
-fn arrives(row: &Row) -> bool
+pub fn arrives(row: &Row) -> bool
     ensures { result ≡ arrives (member_of row.now) }
 {
-    let membership = membership(row);
-    (membership.admitted == 0) & ((membership.state != BROKEN) & leg_connected(row))
+    (admitted(row) == 0) & ((member_state(row) != BROKEN) & leg_connected(row))
 }
 
 #[tactic(auto, using(srt_group_model::specs::Laws::Reason::when_true, srt_group_model::specs::Laws::Reason::when_false))]
@@ -57,11 +56,7 @@ fn answered(before: Admission, leg: Leg) -> Admission
 fn membership_after(mut membership: Membership, peer: u64, actual: u64) -> Membership
     ensures { result ≡ membership_after peer actual membership }
 {
-    if actual == 0 {
-        membership.admitted = 1;
-        return membership;
-    }
-    if actual == peer {
+    if (actual == 0) | (actual == peer) {
         membership.admitted = 1;
         return membership;
     }

@@ -1,7 +1,7 @@
 // Alignment of a member's send sequence with the group's, so that what it sends next has the group's number.
 //
-// Kept (5, 6): what changes members takes the host's words (no heap) and the count of rows in use; of `as_chunks_mut` nothing is said of what the words end as.
-ghost use Rattle.std.specs.Prelude.{◌≡◌, ◌&&◌, ◌*◌, ◌≤◌, length, eqb};
+// Kept (5, 6): a C host lends the members as words, with the count of rows in use; `as_chunks_mut` says nothing of what the words end as.
+ghost use Rattle.std.specs.Prelude.{◌≡◌, ◌&&◌, ◌*◌, ◌≤◌, length, eqb, None};
 ghost use Rattle.std.specs.Option.{option_map};
 ghost use Rattle.srt_group_model.specs.Tools.{first_such};
 ghost use Rattle.srt_group_model.specs.Legs.{has_sender};
@@ -11,10 +11,10 @@ ghost use Rattle.srt_connection_members.specs.Members.{members_of, members_in, H
 ghost use Rattle.srt_group_members.specs.Scan.{Tried};
 ghost use Rattle.srt_group_members.specs.Alignment.{is_other_sender, AlignedAt};
 
-use crate::states::leg_connected;
-use srt_connection::legs::synchronize_send_sequence;
+use crate::states::{leg_connected, leg_has_sender};
+use srt_connection::legs::{has_sender, synchronize_send_sequence};
 use srt_connection_members::{leg_at, put_leg_at, row, rows};
-use srt_connection_queue::rows::{Row, membership, sender};
+use srt_connection_queue::rows::{Row, member_id, sender};
 use srt_group_model::Leg;
 
 // Another member than the one with the id, connected and with a sender.
@@ -22,7 +22,7 @@ use srt_group_model::Leg;
 fn is_other_sender(row: &Row, id: u64) -> bool
     ensures { result ≡ is_other_sender id (member_of row.now) }
 {
-    (membership(row).id != id) & (leg_connected(row) & (sender(row).started == 1))
+    (member_id(row) != id) & (leg_connected(row) & leg_has_sender(row))
 }
 
 fn first_other_sender(rows: &[Row], id: u64) -> Option<&Row>
@@ -32,23 +32,28 @@ fn first_other_sender(rows: &[Row], id: u64) -> Option<&Row>
     rows.iter().find(|row| is_other_sender(row, id))
 }
 
+// The next number of the first other sender.
+#[tactic(auto, using(crate::specs::Laws::Alignment::source_none))]
+fn next_of_other_sender(rows: &[Row], id: u64) -> Option<u64>
+    ensures { result ≡ alignment_source None id (members_in rows.now) }
+{
+    let row = first_other_sender(rows, id)?;
+    Some(sender(row).next)
+}
+
 // The group's send number, else the next number of the first other connected leg, in order of addition.
-#[tactic(auto, using(crate::specs::Laws::Alignment::source_numbered, crate::specs::Laws::Alignment::source_none))]
+#[tactic(auto, unfolding(srt_group_model::specs::Members::alignment_source, srt_group_model::specs::Tools::or_else))]
 pub fn alignment_source(rows: &[Row], number: Option<u64>, id: u64) -> Option<u64>
     ensures { result ≡ alignment_source number id (members_in rows.now) }
 {
-    if number.is_some() {
-        return number;
-    }
-    let row = first_other_sender(rows, id)?;
-    Some(sender(row).next)
+    number.or_else(|| next_of_other_sender(rows, id))
 }
 
 // Whether the leg's next number is the sequence.
 fn sends_next(leg: Leg, sequence: u64) -> bool
     ensures { result ≡ (has_sender leg && eqb leg.sender.next sequence) }
 {
-    leg.sender.started == 1 && leg.sender.next == sequence
+    has_sender(leg) && leg.sender.next == sequence
 }
 
 #[tactic(auto, using(srt_group_model::specs::Laws::Reason::when_true, srt_group_model::specs::Laws::Reason::when_false), unfolding(srt_group_model::specs::Members::align_leg))]
@@ -88,8 +93,8 @@ pub fn align_member_sequence(
     if count <= index {
         return false;
     }
-    let membership = membership(row(members, index));
-    let source = alignment_source(rows(members, count), number, membership.id);
+    let id = member_id(row(members, index));
+    let source = alignment_source(rows(members, count), number, id);
     let Some(sequence) = source else {
         return true;
     };

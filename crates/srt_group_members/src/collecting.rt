@@ -28,8 +28,7 @@ pub fn in_turn(rows: &[Row], round: usize) -> Option<usize>
     ensures { result ≡ in_turn round (members_in rows.now) }
 {
     let (before, later) = rows.split_at(round.min(rows.len()));
-    let Some(place) = first_with_event(later) else {
-        return first_with_event(before);
-    };
-    Some(before.len() + place)
+    first_with_event(later)
+        .map(|place| before.len() + place)
+        .or_else(|| first_with_event(before))
 }

@@ -1,6 +1,7 @@
 // Promotion in Backup: of the connected Standby members the one with the highest weight, then with the lowest id.
 //
-// Kept (5, 6): what changes members takes the host's words (no heap) and the count of rows in use; of `as_chunks_mut` nothing is said of what the words end as.
+// Kept (5, 6): a C host lends the members as words, with the count of rows in use; `as_chunks_mut` says nothing of what the words end as.
+// Kept (1): the mode is the record's word, which a C host lends so that 6 can refuse it; an enum of two modes says what `is_backup` says, and is no plainer.
 ghost use Rattle.std.specs.Prelude.{◌≡◌, ◌*◌, ◌≤◌, ◌<◌, length, IfSome};
 ghost use Rattle.srt_connection_queue.specs.Rows.{row_size, member_of};
 ghost use Rattle.srt_connection_members.specs.Members.{members_of, members_in};
@@ -42,6 +43,7 @@ fn first_in_rank_with(rows: &[Row], index: usize, best: Option<usize>) -> Option
 }
 
 // The index of the member that is promoted.
+// Kept (3): from the last row to the first, so that of equals the first stays; a fold would carry each row with its index, and is no plainer.
 #[tactic(auto, using(crate::specs::Laws::Rank::ranking_start, crate::specs::Laws::Rank::ranking_row, crate::specs::Laws::Rank::ranking_done))]
 pub fn promotion(rows: &[Row]) -> Option<usize>
     ensures { result ≡ promotion (members_in rows.now) }

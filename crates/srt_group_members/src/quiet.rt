@@ -1,19 +1,17 @@
 // Whether a refresh of the members' states would change nothing. Polls ask it first: nearly always it is so.
 // `refresh_pending_states` goes through the members twice and `refresh_states` four times, and in Backup each looks for an
 // active member besides.
+// Kept (1): the mode is the record's word, which a C host lends so that 6 can refuse it; an enum of two modes says what `is_backup` says, and is no plainer.
 ghost use Rattle.std.specs.Prelude.{◌≡◌};
 ghost use Rattle.srt_group_model.specs.Tools.{all};
 ghost use Rattle.srt_connection_queue.specs.Rows.{member_of};
 ghost use Rattle.srt_connection_members.specs.Members.{members_in};
 ghost use Rattle.srt_group_members.specs.Quiet.{is_steady, is_quiet};
 
-use crate::states::{ACTIVE, BROKEN, STANDBY, has_active_member, is_backup};
+use crate::states::{
+    ACTIVE, BROKEN, CONNECTED, HANDSHAKING, STANDBY, has_active_member, is_backup,
+};
 use srt_connection_queue::rows::{Row, admitted, link_state, member_state};
-
-// What a leg's state is while it handshakes, and once it has connected.
-const HANDSHAKING: u64 = 0;
-
-const CONNECTED: u64 = 1;
 
 // Broken; or still handshaking; or connected, admitted, and Active or Standby. Three words of the row are read.
 #[tactic(auto, unfolding(crate::specs::Quiet::is_steady))]
@@ -42,8 +40,5 @@ pub fn is_quiet(rows: &[Row], mode: u64) -> bool
     if !all_steady(rows) {
         return false;
     }
-    if !is_backup(mode) {
-        return true;
-    }
-    has_active_member(rows)
+    !is_backup(mode) || has_active_member(rows)
 }

@@ -1,20 +1,22 @@
 // The refresh of the members' states: what is left of `refresh_pending_states` and `refresh_states` after admission.
 //
-// Kept (5, 6): what changes members takes the host's words (no heap) and the count of rows in use; of `as_chunks_mut` nothing is said of what the words end as.
+// Kept (3, 5, 6): a C host lends the members as words, with the count of rows in use; `as_chunks_mut` says nothing of what the words end as.
+// Kept (1): the mode is the record's word, which a C host lends so that 6 can refuse it; an enum of two modes says what `is_backup` says, and is no plainer.
+// Kept (1): a state that is written goes into the lent row as it is; an enum that is turned into its number at once is no plainer.
 ghost use Rattle.std.specs.Prelude.{◌≡◌, ◌*◌, ◌≤◌, ◌<◌, length};
 ghost use Rattle.srt_group_model.specs.Tools.{is_set, flagged, each};
 ghost use Rattle.srt_group_model.specs.Members.{at_each_place, settle, requalify, break_disconnected};
 ghost use Rattle.srt_group_model.specs.Members.{settle_members, requalify_members};
 ghost use Rattle.srt_connection_queue.specs.Rows.{row_size, member_of};
-ghost use Rattle.srt_connection_members.specs.Members.{members_of, members_in, HasRow, Changed};
+ghost use Rattle.srt_connection_members.specs.Members.{members_of, HasRow, Changed};
 ghost use Rattle.srt_group_members.specs.Scan.{Became};
-ghost use Rattle.srt_group_members.specs.Refresh.{settles, settled_state, requalifies, requalified_state};
+ghost use Rattle.srt_group_members.specs.Refresh.{settles, settled_state, requalifies};
 
 use crate::alignment::align_member_sequence;
 use crate::promotion::promote_if_none;
 use crate::states::{
-    ACTIVE, BROKEN, PENDING, STANDBY, UNSTABLE, has_active_member, is_backup, is_connected_in,
-    leg_disconnected, turn_at,
+    ACTIVE, BROKEN, PENDING, STANDBY, UNSTABLE, is_backup, is_connected_in, leg_disconnected,
+    requalified_state, turn_at,
 };
 use srt_connection::legs::can_send;
 use srt_connection_members::{row, rows};
@@ -90,32 +92,16 @@ pub fn settle_members(members: &mut [u64], count: usize, refresh: Refresh)
 
 // ---- Unstable members
 
+// The leg, which is long, is read of an Unstable member alone.
 #[tactic(auto, using(crate::specs::Laws::Refresh::stays_unstable, crate::specs::Laws::Refresh::requalifies_if_sending))]
 fn requalifies(row: &Row) -> bool
     ensures { result ≡ requalifies (member_of row.now) }
 {
-    if !is_connected_in(row, UNSTABLE) {
-        return false;
-    }
-    can_send(leg(row))
-}
-
-// Active, but in Backup only one is: Standby if another is active.
-#[tactic(auto, using(srt_group_model::specs::Laws::Reason::when_true, srt_group_model::specs::Laws::Reason::when_false), unfolding(crate::specs::Refresh::requalified_state))]
-fn requalified_state(rows: &[Row], mode: u64) -> u64
-    ensures { result ≡ requalified_state mode (members_in rows.now) }
-{
-    if !is_backup(mode) {
-        return ACTIVE;
-    }
-    if has_active_member(rows) {
-        return STANDBY;
-    }
-    ACTIVE
+    is_connected_in(row, UNSTABLE) && can_send(leg(row))
 }
 
 // An Unstable member that can send again requalifies, if it can be aligned.
-// Kept (2): this and `settle_at`, with their loops, as one over a trait of test and state is as long, by the two impls with their ghosts.
+// Kept (2): as one with `settle_at`, over a trait of test and state, it is as long, by two impls with a ghost for each: no plainer.
 #[tactic(auto, using(crate::specs::Laws::Refresh::turn_left_out, crate::specs::Laws::Refresh::turn_refused, crate::specs::Laws::Refresh::turn_made), unfolding(srt_group_model::specs::Members::requalify, crate::specs::Refresh::requalifies, crate::specs::Refresh::requalified_state))]
 fn requalify_at(members: &mut [u64], count: usize, refresh: Refresh, index: usize)
     requires row_size_in_bounds { count * row_size ≤ length members.old }

@@ -1,17 +1,22 @@
 // What state a member is in. A test reads the few words of a row that it needs.
+// Kept (1): the mode is the record's word, which a C host lends so that 6 can refuse it; an enum of two modes says what `is_backup` says, and is no plainer.
+// Kept (1): a state is a word of the lent row: a C host may lend any number, and 6 has to read it to refuse it. What is written goes into
+// the row as it is, and the definitions compare words; an enum that is turned into its number at once is no plainer.
 ghost use Rattle.std.specs.Prelude.{◌≡◌, ◌&&◌, ◌*◌, ◌≤◌, length};
 ghost use Rattle.srt_connection_queue.specs.Rows.{member_of};
 ghost use Rattle.srt_connection_members.specs.Members.{members_in, HasRow, Changed};
 ghost use Rattle.srt_group_model.specs.State.{is_backup, turned};
-ghost use Rattle.srt_group_model.specs.Legs.{is_connected, is_disconnected};
+ghost use Rattle.srt_group_model.specs.Legs.{is_connected, is_disconnected, has_sender};
 ghost use Rattle.srt_group_model.specs.Tools.{all};
 ghost use Rattle.srt_group_model.specs.Members.{in_state, is_active, is_standby, has_active_member, first_active};
 ghost use Rattle.srt_group_model.specs.Calls.{state_at_addition};
 ghost use Rattle.srt_group_members.specs.Scan.{leg_disconnected};
+ghost use Rattle.srt_group_members.specs.Refresh.{requalified_state};
 
-use srt_connection::legs::{is_connected, is_disconnected};
+use srt_connection::legs::is_connected;
+pub use srt_connection::legs::{CONNECTED, DISCONNECTED, HANDSHAKING};
 use srt_connection_members::{membership_at, put_membership_at};
-use srt_connection_queue::rows::{Row, leg, membership};
+use srt_connection_queue::rows::{Row, link_state, member_state, sender};
 use srt_group_model::Leg;
 
 // `GroupMemberState` as the numbers that a row holds.
@@ -26,7 +31,6 @@ pub const UNSTABLE: u64 = 3;
 pub const BROKEN: u64 = 4;
 
 // The mode is 0 in Broadcast and 1 in Backup.
-// Kept (1): it is the word of the record that C lends, and an enum of it would be this test again at each call.
 pub fn is_backup(mode: u64) -> bool
     ensures { result ≡ is_backup mode }
 {
@@ -38,20 +42,27 @@ pub fn is_backup(mode: u64) -> bool
 pub fn leg_connected(row: &Row) -> bool
     ensures { result ≡ is_connected (member_of row.now).leg }
 {
-    is_connected(leg(row))
+    link_state(row) == CONNECTED
+}
+
+// The sender exists from the first connect on.
+pub fn leg_has_sender(row: &Row) -> bool
+    ensures { result ≡ has_sender (member_of row.now).leg }
+{
+    sender(row).started == 1
 }
 
 pub fn leg_disconnected(row: &Row) -> bool
     ensures { result ≡ leg_disconnected (member_of row.now) }
 {
-    is_disconnected(leg(row))
+    link_state(row) == DISCONNECTED
 }
 
 // In that state, and connected.
 pub fn is_connected_in(row: &Row, state: u64) -> bool
     ensures { result ≡ (in_state state (member_of row.now) && is_connected (member_of row.now).leg) }
 {
-    membership(row).state == state && leg_connected(row)
+    member_state(row) == state && leg_connected(row)
 }
 
 #[tactic(auto, unfolding(srt_group_model::specs::Members::is_active))]
@@ -68,7 +79,8 @@ pub fn is_standby(row: &Row) -> bool
     is_connected_in(row, STANDBY)
 }
 
-// Kept (5): it changes a row of the host's words (no heap), and a row lent to be changed leaves the table unsaid.
+// Kept (5): the membership is put whole, by the writer that srt_connection_members has of it; one of the state's word alone would be
+// faster, but a further way into a row, and is no plainer.
 pub fn turn_at(members: &mut [u64], index: usize, state: u64)
     requires { HasRow index members.old }
     ensures { Changed index (turned state) members.old members.new }
@@ -100,22 +112,27 @@ pub fn all_disconnected(rows: &[Row]) -> bool
     rows.iter().all(leg_disconnected)
 }
 
-// The state of a member at its addition. A leg that is not connected cannot be the one that sends.
-#[tactic(auto, using(srt_group_model::specs::Laws::Reason::when_true, srt_group_model::specs::Laws::Reason::when_false), unfolding(srt_group_model::specs::Calls::state_at_addition))]
-pub fn state_at_addition(rows: &[Row], mode: u64, leg: Leg) -> u64
-    ensures { result ≡ state_at_addition mode leg (members_in rows.now) }
+// The state of a member that is to send: Active, but in Backup only one is, so Standby if another is active.
+#[tactic(auto, using(srt_group_model::specs::Laws::Reason::when_true, srt_group_model::specs::Laws::Reason::when_false), unfolding(crate::specs::Refresh::requalified_state))]
+pub fn requalified_state(rows: &[Row], mode: u64) -> u64
+    ensures { result ≡ requalified_state mode (members_in rows.now) }
 {
-    if !is_connected(leg) {
-        if is_backup(mode) {
-            return STANDBY;
-        }
-        return PENDING;
-    }
-    if !is_backup(mode) {
-        return ACTIVE;
-    }
-    if has_active_member(rows) {
+    if is_backup(mode) && has_active_member(rows) {
         return STANDBY;
     }
     ACTIVE
+}
+
+// The state of a member at its addition. A leg that is not connected cannot be the one that sends.
+#[tactic(auto, using(crate::specs::Laws::Refresh::added_connected, crate::specs::Laws::Refresh::added_standby, crate::specs::Laws::Refresh::added_pending))]
+pub fn state_at_addition(rows: &[Row], mode: u64, leg: Leg) -> u64
+    ensures { result ≡ state_at_addition mode leg (members_in rows.now) }
+{
+    if is_connected(leg) {
+        return requalified_state(rows, mode);
+    }
+    if is_backup(mode) {
+        return STANDBY;
+    }
+    PENDING
 }

@@ -1,6 +1,6 @@
 -- The give-up test, delivery and the skip: `gap_given_up`, `release_pending_reservation`, `advance_member_receive_prefix`,
 -- `skip_given_up_gap`; document 01, "Delivery moves the base past the whole run" and "Skip".
-use Rattle.std.specs.Prelude.{Bool, false, not, ◌||◌, List, [], ◌∷◌, ℕ, ◌+◌, ◌-◌, min, leb, eqb, drop}
+use Rattle.std.specs.Prelude.{Bool, false, not, ◌||◌, List, [], ◌∷◌, ℕ, ◌+◌, min, leb, eqb, drop}
 use Rattle.srt_protocol.specs.Sequence.{sequence_distance, sequence_further}
 use Rattle.srt_group_model.specs.Tools.{if_true◌then◌else◌, if_some◌give◌otherwise◌, is_set, or_else, is_empty, all, first_such, at_place, change, each}
 use Rattle.srt_group_model.specs.State.{Member, Receive, State, with_receive, with_members, with_waiting, with_base, with_pending, on_leg, with_own, on_account, based_at, receive_side}

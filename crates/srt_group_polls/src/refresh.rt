@@ -1,7 +1,7 @@
 // The refresh of the members' states: members that arrived are admitted, which may set the base and bind the group; then Pending
 // members settle, and Unstable ones requalify. Where a refresh would change nothing none of this is gone through. From the Rust's
 // `admit_connected_peer_groups`, `refresh_pending_states`, `refresh_states`.
-// Kept (5): a refresh changes the members, which are the host's words (no heap); a struct with the count would be made again for each call, since the record goes on by value.
+// Kept (5): of core, sending and members a refresh changes the first and the last and gives the first back, so a struct of the three would be made and taken apart again in each poll.
 ghost use Rattle.std.specs.Prelude.{◌*◌, ◌≤◌, length};
 ghost use Rattle.srt_group_model.specs.Run.{admit_connected_peer_groups, refresh_pending_states, refresh_states};
 ghost use Rattle.srt_connection_queue.specs.Rows.{row_size};

@@ -34,9 +34,10 @@ fn is_alone_at(event: Event, sequence: u64) -> bool
     ensures { result ≡ (eqb event.kind 0 && (eqb event.content.sequence sequence && eqb event.content.count 1)) }
 {
     let content = event.content;
-    (event.kind == 0) & ((content.sequence == sequence) & (content.count == 1))
+    event.is_data() & ((content.sequence == sequence) & (content.count == 1))
 }
 
+// Kept (1): with the base as an option here, and one match in `pass_event`, a packet in order costs 14 instructions more (callgrind).
 // The packet at the base, if it is next in turn, alone in its run and not held, no event waits, and `quiet` says that a refresh would change nothing.
 #[tactic(auto, using(crate::specs::Laws::StraightPolls::turn_has_row))]
 pub fn next_straight(core: Core, members: &[u64], pending: &[u64], quiet: bool) -> Option<Straight>
@@ -62,13 +63,12 @@ pub fn next_straight(core: Core, members: &[u64], pending: &[u64], quiet: bool) 
     if is_held(pending, core.counts.pending, core.receiving.base) {
         return None;
     }
-    let content = event.content;
     Some(Straight {
         index,
         packet: Packet {
             member: member_id(row),
             owned: 0,
-            content,
+            content: event.content,
         },
     })
 }
@@ -97,8 +97,7 @@ pub fn give_straight(
     let round = (index + 1) % count;
     core.visit.continuation = 0;
     core.visit.round = round;
-    core.receiving.based = 1;
-    core.receiving.base = next;
+    core.receiving.set_base(next);
     Poll {
         gave: Some(GroupEvent::Packet(packet)),
         core,

@@ -1,5 +1,6 @@
 // The stand-in's calls with their refusals, over the record and the lent tables: 5 and 6, and then what follows them.
-// Kept (5, 6): the host lends record and tables anew to each call; which are changed differs, and a struct of `&mut` needs a clause for each ghost name.
+// Kept (5, 6): which tables a call changes differs from call to call (queued data: members and the store; an event or a reading: the members), so a struct of those that it only reads would be another for each kind of call.
+// Kept (1): kind, field and number are words of the C call: any is a legal question, and 2 refuses what is none.
 ghost use Rattle.srt_protocol.specs.Errors.{outcome_number};
 ghost use Rattle.srt_group_model.specs.Guards.{no_answer};
 ghost use Rattle.srt_group_model.specs.Lent.{call_queue_data, call_queue_event, call_read_leg};
@@ -37,12 +38,6 @@ pub fn queue_data(
         (tables members.new pending.now waiting.now history.now sources.now)
         (storing store.new) (outcome_number result) no_answer 0) }
 {
-    let Group {
-        identity,
-        core,
-        sending,
-        ring,
-    } = group;
     let mut used = [0; WORDS];
     let lent = LentGroup {
         group,
@@ -54,8 +49,7 @@ pub fn queue_data(
     };
     lent.begin_stored(store.len(), &mut used)?;
     queueing::queue_data(
-        identity, core, sending, ring, members, pending, waiting, history, sources, store,
-        &mut used, id, content, payload,
+        group, members, pending, waiting, history, sources, store, &mut used, id, content, payload,
     )
 }
 

@@ -1,5 +1,5 @@
 // `queue_data` of the stand-in leg: a packet into a leg's queue, its payload into the lowest free cell of the store.
-// Kept (5, 6): the host lends record and tables anew to each call; which are changed differs, and a struct of `&mut` needs a clause for each ghost name.
+// Kept (5, 6): which tables a call changes differs from call to call (queued data: members and the store; an event or a reading: the members), so a struct of those that it only reads would be another for each kind of call.
 ghost use Rattle.std.specs.Prelude.{◌≡◌, ◌+◌, ◌^◌, ◌<◌, length};
 ghost use Rattle.srt_protocol.specs.Errors.{outcome_number};
 ghost use Rattle.srt_group_model.specs.State.{on_leg};
@@ -8,15 +8,16 @@ ghost use Rattle.srt_group_model.specs.Guards.{no_answer};
 ghost use Rattle.srt_group_model.specs.Calls.{data_event, data_unfit};
 ghost use Rattle.srt_group_model.specs.Lent.{call_queue_data};
 ghost use Rattle.srt_connection_members.specs.Members.{member_at, HasRow, Changed};
-ghost use Rattle.srt_group_shown.specs.Tables.{parts, tables};
+ghost use Rattle.srt_group_shown.specs.Tables.{tables};
 ghost use Rattle.srt_group_shown.specs.Ready.{Ready, storing, Performs};
+ghost use Rattle.srt_group.specs.Made.{parts_of};
 ghost use Rattle.srt_group_queueing.specs.Queueing.{Enqueueable, Enqueues};
 
 use cell_set::{CellSet, lowest_free, take};
 use srt_connection::legs::{LARGEST_16, LARGEST_32, LARGEST_SEQUENCE};
 use srt_connection_members::{find, push_at, put_reservation_at, reservation_at, rows};
-use srt_group_model::{Core, Data, Event, Identity, Sending};
-use srt_group_tables::history::HistoryRing;
+use srt_group::Group;
+use srt_group_model::{Data, Event};
 use srt_protocol::error::{Error, outcome_number};
 use srt_protocol::received_payload::{CELL, cells_of, put_payload};
 
@@ -37,18 +38,13 @@ fn data_unfit(id: u64, content: Data) -> bool
 fn data_event(content: Data, cell: usize, size: usize) -> Event
     ensures { result ≡ data_event cell size content }
 {
-    let source = content.source;
     Event {
         kind: 0,
         reason: 0,
         content: Data {
-            sequence: content.sequence,
-            count: content.count,
-            message: content.message,
-            timestamp: content.timestamp,
-            source,
             cell: cell as u64,
             length: size as u64,
+            ..content
         },
     }
 }
@@ -88,10 +84,7 @@ fn enqueue(
 
 // `queue_data` for a valid state, of which `used` shows the cells in use.
 pub fn queue_data(
-    identity: Identity,
-    core: Core,
-    sending: Sending,
-    ring: HistoryRing,
+    group: Group,
     members: &mut [u64],
     pending: &[u64],
     waiting: &[u64],
@@ -103,27 +96,21 @@ pub fn queue_data(
     content: Data,
     payload: &[u8],
 ) -> Result<(), Error>
-    requires { Ready (parts identity core sending ring)
+    requires { Ready (parts_of group)
         (tables members.old pending.now waiting.now history.now sources.now) (length store.old) used.old }
-    ensures { Performs (call_queue_data id content payload.now) (parts identity core sending ring)
+    ensures { Performs (call_queue_data id content payload.now) (parts_of group)
         (tables members.old pending.now waiting.now history.now sources.now)
-        (storing store.old) (outcome_number result) no_answer (parts identity core sending ring)
+        (storing store.old) (outcome_number result) no_answer (parts_of group)
         (tables members.new pending.now waiting.now history.now sources.now)
         (storing store.new) used.new }
 {
     if data_unfit(id, content) {
         return Err(Error::OutOfRange);
     }
-    let found = find(rows(members, core.counts.members), id);
-    let Some(index) = found else {
-        return Err(Error::UnknownMember);
-    };
+    let index = find(rows(members, group.core.counts.members), id).ok_or(Error::UnknownMember)?;
     if CELL < payload.len() {
         return Err(Error::PayloadTooLong);
     }
-    let lowest = lowest_free(used, cells_of(store.len()));
-    let Some(cell) = lowest else {
-        return Err(Error::NoFreeCell);
-    };
+    let cell = lowest_free(used, cells_of(store.len())).ok_or(Error::NoFreeCell)?;
     enqueue(members, store, used, index, cell, content, payload)
 }

@@ -1,5 +1,6 @@
 // `read_leg` of the stand-in leg: a number into a field of a leg.
-// Kept (5, 6): the host lends record and tables anew to each call; which are changed differs, and a struct of `&mut` needs a clause for each ghost name.
+// Kept (5, 6): which tables a call changes differs from call to call (queued data: members and the store; an event or a reading: the members), so a struct of those that it only reads would be another for each kind of call.
+// Kept (1): kind, field and number are words of the C call: any is a legal question, and 2 refuses what is none.
 ghost use Rattle.std.specs.Prelude.{◌≡◌, ◌||◌, ◌*◌, ◌≤◌, length};
 ghost use Rattle.srt_protocol.specs.Errors.{outcome_number};
 ghost use Rattle.srt_group_model.specs.Legs.{largest_32};
@@ -8,19 +9,20 @@ ghost use Rattle.srt_group_model.specs.Guards.{no_answer};
 ghost use Rattle.srt_group_model.specs.Calls.{reading_out_of_range};
 ghost use Rattle.srt_group_model.specs.Lent.{call_read_leg};
 ghost use Rattle.srt_connection_queue.specs.Rows.{row_size};
-ghost use Rattle.srt_group_shown.specs.Tables.{parts, tables};
+ghost use Rattle.srt_group_shown.specs.Tables.{tables};
 ghost use Rattle.srt_group_shown.specs.Ready.{Ready, storing, Performs};
 ghost use Rattle.srt_group_shown.specs.Steps.{StepsOver};
+ghost use Rattle.srt_group.specs.Made.{parts_of};
 
 use cell_set::CellSet;
 use srt_connection::legs::LARGEST_32;
 use srt_connection::readings::{goes_back, read_field, reading_out_of_range};
 use srt_connection_members::{find, leg_at, put_leg_at, rows};
-use srt_group_model::{Core, Identity, Sending};
-use srt_group_tables::history::HistoryRing;
+use srt_group::Group;
+use srt_group_model::Core;
 use srt_protocol::error::{Error, outcome_number};
 
-// Kept (1): the field is only handed on to srt_connection's readings, which follow document 01's table of fields by number.
+// Kept (1): the field goes on as the word of the C call: what is promised of a reading, here and in srt_connection, is over any word, so a `Field` made of it here would need a second form of three functions there, and is no plainer.
 
 // 2: an id, a field or a number out of range.
 fn reading_unfit(id: u64, field: u64, number: u64) -> bool
@@ -43,10 +45,7 @@ pub fn put_reading(
     if reading_unfit(id, field, number) {
         return Err(Error::OutOfRange);
     }
-    let found = find(rows(members, core.counts.members), id);
-    let Some(index) = found else {
-        return Err(Error::UnknownMember);
-    };
+    let index = find(rows(members, core.counts.members), id).ok_or(Error::UnknownMember)?;
     let leg = leg_at(members, index);
     if goes_back(leg, field, number) {
         return Err(Error::OutOfTurn);
@@ -57,10 +56,7 @@ pub fn put_reading(
 
 // `read_leg` for a valid state. The cells in use stay the same; the store is lent for its length, over which the state is valid.
 pub fn read_leg(
-    identity: Identity,
-    core: Core,
-    sending: Sending,
-    ring: HistoryRing,
+    group: Group,
     members: &mut [u64],
     pending: &[u64],
     waiting: &[u64],
@@ -72,13 +68,13 @@ pub fn read_leg(
     field: u64,
     number: u64,
 ) -> Result<(), Error>
-    requires { Ready (parts identity core sending ring)
+    requires { Ready (parts_of group)
         (tables members.old pending.now waiting.now history.now sources.now) (length store.now) used.now }
-    ensures { Performs (call_read_leg id field number) (parts identity core sending ring)
+    ensures { Performs (call_read_leg id field number) (parts_of group)
         (tables members.old pending.now waiting.now history.now sources.now)
-        (storing store.now) (outcome_number result) no_answer (parts identity core sending ring)
+        (storing store.now) (outcome_number result) no_answer (parts_of group)
         (tables members.new pending.now waiting.now history.now sources.now)
         (storing store.now) used.now }
 {
-    put_reading(core, members, id, field, number)
+    put_reading(group.core, members, id, field, number)
 }

@@ -62,24 +62,15 @@ impl LentGroup<'_> {
             | (self.sources.len() != MAX_HISTORY)
     }
 
-    // Kept (5): a number of cells is a plain count, made of the store's length in each call; a type of it would be taken apart at once.
+    // Kept (5): a number of cells is made of the store's length in each call; a type with its bound would be taken apart at once, and is no plainer.
     // 6: the state breaks a rule over so many cells. Where it breaks none, the set shows which are in use, whatever it held.
     fn is_broken(&self, cells: usize, used: &mut CellSet) -> bool
         requires long { Long (tables_of self.now) }
         requires cells { cells ≤ max_cells }
         ensures { Tested cells (state_of (parts_of self.now.group) (tables_of self.now)) result used.new }
     {
-        let Group {
-            identity,
-            core,
-            sending,
-            ring,
-        } = self.group;
         is_invalid(
-            identity,
-            core,
-            sending,
-            ring,
+            self.group,
             self.members,
             self.pending,
             self.waiting,
@@ -100,12 +91,10 @@ impl LentGroup<'_> {
         }
         let cells = cells_given(self.group.identity.length);
         let mut used = [0; WORDS];
-        let broken = self.is_broken(cells, &mut used);
-        if broken {
-            Err(Error::InvalidState)
-        } else {
-            Ok(())
+        if self.is_broken(cells, &mut used) {
+            return Err(Error::InvalidState);
         }
+        Ok(())
     }
 
     // 5 or 6 of a call that is lent a store of so many bytes; or it goes on, and the set shows which cells are in use, whatever it held.

@@ -17,7 +17,7 @@ use Rattle.srt_group_shown.specs.Tables.{Parts, parts, Tables, tables, state_of}
 use Rattle.srt_group_shown.specs.Ready.{Performs}
 use Rattle.srt_group_shown.specs.Steps.{Unbroken, Steps}
 use Rattle.srt_group_refusals.specs.Promised.{answered, nothing_lent, showing, Promised}
-use Rattle.srt_group_removal.specs.declared.connection.Removal.{Removal}
+use Rattle.srt_group.specs.declared.Answered.{Answered}
 use Rattle.srt_group_removal.specs.Removal.{Removable}
 
 -- whichever member is named, its removal has what it relies on
@@ -49,12 +49,12 @@ given_back o row = answered o (leg_back (leg_in row))
 -- ---- the call
 
 -- the call is its definition, over whatever it does not touch
-pub record StepsRemoval (id : ℕ) (core : Core) (ms ps : List ℕ) (r : Removal) (ms' ps' row' : List ℕ) : Type 0 where
+pub record StepsRemoval (id : ℕ) (core : Core) (ms ps : List ℕ) (r : Answered Core (Unit {0})) (ms' ps' row' : List ℕ) : Type 0 where
   pub over : (identity : Identity) (sending : Sending) (ring : HistoryRing) (waiting history sources : List ℕ)
       → Unbroken (parts identity core sending ring) (tables ms ps waiting history sources)
       → Steps (call_remove_member_connection id) (parts identity core sending ring) (tables ms ps waiting history sources)
-      (outcome_number r.outcome) (given_back r.outcome row')
-      (parts identity r.core sending ring) (tables ms' ps' waiting history sources)
+      (outcome_number r.answer) (given_back r.answer row')
+      (parts identity r.«record» sending ring) (tables ms' ps' waiting history sources)
 
 -- The answer of the call as it is defined. `remove_member` drops it, as the Rust does: of the leg it shows nothing.
 abbrev pub answer_dropped : (id : ℕ) → Lent → State → Answer

@@ -1,6 +1,6 @@
 // `remove_member_connection` and `remove_member` with their refusals, over the record and the lent tables: 5 and 6, and then what follows
 // them.
-// Kept (5, 6): the host lends record and tables anew to each call; which are changed differs, and a struct of `&mut` needs a clause for each ghost name.
+// Kept (5, 6): members, pending packets and cells are changed, so they are in no struct of lent readings, and a call's promise names each table: a struct of the others alone would be no plainer.
 ghost use Rattle.srt_protocol.specs.Errors.{outcome_number};
 ghost use Rattle.srt_group_model.specs.Lent.{call_remove_member_connection};
 ghost use Rattle.srt_group_shown.specs.Tables.{tables};
@@ -11,16 +11,9 @@ ghost use Rattle.srt_group_removal.specs.Connection.{RowAfter, given_back, Promi
 use crate::connection::remove_named;
 use cell_set::WORDS;
 use srt_connection_queue::rows::ROW;
-use srt_group::Group;
+use srt_group::{Answered, Group};
 use srt_group_refusals::refusals::LentGroup;
 use srt_protocol::error::{Error, outcome_number};
-
-// How a removal ended, and the record after it: as it was where the call is refused.
-#[derive(Clone, Copy)]
-pub struct MemberRemoved {
-    pub group: Group,
-    pub outcome: Result<(), Error>,
-}
 
 // A member is removed, and its leg given back in the lent row: 5 too where that is shorter than a row of the members' table.
 pub fn remove_member_connection(
@@ -32,19 +25,19 @@ pub fn remove_member_connection(
     sources: &[u64],
     row: &mut [u64],
     id: u64,
-) -> MemberRemoved
+) -> Answered<Group, ()>
     ensures promised_row { PromisedRow (call_remove_member_connection id) (parts_of group)
         (tables members.old pending.old waiting.now history.now sources.now)
         row.old
-        (showing (parts_of result.group)
+        (showing (parts_of result.«record»)
         (tables members.new pending.new waiting.now history.now sources.now)
-        nothing_lent (outcome_number result.outcome) (given_back result.outcome row.new) 0) }
-    ensures row_after { RowAfter result.outcome row.old row.new }
+        nothing_lent (outcome_number result.answer) (given_back result.answer row.new) 0) }
+    ensures row_after { RowAfter result.answer row.old row.new }
 {
     if row.len() < ROW {
-        return MemberRemoved {
-            group,
-            outcome: Err(Error::InsufficientBuffer),
+        return Answered {
+            record: group,
+            answer: Err(Error::InsufficientBuffer),
         };
     }
     let lent = LentGroup {
@@ -55,23 +48,20 @@ pub fn remove_member_connection(
         history,
         sources,
     };
-    let begun = lent.begin();
-    if let Err(error) = begun {
-        return MemberRemoved {
-            group,
-            outcome: Err(error),
+    if let Err(error) = lent.begin() {
+        return Answered {
+            record: group,
+            answer: Err(error),
         };
     }
     let mut used = [0; WORDS];
     let removed = remove_named(group.core, members, pending, row, &mut used, id);
-    let after = removed.core;
-    let outcome = removed.outcome;
-    MemberRemoved {
-        group: Group {
-            core: after,
+    Answered {
+        record: Group {
+            core: removed.record,
             ..group
         },
-        outcome,
+        answer: removed.answer,
     }
 }
 
@@ -84,13 +74,13 @@ pub fn remove_member(
     history: &[u64],
     sources: &[u64],
     id: u64,
-) -> MemberRemoved
+) -> Answered<Group, ()>
     ensures { PromisedDropping id (parts_of group)
         (tables members.old pending.old waiting.now history.now sources.now)
-        result.outcome (parts_of result.group)
+        result.answer (parts_of result.«record»)
         (tables members.new pending.new waiting.now history.now sources.now) }
 {
-    let mut row = [0u64; 189];
+    let mut row = [0; ROW];
     remove_member_connection(
         group, members, pending, waiting, history, sources, &mut row, id,
     )

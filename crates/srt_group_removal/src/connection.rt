@@ -1,10 +1,11 @@
 // `remove_member_connection` and `remove_member` after 5 and 6, and their forms for a valid state. The leg is given back in a lent row
 // of the members' table.
-// Kept (5, 6): the host lends record and tables anew to each call; which are changed differs, and a struct of `&mut` needs a clause for each ghost name.
+// Kept (5, 6): members, pending packets and cells are changed, so they are in no struct of lent readings, and a call's promise names each table: a struct of the others alone would be no plainer.
 ghost use Rattle.std.specs.Prelude.{length};
 ghost use Rattle.srt_protocol.specs.Errors.{outcome_number};
 ghost use Rattle.srt_group_model.specs.Lent.{call_remove_member_connection};
 ghost use Rattle.srt_connection_members.specs.Members.{HasRow};
+ghost use Rattle.srt_group.specs.Made.{parts_of};
 ghost use Rattle.srt_group_shown.specs.Tables.{parts, tables};
 ghost use Rattle.srt_group_shown.specs.Ready.{Ready, storing, Performs};
 ghost use Rattle.srt_group_collecting.specs.Follows.{Follows};
@@ -14,16 +15,10 @@ use crate::removal::remove_member_at;
 use cell_set::CellSet;
 use srt_connection::legs::LARGEST_32;
 use srt_connection_members::{clear_at, find, put_leg_at, rows};
-use srt_group_model::{Core, Identity, Leg, Sending};
-use srt_group_tables::history::HistoryRing;
+use srt_connection_queue::rows::ROW;
+use srt_group::{Answered, Group};
+use srt_group_model::{Core, Leg};
 use srt_protocol::error::{Error, outcome_number};
-
-// What is left by a removal, refused or not.
-#[derive(Clone, Copy)]
-pub struct Removal {
-    pub core: Core,
-    pub outcome: Result<(), Error>,
-}
 
 // The host's row may be longer than a row, and what lies behind it stays: so it is changed as a table of rows.
 
@@ -45,44 +40,39 @@ pub fn remove_named(
     row: &mut [u64],
     used: &mut CellSet,
     id: u64,
-) -> Removal
+) -> Answered<Core, ()>
     requires any_removable { AnyRemovable core members.old pending.old }
     requires has_row { HasRow 0 row.old }
     ensures steps_removal { StepsRemoval id core members.old pending.old
         result members.new pending.new row.new }
-    ensures row_after { RowAfter result.outcome row.old row.new }
+    ensures row_after { RowAfter result.answer row.old row.new }
     ensures follows { Follows core members.old pending.old used.old
-        result.core members.new pending.new used.new }
+        result.«record» members.new pending.new used.new }
 {
     if LARGEST_32 < id {
-        return Removal {
-            core,
-            outcome: Err(Error::OutOfRange),
+        return Answered {
+            record: core,
+            answer: Err(Error::OutOfRange),
         };
     }
     let found = find(rows(members, core.counts.members), id);
     let Some(index) = found else {
-        return Removal {
-            core,
-            outcome: Err(Error::UnknownMember),
+        return Answered {
+            record: core,
+            answer: Err(Error::UnknownMember),
         };
     };
     let removed = remove_member_at(core, members, pending, used, index);
-    let leg = removed.leg;
-    give_back(row, leg);
-    let after = removed.core;
-    Removal {
-        core: after,
-        outcome: Ok(()),
+    give_back(row, removed.leg);
+    Answered {
+        record: removed.core,
+        answer: Ok(()),
     }
 }
 
 // `remove_member_connection` for a valid state. The store is lent for its length, over which the state is valid.
 pub fn remove_member_connection(
-    identity: Identity,
-    core: Core,
-    sending: Sending,
-    ring: HistoryRing,
+    group: Group,
     members: &mut [u64],
     pending: &mut [u64],
     waiting: &[u64],
@@ -92,27 +82,24 @@ pub fn remove_member_connection(
     row: &mut [u64],
     used: &mut CellSet,
     id: u64,
-) -> Removal
-    requires ready { Ready (parts identity core sending ring)
+) -> Answered<Core, ()>
+    requires ready { Ready (parts_of group)
         (tables members.old pending.old waiting.now history.now sources.now) (length store.now) used.old }
     requires has_row { HasRow 0 row.old }
-    ensures performs { Performs (call_remove_member_connection id) (parts identity core sending ring)
+    ensures performs { Performs (call_remove_member_connection id) (parts_of group)
         (tables members.old pending.old waiting.now history.now sources.now)
-        (storing store.now) (outcome_number result.outcome) (given_back result.outcome row.new)
-        (parts identity result.core sending ring)
+        (storing store.now) (outcome_number result.answer) (given_back result.answer row.new)
+        (parts group.identity result.«record» group.sending group.ring)
         (tables members.new pending.new waiting.now history.now sources.now)
         (storing store.now) used.new }
-    ensures row_after { RowAfter result.outcome row.old row.new }
+    ensures row_after { RowAfter result.answer row.old row.new }
 {
-    remove_named(core, members, pending, row, used, id)
+    remove_named(group.core, members, pending, row, used, id)
 }
 
 // `remove_member` for a valid state: the same, and the leg is dropped.
 pub fn remove_member(
-    identity: Identity,
-    core: Core,
-    sending: Sending,
-    ring: HistoryRing,
+    group: Group,
     members: &mut [u64],
     pending: &mut [u64],
     waiting: &[u64],
@@ -121,18 +108,17 @@ pub fn remove_member(
     store: &[u8],
     used: &mut CellSet,
     id: u64,
-) -> Removal
-    requires { Ready (parts identity core sending ring)
+) -> Answered<Core, ()>
+    requires { Ready (parts_of group)
         (tables members.old pending.old waiting.now history.now sources.now) (length store.now) used.old }
-    ensures { PerformsDropping id (parts identity core sending ring)
+    ensures { PerformsDropping id (parts_of group)
         (tables members.old pending.old waiting.now history.now sources.now)
-        (storing store.now) (outcome_number result.outcome) (parts identity result.core sending ring)
+        (storing store.now) (outcome_number result.answer) (parts group.identity result.«record» group.sending group.ring)
         (tables members.new pending.new waiting.now history.now sources.now)
         (storing store.now) used.new }
 {
-    let mut row = [0u64; 189];
+    let mut row = [0; ROW];
     remove_member_connection(
-        identity, core, sending, ring, members, pending, waiting, history, sources, store,
-        &mut row, used, id,
+        group, members, pending, waiting, history, sources, store, &mut row, used, id,
     )
 }

@@ -2,11 +2,9 @@
 ghost use Rattle.srt_group_model.specs.Cells.{queue_cells};
 ghost use Rattle.cell_set.specs.Sets.{Freed};
 ghost use Rattle.srt_connection_queue.specs.Rows.{member_of};
-ghost use Rattle.srt_connection_members.specs.Members.{member_at, HasRow};
 ghost use Rattle.srt_group_state.specs.Cells.{event_cells};
 
 use cell_set::{CellSet, free};
-use srt_connection_members::row;
 use srt_connection_queue::queue::queue_length;
 use srt_connection_queue::rows::Row;
 use srt_group_model::Event;
@@ -16,7 +14,7 @@ use srt_group_state::cells::queued_event;
 fn free_event(used: &mut CellSet, event: Event)
     ensures { Freed (event_cells event) used.old used.new }
 {
-    if event.kind == 0 {
+    if event.is_data() {
         let content = event.content;
         free(used, content.cell as usize);
     }
@@ -24,7 +22,7 @@ fn free_event(used: &mut CellSet, event: Event)
 
 // Frees the cells of a member's queue.
 #[tactic(auto, using(crate::specs::Laws::Queue::freeing_start))]
-fn free_queue(row: &Row, used: &mut CellSet)
+pub fn free_queue(row: &Row, used: &mut CellSet)
     ensures { Freed (queue_cells (member_of row.now)) used.old used.new }
 {
     let count = queue_length(row);
@@ -32,13 +30,4 @@ fn free_queue(row: &Row, used: &mut CellSet)
         let event = queued_event(row, index);
         free_event(used, event);
     }
-}
-
-#[tactic(auto, using(crate::specs::Laws::Queue::freed_as))]
-// Kept (5): what removes a member takes the host's words (no heap), and lends the row to read.
-pub fn free_queue_at(members: &[u64], used: &mut CellSet, index: usize)
-    requires { HasRow index members.now }
-    ensures { Freed (queue_cells (member_at members.now index)) used.old used.new }
-{
-    free_queue(row(members, index), used);
 }

@@ -1,13 +1,13 @@
 // A member is taken out, and its leg given back.
-// Kept (5): the core goes by value, and the tables are lent to change: a struct of `&mut` fields, tried, needs a clause for each ghost name.
+// Kept (5): the core goes by value, and the tables are lent to change: a struct of `&mut` fields needs a clause for each of them (docs/DECISIONS.md).
 ghost use Rattle.std.specs.Prelude.{◌≡◌, ◌-◌, min};
 ghost use Rattle.srt_group_collecting.specs.Follows.{Follows};
 ghost use Rattle.srt_group_removal.specs.Removal.{Removable, TakesOut, Removes};
 
-use crate::queue::free_queue_at;
+use crate::queue::free_queue;
 use crate::retirement::{bound_group_owned_pending, retirement_base};
 use cell_set::CellSet;
-use srt_connection_members::rows;
+use srt_connection_members::{membership_at, row, rows};
 use srt_group_members::accounts;
 use srt_group_members::removal::largest_window;
 use srt_group_model::{Core, Leg};
@@ -24,11 +24,7 @@ pub struct Removed {
 fn lowered(round: usize, left: usize) -> usize
     ensures { result ≡ min round (left - 1) }
 {
-    if left == 0 {
-        return 0;
-    }
-    let last = left - 1;
-    if last < round { last } else { round }
+    round.min(left.saturating_sub(1))
 }
 
 // The member at the index goes, with its queue, whose cells are free; its held packets become the group's own.
@@ -46,18 +42,13 @@ fn take_out(
     ensures follows { Follows core members.old pending.old used.old
         result members.new pending.new used.new }
 {
-    free_queue_at(members, used, index);
-    let membership = srt_connection_members::membership_at(members, index);
-    let held = core.counts.pending;
-    pending::own_packets(pending, held, membership.id);
-    let count = core.counts.members;
-    srt_connection_members::remove_member(members, count, index);
-    let left = count - 1;
-    let round = lowered(core.visit.round, left);
-    let own = accounts::add_account(membership.account, core.own);
-    core.counts.members = left;
-    core.visit.round = round;
-    core.own = own;
+    free_queue(row(members, index), used);
+    let membership = membership_at(members, index);
+    pending::own_packets(pending, core.counts.pending, membership.id);
+    srt_connection_members::remove_member(members, core.counts.members, index);
+    core.counts.members -= 1;
+    core.visit.round = lowered(core.visit.round, core.counts.members);
+    core.own = accounts::add_account(membership.account, core.own);
     core
 }
 

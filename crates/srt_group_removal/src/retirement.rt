@@ -1,5 +1,5 @@
 // Retirement: while the counts of the group's own packets exceed a limit, the one farthest ahead of a base is retired.
-// Kept (5): `Held` is of the core, which goes by value, and of the table lent to change: as a struct, tried, it needs a clause for the ghost name.
+// Kept (5): `Held` is of the core, which goes by value, and of the table lent to change: a struct of both needs a clause for the table (docs/DECISIONS.md).
 ghost use Rattle.std.specs.Prelude.{◌≡◌, List, ℕ, ◌≤◌, ◌<◌};
 ghost use Rattle.srt_group_model.specs.Legs.{largest_sequence};
 ghost use Rattle.srt_group_model.specs.Removal.{bound_group_owned_pending, retirement_base};
@@ -35,6 +35,7 @@ fn retire_at(mut core: Core, pending: &mut [u64], used: &mut CellSet, at: usize)
 }
 
 // Whether a packet is the group's own and in a walk's reach: of all packets, or of those below the base.
+// Kept (1): what either walk promises is of the base, from which the farthest is told: an option, `None` for all, would leave it unsaid there.
 #[tactic(auto, unfolding(crate::specs::Retire::is_reached))]
 fn is_reached(packet: Packet, base: u64, all: bool) -> bool
     ensures { result ≡ is_reached base all packet }
@@ -91,20 +92,16 @@ pub fn bound_group_owned_pending(
 }
 
 // Where distances are taken from: the base; while none is set, the nearest held packet.
-#[tactic(auto, using(crate::specs::Laws::Retire::based_there, crate::specs::Laws::Retire::based_nowhere, crate::specs::Laws::Retire::based_nearest, crate::specs::Laws::Retire::based_low, srt_group_tables::specs::Laws::PacketLaws::at_in_use))]
+#[tactic(auto, using(crate::specs::Laws::Retire::based_there, crate::specs::Laws::Retire::based_nowhere, crate::specs::Laws::Retire::based_nearest, crate::specs::Laws::Retire::based_upper, crate::specs::Laws::Retire::based_low, srt_group_tables::specs::Laws::PacketLaws::at_in_use))]
 pub fn retirement_base(core: Core, pending: &[u64]) -> u64
     requires { Held core pending.now }
     ensures value { (others : Rest) (members waiting : List ℕ)
         → result ≡ retirement_base (shown core others members pending.now waiting) }
     ensures upper_bound { result ≤ largest_sequence }
 {
-    if core.receiving.based != 0 {
-        return core.receiving.base;
+    if let Some(base) = core.receiving.base() {
+        return base;
     }
     let held = core.counts.pending;
-    let nearest = pending::nearest(pending, held);
-    let Some(at) = nearest else {
-        return 0;
-    };
-    pending::sequence_at(pending, at)
+    pending::nearest(pending, held).map_or(0, |at| pending::sequence_at(pending, at))
 }

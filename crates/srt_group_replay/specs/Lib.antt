@@ -1,3 +1,4 @@
+pub mod Verb
 pub mod Lines
 pub mod Told
 -- What is proved.

@@ -2,24 +2,52 @@
 
 #![tactic(auto)]
 
-ghost use Rattle.std.specs.Prelude.{◌≡◌, ◌≤◌, None};
-ghost use Rattle.srt_group_model.specs.Listing.{column};
-ghost use Rattle.srt_group_listing.specs.Telling.{ReadyFor};
-ghost use Rattle.srt_group_listing.specs.Verbs.{TellsVerb};
-ghost use Rattle.srt_group_replay.specs.Told.{TellsLine};
+ghost use Rattle.std.specs.Prelude.{◌≡◌, None, Some};
+ghost use Rattle.srt_group_replay.specs.Lines.{tables_of, standing, Standing};
+ghost use Rattle.srt_group_replay.specs.Told.{TellsLine, TellsOver};
 
-use cell_set::{WORDS, clear};
+use cell_set::{CellSet, WORDS};
 use srt_connection_members::MEMBERS_LENGTH;
 use srt_group::Group;
-use srt_group_listing::members::outcome_line;
-use srt_group_listing::{LIST, Line, Memory, Printed, STORE, Told, members};
-use srt_group_listing_packets::packets;
+use srt_group_listing::{Line, Printed};
+use srt_group_sending::list::SENT_LENGTH;
 use srt_group_tables::history::MAX_HISTORY;
 use srt_group_tables::pending::PENDING_LENGTH;
 use srt_group_tables::waiting::WAITING_LENGTH;
-use srt_protocol::error::Error;
 use srt_protocol::received_payload::OUTPUT;
 use std::marker::Model;
+
+pub mod telling; // telling.rt: a line, whatever its verb, over tables that a caller lends
+mod verb; // verb.rt: what a line asks for
+
+pub use verb::{UnknownVerb, Verb};
+
+// The bytes of the store: 40 cells.
+pub const STORE: usize = 40 * Group::CELL;
+
+// The words of the list of sends: 5 to each of the 1,100 of one call at most.
+pub const LIST: usize = SENT_LENGTH;
+
+// What a replay lends to its group: the tables, each of its full length; a store of 40 cells with the set of those in use; an output, and a list of sends.
+#[derive(Drop)]
+pub struct Memory {
+    pub members: [u64; MEMBERS_LENGTH],
+    pub pending: [u64; PENDING_LENGTH],
+    pub waiting: [u64; WAITING_LENGTH],
+    pub history: [u64; MAX_HISTORY],
+    pub sources: [u64; MAX_HISTORY],
+    pub store: [u8; STORE],
+    pub output: [u8; OUTPUT],
+    pub list: [u64; LIST],
+    pub used: CellSet,
+}
+
+// The group after a line, if one stands, and what the line prints.
+#[derive(Clone, Copy)]
+pub struct Replayed {
+    pub group: Option<Group>,
+    pub line: Printed,
+}
 
 // The group that stands, none before a line made one, over the memory that it is lent. The replay is its only writer. In contracts it is the
 // state that the group shows.
@@ -63,64 +91,53 @@ impl Replay {
         }
     }
 
+    // A group that stands already goes on over its own memory. Over tables that a caller lends, also longer ones, `telling::tell` tells a line.
+    pub fn of(group: Group, memory: Memory) -> Self
+        requires { Standing (Some group) memory }
+        ensures { result ≡ standing (Some group) memory }
+    {
+        Replay {
+            group: Some(group),
+            memory,
+        }
+    }
+
+    // The group that stands, if any, and the memory that it was lent, given back.
+    pub fn into_parts(self) -> (Option<Group>, Memory)
+        ensures stands { Standing result.0 result.1 }
+        ensures shows { standing result.0 result.1 ≡ self }
+    {
+        let Replay { group, memory } = self;
+        (group, memory)
+    }
+
     // What a line does to the group that stands, if any, and what it prints.
     pub fn tell(&mut self, line: &Line) -> Printed
         ensures { TellsLine line.now self.old result self.new }
     {
-        match line[0] {
-            1 => self.tell_new(line),
-            2..=9 => self.tell_group(line),
-            _ => outcome_line(0, Err(Error::OutOfRange)),
-        }
-    }
-
-    // Verb 1: a new group in place of the old, which stays if the line is refused. No cell of the new one is in use.
-    fn tell_new(&mut self, line: &Line) -> Printed
-        requires { column 0 line.now ≡ 1 }
-        ensures { TellsLine line.now self.old result self.new }
-    {
-        match Group::new(line[1], line[2], STORE) {
-            Ok(fresh) => {
-                clear(&mut self.memory.used);
-                self.group = Some(fresh);
-                outcome_line(1, Ok(()))
-            }
-            Err(error) => outcome_line(1, Err(error)),
-        }
-    }
-
-    // Verbs 2 to 9, over the group that stands, if any.
-    fn tell_group(&mut self, line: &Line) -> Printed
-        requires { (2 ≤ column 0 line.now) × (column 0 line.now ≤ 9) }
-        ensures { TellsLine line.now self.old result self.new }
-    {
-        match self.group {
-            None => outcome_line(line[0], Err(Error::InvalidState)),
-            Some(group) => {
-                let told = tell_made(&mut self.memory, group, line);
-                self.group = Some(told.group);
-                told.line
-            }
-        }
+        let told = tell_in(&mut self.memory, self.group, line);
+        self.group = told.group;
+        told.line
     }
 }
 
-// Any verb over a group that was made, 2 to 9.
-// Kept (5): the group stands in an Option beside the memory (srt_group_replay), so a struct of both would be made and taken apart at each line.
-#[tactic(auto, using(srt_group_listing::specs::Laws::Verbs::tells_2, srt_group_listing::specs::Laws::Verbs::tells_3, srt_group_listing::specs::Laws::Verbs::tells_4, srt_group_listing::specs::Laws::Verbs::tells_5, srt_group_listing::specs::Laws::Verbs::tells_6, srt_group_listing::specs::Laws::Verbs::tells_7, srt_group_listing::specs::Laws::Verbs::tells_8, srt_group_listing::specs::Laws::Verbs::tells_9))]
-fn tell_made(memory: &mut Memory, group: Group, line: &Line) -> Told
-    requires ready { ReadyFor group memory.old }
-    requires asks { (2 ≤ column 0 line.now) × (column 0 line.now ≤ 9) }
-    ensures { TellsVerb line.now group memory.old result memory.new }
+// A line over the group that stands, if any, in the memory that is lent.
+fn tell_in(memory: &mut Memory, standing: Option<Group>, line: &Line) -> Replayed
+    requires { Standing standing memory.old }
+    ensures { TellsOver line.now standing (tables_of memory.old) result (tables_of memory.new) memory.new.used }
 {
-    match line[0] {
-        2 => members::add(memory, group, line),
-        3 => members::read(memory, group, line),
-        4 => packets::queue(memory, group, line),
-        5 => packets::poll(memory, group, line),
-        6 => packets::send(memory, group, line),
-        7 => members::remove(memory, group, line),
-        8 => members::mark_broken(memory, group, line),
-        _ => members::queue(memory, group, line),
-    }
+    let Memory {
+        members,
+        pending,
+        waiting,
+        history,
+        sources,
+        store,
+        output,
+        list,
+        used,
+    } = memory;
+    telling::tell(
+        standing, members, pending, waiting, history, sources, store, output, list, used, line,
+    )
 }

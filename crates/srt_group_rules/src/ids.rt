@@ -1,7 +1,7 @@
 // Document 01's code 6: one id twice. And the member with an id, by a table of places: an id's place is its last bits, and the table
 // says which member's id has it. Two ids can share a place, so what the table says is compared, and where it says nothing of use
 // every member is asked.
-// Kept (5): that ids are distinct is tested once, in the pass, and then known of the host's words; a type for it would hold the same rows.
+// Kept (5): the pass tests once that the ids are distinct; a type of the rows with that fact is opened again where the rows are walked, and so no plainer.
 ghost use Rattle.std.specs.Prelude.{◌≡◌, false, ◌%◌, ◌≤◌, ◌<◌, length, replicate};
 ghost use Rattle.srt_group_model.specs.Tools.{any, each};
 ghost use Rattle.srt_group_model.specs.Members.{id_of, has_id, find};
@@ -25,6 +25,7 @@ fn place_of(id: u64) -> usize
 }
 
 // Whether one of the members before has the id. They are asked only where one of them has the id's place.
+#[tactic(auto, using(crate::specs::Laws::Ids::free_place))]
 fn is_repeated(before: &[Row], id: u64, table: &[u8; PLACES]) -> bool
     requires { TakenBefore before.now (length before.now) table.now }
     ensures { result ≡ any (has_id id) (members_in before.now) }
@@ -37,6 +38,7 @@ fn is_repeated(before: &[Row], id: u64, table: &[u8; PLACES]) -> bool
 
 // Whether an id stands twice. The table is filled on the way; what it then says of a place is the index of a member, or nobody, and
 // nothing rests on which.
+#[tactic(auto, using(crate::specs::Laws::Ids::once_in))]
 pub fn id_twice(rows: &[Row], table: &mut [u8; PLACES]) -> bool
     requires few { length rows.now ≤ max_members }
     requires table_value { table.old ≡ replicate places nobody }
@@ -59,10 +61,8 @@ pub fn find_by_place(rows: &[Row], table: &[u8; PLACES], id: u64) -> Option<usiz
     ensures { result ≡ find id (members_in rows.now) }
 {
     let index = table[place_of(id)] as usize;
-    if index < rows.len() {
-        if member_id(&rows[index]) == id {
-            return Some(index);
-        }
+    if rows.get(index).is_some_and(|row| member_id(row) == id) {
+        return Some(index);
     }
     find(rows, id)
 }

@@ -4,8 +4,10 @@ ghost use Rattle.std.specs.Prelude.{◌≡◌};
 ghost use Rattle.srt_group_model.specs.Validity.{is_too_large, leg_sequence_too_large, data_out_of_range, leg_out_of_range, membership_out_of_range, packet_out_of_range, entry_out_of_range, waiting_out_of_range};
 ghost use Rattle.srt_group_rules.specs.Rules.{flight_out_of_range};
 
-use srt_connection::legs::{LARGEST_16, LARGEST_32, LARGEST_SEQUENCE, NO_SEQUENCE};
-use srt_group_model::{Data, Entry, Leg, Membership, Packet, Sender, Waiting};
+use srt_connection::legs::{
+    LARGEST_16, LARGEST_32, LARGEST_SEQUENCE, NO_SEQUENCE, has_sender, is_connected,
+};
+use srt_group_model::{Data, Entry, Leg, Membership, Packet, Waiting};
 use srt_protocol::received_payload::CELL;
 
 // The longest payload fills a cell.
@@ -43,16 +45,17 @@ pub fn data_out_of_range(content: Data) -> bool
 
 // A flight is 0 without a sender.
 #[tactic(auto, using(srt_group_model::specs::Laws::Reason::when_true, srt_group_model::specs::Laws::Reason::when_false), unfolding(crate::specs::Rules::flight_out_of_range))]
-fn flight_out_of_range(sender: Sender) -> bool
-    ensures { result ≡ flight_out_of_range sender }
+fn flight_out_of_range(leg: Leg) -> bool
+    ensures { result ≡ flight_out_of_range leg.sender }
 {
-    if sender.started == 1 {
-        return LARGEST_16 < sender.flight;
+    if has_sender(leg) {
+        return LARGEST_16 < leg.sender.flight;
     }
-    0 < sender.flight
+    0 < leg.sender.flight
 }
 
 // A connected leg has a sender.
+#[tactic(auto, using(srt_group_model::specs::Laws::Reason::or_assoc, crate::specs::Laws::Rules::no_word_above), unfolding(srt_group_model::specs::Tools::any, srt_group_model::specs::Validity::any_above, srt_group_model::specs::Validity::leg_words, srt_group_model::specs::Validity::leg_out_of_range, crate::specs::Rules::flight_out_of_range))]
 pub fn leg_out_of_range(leg: Leg) -> bool
     ensures { result ≡ leg_out_of_range leg }
 {
@@ -60,12 +63,12 @@ pub fn leg_out_of_range(leg: Leg) -> bool
         | (LARGEST_32 < leg.link.peer)
         | (LARGEST_16 < leg.link.limit)
         | (1 < leg.sender.started)
-        | flight_out_of_range(leg.sender)
+        | flight_out_of_range(leg)
         | (LARGEST_16 < leg.sender.window)
         | (LARGEST_16 < leg.receiver.window)
         | (LARGEST_32 < leg.trip.srtt)
         | (LARGEST_32 < leg.trip.rttvar)
-        | ((leg.link.state == 1) & (leg.sender.started != 1))
+        | (is_connected(leg) & !has_sender(leg))
 }
 
 // A member without its leg and its queue.

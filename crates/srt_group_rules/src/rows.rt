@@ -23,7 +23,7 @@ use srt_group_tables::waiting::waiting_event;
 pub fn event_breaks_rule(event: Event) -> bool
     ensures { result ≡ event_breaks_rule event }
 {
-    if event.kind != 0 {
+    if !event.is_data() {
         return (3 < event.kind) | (LARGEST_32 < event.reason);
     }
     (LARGEST_32 < event.reason)
@@ -61,18 +61,12 @@ pub fn packet_breaks_rule(packet: Packet) -> bool
 
 // ---- waiting events
 
-#[tactic(auto, using(crate::specs::Laws::Walks::passed_all))]
-// Kept (6): the waiting events are read at an index of the host's words, as their table's crate reads them.
+// Kept (6): a C host lends the waiting events as words, with the count of rows in use; each is read at its place, as everywhere.
 pub fn waiting_breaks_rule(waiting: &[u64], count: usize) -> bool
     requires { (waiting_size ≤ length waiting.now) × (count ≤ max_waiting) }
     ensures { result ≡ any waiting_out_of_range (waitings count waiting.now) }
 {
-    for at in 0..count {
-        if waiting_out_of_range(waiting_event(waiting, at)) {
-            return true;
-        }
-    }
-    false
+    (0..count).any(|at| waiting_out_of_range(waiting_event(waiting, at)))
 }
 
 // ---- an entry of the history

@@ -20,14 +20,14 @@ pub const OWN_PLACE: usize = MAX_MEMBERS;
 pub fn data_count(event: Event) -> u64
     ensures { result ≡ counted is_data event_count event }
 {
-    if event.kind == 0 {
+    if event.is_data() {
         return event.content.count;
     }
     0
 }
 
 // The place of the account that a packet is added to.
-// Kept (5): see ids.rt.
+// Kept (5): the table and that the ids are distinct are of the same rows; as in ids.rt a type of the two is no plainer.
 #[tactic(auto, using(crate::specs::Laws::Sums::place_own, crate::specs::Laws::Sums::place_held))]
 pub fn account_place(rows: &[Row], table: &[u8; PLACES], packet: Packet) -> Option<usize>
     requires { one_twice (each id_of (members_in rows.now)) ≡ false }

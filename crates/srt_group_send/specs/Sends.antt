@@ -8,19 +8,17 @@ use Rattle.srt_group_model.specs.Sending.{max_sent, Sent, Flow, send_broadcast}
 use Rattle.srt_group_model.specs.Backup.{send_backup}
 use Rattle.srt_group_model.specs.Calls.{send_flow}
 use Rattle.srt_group_model.specs.Sound.{Fit}
-use Rattle.srt_group_model.specs.declared.Core.{Core}
-use Rattle.srt_group_model.specs.declared.Identity.{Identity}
-use Rattle.srt_group_model.specs.declared.Sending.{Sending}
-use Rattle.srt_group_tables.specs.declared.history.HistoryRing.{HistoryRing}
 use Rattle.srt_group_tables.specs.Ring.{Long, cells_in_word, entries_of}
 use Rattle.srt_group_sending.specs.SentList.{Wrote}
 use Rattle.srt_group_carrier.specs.Freeing.{SendFollows}
 use Rattle.srt_group_carrier.specs.Lendable.{BackupTables, arrays_in}
 use Rattle.srt_group_model.specs.Lent.{Lent, call_send, perform}
-use Rattle.srt_group_shown.specs.Tables.{Parts, parts, Tables, tables, state_of}
+use Rattle.srt_group_shown.specs.Tables.{Parts, Tables, tables, state_of}
 use Rattle.srt_group_shown.specs.Ready.{Performs}
+use Rattle.srt_group.specs.declared.Group.{Group}
+use Rattle.srt_group.specs.Made.{parts_of}
 use Rattle.srt_group_send.specs.Answers.{send_number, send_answer}
-use Rattle.srt_group_send.specs.declared.sending.GroupSend.{GroupSend}
+use Rattle.srt_group_send.specs.declared.sending.GroupSent.{GroupSent}
 
 -- the send of the mode
 abbrev pub by_mode : (mode time size cell : ℕ) → State → Flow
@@ -35,32 +33,30 @@ cell_or_none (Some cell) = cell
 abbrev pub CellByMode : ℕ → Option ℕ → Type 0
 CellByMode mode cell = MatchOption cell (is_backup mode ≡ false) (λ k. (is_backup mode ≡ true) × (k < cells_in_word))
 
--- the state that these parts show, with an identity, held packets and waiting events, which no send moves
-abbrev pub sending_state : Core → Sending → HistoryRing → BackupTables → Identity → (pending waiting : List ℕ) → State
-sending_state core x r t identity pending waiting =
-    state_of (parts identity core x r) (tables t.members pending waiting t.history t.sources)
+-- the state that a record shows, with held packets and waiting events, which no send moves
+abbrev pub sending_state : Group → BackupTables → (pending waiting : List ℕ) → State
+sending_state g t pending waiting = state_of (parts_of g) (tables t.members pending waiting t.history t.sources)
 
 -- every number is in its range
-pub record FitShown (core : Core) (x : Sending) (r : HistoryRing) (t : BackupTables) : Type 0 where
-  pub identity : Identity
+pub record FitShown (g : Group) (t : BackupTables) : Type 0 where
   pub pending : List ℕ
   pub waiting : List ℕ
-  pub fit : Fit (sending_state core x r t identity pending waiting)
+  pub fit : Fit (sending_state g t pending waiting)
 
 -- The model's flow was made, from the refresh on, whatever no send moves; the rows written are its sends, and the set of used cells follows it.
-pub record FlowMade (cell time size : ℕ) (core : Core) (x : Sending) (r : HistoryRing) (before : BackupTables) (answer : GroupSend) (after : BackupTables) : Type 0 where
+pub record FlowMade (cell time size : ℕ) (g : Group) (before : BackupTables) (answer : GroupSent) (after : BackupTables) : Type 0 where
   pub members_long : length after.members ≡ length before.members
   pub arrays_long : Long (arrays_in after)
   pub few : answer.rows ≤ max_sent
   pub sends : List Sent
   pub written : Wrote 0 sends before.list answer.rows after.list
-  pub legs : IfOk answer.answer (λ n. n ≡ (if_true is_backup core.mode then 1 else length sends))
-  pub follows : SendFollows cell (entries_of r (arrays_in before)) before.used (entries_of answer.ring (arrays_in after)) after.used
-  pub flow : (identity : Identity) (pending waiting payload : List ℕ) → length payload ≡ size
-      → send_flow cell time payload (sending_state core x r before identity pending waiting)
-      (refresh_states (start (sending_state core x r before identity pending waiting)))
+  pub legs : IfOk answer.answer (λ n. n ≡ (if_true is_backup g.core.mode then 1 else length sends))
+  pub follows : SendFollows cell (entries_of g.ring (arrays_in before)) before.used (entries_of answer.«record».ring (arrays_in after)) after.used
+  pub flow : (pending waiting payload : List ℕ) → length payload ≡ size
+      → send_flow cell time payload (sending_state g before pending waiting)
+      (refresh_states (start (sending_state g before pending waiting)))
       ≡ record {
-        state = sending_state answer.core answer.sending answer.ring after identity pending waiting;
+        state = sending_state answer.«record» after pending waiting;
         sends = sends;
         code = send_number answer.answer;
       }
@@ -74,6 +70,6 @@ pub record Storable (cell size store : ℕ) : Type 0 where
   pub short : size ≤ cell_size
 
 -- the call is its definition, and so is the count of the rows that it fills
-pub record Sends (time : ℕ) (payload : List ℕ) (p : Parts) (t : Tables) (bytes : Lent) (r : GroupSend) (t' : Tables) (bytes' : Lent) (used' : List ℕ) : Type 0 where
-  pub performs : Performs (call_send time payload) p t bytes (send_number r.answer) (send_answer r.answer) (parts p.identity r.core r.sending r.ring) t' bytes' used'
+pub record Sends (time : ℕ) (payload : List ℕ) (p : Parts) (t : Tables) (bytes : Lent) (r : GroupSent) (t' : Tables) (bytes' : Lent) (used' : List ℕ) : Type 0 where
+  pub performs : Performs (call_send time payload) p t bytes (send_number r.answer) (send_answer r.answer) (parts_of r.«record») t' bytes' used'
   pub rows : r.rows ≡ (perform (call_send time payload) bytes (state_of p t)).rows

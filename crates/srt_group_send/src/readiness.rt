@@ -1,114 +1,115 @@
 // The readiness tests: `can_send` and `can_send_with_pacing` after 5 and 6. They refresh the members' states and, in Backup, trim the
 // history by what the carrier's peer has acknowledged, so that cells may get free.
-// Kept (5): core, sending and ring are given back changed, the members lent to be changed; a struct of them would be built and taken apart at once.
-ghost use Rattle.std.specs.Prelude.{◌*◌, ◌≤◌, length};
+// Kept (5): which tables a function changes differs from one to the next, so a struct of `&mut` would be another for each (docs/DECISIONS.md).
+ghost use Rattle.std.specs.Prelude.{◌≡◌, ◌*◌, ◌≤◌, length};
+ghost use Rattle.srt_group_model.specs.Backup.{max_history};
 ghost use Rattle.srt_group_model.specs.Lent.{call_can_send, call_can_send_with_pacing};
 ghost use Rattle.srt_connection_queue.specs.Rows.{row_size};
 ghost use Rattle.srt_group_sending.specs.Readiness.{pacing_in};
-ghost use Rattle.srt_group_send.specs.Readiness.{Tests, TrimmedReady, Testable};
+ghost use Rattle.srt_group_send.specs.Readiness.{call_paced, InWord, Tests, TrimmedReady, Testable};
 
 use cell_set::CellSet;
 use srt_connection_members::rows;
+use srt_group::Group;
 use srt_group_backup::trimming::trim_by_carrier;
 use srt_group_carrier::carrier::ready_members;
 use srt_group_carrier::freeing::free_dropped;
 use srt_group_members::states::is_backup;
-use srt_group_model::{Core, Sending};
 use srt_group_polls::refresh::refresh_states;
 use srt_group_sending::readiness::{backup_send_ready, broadcast_send_ready};
-use srt_group_tables::history::{HistoryRing, HistoryWords};
+use srt_group_tables::history::HistoryWords;
 use srt_protocol::time::Timestamp;
 
-// Whether a send could go, and the parts of the record as the test leaves them.
+// Whether a send could go, and the record as the test leaves it.
 #[derive(Clone, Copy)]
 pub struct Readiness {
     pub ready: bool,
-    pub core: Core,
-    pub sending: Sending,
-    pub ring: HistoryRing,
+    pub record: Group,
 }
 
 // In Backup: the history is trimmed by what the carrier says, and then the test made.
 fn trim_and_test(
-    core: Core,
-    sending: Sending,
-    history: &HistoryWords,
+    group: Group,
+    history: &[u64],
     members: &[u64],
     used: &mut CellSet,
     pacing: Option<Timestamp>,
 ) -> Readiness
-    requires { core.counts.members * row_size ≤ length members.now }
-    ensures { TrimmedReady (pacing_in pacing) core sending history.now.ring members.now history.now.history.now used.old result
-        used.new }
+    requires rows { group.core.counts.members * row_size ≤ length members.now }
+    requires history_long { length history.now ≡ max_history }
+    ensures { TrimmedReady (pacing_in pacing) group members.now history.now used.old result used.new }
 {
-    let rows = rows(members, core.counts.members);
-    let trimmed = trim_by_carrier(sending, history, rows);
-    let numbers = trimmed.sending;
-    let left = trimmed.ring;
-    free_dropped(history, left.length, used);
-    let rest = HistoryWords {
-        ring: left,
-        history: history.history,
+    let rows = rows(members, group.core.counts.members);
+    let words = HistoryWords {
+        ring: group.ring,
+        history,
     };
-    let ready = backup_send_ready(rows, numbers, &rest, pacing);
+    let trimmed = trim_by_carrier(group.sending, &words, rows);
+    free_dropped(&words, trimmed.ring.length, used);
+    let rest = HistoryWords {
+        ring: trimmed.ring,
+        history,
+    };
+    let ready = backup_send_ready(rows, trimmed.sending, &rest, pacing);
     Readiness {
         ready,
-        core,
-        sending: numbers,
-        ring: left,
+        record: Group {
+            sending: trimmed.sending,
+            ring: trimmed.ring,
+            ..group
+        },
     }
 }
 
-// `can_send` after 5 and 6.
-pub fn can_send(
-    core: Core,
-    sending: Sending,
-    history: &HistoryWords,
+// The test after 5 and 6. With a time it is the paced one: a leg counts that may send by its pace at it, and in Backup a carrier that fell
+// silent is demoted first, and another promoted.
+pub fn test(
+    group: Group,
+    history: &[u64],
     members: &mut [u64],
     used: &mut CellSet,
+    pacing: Option<Timestamp>,
 ) -> Readiness
-    requires { Testable core sending history.now.ring members.old history.now.history.now }
-    ensures { Tests call_can_send core sending history.now.ring members.old history.now.history.now used.old result
-        members.new used.new }
+    requires testable { Testable group members.old history.now }
+    requires in_word { InWord (pacing_in pacing) }
+    ensures { Tests (call_paced (pacing_in pacing)) group members.old history.now used.old result members.new used.new }
 {
-    let after = refresh_states(core, sending, members);
-    if is_backup(core.mode) {
-        return trim_and_test(after, sending, history, members, used, None);
+    let core = refresh_states(group.core, group.sending, members);
+    let count = core.counts.members;
+    let mode = group.core.mode;
+    let refreshed = Group { core, ..group };
+    if !is_backup(mode) {
+        let ready = broadcast_send_ready(rows(members, count), pacing);
+        return Readiness {
+            ready,
+            record: refreshed,
+        };
     }
-    let ready = broadcast_send_ready(rows(members, after.counts.members), None);
-    Readiness {
-        ready,
-        core: after,
-        sending,
-        ring: history.ring,
-    }
+    let Some(time) = pacing else {
+        return trim_and_test(refreshed, history, members, used, None);
+    };
+    ready_members(members, count, mode, time);
+    trim_and_test(refreshed, history, members, used, Some(time))
+}
+
+// `can_send` after 5 and 6.
+pub fn can_send(group: Group, history: &[u64], members: &mut [u64], used: &mut CellSet) -> Readiness
+    requires { Testable group members.old history.now }
+    ensures { Tests call_can_send group members.old history.now used.old result members.new used.new }
+{
+    test(group, history, members, used, None)
 }
 
 // `can_send_with_pacing` after 5 and 6.
 pub fn can_send_with_pacing(
-    core: Core,
-    sending: Sending,
-    history: &HistoryWords,
+    group: Group,
+    history: &[u64],
     members: &mut [u64],
     used: &mut CellSet,
     time: Timestamp,
 ) -> Readiness
-    requires { Testable core sending history.now.ring members.old history.now.history.now }
-    ensures { Tests (call_can_send_with_pacing time.0) core sending history.now.ring members.old
-        history.now.history.now used.old result members.new used.new }
+    requires { Testable group members.old history.now }
+    ensures { Tests (call_can_send_with_pacing time.0) group members.old history.now used.old result members.new used.new }
 {
-    let after = refresh_states(core, sending, members);
-    let pacing = Some(time);
-    let mode = core.mode;
-    if is_backup(mode) {
-        ready_members(members, after.counts.members, mode, time);
-        return trim_and_test(after, sending, history, members, used, pacing);
-    }
-    let ready = broadcast_send_ready(rows(members, after.counts.members), pacing);
-    Readiness {
-        ready,
-        core: after,
-        sending,
-        ring: history.ring,
-    }
+    test(group, history, members, used, Some(time))
 }

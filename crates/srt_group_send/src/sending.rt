@@ -1,6 +1,8 @@
 // `send` for a valid state. The members' states are refreshed first; then the payload's size is tested once, against the first active
 // leg, since a payload that is too large for every leg says nothing of a leg's health; then the send is the mode's.
-// Kept (5, 6): what changes members, history or list takes them one beside the other: of a struct of `&mut` each clause names every field (tried).
+// Kept (5, 6): which tables a function changes differs from one to the next, so a struct of `&mut` would be another for each (docs/DECISIONS.md).
+// Kept (5): the rules take a payload's time, size, cell and sequence one by one, so a struct of them would be taken apart in each clause, and is no plainer.
+// Kept (1): the mode is the record's word, which a C host lends so that 6 can refuse it; an enum of it would be `is_backup` again at each call.
 ghost use Rattle.std.specs.Prelude.{◌≡◌, true, ◌*◌, ◌≤◌, ◌<◌, length, is_ok, Ok};
 ghost use Rattle.std.specs.Result.{result_and};
 ghost use Rattle.srt_protocol.specs.Cells.{cell_size, cells_of, overwritten};
@@ -13,32 +15,31 @@ ghost use Rattle.srt_connection_members.specs.Members.{members_of};
 ghost use Rattle.srt_group_tables.specs.Ring.{arrays, lengths_in_word, send_of};
 ghost use Rattle.srt_group_carrier.specs.Lendable.{backup_tables, Lendable, NumbersFit};
 ghost use Rattle.srt_group_carrier.specs.Flows.{InMode, BackupFlows};
-ghost use Rattle.srt_group_shown.specs.Tables.{parts, tables};
+ghost use Rattle.srt_group_shown.specs.Tables.{tables};
 ghost use Rattle.srt_group_shown.specs.Ready.{Ready, sending_into};
+ghost use Rattle.srt_group.specs.Made.{parts_of};
 ghost use Rattle.srt_group_send.specs.Sends.{by_mode, cell_or_none, CellByMode, FitShown, FlowMade, Storable, Sends};
 
 use cell_set::{CellSet, lowest_free};
 use srt_connection_members::rows;
+use srt_group::Group;
+use srt_group_backup::send::BackupSend;
+use srt_group_backup::trimming::SendHistory;
 use srt_group_backup_send::sends::send_backup;
-use srt_group_carrier::recording::BackupSend;
 use srt_group_members::states::is_backup;
-use srt_group_model::{Core, Identity, Sending};
 use srt_group_polls::refresh::refresh_states;
 use srt_group_sending::broadcast::{above_limit, send_broadcast};
-use srt_group_tables::history::HistoryRing;
 use srt_protocol::error::Error;
 use srt_protocol::received_payload::{CELL, cells_of, put_payload};
 use srt_protocol::time::Timestamp;
 
-// On how many legs the payload was sent, or why not; how many rows of the list are filled, by a refused send too; and what a send leaves of
-// the record.
+// The record after a send; on how many legs the payload was sent, or why not; and how many rows of the list are filled, by a refused send
+// too.
 #[derive(Clone, Copy)]
-pub struct GroupSend {
+pub struct GroupSent {
+    pub record: Group,
     pub answer: Result<usize, Error>,
     pub rows: usize,
-    pub core: Core,
-    pub sending: Sending,
-    pub ring: HistoryRing,
 }
 
 // On how many legs a payload was sent that has filled so many rows: in Backup on one, behind the flight that was replayed.
@@ -55,8 +56,7 @@ fn legs_sent(outcome: Result<(), Error>, mode: u64, rows: usize) -> Result<usize
 // The send of the mode: on every active leg, or on the carrier, whose payload is kept in the cell.
 fn send_mode(
     mode: u64,
-    sending: Sending,
-    ring: HistoryRing,
+    send: SendHistory,
     history: &mut [u64],
     sources: &mut [u64],
     members: &mut [u64],
@@ -67,28 +67,27 @@ fn send_mode(
     size: u64,
     cell: Option<usize>,
 ) -> BackupSend
-    requires lendable { Lendable count ring (backup_tables members.old history.old sources.old list.old used.old) }
-    requires numbers_fit { NumbersFit (send_of sending ring (arrays history.old sources.old)) (members_of count members.old) }
+    requires lendable { Lendable count send.ring (backup_tables members.old history.old sources.old list.old used.old) }
+    requires numbers_fit { NumbersFit (send_of send.sending send.ring (arrays history.old sources.old)) (members_of count members.old) }
     requires count_le_max_members { (count ≤ max_members) × (CellByMode mode cell × (size < lengths_in_word)) }
-    ensures { BackupFlows (InMode mode) (by_mode mode time.0 size (cell_or_none cell)) (cell_or_none cell) count sending ring 0
+    ensures { BackupFlows (InMode mode) (by_mode mode time.0 size (cell_or_none cell)) (cell_or_none cell) count send.sending send.ring 0
         (backup_tables members.old history.old sources.old list.old used.old) result
         (backup_tables members.new history.new sources.new list.new used.new) }
 {
     let Some(taken) = cell else {
-        let sent = send_broadcast(sending, members, count, list, time, size);
-        let outcome = sent.outcome;
-        let numbers = sent.sending;
+        let sent = send_broadcast(send.sending, members, count, list, time, size);
         return BackupSend {
-            outcome,
-            sending: numbers,
-            ring,
+            outcome: sent.outcome,
+            send: SendHistory {
+                sending: sent.sending,
+                ..send
+            },
             sent: sent.sent,
         };
     };
     send_backup(
         mode,
-        sending,
-        ring,
+        send,
         history,
         sources,
         members,
@@ -103,9 +102,7 @@ fn send_mode(
 
 // The refresh, 23, and the send of the mode.
 fn refresh_and_send(
-    core: Core,
-    sending: Sending,
-    ring: HistoryRing,
+    group: Group,
     history: &mut [u64],
     sources: &mut [u64],
     members: &mut [u64],
@@ -114,39 +111,40 @@ fn refresh_and_send(
     time: Timestamp,
     size: u64,
     cell: Option<usize>,
-) -> GroupSend
-    requires lendable { Lendable core.counts.members ring (backup_tables members.old history.old sources.old list.old used.old) }
-    requires fit_shown { FitShown core sending ring (backup_tables members.old history.old sources.old list.old used.old) }
-    requires members_le_max_members { (core.counts.members ≤ max_members) × (CellByMode core.mode cell × (size < lengths_in_word)) }
-    ensures { FlowMade (cell_or_none cell) time.0 size core sending ring
+) -> GroupSent
+    requires lendable { Lendable group.core.counts.members group.ring (backup_tables members.old history.old sources.old list.old used.old) }
+    requires fit_shown { FitShown group (backup_tables members.old history.old sources.old list.old used.old) }
+    requires members_le_max_members { (group.core.counts.members ≤ max_members) × (CellByMode group.core.mode cell × (size < lengths_in_word)) }
+    ensures { FlowMade (cell_or_none cell) time.0 size group
         (backup_tables members.old history.old sources.old list.old used.old) result
         (backup_tables members.new history.new sources.new list.new used.new) }
 {
-    let after = refresh_states(core, sending, members);
-    let count = after.counts.members;
+    let core = refresh_states(group.core, group.sending, members);
+    let count = core.counts.members;
     if above_limit(rows(members, count), size) {
-        return GroupSend {
+        return GroupSent {
+            record: Group { core, ..group },
             answer: Err(Error::PayloadAboveLimit),
             rows: 0,
-            core: after,
-            sending,
-            ring,
         };
     }
-    let mode = core.mode;
+    let mode = group.core.mode;
+    let send = SendHistory {
+        sending: group.sending,
+        ring: group.ring,
+    };
     let sent = send_mode(
-        mode, sending, ring, history, sources, members, count, list, used, time, size, cell,
+        mode, send, history, sources, members, count, list, used, time, size, cell,
     );
-    let outcome = sent.outcome;
-    let rows = sent.sent;
-    let numbers = sent.sending;
-    let left = sent.ring;
-    GroupSend {
-        answer: legs_sent(outcome, mode, rows),
-        rows,
-        core: after,
-        sending: numbers,
-        ring: left,
+    GroupSent {
+        record: Group {
+            identity: group.identity,
+            core,
+            sending: sent.send.sending,
+            ring: sent.send.ring,
+        },
+        answer: legs_sent(sent.outcome, mode, sent.sent),
+        rows: sent.sent,
     }
 }
 
@@ -163,10 +161,7 @@ fn store_sent(store: &mut [u8], cell: usize, payload: &[u8], answer: Result<usiz
 
 // `send` for a valid state, of which `used` shows the cells in use. 30 comes before anything is refreshed; a Broadcast send takes no cell.
 pub fn send(
-    identity: Identity,
-    core: Core,
-    sending: Sending,
-    ring: HistoryRing,
+    group: Group,
     members: &mut [u64],
     pending: &[u64],
     waiting: &[u64],
@@ -177,45 +172,39 @@ pub fn send(
     used: &mut CellSet,
     time: Timestamp,
     payload: &[u8],
-) -> GroupSend
-    requires ready { Ready (parts identity core sending ring)
+) -> GroupSent
+    requires ready { Ready (parts_of group)
         (tables members.old pending.now waiting.now history.old sources.old) (length store.old) used.old }
     requires list_size_in_bounds { list_size ≤ length list.old }
-    ensures { Sends time.0 payload.now (parts identity core sending ring)
+    ensures { Sends time.0 payload.now (parts_of group)
         (tables members.old pending.now waiting.now history.old sources.old)
         (sending_into store.old list.old) result
         (tables members.new pending.now waiting.now history.new sources.new)
         (sending_into store.new list.new) used.new }
 {
     if CELL < payload.len() {
-        return GroupSend {
+        return GroupSent {
+            record: group,
             answer: Err(Error::PayloadTooLong),
             rows: 0,
-            core,
-            sending,
-            ring,
         };
     }
     let size = payload.len() as u64;
-    if !is_backup(core.mode) {
+    if !is_backup(group.core.mode) {
         return refresh_and_send(
-            core, sending, ring, history, sources, members, list, used, time, size, None,
+            group, history, sources, members, list, used, time, size, None,
         );
     }
     let lowest = lowest_free(used, cells_of(store.len()));
     let Some(cell) = lowest else {
-        return GroupSend {
+        return GroupSent {
+            record: group,
             answer: Err(Error::NoFreeCell),
             rows: 0,
-            core,
-            sending,
-            ring,
         };
     };
     let sent = refresh_and_send(
-        core,
-        sending,
-        ring,
+        group,
         history,
         sources,
         members,

@@ -1,6 +1,6 @@
 // A send in Broadcast: the same payload at the same sequence on every active leg. A leg that fails is marked, and the others are
 // tried all the same.
-// Kept (5, 6): what changes members, history or list takes them one beside the other: of a struct of `&mut` each clause names every field (tried).
+// Kept (5, 6): which tables a function changes differs from one to the next, so a struct of `&mut` would be another for each (docs/DECISIONS.md).
 ghost use Rattle.std.specs.Prelude.{◌≡◌, not, ◌&&◌, ◌*◌, ◌≤◌, ◌<◌, length};
 ghost use Rattle.srt_protocol.specs.Sequence.{sequence_further};
 ghost use Rattle.srt_group_model.specs.Tools.{such_that};
@@ -14,7 +14,7 @@ ghost use Rattle.srt_group_sending.specs.SentList.{send_tables};
 ghost use Rattle.srt_group_sending.specs.Broadcast.{number_for_send, is_mismatched, AttemptedAt, Attempted, SentBroadcast};
 ghost use Rattle.srt_group_model.specs.State.{with_number};
 
-use crate::list::{OWN_PAYLOAD, write_sent};
+use crate::list::{Sent, write_sent};
 use srt_connection::legs::{can_send, is_connected, send_shared_with_sequence};
 use srt_connection_members::{leg_at, membership_at, put_leg_at, row, rows};
 use srt_connection_queue::rows::{Row, leg, sender};
@@ -68,14 +68,11 @@ pub fn above_limit(rows: &[Row], size: u64) -> bool
 }
 
 // The group's send number, else the next number of the member's leg.
-#[tactic(auto, using(crate::specs::Laws::Broadcast::numbered_number, crate::specs::Laws::Broadcast::leg_number))]
+#[tactic(auto, using(crate::specs::Laws::Broadcast::number_or))]
 pub fn sequence_for_send(row: &Row, sending: Sending) -> u64
     ensures { result ≡ number_for_send sending (member_of row.now) }
 {
-    if sending.numbered != 0 {
-        return sending.next;
-    }
-    sender(row).next
+    sending.next_send_sequence().unwrap_or(sender(row).next)
 }
 
 // Active, and not at the sequence.
@@ -122,7 +119,7 @@ fn attempt_send_at(
     };
     let membership = membership_at(members, index);
     put_leg_at(members, index, after);
-    write_sent(list, sent, membership.id, sequence, OWN_PAYLOAD, time, time);
+    write_sent(list, sent, Sent::own(membership.id, sequence, time));
     sent + 1
 }
 

@@ -19,45 +19,49 @@ pub const SENT_LENGTH: usize = MAX_SENT * SENT_WORDS;
 // In a row of the list: the payload is the call's own, not one of the history.
 pub const OWN_PAYLOAD: u64 = 0xffff_ffff;
 
-fn write_row(
-    row: &mut [u64],
-    leg: u64,
-    sequence: u64,
-    cell: u64,
-    source: Timestamp,
-    time: Timestamp,
-)
+// A send, as a row of the list tells it: the leg, the sequence, the cell of the payload, its source time, and the time of the send.
+#[derive(Clone, Copy)]
+pub struct Sent {
+    pub leg: u64,
+    pub sequence: u64,
+    pub cell: u64,
+    pub source: Timestamp,
+    pub time: Timestamp,
+}
+
+impl Sent {
+    // The call's own payload, whose source time is that of the send.
+    pub fn own(leg: u64, sequence: u64, time: Timestamp) -> Self
+        ensures { result ≡ record { leg = leg; sequence = sequence; cell = OWN_PAYLOAD; source = time; time = time } }
+    {
+        Self {
+            leg,
+            sequence,
+            cell: OWN_PAYLOAD,
+            source: time,
+            time,
+        }
+    }
+}
+
+// Kept (6): an array of the five words and `copy_from_slice` were tried, and a lent Broadcast send to 4 legs took 24 % more time.
+fn write_row(row: &mut [u64], sent: Sent)
     requires { length row.old ≡ sent_row_size }
-    ensures { row.new ≡ sent_words (sent_row leg sequence cell source.0 time.0) }
+    ensures { row.new ≡ sent_words (sent_row sent.leg sent.sequence sent.cell sent.source.0 sent.time.0) }
 {
-    row[0] = leg;
-    row[1] = sequence;
-    row[2] = cell;
-    row[3] = source.0;
-    row[4] = time.0;
+    row[0] = sent.leg;
+    row[1] = sent.sequence;
+    row[2] = sent.cell;
+    row[3] = sent.source.0;
+    row[4] = sent.time.0;
 }
 
 // A send behind the first `count`.
-pub fn write_sent(
-    list: &mut [u64],
-    count: usize,
-    leg: u64,
-    sequence: u64,
-    cell: u64,
-    source: Timestamp,
-    time: Timestamp,
-)
+pub fn write_sent(list: &mut [u64], count: usize, sent: Sent)
     requires { count * sent_row_size + sent_row_size ≤ length list.old }
-    ensures { Wrote count (sent_row leg sequence cell source.0 time.0 ∷ [])
+    ensures { Wrote count (sent_row sent.leg sent.sequence sent.cell sent.source.0 sent.time.0 ∷ [])
         list.old (count + 1) list.new }
 {
     let start = count * SENT_WORDS;
-    write_row(
-        &mut list[start..start + SENT_WORDS],
-        leg,
-        sequence,
-        cell,
-        source,
-        time,
-    );
+    write_row(&mut list[start..start + SENT_WORDS], sent);
 }

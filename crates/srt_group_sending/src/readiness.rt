@@ -1,4 +1,5 @@
 // Whether and when a send can go.
+// Kept (1): a state is a word of the lent row: a C host may lend any number, and 6 has to read it to refuse it.
 ghost use Rattle.std.specs.Prelude.{◌≡◌};
 ghost use Rattle.srt_group_model.specs.Tools.{any};
 ghost use Rattle.srt_group_model.specs.Backup.{ready_to_send, group_time_until_send};
@@ -15,7 +16,7 @@ use srt_connection_queue::rows::{Row, leg, membership};
 use srt_group_members::promotion::promotion;
 use srt_group_members::states::{ACTIVE, STANDBY, first_active, is_active};
 use srt_group_model::{Leg, Sending};
-use srt_group_tables::history::HistoryWords;
+use srt_group_tables::history::{HistoryRing, HistoryWords};
 use srt_protocol::time::Timestamp;
 
 // The wait of a group with no member that could send, in microseconds.
@@ -47,18 +48,15 @@ pub fn broadcast_send_ready(rows: &[Row], pacing: Option<Timestamp>) -> bool
 // ---- how long until a send
 
 // Active or Standby: one that sends, or that could take over.
-#[tactic(auto, using(crate::specs::Laws::Readiness::active_carries, crate::specs::Laws::Readiness::standby_carries))]
+#[tactic(auto, unfolding(crate::specs::Readiness::may_carry))]
 fn may_carry(state: u64) -> bool
     ensures { result ≡ may_carry state }
 {
-    if state == ACTIVE {
-        return true;
-    }
-    state == STANDBY
+    state == ACTIVE || state == STANDBY
 }
 
 // The least of the wait of a member, if it is Active or Standby, and of the least of those behind it.
-#[tactic(auto, using(crate::specs::Laws::Readiness::least_without, crate::specs::Laws::Readiness::least_alone, crate::specs::Laws::Readiness::least_now, crate::specs::Laws::Readiness::least_before))]
+#[tactic(auto, using(crate::specs::Laws::Readiness::least_without, crate::specs::Laws::Readiness::least_alone, crate::specs::Laws::Readiness::least_of_both))]
 fn least_wait_with(row: &Row, time: Timestamp, least: Option<u64>) -> Option<u64>
     ensures { result ≡ least_with time.0 (member_of row.now) least }
 {
@@ -70,14 +68,11 @@ fn least_wait_with(row: &Row, time: Timestamp, least: Option<u64>) -> Option<u64
     let Some(other) = least else {
         return Some(wait);
     };
-    if wait < other {
-        return Some(wait);
-    }
-    Some(other)
+    Some(wait.min(other))
 }
 
 // The least time until a send of the Active and Standby members.
-#[tactic(auto, using(crate::specs::Laws::Readiness::least_start, crate::specs::Laws::Readiness::wait_none, crate::specs::Laws::Readiness::wait_least))]
+#[tactic(auto, using(crate::specs::Laws::Readiness::least_start, crate::specs::Laws::Readiness::wait_or))]
 pub fn group_time_until_send(rows: &[Row], time: Timestamp) -> u64
     ensures { result ≡ group_time_until_send time.0 (members_in rows.now) }
 {
@@ -85,88 +80,68 @@ pub fn group_time_until_send(rows: &[Row], time: Timestamp) -> u64
     for index in (0..rows.len()).rev() {
         least = least_wait_with(&rows[index], time, least);
     }
-    let Some(wait) = least else {
-        return NO_MEMBER_WAIT;
-    };
-    wait
+    least.unwrap_or(NO_MEMBER_WAIT)
 }
 
 // ---- Backup: whether the next send could go, with the take-over that it would make
 
 // Another member carried the last send.
-#[tactic(auto, using(crate::specs::Laws::BackupReadiness::no_carrier, crate::specs::Laws::BackupReadiness::other_carrier))]
+// Kept (1): `is_some_and` was tried, and the proof did not close: what its closure promises is out of an answer's reach.
+#[tactic(auto, using(crate::specs::Laws::BackupReadiness::nobody_carries, crate::specs::Laws::BackupReadiness::some_carry))]
 pub fn takes_over(sending: Sending, id: u64) -> bool
     ensures { result ≡ is_other_carrier id sending }
 {
-    if sending.carried == 0 {
+    let Some(carrier) = sending.carrier() else {
         return false;
-    }
-    sending.carrier != id
+    };
+    carrier != id
 }
 
 // The sequence of the oldest entry of the history.
-#[tactic(auto, using(crate::specs::Laws::BackupReadiness::front_missing, crate::specs::Laws::BackupReadiness::front_there))]
+#[tactic(auto, using(crate::specs::Laws::BackupReadiness::front_shown))]
 fn front_sequence(history: &HistoryWords) -> Option<u64>
     ensures { result ≡ front_sequence history.now.ring history.now.history.now }
 {
-    if history.ring.length == 0 {
-        return None;
-    }
-    Some(history.sequence_at(0))
+    (history.ring.length != 0).then_some(history.sequence_at(0))
 }
 
 // The sequence at which a leg has to stand: that of the first entry that it would replay, else the group's send number.
-#[tactic(auto, using(crate::specs::Laws::BackupReadiness::no_replay, crate::specs::Laws::BackupReadiness::nothing_to_replay, crate::specs::Laws::BackupReadiness::replay_from))]
+#[tactic(auto, using(crate::specs::Laws::BackupReadiness::no_replay, crate::specs::Laws::BackupReadiness::replay_or))]
 fn replay_sequence(takes: bool, sending: Sending, history: &HistoryWords) -> Option<u64>
     ensures { result ≡ replay_sequence takes sending history.now.ring history.now.history.now }
 {
     if !takes {
         return sending.next_send_sequence();
     }
-    let front = front_sequence(history);
-    let Some(sequence) = front else {
-        return sending.next_send_sequence();
-    };
-    Some(sequence)
+    front_sequence(history).or(sending.next_send_sequence())
 }
 
 // A history that lost entries cannot be replayed.
-#[tactic(auto, using(crate::specs::Laws::BackupReadiness::allows_without, crate::specs::Laws::BackupReadiness::allows_none, crate::specs::Laws::BackupReadiness::allows_whole))]
+#[tactic(auto, using(crate::specs::Laws::BackupReadiness::allows_when))]
 fn gap_allows(takes: bool, replay: usize, gap: u64) -> bool
     ensures { result ≡ gap_allows takes replay gap }
 {
-    if !takes {
-        return true;
-    }
-    if replay == 0 {
-        return true;
-    }
-    gap == 0
+    !takes | (replay == 0) | (gap == 0)
 }
 
 // Whether the leg stands at the sequence, or can be brought there because nothing of it is in flight.
-#[tactic(auto, using(crate::specs::Laws::BackupReadiness::stands_anywhere, crate::specs::Laws::BackupReadiness::stands_there, crate::specs::Laws::BackupReadiness::stands_elsewhere))]
+// Kept (1): `is_none_or` was tried, and the proof did not close, as in `takes_over`.
+#[tactic(auto, using(crate::specs::Laws::BackupReadiness::stands_anywhere, crate::specs::Laws::BackupReadiness::stands_if))]
 fn stands_at(leg: Leg, sequence: Option<u64>) -> bool
     ensures { result ≡ stands_at sequence leg }
 {
     let Some(number) = sequence else {
         return true;
     };
-    if leg.sender.next == number {
-        return true;
-    }
-    leg.sender.flight == 0
+    (leg.sender.next == number) | (leg.sender.flight == 0)
 }
 
 // How many entries a leg would replay.
 #[tactic(auto, using(crate::specs::Laws::BackupReadiness::replays_all, crate::specs::Laws::BackupReadiness::replays_none))]
-fn replay_length(takes: bool, history: &HistoryWords) -> usize
-    ensures { result ≡ replay_length takes history.now.ring }
+fn replay_length(takes: bool, ring: HistoryRing) -> usize
+    ensures { result ≡ replay_length takes ring }
 {
-    if takes {
-        return history.ring.length;
-    }
-    0
+    if takes { ring.length } else { 0 }
 }
 
 // Whether a leg that can send could make the take-over, with room for the send behind it.
@@ -175,7 +150,7 @@ fn could_take_over(leg: Leg, id: u64, sending: Sending, history: &HistoryWords) 
     ensures { result ≡ could_take_over id sending history.now.ring history.now.history.now leg }
 {
     let takes = takes_over(sending, id);
-    let replay = replay_length(takes, history);
+    let replay = replay_length(takes, history.ring);
     if !gap_allows(takes, replay, sending.gap) {
         return false;
     }

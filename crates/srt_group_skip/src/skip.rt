@@ -1,7 +1,7 @@
 // The skip: when a missing packet is passed over for good. A gap is skipped once it is given up and every queue was found empty.
 // Kept (5, 6): a step that moves tables takes them one beside the other: a struct of `&mut` asks for loans that a call does not need, and for a clause to each field, that its slice is still the caller's (tried); what holds of them is one fact, `Usable` or `Deliverable`.
+// Kept (5): what goes by value beside them is the group's record, which a step gives back, and the one or two numbers that this step is about; a struct of those would be made for a single call and is no plainer.
 ghost use Rattle.std.specs.Prelude.{◌≡◌, List, ℕ, length};
-ghost use Rattle.srt_group_model.specs.Tools.{is_set};
 ghost use Rattle.srt_group_model.specs.State.{State};
 ghost use Rattle.srt_group_model.specs.Delivery.{skip_nearest, skip_after, base_stays, skip_given_up_gap};
 ghost use Rattle.srt_group_model.specs.Polls.{deliver_nearest, deliver_next};
@@ -43,8 +43,7 @@ fn skip_to_nearest(
     let Some(at) = nearest else {
         return Poll { gave: None, core };
     };
-    let packet = pending::packet(pending, at);
-    let next = packet.content.sequence;
+    let next = pending::sequence_at(pending, at);
     let skipped = skip_to(core, base, next);
     deliver(skipped, members, pending, used, next)
 }
@@ -61,7 +60,7 @@ fn skip_after(
 ) -> Poll
     requires { Usable collected.core (receive_tables members.old pending.old waiting.old) }
     ensures polls { (tested : State) (time : ℕ) → Polls
-        (λ run. skip_after time tested base (record { emptied = is_set collected.emptied; run = run })) collected.core
+        (λ run. skip_after time tested base (record { emptied = collected.emptied; run = run })) collected.core
         (receive_tables members.old pending.old waiting.old) result
         (receive_tables members.new pending.new waiting.new) }
     ensures follows { Follows collected.core members.old pending.old used.old
@@ -71,7 +70,7 @@ fn skip_after(
     if 0 < core.counts.waiting {
         return give_waiting(core, waiting);
     }
-    if collected.emptied != 0 {
+    if collected.emptied {
         return skip_to_nearest(core, members, pending, used, base);
     }
     deliver(core, members, pending, used, base)
@@ -123,6 +122,7 @@ fn skip_given_up_gap(
 // ---- the packet at the base
 
 // The nearest held packet sets the base, and is delivered.
+// Kept (2): `skip_to_nearest` counts the distance from the old base, and here there is none: one function for both would ask again which it is, as `deliver_next` has just done, and is no plainer.
 #[tactic(auto, using(srt_group_collecting::specs::Laws::Follows::follows_same))]
 fn deliver_nearest(core: Core, members: &mut [u64], pending: &mut [u64], used: &mut CellSet) -> Poll
     requires { Deliverable core members.old pending.old }
@@ -137,8 +137,7 @@ fn deliver_nearest(core: Core, members: &mut [u64], pending: &mut [u64], used: &
     let Some(at) = nearest else {
         return Poll { gave: None, core };
     };
-    let packet = pending::packet(pending, at);
-    let first = packet.content.sequence;
+    let first = pending::sequence_at(pending, at);
     let based = set_base(core, Some(first));
     deliver(based, members, pending, used, first)
 }
@@ -162,9 +161,10 @@ pub fn deliver_next(
     ensures follows { Follows core members.old pending.old used.old
         result.core members.new pending.new used.new }
 {
-    if core.receiving.based != 0 {
-        let base = core.receiving.base;
-        return skip_given_up_gap(core, members, pending, waiting, used, time, base, budget);
+    match core.receiving.base() {
+        Some(base) => {
+            skip_given_up_gap(core, members, pending, waiting, used, time, base, budget)
+        }
+        None => deliver_nearest(core, members, pending, used),
     }
-    deliver_nearest(core, members, pending, used)
 }

@@ -22,13 +22,13 @@ pub fn queued_event(row: &Row, index: u64) -> Event
 }
 
 // Marks the cell of a queued event: only data has one.
-// Kept (5): see passes.rt.
+// Kept (5): a struct of the set, lent to be changed, and its count of cells would name in each clause by a ghost name what the set ends as: no plainer.
 #[tactic(auto, using(crate::specs::Laws::Cells::no_data_passed, crate::specs::Laws::Cells::data_marked))]
 pub fn mark_event(used: &mut CellSet, cells: usize, event: Event) -> bool
     requires { Marking cells used.old }
     ensures { Marks cells (event_cells event) used.old result used.new }
 {
-    if event.kind != 0 {
+    if !event.is_data() {
         return true;
     }
     mark(used, cells, event.content.cell)

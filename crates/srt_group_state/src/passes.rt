@@ -1,8 +1,8 @@
 // Document 01's code 6 in one pass over each lent table and one over the history: each row is read once, tested by itself and against the
 // rows before it, and the cell that it names is marked. The held packets go before the members: each is added to the account of its
 // member, or to that of the group, and then each member is compared with its own.
-// Kept (5, 6): this is the test of what lent words hold, so nothing is known of them yet: a `History` states the very bounds that the pass
-// tests, and the set's marking is what each call of it changes.
+// Kept (5, 6): the tables are words that a C host lends, with their counts of rows, and this is the test of them; of the set see cells.rt.
+// Kept (3): a pass changes the set at each step and ends at the first row that breaks a rule; a chain with a closure over the set is no plainer.
 ghost use Rattle.std.specs.Prelude.{◌≡◌, false, ◌++◌, ◌*◌, ◌≤◌, length};
 ghost use Rattle.srt_group_model.specs.Tools.{each};
 ghost use Rattle.srt_group_model.specs.Members.{id_of};
@@ -29,13 +29,14 @@ use srt_group_rules::rows::{
     entry_breaks_rule, event_breaks_rule, leg_breaks_rule, packet_breaks_rule, queue_event,
 };
 use srt_group_rules::sums::{OWN_PLACE, account_place, data_count};
-use srt_group_tables::history::{HistoryRing, MAX_HISTORY, entry_at};
+use srt_group_tables::history::{History, HistoryRing, HistoryWords, MAX_HISTORY};
 use srt_group_tables::pending::packet;
 
 // ---- members
 
 // A leg's queue, whose data count for as many as are reserved. A queue of more than MAX_QUEUED events is not walked: its ring has no
 // place for them.
+#[tactic(auto, using(crate::specs::Laws::Passes::queue_long, crate::specs::Laws::Passes::queue_stopped, crate::specs::Laws::Passes::event_broken, crate::specs::Laws::Passes::event_refused, crate::specs::Laws::Passes::queue_passed, srt_group_rules::specs::Laws::Sums::queued_fits))]
 fn queue_breaks_rule(row: &Row, reserved: u64, cells: usize, used: &mut CellSet) -> bool
     requires { Marking cells used.old }
     ensures { Passes cells (QueueGood reserved (member_of row.now).queue) (queue_cells (member_of row.now))
@@ -61,6 +62,7 @@ fn queue_breaks_rule(row: &Row, reserved: u64, cells: usize, used: &mut CellSet)
 }
 
 // A member's row, whose held packets have this account: its leg reserves what they count and what is queued.
+#[tactic(auto, using(crate::specs::Laws::Passes::member_broken, crate::specs::Laws::Passes::member_short, crate::specs::Laws::Passes::member_queue))]
 fn member_breaks_rule(row: &Row, held: Account, cells: usize, used: &mut CellSet) -> bool
     requires { Marking cells used.old }
     ensures { Passes cells (MemberGood held (member_of row.now)) (queue_cells (member_of row.now))
@@ -79,6 +81,9 @@ fn member_breaks_rule(row: &Row, held: Account, cells: usize, used: &mut CellSet
 }
 
 // ---- held packets, and then members
+
+// Those of the members, and the group's own.
+const ACCOUNTS: usize = OWN_PLACE + 1;
 
 // The place of the account that a packet is added to, if the packet breaks no rule, its sequence is not below `lowest`, and its cell
 // can be marked.
@@ -104,6 +109,7 @@ fn place_packet(
     account_place(rows, table, packet)
 }
 
+#[tactic(auto, using(crate::specs::Laws::Passes::placed_low))]
 fn rows_break_rule(
     own: Account,
     rows: &[Row],
@@ -121,8 +127,7 @@ fn rows_break_rule(
         (pending_cells (packets held pending.now) ++ queued_cells (members_in rows.now))
         used.old result used.new }
 {
-    let none = NO_PACKETS;
-    let mut accounts = [none; 65];
+    let mut accounts = [NO_PACKETS; ACCOUNTS];
     let mut lowest: u64 = 0;
     for at in 0..held {
         let next = packet(pending, at);
@@ -172,7 +177,28 @@ pub fn tables_break_rule(
 
 // ---- the history
 
+// The entries of a ring that has a place for each.
+#[tactic(auto, using(crate::specs::Laws::Passes::history_stopped, crate::specs::Laws::Passes::entry_broken, crate::specs::Laws::Passes::entry_refused, crate::specs::Laws::Passes::history_passed))]
+fn entries_break_rule(entries: &History, cells: usize, used: &mut CellSet) -> bool
+    requires { Marking cells used.old }
+    ensures { Passes cells (history_breaks_rule (entries_of entries.now.words.ring (arrays entries.now.words.history.now entries.now.sources.now)) ≡ false)
+        (history_cells (entries_of entries.now.words.ring (arrays entries.now.words.history.now entries.now.sources.now)))
+        used.old result used.new }
+{
+    for index in 0..entries.words.ring.length {
+        let entry = entries.entry_at(index);
+        if entry_breaks_rule(entry) {
+            return true;
+        }
+        if !mark(used, cells, entry.cell) {
+            return true;
+        }
+    }
+    false
+}
+
 // A history of more than MAX_HISTORY entries is not walked: its ring has no place for them.
+#[tactic(auto, using(crate::specs::Laws::Passes::history_long))]
 pub fn history_breaks_rule(
     ring: HistoryRing,
     history: &[u64],
@@ -189,14 +215,6 @@ pub fn history_breaks_rule(
     if MAX_HISTORY < ring.length {
         return true;
     }
-    for index in 0..ring.length {
-        let entry = entry_at(ring, history, sources, index);
-        if entry_breaks_rule(entry) {
-            return true;
-        }
-        if !mark(used, cells, entry.cell) {
-            return true;
-        }
-    }
-    false
+    let words = HistoryWords { ring, history };
+    entries_break_rule(&History { words, sources }, cells, used)
 }

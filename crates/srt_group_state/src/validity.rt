@@ -1,6 +1,7 @@
 // Document 01's code 6, "the lent state breaks a rule". The history is read only where it has entries.
-// Kept (5, 6): code 6 is what makes a lent group a valid one: before it the parts are words that the host lends through C, and a struct of
-// them with their bounds is made after it.
+// Kept (5): the struct of the lent tables, `LentGroup`, stands above this crate, in srt_group_refusals, which calls this test; a second one
+// below it, for that call alone, is no plainer.
+// Kept (6): a C host lends the tables as words, with the counts of their rows in the record (docs/TABLES.md).
 ghost use Rattle.std.specs.Prelude.{◌≡◌, not, ◌≤◌, length};
 ghost use Rattle.srt_group_model.specs.Validity.{any_above};
 ghost use Rattle.srt_protocol.specs.Handshake.{has_group_mask};
@@ -10,7 +11,8 @@ ghost use Rattle.srt_connection_members.specs.Members.{members_size};
 ghost use Rattle.srt_group_tables.specs.Ring.{Long, arrays};
 ghost use Rattle.srt_group_tables.specs.Packets.{pending_size};
 ghost use Rattle.srt_group_tables.specs.Waitings.{waiting_size};
-ghost use Rattle.srt_group_shown.specs.Tables.{parts, tables, state_of};
+ghost use Rattle.srt_group_shown.specs.Tables.{tables, state_of};
+ghost use Rattle.srt_group.specs.Made.{parts_of};
 ghost use Rattle.srt_group_state.specs.Tested.{Tested};
 ghost use Rattle.srt_group_state.specs.Outside.{core_counts, words_out_of_range, numbers_break_rule};
 
@@ -18,9 +20,9 @@ use crate::passes::{history_breaks_rule, tables_break_rule};
 use cell_set::{CellSet, clear};
 use srt_connection::legs::{LARGEST_32, LARGEST_SEQUENCE};
 use srt_connection_members::MAX_MEMBERS;
-use srt_group_model::{Core, Identity, Sending};
+use srt_group::Group;
+use srt_group_model::{Core, Identity};
 use srt_group_rules::rows::waiting_breaks_rule;
-use srt_group_tables::history::HistoryRing;
 use srt_group_tables::pending::MAX_PENDING;
 use srt_group_tables::waiting::MAX_WAITING;
 use srt_protocol::srt_handshake::is_group_id;
@@ -35,6 +37,7 @@ pub fn is_blank(identity: Identity) -> bool
 }
 
 // The round's place is that of a member; with no member it is 0.
+#[tactic(auto, using(srt_group_model::specs::Laws::Reason::or_assoc, srt_group_model::specs::Laws::Reason::or_no, crate::specs::Laws::Outside::round_test), unfolding(srt_group_model::specs::Tools::any, srt_group_model::specs::Validity::any_above, crate::specs::Outside::core_counts))]
 pub fn count_above_limit(core: Core) -> bool
     ensures { result ≡ any_above (core_counts core) }
 {
@@ -45,9 +48,16 @@ pub fn count_above_limit(core: Core) -> bool
 }
 
 // An id beyond 32 bits, a mode or a flag above 1.
-fn words_out_of_range(identity: Identity, core: Core, sending: Sending) -> bool
-    ensures { result ≡ words_out_of_range identity core sending }
+#[tactic(auto, using(srt_group_model::specs::Laws::Reason::or_assoc, srt_group_model::specs::Laws::Reason::or_no), unfolding(srt_group_model::specs::Tools::any, srt_group_model::specs::Validity::any_above, srt_group_model::specs::Validity::making_words, srt_group_model::specs::Validity::group_words, srt_group_model::specs::Validity::record_out_of_range, crate::specs::Outside::words_out_of_range))]
+fn words_out_of_range(group: Group) -> bool
+    ensures { result ≡ words_out_of_range group.identity group.core group.sending }
 {
+    let Group {
+        identity,
+        core,
+        sending,
+        ..
+    } = group;
     (LARGEST_32 < identity.id)
         | (1 < core.mode)
         | (LARGEST_32 < core.peer)
@@ -60,25 +70,23 @@ fn words_out_of_range(identity: Identity, core: Core, sending: Sending) -> bool
 }
 
 #[tactic(auto, using(crate::specs::Laws::Outside::numbers_tested))]
-fn numbers_break_rule(identity: Identity, core: Core, sending: Sending) -> bool
-    ensures { result ≡ numbers_break_rule identity core sending }
+fn numbers_break_rule(group: Group) -> bool
+    ensures { result ≡ numbers_break_rule group.identity group.core group.sending }
 {
-    is_blank(identity)
-        | count_above_limit(core)
-        | (LARGEST_SEQUENCE < core.receiving.base)
-        | (LARGEST_SEQUENCE < sending.next)
-        | words_out_of_range(identity, core, sending)
+    is_blank(group.identity)
+        | count_above_limit(group.core)
+        | (LARGEST_SEQUENCE < group.core.receiving.base)
+        | (LARGEST_SEQUENCE < group.sending.next)
+        | words_out_of_range(group)
 }
 
 // ---- the whole
 
 // Document 01's code 6, whole: whether the state breaks a rule over a store of so many cells. Where it breaks none, the set
 // shows which cells are in use, whatever it held before.
+#[tactic(auto, using(crate::specs::Laws::Outside::counts_within))]
 pub fn is_invalid(
-    identity: Identity,
-    core: Core,
-    sending: Sending,
-    ring: HistoryRing,
+    group: Group,
     members: &[u64],
     pending: &[u64],
     waiting: &[u64],
@@ -90,20 +98,20 @@ pub fn is_invalid(
     requires members_size_in_bounds { (members_size ≤ length members.now) × ((pending_size ≤ length pending.now) × (waiting_size ≤ length waiting.now)) }
     requires long { Long (arrays history.now sources.now) }
     requires cells_le_max_cells { cells ≤ max_cells }
-    ensures { Tested cells (state_of (parts identity core sending ring)
+    ensures { Tested cells (state_of (parts_of group)
         (tables members.now pending.now waiting.now history.now sources.now))
         result used.new }
 {
-    if numbers_break_rule(identity, core, sending) {
+    if numbers_break_rule(group) {
         return true;
     }
-    let counts = core.counts;
+    let counts = group.core.counts;
     if waiting_breaks_rule(waiting, counts.waiting) {
         return true;
     }
     clear(used);
-    if tables_break_rule(core.own, counts, members, pending, cells, used) {
+    if tables_break_rule(group.core.own, counts, members, pending, cells, used) {
         return true;
     }
-    history_breaks_rule(ring, history, sources, cells, used)
+    history_breaks_rule(group.ring, history, sources, cells, used)
 }

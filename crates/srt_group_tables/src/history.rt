@@ -1,6 +1,8 @@
 // What the Backup carrier sent and its peer has not acknowledged: a ring over two lent arrays of 512 places. A word of
 // `history` is the sequence of an entry, its cell and its length; `sources` has its source time.
-// Kept (5, 6): `store` changes both arrays; `entry_at` also serves the test of code 6, whose ring may be too long for a `History`.
+// Kept (5, 6): the arrays come through the C interface. `store` changes both, and is no plainer over a struct of `&mut` fields: its clause
+// would name what each field holds at the end by a ghost name. The `entry_at` of the parts is of any ring, also of one too long for a `History`:
+// a rule of the project keeps what it promises.
 ghost use Rattle.std.specs.Prelude.{◌≡◌, [], ◌+◌, ◌%◌, ◌≤◌, ◌<◌, length, get_or};
 ghost use Rattle.srt_group_model.specs.Backup.{max_history};
 ghost use Rattle.srt_group_tables.specs.Ring.{Long, arrays, cells_in_word, lengths_in_word, entry_word, word_sequence, word_cell, word_length, Packs, entry_at, with_entry, next_place, after_push, Trimmed};
@@ -18,7 +20,7 @@ const LENGTHS: u64 = 2048;
 
 // The places in use: so many from the start on, which is read modulo 512. The oldest entry stands at the start.
 #[repr(C)]
-#[derive(Clone, Copy)]
+#[derive(Clone, Copy, Default)]
 pub struct HistoryRing {
     pub start: usize,
     pub length: usize,
@@ -111,9 +113,6 @@ pub fn push_back(ring: HistoryRing) -> HistoryRing
 
 // ---- a history, lent to read
 
-// The functions that change a history take the parts: of a struct of `&mut` fields each clause would name what every field holds at the
-// end by a ghost name of its own.
-
 // The ring with the words of its entries, which show all but their source times.
 #[derive(Clone, Copy)]
 pub struct HistoryWords<'a> {
@@ -154,6 +153,7 @@ impl HistoryWords<'_> {
     }
 
     // The ring without the entries at the front that are before `oldest`.
+    // Kept (3): tried as a `find` over the places: proved, but 13 instructions more where nothing is dropped, at each Backup send.
     #[tactic(auto, using(crate::specs::Laws::Ring::trimmed_one, crate::specs::Laws::Ring::trimmed_there, crate::specs::Laws::Ring::trimmed_all))]
     pub fn drop_before(&self, oldest: u64) -> HistoryRing
         ensures { Trimmed oldest self.now.history.now self.now.ring result }

@@ -3,7 +3,9 @@
 // index is a ring: `count` of its words are in use, from the one on that the free word of the first row tells. What the others hold
 // is free, and so is the row of a cell that none in use names. A packet put in or taken out moves one word of each packet on its
 // shorter side, and no row.
-// Kept (3, 5, 6): the index is a ring, so its packets are no slice to walk; a struct lent to read would be made anew at each read between changes.
+// Kept (3): the index is a ring, so the words that move in it, and the packets that are walked, are not one slice in order.
+// Kept (5, 6): table and count come through the C interface, the count in the record; a struct that lends both to read would be made anew
+// at each read between two changes.
 ghost use Rattle.std.specs.Prelude.{◌≡◌, true, false, ◌+◌, ◌-◌, ◌*◌, ◌≤◌, ◌<◌, length, ltb};
 ghost use Rattle.word_rows.specs.Tab.{removed};
 ghost use Rattle.srt_protocol.specs.Sequence.{sequence_distance};
@@ -68,8 +70,7 @@ fn row_start(cell: usize) -> usize
 
 // The packet of an index word and the row of its cell.
 #[tactic(auto, unfolding(crate::specs::Packets::packet_of))]
-fn read_packet(word: u64, row: &[u64]) -> Packet
-    requires { length row.now ≡ packet_row_size }
+fn read_packet(word: u64, row: &[u64; ROW_WORDS]) -> Packet
     ensures { result ≡ packet_of word row.now }
 {
     Packet {
@@ -88,6 +89,7 @@ fn read_packet(word: u64, row: &[u64]) -> Packet
 }
 
 // All of a packet but its sequence and its cell.
+// Kept (4): an array of the seven would say by place what MEMBER and OWNED say by name, and these two are read and changed alone elsewhere.
 fn write_row(row: &mut [u64], packet: Packet)
     requires { length row.old ≡ packet_size }
     ensures { row.new ≡ row_words packet }
@@ -147,7 +149,7 @@ pub fn packet(pending: &[u64], at: usize) -> Packet
     let place = slot(pending, at);
     let word = pending[place];
     let start = row_start((word % CELLS) as usize);
-    read_packet(word, &pending[start..start + ROW_WORDS])
+    read_packet(word, pending[start..start + ROW_WORDS].as_array().unwrap())
 }
 
 // A packet's row is written at its cell.
@@ -179,7 +181,7 @@ fn place(pending: &[u64], count: usize, sequence: u64) -> usize
     }
     let mut low: usize = 0;
     let mut high: usize = last;
-    // Over a ring, whose words are not one slice in order: so no `partition_point`.
+    // Kept (3): `partition_point` is of a slice, and the words of a ring are not one in order.
     while low < high {
         let middle = low + (high - low) / 2;
         if sequence_at(pending, middle) < sequence {
@@ -199,12 +201,7 @@ pub fn find(pending: &[u64], count: usize, sequence: u64) -> Option<usize>
     ensures { result ≡ place_found sequence (packets count pending.now) }
 {
     let at = place(pending, count, sequence);
-    if at < count {
-        if sequence_at(pending, at) == sequence {
-            return Some(at);
-        }
-    }
-    None
+    (at < count && sequence_at(pending, at) == sequence).then_some(at)
 }
 
 // The index words of the places from `from` up to `end` move up by `width` places, round the ring.
@@ -318,17 +315,13 @@ fn is_covered(first: u64, run: u64, sequence: u64) -> bool
 }
 
 // The first place from `from` on whose packet starts outside a run, or `end`.
-#[tactic(auto, using(crate::specs::Laws::Covered::covering_start, crate::specs::Laws::Covered::covering_one, crate::specs::Laws::Covered::covering_ends, crate::specs::Laws::Covered::covering_all))]
 fn covered_until(pending: &[u64], from: usize, end: usize, first: u64, run: u64) -> usize
     requires { (pending_size ≤ length pending.now) × (from ≤ end) × (end ≤ max_pending) }
     ensures { CoveredUntil first run pending.now from end result }
 {
-    for at in from..end {
-        if !is_covered(first, run, sequence_at(pending, at)) {
-            return at;
-        }
-    }
-    end
+    (from..end)
+        .find(|at| !is_covered(first, run, sequence_at(pending, *at)))
+        .unwrap_or(end)
 }
 
 // Where the packets stand that start inside a run, by the place of the run's first sequence. Only these and the two that end the search are read.

@@ -1,6 +1,6 @@
 // The group's lifecycle events that are not given out yet: rows of three words in a lent table, first come first. The first
 // `count` rows are in use; what the others hold is free.
-// Kept (6): both change the table, and the record has the count.
+// Kept (5, 6): the table and the record come through the C interface, and the count of the rows in use stands in the record.
 ghost use Rattle.std.specs.Prelude.{◌≡◌, [], ◌∷◌, ◌++◌, ◌+◌, ◌-◌, ◌≤◌, ◌<◌, length, drop};
 ghost use Rattle.srt_group_model.specs.Validity.{max_waiting};
 ghost use Rattle.srt_group_tables.specs.Waitings.{waiting_size, waiting_row_size, waiting_of, waiting_words, waiting_at, waitings, HoldsWaiting};
@@ -17,8 +17,7 @@ pub const MAX_WAITING: usize = 64;
 pub const WAITING_LENGTH: usize = MAX_WAITING * WAITING_WORDS;
 
 #[tactic(auto, unfolding(crate::specs::Waitings::waiting_of))]
-fn read_waiting(row: &[u64]) -> Waiting
-    requires { length row.now ≡ waiting_row_size }
+fn read_waiting(row: &[u64; WAITING_WORDS]) -> Waiting
     ensures { result ≡ waiting_of row.now }
 {
     Waiting {
@@ -28,24 +27,22 @@ fn read_waiting(row: &[u64]) -> Waiting
     }
 }
 
-#[tactic(auto, using(crate::specs::Laws::PacketIndex::all_stored), unfolding(crate::specs::Waitings::waiting_words))]
+#[tactic(auto, unfolding(crate::specs::Waitings::waiting_words))]
 fn write_waiting(row: &mut [u64], event: Waiting)
     requires { length row.old ≡ waiting_row_size }
     ensures { row.new ≡ waiting_words event }
 {
-    row[0] = event.member;
-    row[1] = event.kind;
-    row[2] = event.reason;
+    *row.as_mut_array().unwrap() = [event.member, event.kind, event.reason];
 }
 
 // The event of a row: the first is the front.
-#[tactic(auto, using(word_rows::specs::Laws::Rows::row_part), unfolding(crate::specs::Waitings::waiting_at))]
+#[tactic(auto, using(word_rows::specs::Laws::Rows::chunk_there), unfolding(crate::specs::Waitings::waiting_at))]
 pub fn waiting_event(waiting: &[u64], at: usize) -> Waiting
     requires { (waiting_size ≤ length waiting.now) × (at < max_waiting) }
     ensures { result ≡ waiting_at waiting.now at }
 {
-    let start = at * WAITING_WORDS;
-    read_waiting(&waiting[start..start + WAITING_WORDS])
+    let (rows, _) = waiting.as_chunks::<WAITING_WORDS>();
+    read_waiting(&rows[at])
 }
 
 // An event behind the last.

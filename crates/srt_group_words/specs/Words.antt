@@ -1,6 +1,5 @@
 -- THE PROMISE of a public call that is lent its record as a row of words and puts its answer into another, and that of its form for a
 -- valid state. The words of an answer are document 01's values (srt_group_model Answers, `values_of`).
-use Rattle.srt_protocol.specs.Errors.{Outcome}
 use Rattle.std.specs.Prelude.{◌≡◌, Bool, true, false, not, ◌||◌, List, [], ◌∷◌, ◌++◌, ℕ, zero, suc, ◌-◌, ◌≤◌, eqb, ltb, length, drop}
 use Rattle.srt_protocol.specs.Errors.{outcome_number}
 use Rattle.srt_protocol.specs.Cells.{overwritten}
@@ -15,7 +14,7 @@ use Rattle.srt_group_shown.specs.Tables.{Parts, Tables, state_of}
 use Rattle.srt_group_shown.specs.Ready.{Ready, Performs}
 use Rattle.srt_group.specs.Made.{parts_of}
 use Rattle.srt_group.specs.declared.Group.{Group}
-use Rattle.srt_group_refusals.specs.Begins.{are_short, begun_stored, BeginsStored, BeginsPoll}
+use Rattle.srt_group_refusals.specs.Begins.{are_short, begun_stored}
 use Rattle.srt_group_refusals.specs.Promised.{asking, showing}
 use Rattle.srt_group_words.specs.Record.{record_size, group_of, group_words}
 
@@ -139,17 +138,6 @@ abbrev pub PromisedNewWords : Making → (group : List ℕ) → (code : ℕ) →
 PromisedNewWords making group code group' = NewBy (ltb (length group) record_size) making group code group'
 
 -- ---- how a call begins
-
--- as `BeginsStored` and `BeginsPoll` say it of the group that the words show, by number
-pub record BegunStored (group : List ℕ) (t : Tables) (store : ℕ) (code : ℕ) (used : List ℕ) : Type 0 where
-  pub outcome : Outcome
-  pub begins : BeginsStored (parts_of (group_of group)) t store outcome used
-  pub same : code ≡ outcome_number outcome
-
-pub record BegunPoll (group : List ℕ) (t : Tables) (store output : ℕ) (code : ℕ) (used : List ℕ) : Type 0 where
-  pub outcome : Outcome
-  pub begins : BeginsPoll (parts_of (group_of group)) t store output outcome used
-  pub same : code ≡ outcome_number outcome
 
 -- How a host that is the only writer begins: 5 and 6 are tested once, and the set of used cells is filled. A record too short or a set of
 -- another length than 32 words is 5.

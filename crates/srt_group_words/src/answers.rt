@@ -9,23 +9,21 @@ ghost use Rattle.srt_group_model.specs.Answers.{packet_values};
 use srt_group_model::Packet;
 
 // A flag's word as 0 or 1.
-#[tactic(auto, using(srt_group_model::specs::Laws::Flag::zero_unset, srt_group_model::specs::Laws::Flag::other_set), unfolding(srt_group_model::specs::Tools::bit))]
+#[tactic(auto, using(crate::specs::Laws::Record::word_of_test))]
 pub fn flag_of(word: u64) -> u64
     ensures { result ≡ bit (is_set word) }
 {
-    if word == 0 {
-        return 0;
-    }
-    1
+    u64::from(word != 0)
 }
 
 // The numbers over the first words of the row.
-#[tactic(auto, unfolding(srt_protocol::specs::Cells::overwritten))]
+#[tactic(auto, using(crate::specs::Laws::Record::put_front))]
 pub fn put<const N: usize>(answer: &mut [u64], numbers: [u64; N])
     requires { N ≤ length answer.old }
     ensures { answer.new ≡ overwritten 0 numbers.entry answer.old }
 {
-    answer[..N].copy_from_slice(&numbers);
+    let (front, _) = answer.split_at_mut(N);
+    *front.as_mut_array().unwrap() = numbers;
 }
 
 // ---- polls

@@ -1,16 +1,17 @@
-// How a call begins whose record is a row of words: 5 and 6 by number.
-// Kept (5, 6): C lends each table by its name and length (docs/TABLES.md), so each is a parameter of its own.
+// How a call begins whose record is a row of words: 5 and 6.
+// Kept (5, 6): an exported call has each table by its own name, and the struct of them is made here: made at each of the callers it would be no plainer.
 ghost use Rattle.std.specs.Prelude.{◌≤◌, length};
 ghost use Rattle.srt_group_shown.specs.Tables.{tables};
-ghost use Rattle.srt_group_words.specs.Record.{record_size};
-ghost use Rattle.srt_group_words.specs.Words.{BegunStored, BegunPoll};
+ghost use Rattle.srt_group.specs.Made.{parts_of};
+ghost use Rattle.srt_group_refusals.specs.Begins.{BeginsStored, BeginsPoll};
+ghost use Rattle.srt_group_words.specs.Record.{record_size, group_of};
 
 use crate::record::read_group;
 use cell_set::CellSet;
 use srt_group_refusals::refusals::LentGroup;
-use srt_protocol::error::outcome_number;
+use srt_protocol::error::Error;
 
-// Of a call that is lent a store of so many bytes. Where it goes on, 0, the set shows which cells are in use.
+// Of a call that is lent a store of so many bytes. Where it goes on, the set shows which cells are in use.
 #[tactic(auto, using(crate::specs::Laws::Begin::begun_stored))]
 pub fn begin_stored(
     record: &[u64],
@@ -21,23 +22,21 @@ pub fn begin_stored(
     sources: &[u64],
     store: usize,
     used: &mut CellSet,
-) -> u32
+) -> Result<(), Error>
     requires { record_size ≤ length «record».now }
-    ensures { BegunStored «record».now
+    ensures { BeginsStored (parts_of (group_of «record».now))
         (tables members.now pending.now waiting.now history.now sources.now)
         store result used.new }
 {
-    let group = read_group(record);
     let lent = LentGroup {
-        group,
+        group: read_group(record),
         members,
         pending,
         waiting,
         history,
         sources,
     };
-    let begun = lent.begin_stored(store, used);
-    outcome_number(begun)
+    lent.begin_stored(store, used)
 }
 
 // Of a poll, which is lent an output of so many bytes too.
@@ -52,21 +51,19 @@ pub fn begin_poll(
     store: usize,
     output: usize,
     used: &mut CellSet,
-) -> u32
+) -> Result<(), Error>
     requires { record_size ≤ length «record».now }
-    ensures { BegunPoll «record».now
+    ensures { BeginsPoll (parts_of (group_of «record».now))
         (tables members.now pending.now waiting.now history.now sources.now)
         store output result used.new }
 {
-    let group = read_group(record);
     let lent = LentGroup {
-        group,
+        group: read_group(record),
         members,
         pending,
         waiting,
         history,
         sources,
     };
-    let begun = lent.begin_poll(store, output, used);
-    outcome_number(begun)
+    lent.begin_poll(store, output, used)
 }

@@ -1,5 +1,5 @@
 // The record as a row of 20 words, in the order of docs/TABLES.md. A longer row is taken: its other words stay.
-// Kept (5): C lends a slice that may be longer, and what each exported call promises is of the slice: an array made of it there is one name more.
+// Kept (5): C lends a slice that may be longer, and what a call promises is of the slice: an array, taken out of it at each call, would be no plainer.
 ghost use Rattle.std.specs.Prelude.{◌≡◌, ◌≤◌, length};
 ghost use Rattle.srt_protocol.specs.Cells.{overwritten};
 ghost use Rattle.srt_protocol.specs.Errors.{outcome_number};
@@ -15,6 +15,9 @@ use srt_protocol::error::{Error, outcome_number};
 
 // The words of a record.
 pub const RECORD: usize = 20;
+
+// What a call answers that is lent too few words for its record, its answer or its list: the number of `Error::InsufficientBuffer`.
+pub const SHORT: u32 = 5;
 
 // ---- what the words show, by the record's parts
 

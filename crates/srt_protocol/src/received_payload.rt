@@ -20,8 +20,7 @@ pub const OUTPUT: usize = HEAD + CELL;
 pub fn cells_of(length: usize) -> usize
     ensures { result ≡ cells_of length }
 {
-    let cells = length / CELL;
-    if cells < MAX_CELLS { cells } else { MAX_CELLS }
+    (length / CELL).min(MAX_CELLS)
 }
 
 // Whether a store of this length has the cell, and the cell has room for a payload of this size.

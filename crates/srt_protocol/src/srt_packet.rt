@@ -13,7 +13,7 @@ pub const SEQUENCE_HALF_SPACE: u32 = 0x4000_0000;
 pub fn sequence_distance(a: u32, b: u32) -> u32
     ensures { result ≡ sequence_distance a b }
 {
-    std::num::wrapping_sub_u32(b, a) % SPACE
+    b.wrapping_sub(a) % SPACE
 }
 
 // Whether `a` is before `b`.

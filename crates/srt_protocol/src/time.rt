@@ -12,19 +12,13 @@ impl Timestamp {
     pub fn saturating_sub(self, other: Timestamp) -> u64
         ensures { result ≡ elapsed other.0 self.0 }
     {
-        if other <= self {
-            return self.0 - other.0;
-        }
-        0
+        self.0.saturating_sub(other.0)
     }
 
     // The moment `micros` later, or the last one that a Timestamp can hold.
     pub fn add_micros(self, micros: u64) -> Timestamp
         ensures { result.0 ≡ later self.0 micros }
     {
-        if micros <= u64::MAX - self.0 {
-            return Timestamp(self.0 + micros);
-        }
-        Timestamp(u64::MAX)
+        Timestamp(self.0.saturating_add(micros))
     }
 }

@@ -20,6 +20,7 @@ ghost use Rattle.table_bench.specs.Made.{InArrays};
 use bench_made::{core, data, sending};
 use cell_set::{WORDS, lowest_free};
 use srt_connection_members::{pop_at, push_at};
+use srt_group::Group;
 use srt_group_model::{Entry, Event, Identity, Packet};
 use srt_group_state::validity::is_invalid;
 use srt_group_tables::history::{HistoryRing, HistoryWords, push_back, store};
@@ -37,11 +38,7 @@ pub extern "C" fn table_find(pending: &[u64], count: usize, sequence: u64) -> us
     requires pending_size_in_bounds { (pending_size ≤ length pending.now) × (count ≤ max_pending) }
     requires pending_value { ascends (packets count pending.now) ≡ true }
 {
-    let found = pending::find(pending, count, sequence);
-    match found {
-        Some(at) => at,
-        None => MAX_CELLS,
-    }
+    pending::find(pending, count, sequence).unwrap_or(MAX_CELLS)
 }
 
 #[unsafe(no_mangle)]
@@ -129,10 +126,7 @@ pub extern "C" fn table_history(
     requires in_arrays { InArrays 0 (arrays history.old sources.old) }
     requires rounds_le_largest_sequence { (rounds ≤ largest_sequence) × (kept ≤ rounds) }
 {
-    let mut ring = HistoryRing {
-        start: 0,
-        length: 0,
-    };
+    let mut ring = HistoryRing::default();
     for sequence in 0..rounds {
         ring = sent(ring, history, sources, sequence, kept);
     }
@@ -155,33 +149,23 @@ pub extern "C" fn table_rules(
     requires members_size_in_bounds { (members_size ≤ length members.now) × ((pending_size ≤ length pending.now) × (waiting_size ≤ length waiting.now)) }
     requires long { Long (arrays history.now sources.now) }
 {
-    let identity = Identity {
-        id: 0x4000_0001,
-        length: 0,
-    };
-    let ring = HistoryRing {
-        start: 0,
-        length: entries,
+    let group = Group {
+        identity: Identity {
+            id: 0x4000_0001,
+            length: 0,
+        },
+        core: core(many, held, 1),
+        sending: sending(),
+        ring: HistoryRing {
+            length: entries,
+            ..HistoryRing::default()
+        },
     };
     let mut used = [0; WORDS];
     if is_invalid(
-        identity,
-        core(many, held, 1),
-        sending(),
-        ring,
-        members,
-        pending,
-        waiting,
-        history,
-        sources,
-        MAX_CELLS,
-        &mut used,
+        group, members, pending, waiting, history, sources, MAX_CELLS, &mut used,
     ) {
         return MAX_CELLS;
     }
-    let free = lowest_free(&used, MAX_CELLS);
-    match free {
-        Some(cell) => cell,
-        None => MAX_CELLS,
-    }
+    lowest_free(&used, MAX_CELLS).unwrap_or(MAX_CELLS)
 }

@@ -6,4 +6,4 @@ use Rattle.cell_bench.proofs.queue_one.Goals as goal
 pub queue_data-outcome-requires : goal.queue_data-outcome-requires
 queue_data-outcome-requires c =
     let lent : c.of_words_mut.result.now ≡ c.args.used.now = search rules in
-    rw lent (made_ready c.made-group.ensures c.requires)
+    rw lent (made_ready c.made.ensures c.requires)

@@ -1,6 +1,7 @@
 -- What is proved of the definitions in specs/Sets.antt, with what the proofs need.
 use Rattle.std.specs.Prelude.{◌≡◌, refl, true, List, [], ◌∷◌, ℕ, zero, suc, ◌+◌, ◌-◌, ◌*◌, ◌/◌, ◌%◌, ◌^◌, ◌≤◌, ◌<◌, eqb, ltb, length, get_or, set, None, Some}
 use Rattle.std.proofs.Common.{sym, ◌∙◌, arith, get_or-set_same, get_or-set_other}
+use Rattle.std.specs.Bool.{then_some}
 use Rattle.std.proofs.Math.Path.{ap, subst}
 use Rattle.std.proofs.Math.Bool.{false}
 use borrow.Author.Tests.{eqb-true, eqb-false, ltb-true, ltb-false}
@@ -183,3 +184,8 @@ module _ (words : List ℕ) (at cells : ℕ) (first : FirstWord words at) (insid
 
   pub beyond_store : cells ≤ at * 64 + ones → LowestFree words cells None
   beyond_store beyond = none_free words cells (λ n h. ones_passed n (omega arith))
+
+  pub found_if_inside : LowestFree words cells (then_some (ltb (at * 64 + ones) cells) (at * 64 + ones))
+  found_if_inside =
+      by_test (ltb (at * 64 + ones) cells) (λ e. rw e (found_in_word (ltb-true (at * 64 + ones) cells e)))
+      (λ e. rw e (beyond_store (ltb-false (at * 64 + ones) cells e)))

@@ -6,7 +6,9 @@ use Rattle.std.specs.Option.{unwrap_or}
 use Rattle.std.proofs.Common.{arith, ap, sym, ◌∙◌, append_assoc, append-nil, le-leb}
 use Rattle.listing.specs.Text.{line_text}
 use Rattle.listing.specs.Placed.{PlacedOrRefused}
+use Rattle.listing.proofs.PlacedLaws.{placed_begins}
 use Rattle.listing.proofs.TextLaws.{line_text_at_most}
+use native.Mathlib.Nat.{zero-add}
 use Rattle.listing_lines.specs.Text.{texts, LineWritten}
 
 pub texts_append : (a b : List (List ℕ)) → texts (a ++ b) ≡ texts a ++ texts b
@@ -33,10 +35,10 @@ six_at_most row six fits = rw six at (line_text_at_most 11 20 row (omega arith) 
 -- so it is written where 121 bytes are free
 pub row_written :
     (row out after : List ℕ) (answer : Option ℕ) → length row ≡ 6 → ((index : ℕ) → get_or row index 0 < 2 ^ 64) → 121 ≤ length out
-    → PlacedOrRefused out (line_text 11 row) after answer → LineWritten row out after (unwrap_or answer 0)
+    → PlacedOrRefused out 0 (line_text 11 row) after answer → LineWritten row out after (unwrap_or answer 0)
 row_written row out after answer six fits free put =
     let few = six_at_most row six fits in
-    let room : leb (length (line_text 11 row)) (length out) ≡ true = le-leb _ _ (omega arith) in
+    let room : leb (0 + length (line_text 11 row)) (length out) ≡ true = le-leb _ _ (omega arith) in
     let bytes = rw room at put.bytes in
     let end = rw room at put.end_of in
-    rw end (record { most = few; text = record { bytes = bytes; end_of = refl } })
+    rw end (record { most = omega (arith, few); text = record { bytes = bytes ∙ placed_begins out (line_text 11 row); end_of = zero-add _ } })

@@ -1,11 +1,9 @@
--- `advance_receive_sequence_at` meets its contract: the row that is lent and comes back is changed, and no other (`changed_back`).
+-- `advance_receive_sequence_at` meets its contract: the row that is lent and comes back is changed, and no other (`changed_lent`).
+use Rattle.std.proofs.Common.{rules}
 use Rattle.srt_group_model.specs.State.{on_leg}
 use Rattle.srt_group_model.specs.Legs.{advance_receive_sequence}
-use Rattle.srt_connection_members.specs.Laws.Members.{changed_back}
+use Rattle.srt_connection_members.specs.Laws.Members.{changed_lent}
 use Rattle.srt_connection_members.proofs.advance_receive_sequence_at.Goals as goal
 
 pub returns : goal.returns
-returns c =
-    let lent = rw c.unwrap.ensures at c.first_chunk_mut.ensures.cases in
-    let parts = c.split_at_mut-rest.ensures in
-    changed_back c.args.index c.args.members.now _ _ _ _ c.requires parts.front parts.back lent.same (on_leg (advance_receive_sequence c.args.sequence)) c.advance_receive_sequence.ensures
+returns c = changed_lent c.args.index c.args.members.now _ c.requires c.with_row.ensures (on_leg (advance_receive_sequence c.args.sequence)) (λ row left called. search rules)

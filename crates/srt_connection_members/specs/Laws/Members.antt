@@ -1,9 +1,9 @@
 -- What is proved of the definitions in specs/Members.antt, with what the proofs need.
 use Rattle.srt_protocol.specs.Errors.{Outcome}
-use Rattle.std.specs.Prelude.{◌≡◌, refl, List, [], ◌∷◌, ◌++◌, ℕ, zero, suc, ◌+◌, ◌-◌, ◌*◌, ◌≤◌, ◌<◌, length, take, drop, get_or, None, Option, Some}
+use Rattle.std.specs.Prelude.{◌≡◌, refl, List, [], ◌∷◌, ℕ, zero, suc, ◌+◌, ◌-◌, ◌*◌, ◌≤◌, ◌<◌, length, take, drop, get_or, None, Option, Some}
 use Rattle.std.specs.Simd.{first_chunks}
 use Rattle.std.proofs.Math.Path.{ap}
-use Rattle.std.proofs.Common.{sym, ap₂, ◌∙◌, add-one, arith}
+use Rattle.std.proofs.Common.{◌∙◌, add-one, arith}
 use Rattle.std.proofs.Math.Decide.{dec_lt}
 use borrow.Author.Tests.{eqb-true}
 use Rattle.srt_protocol.specs.Errors.{if_accepted}
@@ -21,12 +21,12 @@ use Rattle.word_rows.specs.Tab.{tab}
 use Rattle.word_rows.specs.Laws.Tab.{tab_length, tab_push}
 use Rattle.srt_connection_queue.specs.Laws.Tab.{tab_place, tab_change, tab_without, tab_each, place_below, tab_passes}
 use Rattle.word_rows.specs.Rows.{row_at, Closed}
-use Rattle.word_rows.specs.Laws.Rows.{row_same, row_part, chunks_read, chunk_there}
+use Rattle.word_rows.specs.Laws.Rows.{chunk_there, row_same, row_part, chunks_read}
 use Rattle.srt_connection_queue.specs.Row.{put_row}
 use Rattle.srt_connection_queue.specs.Laws.Row.{row_put, row_put_other, put_length}
 use Rattle.srt_connection_queue.specs.Rows.{row_size, member_of, Kept, with_membership}
 use Rattle.srt_connection_queue.specs.Queue.{cleared, Pushed, queue_after, Polled}
-use Rattle.srt_connection_members.specs.Members.{member_at, members_of, members_in, member_in, HasRow, new_member, Changed, PushedAt, PolledAt, ChangedAll, Appended, Removed}
+use Rattle.srt_connection_members.specs.Members.{member_at, members_of, members_in, member_in, HasRow, new_member, RowLent, Changed, PushedAt, PolledAt, ChangedAll, Appended, Removed}
 
 -- ---- laws
 
@@ -43,14 +43,15 @@ pub lent_member : (t : List ℕ) (i : ℕ) → member_of (take (i * row_size + r
 unfolding member_at
 lent_member t i = ap member_of (row_part row_size t i)
 
+-- a row that `as_chunks` lends shows the member at that index
+pub row_shows : (i k : ℕ) (t : List ℕ) → i < k → member_of (get_or (first_chunks row_size k t) i []) ≡ member_at t i
+unfolding member_at
+row_shows i k t below = ap member_of (chunk_there row_size k i t below)
+
 -- the rows that `as_chunks` lends show the members
 pub rows_show : (n k : ℕ) (t : List ℕ) → n ≤ k → members_in (take n (first_chunks row_size k t)) ≡ members_of n t
 unfolding members_of member_at
 rows_show n k t below = chunks_read row_size member_of n k t below
-
-pub row_shows : (i k : ℕ) (t : List ℕ) → i < k → member_of (get_or (first_chunks row_size k t) i []) ≡ member_at t i
-unfolding member_at
-row_shows i k t below = ap member_of (chunk_there row_size k i t below)
 
 module _ (i : ℕ) (t r : List ℕ) (there : HasRow i t) where
   pub changed_row : (f : Member → Member) → Kept r (f (member_at t i)) → Changed i f t (put_row row_size t i r)
@@ -103,33 +104,28 @@ members_front zero rows below = refl
 members_front (suc n) [] below = absurd (omega arith)
 members_front (suc n) (row ∷ rows) below = ap (λ (ms : List Member). member_of row ∷ ms) (members_front n rows (omega arith))
 
--- the row between two parts of the table was lent, and comes back as r
-module _ (i : ℕ) (t before behind lent r : List ℕ) (there : HasRow i t) (front : before ≡ take (i * row_size) t)
-    (back : behind ≡ drop (i * row_size) t) (first : lent ≡ take row_size behind) where
-  abbrev pub come_back : List ℕ
-  come_back = before ++ (r ++ drop row_size behind)
+-- the row at the front of the rest of the table
+pub part_lent : (i : ℕ) (t rest lent : List ℕ) → rest ≡ drop (i * row_size) t → lent ≡ take row_size rest → lent ≡ row_at row_size t i
+unfolding row_at
+part_lent i t rest lent back first = first ∙ ap (take row_size) back
 
-  lent_shows : member_of lent ≡ member_at t i
-  unfolding member_at row_at
-  lent_shows = ap member_of (first ∙ ap (take row_size) back)
+-- a row was lent to a call of which it is known what it does to any row
+module _ (i : ℕ) (t u : List ℕ) {P : List ℕ → List ℕ → Type 0} (there : HasRow i t) (lent : RowLent i t P u) where
+  pub changed_lent : (f : Member → Member) → ((row left : List ℕ) → P row left → Kept left (f (member_of row))) → Changed i f t u
+  unfolding member_at
+  changed_lent f does = rw lent.back (changed_row i t lent.left there f (does _ _ lent.called))
 
-  as_put : put_row row_size t i r ≡ come_back
-  as_put =
-      let size : i * row_size + row_size - i * row_size ≡ row_size = omega arith in
-      ap (λ (n : ℕ). take (i * row_size) t ++ (r ++ drop n (drop (i * row_size) t))) size
-      ∙ sym (ap₂ (λ (x y : List ℕ). x ++ (r ++ drop row_size y)) front back)
+  pub pushed_lent : (e : Event) (answer : Outcome) → ((row left : List ℕ) → P row left → Pushed (member_of row) e answer left) → PushedAt i e t answer u
+  unfolding member_at
+  pushed_lent e answer does = rw lent.back (pushed_row i t lent.left there e answer (does _ _ lent.called))
 
-  pub changed_back : (f : Member → Member) → Kept r (f (member_of lent)) → Changed i f t come_back
-  changed_back f kept = rw (← as_put) (changed_row i t r there f (rw lent_shows at kept))
+  pub polled_lent : (budget : ℕ) (answer : LegPoll) → ((row left : List ℕ) → P row left → Polled (member_of row) budget answer left)
+      → PolledAt i budget t answer u
+  unfolding member_at
+  polled_lent budget answer does = rw lent.back (polled_row i t lent.left there budget answer (does _ _ lent.called))
 
-  pub pushed_back : (e : Event) (answer : Outcome) → Pushed (member_of lent) e answer r → PushedAt i e t answer come_back
-  pushed_back e answer pushed = rw (← as_put) (pushed_row i t r there e answer (rw lent_shows at pushed))
-
-  pub polled_back : (budget : ℕ) (answer : LegPoll) → Polled (member_of lent) budget answer r → PolledAt i budget t answer come_back
-  polled_back budget answer polled = rw (← as_put) (polled_row i t r there budget answer (rw lent_shows at polled))
-
-  pub appended_back : (m : Member) → Kept r m → Appended i m t come_back
-  appended_back m kept = rw (← as_put) (appended_row i t r there m kept)
+  pub appended_lent : (m : Member) → ((row left : List ℕ) → P row left → Kept left m) → Appended i m t u
+  appended_lent m does = rw lent.back (appended_row i t lent.left there m (does _ _ lent.called))
 
 -- ---- laws of a changed row, for what is built on it
 

@@ -1,7 +1,7 @@
 -- What is proved of the definitions in specs/Row.antt, with what the proofs need.
 use Rattle.std.specs.Prelude.{◌≡◌, ℕ, suc, ◌+◌, ◌*◌, ◌-◌, ◌≤◌, ◌<◌, length, set}
 use Rattle.std.proofs.Math.Path.{ap, sym}
-use Rattle.std.proofs.Common.{◌∙◌, mul-le-mul_right, take-append-drop, drop-drop, drop-set-lt}
+use Rattle.std.proofs.Common.{ap₂, ◌∙◌, mul-le-mul_right, take-append-drop, drop-drop, drop-set-lt}
 use mathlib.Core.List.{List, ◌++◌}
 use Rattle.std.proofs.Math.Decide.{dec_lt}
 use native.Mathlib.Omega.{arith}
@@ -64,6 +64,14 @@ module _ (w : ℕ) (l r : List ℕ) (i : ℕ) (fits : i * w + w ≤ length l) (l
       go : Dec (j < i) → take w (drop (j * w) (put_row w l i r)) ≡ take w (drop (j * w) l)
       go (yes h) = before h
       go (no h) = after (omega arith)
+
+-- the row between two parts of the list is lent, and comes back as r
+pub put_between : (w : ℕ) (l : List ℕ) (i : ℕ) (before rest r behind : List ℕ) → before ≡ take (i * w) l → rest ≡ drop (i * w) l
+    → behind ≡ drop w rest → before ++ (r ++ behind) ≡ put_row w l i r
+put_between w l i before rest r behind front back last =
+    let size : i * w + w - i * w ≡ w = omega arith in
+    ap₂ (λ (x y : List ℕ). x ++ (r ++ y)) front (last ∙ ap (drop w) back)
+    ∙ sym (ap (λ (n : ℕ). take (i * w) l ++ (r ++ drop n (drop (i * w) l))) size)
 
 -- ---- one word of row i was set: the row has it, and every other row is as it was
 

@@ -197,7 +197,7 @@ module _ (id weight : ℕ) (l : Leg) (core : Core) (sending : Sending) (ms : Lis
         (left_by (ended (with_members ns added) 0) (starts_aligning one ∙ ap aligned e)
         record { code = refl; answer = refl; state = shows_rows v ns are; put = refl; sends = refl })
 
-  pub adds_unaligned : (x.admitted ≡ 1 → ⊥) → Adds id weight l core sending ms record { core = after; outcome = Ok tt } u
+  pub adds_unaligned : (x.admitted ≡ 1 → ⊥) → Adds id weight l core sending ms record { «record» = after; answer = Ok tt } u
   adds_unaligned other =
       record { long = joining.long; step = λ others same ps ws. not_aligned others same ps ws other }
 
@@ -209,7 +209,7 @@ module _ (id weight : ℕ) (l : Leg) (core : Core) (sending : Sending) (ms : Lis
     attempted others same ps ws =
         tried others same ps ws v _ (sym (same_aligning others same ps ws)) answer attempt.succeeded attempt.is one
 
-    pub adds_aligned : answer ≡ true → Adds id weight l core sending ms record { core = after; outcome = Ok tt } v
+    pub adds_aligned : answer ≡ true → Adds id weight l core sending ms record { «record» = after; answer = Ok tt } v
     unfolding if_true◌then◌else◌
     adds_aligned succeeds =
         record {
@@ -221,7 +221,7 @@ module _ (id weight : ℕ) (l : Leg) (core : Core) (sending : Sending) (ms : Lis
         }
 
     -- 22: it stays added
-    pub adds_22 : answer ≡ false → Adds id weight l core sending ms record { core = after; outcome = Err AlignmentFailed } v
+    pub adds_22 : answer ≡ false → Adds id weight l core sending ms record { «record» = after; answer = Err AlignmentFailed } v
     unfolding if_true◌then◌else◌
     adds_22 fails =
         record {

@@ -28,7 +28,7 @@ use Rattle.srt_group_shown.specs.Laws.Found.{long_with, same_cells}
 use Rattle.srt_group_addition.specs.Addition.{Adds}
 use Rattle.srt_group_addition.specs.Handed.{in_use, unfit, first_refusal, addition_refused, call_of_member, StepsAdding}
 use Rattle.srt_group_addition.specs.Laws.Cells.{adding_keeps}
-use Rattle.srt_group_addition.specs.declared.addition.Added.{Added}
+use Rattle.srt_group.specs.declared.Answered.{Answered}
 
 -- ---- the first refusal
 
@@ -137,10 +137,10 @@ module _ (id weight : ℕ) (l : Leg) (queue : List Event) (p : Parts) (t : Table
         keeps = same_cells s;
       }
 
-  adding_done : (answer : Added) (members' : List ℕ) → ◌≡◌ {A = Outcome} (Ok tt) (addition_refused id weight l queue s.members)
+  adding_done : (answer : Answered Core (Unit {0})) (members' : List ℕ) → ◌≡◌ {A = Outcome} (Ok tt) (addition_refused id weight l queue s.members)
       → Adds id weight l p.core p.sending t.members answer members'
-      → StepsKeeping (call_add_member id weight l queue) p t (outcome_number answer.outcome) no_answer
-      (parts p.identity answer.core p.sending p.ring) (tables members' t.pending t.waiting t.history t.sources)
+      → StepsKeeping (call_add_member id weight l queue) p t (outcome_number answer.answer) no_answer
+      (parts p.identity answer.«record» p.sending p.ring) (tables members' t.pending t.waiting t.history t.sources)
   adding_done answer members' is adds =
       let left = adds.step (rest_of p t) refl t.pending t.waiting in
       record {
@@ -154,7 +154,7 @@ module _ (id weight : ℕ) (l : Leg) (queue : List Event) (p : Parts) (t : Table
 
 -- ---- the leg of the row, and what was tested of it
 
-pub of_row : (id weight : ℕ) (core : Core) (sending : Sending) (ms : List ℕ) (answer : Added) (ms' : List ℕ) {m front : Member} → m ≡ front
+pub of_row : (id weight : ℕ) (core : Core) (sending : Sending) (ms : List ℕ) (answer : Answered Core (Unit {0})) (ms' : List ℕ) {m front : Member} → m ≡ front
     → StepsAdding (call_of_member id weight m) core sending ms answer ms' → StepsAdding (call_of_member id weight front) core sending ms answer ms'
 of_row id weight core sending ms answer ms' same steps =
     subst (λ (x : Member). StepsAdding (call_of_member id weight x) core sending ms answer ms') same steps
@@ -164,7 +164,7 @@ module _ (id weight : ℕ) (m : Member) (core : Core) (sending : Sending) (ms : 
   of_member : r ≡ addition_refused id weight m.leg m.queue (members_of core.counts.members ms)
   of_member = tested ∙ ap (λ (l : Leg). addition_refused id weight l m.queue (members_of core.counts.members ms)) is_leg
 
-  pub leg_refused : (e : Error) → r ≡ Err e → StepsAdding (call_of_member id weight m) core sending ms record { core = core; outcome = Err e } ms
+  pub leg_refused : (e : Error) → r ≡ Err e → StepsAdding (call_of_member id weight m) core sending ms record { «record» = core; answer = Err e } ms
   leg_refused e is =
       record {
         over =
@@ -177,7 +177,7 @@ module _ (id weight : ℕ) (m : Member) (core : Core) (sending : Sending) (ms : 
     pub leg_room : core.counts.members < max_members
     leg_room = room_left id weight leg m.queue core.counts.members ms (sym accepted ∙ tested)
 
-    pub leg_added : (answer : Added) (ms' : List ℕ) → Adds id weight leg core sending ms answer ms'
+    pub leg_added : (answer : Answered Core (Unit {0})) (ms' : List ℕ) → Adds id weight leg core sending ms answer ms'
         → StepsAdding (call_of_member id weight m) core sending ms answer ms'
     leg_added answer ms' adds =
         record {

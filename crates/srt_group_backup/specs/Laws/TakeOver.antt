@@ -326,7 +326,7 @@ module _ (time i n : ℕ) (t : List ℕ) (below : i < n) where
 
     pub no_take_over : {u : List ℕ} {outcome : Outcome} → r.length ≤ max_history → answer ≡ false → CarrierAligned i n x t outcome u
         → TookOver (take_over_backup_flight time i) n x r a sent (send_tables t list)
-        record { outcome = outcome; sending = x; ring = r; sent = sent } (send_tables u list)
+        record { outcome = outcome; send = record { sending = x; ring = r }; sent = sent } (send_tables u list)
     no_take_over {u} {outcome} fits no_other aligned =
         record {
           long = aligned.long;
@@ -347,7 +347,7 @@ module _ (time i n : ℕ) (t : List ℕ) (below : i < n) where
 
       pub took_over_nothing : {u : List ℕ} {outcome : Outcome} → trimmed.ring.length ≡ 0 → CarrierAligned i n trimmed.sending t outcome u
           → TookOver (take_over_backup_flight time i) n x r a sent (send_tables t list)
-          record { outcome = outcome; sending = trimmed.sending; ring = trimmed.ring; sent = sent } (send_tables u list)
+          record { outcome = outcome; send = trimmed; sent = sent } (send_tables u list)
       unfolding at_place
       took_over_nothing {u} {outcome} empty aligned =
           record {
@@ -369,7 +369,7 @@ module _ (time i n : ℕ) (t : List ℕ) (below : i < n) where
           → FlightReplayed (replay_flight time i (member_at t i) (entry_at trimmed.ring a 0)) (SendIs trimmed_send) sent
           (send_tables t list) flight (send_tables u list_after)
           → TookOver (take_over_backup_flight time i) n x r a sent (send_tables t list)
-          record { outcome = flight.outcome; sending = trimmed.sending; ring = trimmed.ring; sent = flight.sent }
+          record { outcome = flight.outcome; send = trimmed; sent = flight.sent }
           (send_tables u list_after)
       took_over_flight {u} {list_after} {flight} some_there replayed =
           record {

@@ -1,5 +1,5 @@
 -- What is proved of the definitions in specs/Trimming.antt, with what the proofs need.
-use Rattle.std.specs.Prelude.{◌≡◌, Bool, true, ◌<◌, length, get_or, None, Some}
+use Rattle.std.specs.Prelude.{◌≡◌, Bool, true, ◌<◌, length, get_or, None, Option, Some}
 use Rattle.std.proofs.Math.Path.{refl, ap, sym}
 use Rattle.std.proofs.Common.{◌∙◌, arith, eq-eqb, ne_eqb}
 use Rattle.std.proofs.Math.Bool.{false}
@@ -8,8 +8,9 @@ use Prim.Native.Nat.{ℕ, zero, suc, ◌+◌, ◌%◌}
 use Rattle.std.proofs.Math.Dec.{eqb}
 use Rattle.word_rows.specs.Tab.{tab}
 use Rattle.srt_protocol.specs.Sequence.{sequence_before}
-use Rattle.srt_group_model.specs.Tools.{if_true◌then◌else◌, if_some◌give◌otherwise◌, bit, at_place}
+use Rattle.srt_group_model.specs.Tools.{if_true◌then◌else◌, if_some◌give◌otherwise◌, is_set, flagged, bit, at_place}
 use Rattle.srt_group_model.specs.Laws.Flag.{unset_none, set_some}
+use Rattle.srt_group_model.specs.Laws.Reason.{none_some, some_inj}
 use Rattle.srt_group_model.specs.State.{Send, backup_carrier, with_send, send_side, with_gap}
 use Rattle.srt_group_model.specs.Legs.{has_sender, oldest_unacked_sequence}
 use Rattle.srt_group_model.specs.Members.{has_id, find}
@@ -84,6 +85,22 @@ module _ (l : Leg) (history : List ℕ) (x : Sending) (r : HistoryRing) where
           ∙ ap (λ (h : List Entry). send_side (with_gap (bit (starts_after oldest h)) x) h) (trimmed.is a e)
 
 -- ---- by the carrier
+
+-- the carrier as an option
+none_flagged : (n k : ℕ) → None ≡ flagged (is_set n) k → n ≡ 0
+unfolding flagged
+none_flagged zero k e = refl
+none_flagged (suc n) k e = none_some e
+
+module _ (x : Sending) {carrier : Option ℕ} (is : carrier ≡ flagged (is_set x.carried) x.carrier) where
+  pub nobody_carries : carrier ≡ None → x.carried ≡ 0
+  nobody_carries none = none_flagged x.carried x.carrier (sym none ∙ is)
+
+  pub some_carry : (id : ℕ) → carrier ≡ Some id → x.carried ≡ 0 → ⊥
+  some_carry id some unset = none_some (sym (unset_none x.carried x.carrier unset) ∙ (sym is ∙ some))
+
+  pub the_carrier : (id : ℕ) → carrier ≡ Some id → id ≡ x.carrier
+  the_carrier id some = some_inj (sym some ∙ (is ∙ set_some x.carried x.carrier (some_carry id some)))
 
 pub carrier_there : (id : ℕ) (rows : List (List ℕ)) (i : ℕ) → Some i ≡ find id (members_in rows) → i < length rows
 carrier_there id rows i e = row_found (has_id id) rows i e

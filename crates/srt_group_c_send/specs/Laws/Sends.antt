@@ -1,4 +1,5 @@
 -- Sends in words.
+use Rattle.srt_protocol.specs.Errors.{Outcome, error_number}
 use Rattle.std.specs.Prelude.{◌≡◌, false, List, [], ◌∷◌, ℕ, ◌≤◌, ◌<◌, length, Err, Ok, Result}
 use Rattle.std.proofs.Math.Path.{refl}
 use Rattle.std.proofs.Common.{sym, ap, ◌∙◌, lt-ltb, le-ltb}
@@ -13,8 +14,9 @@ use Rattle.srt_group_shown.specs.Ready.{sending_into}
 use Rattle.srt_group.specs.Made.{parts_of}
 use Rattle.srt_group_send.specs.Answers.{send_answer}
 use Rattle.srt_group_send_calls.specs.Laws.Promised.{list_refused, send_refused}
+use Rattle.srt_group_refusals.specs.Begins.{BeginsStored}
 use Rattle.srt_group_words.specs.Record.{record_size, group_of}
-use Rattle.srt_group_words.specs.Words.{zeros, in_words, sent_words, words, PromisedWords, BegunStored}
+use Rattle.srt_group_words.specs.Words.{zeros, in_words, sent_words, words, PromisedWords}
 use Rattle.srt_group_words.specs.Laws.Words.{sent_enough, in_words_of}
 use Rattle.srt_group_words.specs.Laws.Begin.{refused_in_words}
 
@@ -49,12 +51,12 @@ module _ (time : ℕ) (payload : List ℕ) (w : List ℕ) (t : Tables) (store li
       (list_refused time payload (parts_of (group_of w)) t store list (lt-ltb (length list) list_size short)) put refl
 
   -- 5 of the tables or of the store, and 6
-  pub begin_refused : list_size ≤ length list → {code : ℕ} {used : List ℕ} → BegunStored w t (length store) code used → (code ≡ 0 → ⊥)
-      → refused_with code
+  pub begin_refused : list_size ≤ length list → {o : Outcome} {used : List ℕ} → BeginsStored (parts_of (group_of w)) t (length store) o used
+      → (e : Error) → o ≡ Err e → {code : ℕ} → code ≡ error_number e → refused_with code
   unfolding sent_words in_words values_of zeros
-  begin_refused fits {code} begun other =
+  begin_refused fits begins e refused {code} same =
       in_words_of (call_send time payload) sent_words w t (sending_into store list) answer (sent_enough w t (sending_into store list) answer long room) w t
       (sending_into store list) answer' code no_answer 0
-      (refused_in_words (call_send time payload) w t (sending_into store list) begun.same other
-      (send_refused time payload (parts_of (group_of w)) t store list begun.begins (le-ltb (length list) list_size fits)))
+      (refused_in_words (call_send time payload) w t (sending_into store list) e same
+      (send_refused time payload (parts_of (group_of w)) t store list begins (le-ltb (length list) list_size fits) e refused))
       put refl

@@ -1,6 +1,7 @@
 -- What a part of a Backup send leaves is the flow of the model.
 use Rattle.srt_protocol.specs.Errors.{Outcome}
 use Rattle.std.specs.Prelude.{◌≡◌, Bool, true, false, length, Err, None, Ok, Option, Some, is_some}
+use Rattle.std.specs.Result.{is_err}
 use Rattle.std.proofs.Math.Path.{refl, ap, ap₂, sym, subst}
 use Rattle.std.proofs.Common.{◌∙◌, arith}
 use mathlib.Core.List.{List, [], ◌∷◌, ◌++◌}
@@ -28,11 +29,10 @@ use Rattle.srt_group_tables.specs.declared.history.HistoryRing.{HistoryRing}
 use Rattle.srt_group_tables.specs.Ring.{arrays, Long, entries_of, send_of}
 use Rattle.srt_group_sending.specs.SentList.{SendTables, send_tables, Wrote}
 use Rattle.srt_group_sending.specs.Laws.SentList.{wrote_nothing, wrote_length, wrote_then}
-use Rattle.srt_group_backup.specs.declared.takeover.TakenOver.{TakenOver}
+use Rattle.srt_group_backup.specs.declared.send.BackupSend.{BackupSend}
 use Rattle.srt_group_backup.specs.TakeOver.{TookOver}
 use Rattle.srt_group_backup.specs.OwnSend.{SentOn}
 use Rattle.srt_group_backup.specs.Laws.OwnSend.{send_own_failed, send_own_met}
-use Rattle.srt_group_carrier.specs.declared.recording.BackupSend.{BackupSend}
 use Rattle.srt_group_carrier.specs.Freeing.{TrimFollows}
 use Rattle.srt_group_carrier.specs.Lendable.{BackupTables, backup_tables, arrays_in, Lendable}
 use Rattle.srt_group_carrier.specs.Recording.{Kept}
@@ -54,23 +54,32 @@ and_goes_on : (s : State) (sends : List Sent) (g : State → Flow) (y : Flow) �
 unfolding ◌and_then◌ if_true◌then◌else◌ flow_of
 and_goes_on s sends g y is = ap (λ (z : Flow). flow_of z.state (sends ++ z.sends) z.code) is
 
+-- ---- an outcome
+
+refused_code : (o : Outcome) → is_err o ≡ true → eqb (outcome_number o) 0 ≡ false
+refused_code (Ok tt) is = cc is
+refused_code (Err e) is = ne_eqb (error_number e) 0 (refused_not_0 e)
+
+pub accepted : (o : Outcome) → is_err o ≡ false → o ≡ Ok tt
+accepted (Ok tt) is = refl
+accepted (Err e) is = cc is
+
 -- ---- a flow after a take-over
 
 module _ (f : State → Flow) (cell n : ℕ) (x : Sending) (r : HistoryRing) (sent : ℕ) (before : BackupTables) (members list used : List ℕ)
-    {taken : TakenOver} (few : sent ≤ max_sent - max_history) (arrays_long : Long (arrays_in before))
+    {taken : BackupSend} (few : sent ≤ max_sent - max_history) (arrays_long : Long (arrays_in before))
     (took : TookOver f n x r (arrays_in before) sent (send_tables before.members before.list) taken (send_tables members list))
-    (follows : TrimFollows (entries_of r (arrays_in before)) before.used (entries_of taken.ring (arrays_in before)) used) where
+    (follows : TrimFollows (entries_of r (arrays_in before)) before.used (entries_of taken.send.ring (arrays_in before)) used) where
   abbrev mid : BackupTables
   mid = backup_tables members before.history before.sources list used
 
   left_taken : State → State
-  left_taken s = with_send (send_of taken.sending taken.ring (arrays_in before)) (with_members (members_of n members) s)
+  left_taken s = with_send (send_of taken.send.sending taken.send.ring (arrays_in before)) (with_members (members_of n members) s)
 
-  pub flows_stopped : (g : State → Flow) (e : Error) → taken.outcome ≡ Err e
-      → BackupFlows every (λ s. f s and_then g) cell n x r sent before
-      record { outcome = Err e; sending = taken.sending; ring = taken.ring; sent = taken.sent } mid
+  pub flows_stopped : (g : State → Flow) → is_err taken.outcome ≡ true
+      → BackupFlows every (λ s. f s and_then g) cell n x r sent before taken mid
   unfolding flow_of left_taken
-  flows_stopped g e is =
+  flows_stopped g is =
       record {
         members_long = took.long;
         arrays_long = arrays_long;
@@ -82,13 +91,11 @@ module _ (f : State → Flow) (cell n : ℕ) (x : Sending) (r : HistoryRing) (se
         flow =
             λ s among ms sends.
             ap (λ (y : Flow). y and_then g) (took.flow s ms sends)
-            ∙ and_stops (flow_of (left_taken s) took.sends (outcome_number taken.outcome)) g
-            (ap (λ (o : Outcome). eqb (outcome_number o) 0) is ∙ ne_eqb (error_number e) 0 (refused_not_0 e))
-            ∙ ap (λ (o : Outcome). flow_of (left_taken s) took.sends (outcome_number o)) is;
+            ∙ and_stops (flow_of (left_taken s) took.sends (outcome_number taken.outcome)) g (refused_code taken.outcome is);
       }
 
   pub flows_then : (g : State → Flow) {answer : BackupSend} {after : BackupTables} → taken.outcome ≡ Ok tt → list_size ≤ length before.list
-      → BackupFlows every g cell n taken.sending taken.ring taken.sent mid answer after
+      → BackupFlows every g cell n taken.send.sending taken.send.ring taken.sent mid answer after
       → BackupFlows every (λ s. f s and_then g) cell n x r sent before answer after
   unfolding flow_of left_taken
   flows_then g {answer} {after} is list_long second =
@@ -121,7 +128,7 @@ module _ (among : State → Type 0) (f : State → Flow) (ready : State → List
   with_ready = backup_tables members before.history before.sources before.list before.used
 
   pub none_active : None ≡ first_active (members_of n members) → Lendable n r before → sent ≤ max_sent
-      → BackupFlows among f cell n x r sent before record { outcome = Err error; sending = x; ring = r; sent = sent } with_ready
+      → BackupFlows among f cell n x r sent before record { outcome = Err error; send = record { sending = x; ring = r }; sent = sent } with_ready
   unfolding if_some◌give◌otherwise◌
   none_active nowhere lent few =
       record {
@@ -220,7 +227,7 @@ module _ (time size cell sequence i n : ℕ) (x : Sending) (r : HistoryRing) (se
               x r (arrays_in before) (arrays history sources) sent sends on refl same_id kept.recorded
               ∙ ap
               (λ (o : Outcome).
-              flow_made (send_of answer.sending answer.ring (arrays history sources)) s (outcome_number o))
+              flow_made (send_of answer.send.sending answer.send.ring (arrays history sources)) s (outcome_number o))
               (sym kept.outcome);
         }
       where
@@ -244,7 +251,7 @@ module _ (time size cell sequence i n : ℕ) (x : Sending) (r : HistoryRing) (se
 
     pub own_refused : (error : Error) → Lendable n r before → sent < max_sent
         → BackupFlows every (own (λ k. ends_with (error_number error))) cell n x r sent before
-        record { outcome = Err error; sending = x; ring = r; sent = sent } unsent
+        record { outcome = Err error; send = record { sending = x; ring = r }; sent = sent } unsent
     unfolding if_true◌then◌else◌
     own_refused error lent few =
         record {
@@ -294,10 +301,10 @@ lendable_with members lent long =
     }
 
 pub lendable_taken : {f : State → Flow} {n : ℕ} {x : Sending} {r : HistoryRing} {sent : ℕ} {before : BackupTables} {members list used : List ℕ}
-    {taken : TakenOver} → sent ≤ max_sent - max_history → Lendable n r before
+    {taken : BackupSend} → sent ≤ max_sent - max_history → Lendable n r before
     → TookOver f n x r (arrays_in before) sent (send_tables before.members before.list) taken (send_tables members list)
-    → TrimFollows (entries_of r (arrays_in before)) before.used (entries_of taken.ring (arrays_in before)) used
-    → Lendable n taken.ring (backup_tables members before.history before.sources list used)
+    → TrimFollows (entries_of r (arrays_in before)) before.used (entries_of taken.send.ring (arrays_in before)) used
+    → Lendable n taken.send.ring (backup_tables members before.history before.sources list used)
 lendable_taken {before = before} few lent took follows =
     record {
       rows = omega (arith, lent.rows, took.long);
@@ -351,7 +358,7 @@ module _ (time size cell sequence i n : ℕ) (failed : Member) (x : Sending) (r 
 
   pub none_promoted : None ≡ first_active (members_of n members) → Lendable n r before → sent ≤ max_sent
       → BackupFlows every (send_after_promotion time size cell sequence i failed) cell n x r sent before
-      record { outcome = Err AllBackupFailed; sending = x; ring = r; sent = sent } after_promotion
+      record { outcome = Err AllBackupFailed; send = record { sending = x; ring = r }; sent = sent } after_promotion
   none_promoted =
       none_active every (send_after_promotion time size cell sequence i failed) _ (on_promoted time size cell sequence) AllBackupFailed
       (promotion_shape time size cell sequence i n failed) cell n x r sent before members ready_promoted promoted.long

@@ -23,7 +23,6 @@ use Rattle.srt_group_shown.specs.Shown.{Rest, shown, blank}
 use Rattle.srt_group_shown.specs.Tables.{ReceiveTables, receive_tables}
 use Rattle.srt_group_shown.specs.Laws.Shown.{held_few}
 use Rattle.srt_group_collecting.specs.declared.collecting.Visited.{Visited}
-use Rattle.srt_group_collecting.specs.declared.collecting.Visiting.{Visiting}
 use Rattle.srt_group_collecting.specs.declared.collecting.Emptied.{Emptied}
 use Rattle.srt_group_collecting.specs.Leaves.{Usable, under_way}
 use Rattle.srt_group_collecting.specs.Visit.{Collects}
@@ -164,9 +163,9 @@ module _ (visits : ℕ) (r : Run) where
   unfolding collect_until_held if_true◌then◌else◌
   event_collected none_waits goes = rw (none_waits, goes)
 
-module _ (visits : ℕ) (before : Visiting) (ms ps ws : List ℕ) (usable : Usable before.core (receive_tables ms ps ws)) where
+module _ (visits : ℕ) (before : Visited) (ms ps ws : List ℕ) (usable : Usable before.core (receive_tables ms ps ws)) where
   pub held_waits : 0 < before.core.counts.waiting
-      → HeldVisit visits before (receive_tables ms ps ws) record { more = 0; core = before.core; budget = before.budget } (receive_tables ms ps ws)
+      → HeldVisit visits before (receive_tables ms ps ws) record { more = false; core = before.core; budget = before.budget } (receive_tables ms ps ws)
   unfolding if_true◌then◌else◌
   held_waits waits =
       record {
@@ -193,7 +192,7 @@ module _ (visits : ℕ) (before : Visiting) (ms ps ws : List ℕ) (usable : Usab
         run_is (visited_run others log) (shown v.core others ms' ps' ws') v.budget (one.visits.state others log)
         (one.visits.left others log)
 
-    pub held_none : is_set v.took ≡ false → HeldVisit visits before (receive_tables ms ps ws) record { more = 0; core = v.core; budget = v.budget } (receive_tables ms' ps' ws')
+    pub held_none : v.more ≡ false → HeldVisit visits before (receive_tables ms ps ws) record { more = false; core = v.core; budget = v.budget } (receive_tables ms' ps' ws')
     unfolding if_true◌then◌else◌
     held_none stays =
         record {
@@ -206,14 +205,14 @@ module _ (visits : ℕ) (before : Visiting) (ms ps ws : List ℕ) (usable : Usab
           is =
               λ others log.
               no_event_left visits (run_of before others (receive_tables ms ps ws) log) (tab_spent before.core.counts.waiting (waiting_at ws) none_waits)
-              (one.visits.took others log ∙ stays)
+              (one.visits.more others log ∙ stays)
               ∙ run_after others log;
         }
 
-    pub held_one : (asked pends : Bool) (after : Core) (more : ℕ) → is_set v.took ≡ true
+    pub held_one : (asked pends : Bool) (after : Core) (more : Bool) → v.more ≡ true
         → asked ≡ (eqb visits 0 && eqb v.core.counts.pending 0)
         → after ≡ continued (bit (is_set v.core.visit.continuation || asked)) v.core → Shows has_pending_data after pends
-        → more ≡ bit (not pends)
+        → more ≡ not pends
         → HeldVisit visits before (receive_tables ms ps ws) record { more = more; core = after; budget = v.budget } (receive_tables ms' ps' ws')
     held_one asked pends after more goes asks is_after shows is_more =
         record {
@@ -228,20 +227,20 @@ module _ (visits : ℕ) (before : Visiting) (ms ps ws : List ℕ) (usable : Usab
               let log' = (visited_run others log).log in
               let here = under_way after others (receive_tables ms' ps' ws') log' v.budget in
               event_collected visits (run_of before others (receive_tables ms ps ws) log) (tab_spent before.core.counts.waiting (waiting_at ws) none_waits)
-              (one.visits.took others log ∙ goes)
+              (one.visits.more others log ∙ goes)
               ∙ ap (λ (x : Run). or_later visits (or_continue (eqb visits 0 && is_empty x.state.receive.pending) x)) (run_after others log)
               ∙ ap (λ (b : Bool). or_later visits (or_continue b (under_way v.core others (receive_tables ms' ps' ws') log' v.budget)))
               (ap (λ (b : Bool). eqb visits 0 && b) (tab_empty v.core.counts.pending (packet_at ps')) ∙ sym asks)
               ∙ ap (λ (c : Core). or_later visits (under_way c others (receive_tables ms' ps' ws') log' v.budget)) (sym is_after)
               ∙ ap (λ (t : Bool). if_true t then here else collect_until_held visits here) (sym (shows.is others (receive_tables ms' ps' ws')))
               ∙ if_not pends here (collect_until_held visits here)
-              ∙ ap (λ (t : Bool). if_true t then collect_until_held visits here else here) (sym (ap is_set is_more ∙ bit_set (not pends)));
+              ∙ ap (λ (t : Bool). if_true t then collect_until_held visits here else here) (sym is_more);
         }
 
 -- ---- the loop until something is held
 
 -- so many visits are left
-pub record Holding (left : ℕ) (core : Core) (budget : ℕ) (t : ReceiveTables) (v : Visiting) (t' : ReceiveTables) : Type 0 where
+pub record Holding (left : ℕ) (core : Core) (budget : ℕ) (t : ReceiveTables) (v : Visited) (t' : ReceiveTables) : Type 0 where
   pub members_long : length t'.members ≡ length t.members
   pub pending_long : length t'.pending ≡ length t.pending
   pub waiting_long : length t'.waiting ≡ length t.waiting
@@ -254,7 +253,7 @@ pub record Holding (left : ℕ) (core : Core) (budget : ℕ) (t : ReceiveTables)
 
 module _ (core : Core) (budget : ℕ) (ms ps ws : List ℕ) where
   pub holding_start : Usable core (receive_tables ms ps ws)
-      → Holding max_visits core budget (receive_tables ms ps ws) record { more = 1; core = core; budget = budget } (receive_tables ms ps ws)
+      → Holding max_visits core budget (receive_tables ms ps ws) record { more = true; core = core; budget = budget } (receive_tables ms ps ws)
   holding_start u =
       record {
         members_long = refl;
@@ -266,19 +265,19 @@ module _ (core : Core) (budget : ℕ) (ms ps ws : List ℕ) where
         is = λ others log. refl;
       }
 
-  module _ (left : ℕ) (v v' : Visiting) (ms₁ ps₁ ws₁ ms' ps' ws' : List ℕ) (some_left : 0 < left)
+  module _ (left : ℕ) (v v' : Visited) (ms₁ ps₁ ws₁ ms' ps' ws' : List ℕ) (some_left : 0 < left)
       (h : Holding left core budget (receive_tables ms ps ws) v (receive_tables ms₁ ps₁ ws₁)) (x : HeldVisit (left - 1) v (receive_tables ms₁ ps₁ ws₁) v' (receive_tables ms' ps' ws')) where
     -- the visits so far, and this one
     one_more : (others : Rest) (log : List Mark)
         → collect_until_held max_visits (under_way core others (receive_tables ms ps ws) log budget)
-        ≡ (if_true is_set v'.more then collect_until_held (left - 1) (run_of v' others (receive_tables ms' ps' ws') (x.marks others (h.marks others log)))
+        ≡ (if_true v'.more then collect_until_held (left - 1) (run_of v' others (receive_tables ms' ps' ws') (x.marks others (h.marks others log)))
         else run_of v' others (receive_tables ms' ps' ws') (x.marks others (h.marks others log)))
     one_more others log =
         h.is others log
         ∙ ap (λ (n : ℕ). collect_until_held n (run_of v others (receive_tables ms₁ ps₁ ws₁) (h.marks others log))) (omega (arith, some_left))
         ∙ x.is others (h.marks others log)
 
-    pub holding_on : is_set v'.more ≡ true → Holding (left - 1) core budget (receive_tables ms ps ws) v' (receive_tables ms' ps' ws')
+    pub holding_on : v'.more ≡ true → Holding (left - 1) core budget (receive_tables ms ps ws) v' (receive_tables ms' ps' ws')
     holding_on goes =
         record {
           members_long = x.members_long ∙ h.members_long;
@@ -287,10 +286,10 @@ module _ (core : Core) (budget : ℕ) (ms ps ws : List ℕ) where
           members_same = x.members_same ∙ h.members_same;
           usable = x.usable;
           marks = λ others log. x.marks others (h.marks others log);
-          is = λ others log. one_more others log ∙ when_true (is_set v'.more) _ _ goes;
+          is = λ others log. one_more others log ∙ when_true (v'.more) _ _ goes;
         }
 
-    pub holding_ended : is_set v'.more ≡ false
+    pub holding_ended : v'.more ≡ false
         → Gathers core budget (receive_tables ms ps ws) record { core = v'.core; budget = v'.budget } (receive_tables ms' ps' ws')
     holding_ended stays =
         record {
@@ -301,7 +300,7 @@ module _ (core : Core) (budget : ℕ) (ms ps ws : List ℕ) where
           usable = x.usable;
           run =
               λ others log.
-              let e = one_more others log ∙ when_false (is_set v'.more) _ _ stays in
+              let e = one_more others log ∙ when_false (v'.more) _ _ stays in
               record { state = ap (λ (y : Run). y.state) e; budget = ap (λ (y : Run). y.budget) e };
         }
 
@@ -310,7 +309,7 @@ module _ (core : Core) (budget : ℕ) (ms ps ws : List ℕ) where
   none_left zero r h = refl
   none_left (suc n) r h = absurd (omega arith)
 
-  pub holding_done : (left : ℕ) (v : Visiting) (ms' ps' ws' : List ℕ) → left ≤ 0 → Holding left core budget (receive_tables ms ps ws) v (receive_tables ms' ps' ws')
+  pub holding_done : (left : ℕ) (v : Visited) (ms' ps' ws' : List ℕ) → left ≤ 0 → Holding left core budget (receive_tables ms ps ws) v (receive_tables ms' ps' ws')
       → Gathers core budget (receive_tables ms ps ws) record { core = v.core; budget = v.budget } (receive_tables ms' ps' ws')
   holding_done left v ms' ps' ws' none_more h =
       record {
@@ -370,7 +369,7 @@ visits_spent (suc n) sequence r h = absurd (omega arith)
 
 module _ (sequence : ℕ) (core : Core) (budget : ℕ) (ms ps ws : List ℕ) where
   pub emptying_start : Usable core (receive_tables ms ps ws) → core.counts.waiting ≡ 0
-      → Emptying max_visits sequence core budget (receive_tables ms ps ws) record { took = 0; core = core; budget = budget } (receive_tables ms ps ws)
+      → Emptying max_visits sequence core budget (receive_tables ms ps ws) record { more = false; core = core; budget = budget } (receive_tables ms ps ws)
   emptying_start u none_waits =
       record {
         members_long = refl;
@@ -388,7 +387,7 @@ module _ (sequence : ℕ) (core : Core) (budget : ℕ) (ms ps ws : List ℕ) whe
     answers : (r : Emptied) (ms' ps' ws' : List ℕ) → length ms' ≡ length ms₁ → length ps' ≡ length ps₁ → length ws' ≡ length ws₁
         → r.core.counts.members ≡ v.core.counts.members → Usable r.core (receive_tables ms' ps' ws')
         → ((others : Rest) (log : List Mark)
-        → (collect_until_empty left sequence (after_visit v others (receive_tables ms₁ ps₁ ws₁) log)).emptied ≡ is_set r.emptied)
+        → (collect_until_empty left sequence (after_visit v others (receive_tables ms₁ ps₁ ws₁) log)).emptied ≡ r.emptied)
         → ((others : Rest) (log : List Mark)
         → (collect_until_empty left sequence (after_visit v others (receive_tables ms₁ ps₁ ws₁) log)).run.state ≡ shown r.core others ms' ps' ws')
         → ((others : Rest) (log : List Mark)
@@ -429,9 +428,9 @@ module _ (sequence : ℕ) (core : Core) (budget : ℕ) (ms ps ws : List ℕ) whe
     pub emptying_settled : {answer : Bool} → 0 < left
         → answer ≡ (is_set v.core.visit.continuation || is_held sequence (packets v.core.counts.pending ps₁)) → answer ≡ true
         → Empties sequence core budget (receive_tables ms ps ws)
-        record { emptied = 0; core = v.core; budget = v.budget } (receive_tables ms₁ ps₁ ws₁)
+        record { emptied = false; core = v.core; budget = v.budget } (receive_tables ms₁ ps₁ ws₁)
     emptying_settled some_left is settled =
-        answers record { emptied = 0; core = v.core; budget = v.budget } ms₁ ps₁ ws₁ refl refl refl refl h.usable
+        answers record { emptied = false; core = v.core; budget = v.budget } ms₁ ps₁ ws₁ refl refl refl refl h.usable
         (λ others log. ap (λ (x : EmptiedRun). x.emptied) (settled_now some_left is settled others log))
         (λ others log. ap (λ (x : EmptiedRun). x.run.state) (settled_now some_left is settled others log))
         (λ others log. ap (λ (x : EmptiedRun). x.run.budget) (settled_now some_left is settled others log))
@@ -440,9 +439,9 @@ module _ (sequence : ℕ) (core : Core) (budget : ℕ) (ms ps ws : List ℕ) whe
         → held ≡ is_held sequence (packets v.core.counts.pending ps₁)
         → after ≡ continued (bit (is_set v.core.visit.continuation || not held)) v.core
         → Empties sequence core budget (receive_tables ms ps ws)
-        record { emptied = 0; core = after; budget = v.budget } (receive_tables ms₁ ps₁ ws₁)
+        record { emptied = false; core = after; budget = v.budget } (receive_tables ms₁ ps₁ ws₁)
     emptying_spent {held} {after} none_left is is_after =
-        answers record { emptied = 0; core = after; budget = v.budget } ms₁ ps₁ ws₁ refl refl refl
+        answers record { emptied = false; core = after; budget = v.budget } ms₁ ps₁ ws₁ refl refl refl
         (ap (λ (c : Core). c.counts.members) is_after)
         (subst (λ (c : Core). Usable c (receive_tables ms₁ ps₁ ws₁)) (sym is_after) (usable_continued v.core ms₁ ps₁ ws₁ (is_set v.core.visit.continuation || not held) h.usable))
         (λ others log. ap (λ (x : EmptiedRun). x.emptied) (visits_spent left sequence (after_visit v others (receive_tables ms₁ ps₁ ws₁) log) none_left))
@@ -464,7 +463,7 @@ module _ (sequence : ℕ) (core : Core) (budget : ℕ) (ms ps ws : List ℕ) whe
           run_is (next_run others log) (shown v'.core others ms' ps' ws') v'.budget (one.visits.state others log)
           (one.visits.left others log)
 
-      pub emptying_on : is_set v'.took ≡ true → Emptying (left - 1) sequence core budget (receive_tables ms ps ws) v' (receive_tables ms' ps' ws')
+      pub emptying_on : v'.more ≡ true → Emptying (left - 1) sequence core budget (receive_tables ms ps ws) v' (receive_tables ms' ps' ws')
       emptying_on goes =
           record {
             members_long = one.visits.members_long ∙ h.members_long;
@@ -479,18 +478,18 @@ module _ (sequence : ℕ) (core : Core) (budget : ℕ) (ms ps ws : List ℕ) whe
                 let log₁ = h.marks others log in
                 h.is others log
                 ∙ ap (λ (n : ℕ). collect_until_empty n sequence (after_visit v others (receive_tables ms₁ ps₁ ws₁) log₁)) (one_less some_left)
-                ∙ event_taken (left - 1) sequence (after_visit v others (receive_tables ms₁ ps₁ ws₁) log₁) (sym is ∙ unsettled) (one.visits.took others log₁ ∙ goes)
+                ∙ event_taken (left - 1) sequence (after_visit v others (receive_tables ms₁ ps₁ ws₁) log₁) (sym is ∙ unsettled) (one.visits.more others log₁ ∙ goes)
                 ∙ ap (λ (x : Run). collect_until_empty (left - 1) sequence x) (next_is others log₁);
           }
 
-      empty_now : is_set v'.took ≡ false → (others : Rest) (log : List Mark)
+      empty_now : v'.more ≡ false → (others : Rest) (log : List Mark)
           → collect_until_empty left sequence (after_visit v others (receive_tables ms₁ ps₁ ws₁) log)
           ≡ record { emptied = not (is_set (next_run others log).state.visit.continuation); run = next_run others log }
       empty_now stays others log =
           ap (λ (n : ℕ). collect_until_empty n sequence (after_visit v others (receive_tables ms₁ ps₁ ws₁) log)) (one_less some_left)
-          ∙ all_empty (left - 1) sequence (after_visit v others (receive_tables ms₁ ps₁ ws₁) log) (sym is ∙ unsettled) (one.visits.took others log ∙ stays)
+          ∙ all_empty (left - 1) sequence (after_visit v others (receive_tables ms₁ ps₁ ws₁) log) (sym is ∙ unsettled) (one.visits.more others log ∙ stays)
 
-      pub emptying_ended : (emptied : ℕ) → is_set v'.took ≡ false → emptied ≡ bit (eqb v'.core.visit.continuation 0)
+      pub emptying_ended : (emptied : Bool) → v'.more ≡ false → emptied ≡ eqb v'.core.visit.continuation 0
           → Empties sequence core budget (receive_tables ms ps ws)
           record { emptied = emptied; core = v'.core; budget = v'.budget } (receive_tables ms' ps' ws')
       emptying_ended emptied stays is_emptied =
@@ -500,7 +499,7 @@ module _ (sequence : ℕ) (core : Core) (budget : ℕ) (ms ps ws : List ℕ) whe
           ap (λ (x : EmptiedRun). x.emptied) (empty_now stays others log)
           ∙ ap (λ (s : State). not (is_set s.visit.continuation)) (one.visits.state others log)
           ∙ zero_is_unset v'.core.visit.continuation
-          ∙ sym (ap is_set is_emptied ∙ bit_set (eqb v'.core.visit.continuation 0)))
+          ∙ sym is_emptied)
           (λ others log. ap (λ (x : EmptiedRun). x.run.state) (empty_now stays others log) ∙ one.visits.state others log)
           (λ others log. ap (λ (x : EmptiedRun). x.run.budget) (empty_now stays others log) ∙ one.visits.left others log)
 

@@ -1,6 +1,6 @@
 -- The set of used cells, step by step of receiving: what a visit and a delivery free, by the model's own laws.
 use Rattle.std.specs.Prelude.{◌≡◌, refl, Bool, true, false, List, [], ◌∷◌, ℕ, ◌+◌, ◌%◌, ◌<◌, eqb, length, Some}
-use Rattle.std.proofs.Common.{sym, ap, subst, ◌∙◌, eq-eqb, ne_eqb}
+use Rattle.std.proofs.Common.{sym, ap, subst, ◌∙◌}
 use Rattle.srt_group_model.specs.declared.Core.{Core}
 use Rattle.srt_group_model.specs.declared.Event.{Event}
 use Rattle.srt_group_model.specs.declared.Membership.{Membership}
@@ -13,7 +13,7 @@ use Rattle.srt_group_model.specs.Members.{id_of}
 use Rattle.srt_group_model.specs.Laws.Queues.{pop}
 use Rattle.srt_group_model.specs.Laws.Steps.{popped}
 use Rattle.srt_group_model.specs.Collecting.{front, is_discarded, packet_from, waiting_from}
-use Rattle.srt_group_model.specs.Cells.{used_cells}
+use Rattle.srt_group_model.specs.Cells.{is_data, used_cells}
 use Rattle.srt_group_model.specs.Laws.CellsMoved.{Moves, reported_keeps}
 use Rattle.srt_connection_members.specs.Members.{member_at, Changed}
 use Rattle.srt_connection_members.specs.Laws.Members.{members_place, changed_by}
@@ -45,13 +45,13 @@ module _ (p : Packet) (x : Receive) (used : List ℕ) where
   held_kept long keeps = rw keeps (none_freed used long)
 
 module _ (id : ℕ) (e : Event) (x : Receive) (used : List ℕ) where
-  pub data_freed : (used' : List ℕ) → e.kind ≡ 0 → Freed (freed_by (packet_from id e) x) used used' → Freed (freed_by_event id e x) used used'
+  pub data_freed : {b : Bool} (used' : List ℕ) → b ≡ is_data e → b ≡ true → Freed (freed_by (packet_from id e) x) used used' → Freed (freed_by_event id e x) used used'
   unfolding freed_by_event if_true◌then◌else◌
-  data_freed used' is freed = rw (eq-eqb e.kind 0 is) freed
+  data_freed used' tested is freed = rw (sym tested ∙ is) freed
 
-  pub event_kept : length used ≡ set_size → (e.kind ≡ 0 → ⊥) → Freed (freed_by_event id e x) used used
+  pub event_kept : {b : Bool} → length used ≡ set_size → b ≡ is_data e → b ≡ false → Freed (freed_by_event id e x) used used
   unfolding freed_by_event if_true◌then◌else◌
-  event_kept long is = rw (ne_eqb e.kind 0 is) (none_freed used long)
+  event_kept long tested is = rw (sym tested ∙ is) (none_freed used long)
 
 -- ---- the front event of a leg
 

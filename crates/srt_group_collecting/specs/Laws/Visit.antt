@@ -1,7 +1,7 @@
 -- What is proved of the definitions in specs/Visit.antt, with what the proofs need.
 use Rattle.std.specs.Prelude.{◌≡◌, refl, Bool, false, ℕ, suc, ◌+◌, ◌%◌, ◌<◌, eqb, length, drop, None, Option, Some}
 use Rattle.std.proofs.Math.Path.{ap, ap₂}
-use Rattle.std.proofs.Common.{sym, subst, ◌∙◌, arith, eq-eqb, ne_eqb}
+use Rattle.std.proofs.Common.{sym, subst, ◌∙◌, arith}
 use Rattle.std.proofs.Math.Bool.{true}
 use mathlib.Core.List.{List, [], ◌∷◌}
 use Rattle.word_rows.specs.Laws.Tab.{tab_length}
@@ -10,6 +10,7 @@ use Rattle.srt_group_model.specs.declared.Event.{Event}
 use Rattle.srt_group_model.specs.declared.Membership.{Membership}
 use Rattle.srt_group_model.specs.Tools.{if_true◌then◌else◌, if_some◌give◌otherwise◌, bit, at_place, change}
 use Rattle.srt_group_model.specs.Accounts.{reserve, Fits}
+use Rattle.srt_group_model.specs.Cells.{is_data}
 use Rattle.srt_group_model.specs.State.{Member, State, with_members, with_round, with_continuation, with_queue}
 use Rattle.srt_group_model.specs.Core.{with_next, continued}
 use Rattle.srt_group_model.specs.Members.{id_of}
@@ -48,9 +49,9 @@ unfolding collect_event if_true◌then◌else◌
 other_collected i id e s is = rw is
 
 module _ (i id : ℕ) (e : Event) (core : Core) (ms ps ws : List ℕ) {after : Core} {ms' : List ℕ} where
-  pub collected_data : {ps' : List ℕ} → e.kind ≡ 0 → Retained i (packet_from id e) core ms ps after ms' ps'
+  pub collected_data : {b : Bool} {ps' : List ℕ} → b ≡ is_data e → b ≡ true → Retained i (packet_from id e) core ms ps after ms' ps'
       → Collected i id e core (receive_tables ms ps ws) after (receive_tables ms' ps' ws)
-  collected_data is h =
+  collected_data tested is h =
       let left = h.leaves ws in
       record {
         waiting_more = omega (arith, h.waiting_same);
@@ -62,13 +63,13 @@ module _ (i id : ℕ) (e : Event) (core : Core) (ms ps ws : List ℕ) {after : C
               members_same = left.members_same;
               state =
                   λ others.
-                  data_collected i id e (shown core others ms ps ws) (eq-eqb e.kind 0 is) ∙ left.state others;
+                  data_collected i id e (shown core others ms ps ws) (sym tested ∙ is) ∙ left.state others;
             };
       }
 
-  pub collected_other : {ws' : List ℕ} → (e.kind ≡ 0 → ⊥) → Reported i (waiting_from id e) core ms ws after ms' ws'
+  pub collected_other : {b : Bool} {ws' : List ℕ} → b ≡ is_data e → b ≡ false → Reported i (waiting_from id e) core ms ws after ms' ws'
       → Collected i id e core (receive_tables ms ps ws) after (receive_tables ms' ps ws')
-  collected_other is h =
+  collected_other tested is h =
       let left = h.leaves ps in
       record {
         waiting_more = omega (arith, h.waiting_more);
@@ -80,7 +81,7 @@ module _ (i id : ℕ) (e : Event) (core : Core) (ms ps ws : List ℕ) {after : C
               members_same = left.members_same;
               state =
                   λ others.
-                  other_collected i id e (shown core others ms ps ws) (ne_eqb e.kind 0 is) ∙ left.state others;
+                  other_collected i id e (shown core others ms ps ws) (sym tested ∙ is) ∙ left.state others;
             };
       }
 
@@ -192,7 +193,7 @@ module _ (core : Core) (budget : ℕ) (ms ps ws : List ℕ) (i : ℕ) (ms₁ : L
 
   pub visits_nothing : {r : LegPoll} → r ≡ Nothing → r ≡ leg_poll budget (member_at ms i).queue
       → Visits (core.counts.waiting + 1) (take_front i (member_at ms i)) core budget (receive_tables ms ps ws)
-      record { took = 0; core = core; budget = budget } (receive_tables ms₁ ps ws)
+      record { more = false; core = core; budget = budget } (receive_tables ms₁ ps ws)
   visits_nothing gave is =
       let empty = gave_nothing budget (member_at ms i).queue (sym gave ∙ is) in
       let taken : (r : Run) → take_front i (member_at ms i) r ≡ record { took = false; run = r } = λ r. none_taken i (member_at ms i) r empty in
@@ -203,7 +204,7 @@ module _ (core : Core) (budget : ℕ) (ms ps ws : List ℕ) (i : ℕ) (ms₁ : L
         waiting_long = refl;
         members_same = refl;
         waiting_most = omega arith;
-        took = λ others log. ap (λ (v : VisitedRun). v.took) (taken (under_way core others (receive_tables ms ps ws) log budget));
+        more = λ others log. ap (λ (v : VisitedRun). v.took) (taken (under_way core others (receive_tables ms ps ws) log budget));
         state =
             λ others log.
             ap (λ (v : VisitedRun). v.run.state) (taken (under_way core others (receive_tables ms ps ws) log budget))
@@ -213,7 +214,7 @@ module _ (core : Core) (budget : ℕ) (ms ps ws : List ℕ) (i : ℕ) (ms₁ : L
 
   visits_spent_at : Continuation ≡ leg_poll budget (member_at ms i).queue
       → Visits (core.counts.waiting + 1) (take_front i (member_at ms i)) core budget (receive_tables ms ps ws)
-      record { took = 0; core = continued 1 (with_next ((i + 1) % core.counts.members) core); budget = 0 } (receive_tables ms₁ ps ws)
+      record { more = false; core = continued 1 (with_next ((i + 1) % core.counts.members) core); budget = 0 } (receive_tables ms₁ ps ws)
   unfolding bit
   visits_spent_at is =
       let s = gave_continuation budget (member_at ms i).queue is in
@@ -224,7 +225,7 @@ module _ (core : Core) (budget : ℕ) (ms ps ws : List ℕ) (i : ℕ) (ms₁ : L
         waiting_long = refl;
         members_same = refl;
         waiting_most = omega arith;
-        took =
+        more =
             λ others log.
             ap (λ (v : VisitedRun). v.took)
             (spent_taken i (member_at ms i) (under_way core others (receive_tables ms ps ws) log budget) s.event s.front s.spent);
@@ -244,19 +245,19 @@ module _ (core : Core) (budget : ℕ) (ms ps ws : List ℕ) (i : ℕ) (ms₁ : L
   pub visits_spent : {r : LegPoll} (turned next : Core) → turned ≡ with_next ((i + 1) % core.counts.members) core → next ≡ continued 1 turned
       → r ≡ Continuation → r ≡ leg_poll budget (member_at ms i).queue
       → Visits (core.counts.waiting + 1) (take_front i (member_at ms i)) core budget (receive_tables ms ps ws)
-      record { took = 0; core = next; budget = 0 } (receive_tables ms₁ ps ws)
+      record { more = false; core = next; budget = 0 } (receive_tables ms₁ ps ws)
   visits_spent turned next t c gave is =
       subst
       (λ (x : Core).
       Visits (core.counts.waiting + 1) (take_front i (member_at ms i)) core budget (receive_tables ms ps ws)
-      record { took = 0; core = x; budget = 0 } (receive_tables ms₁ ps ws))
+      record { more = false; core = x; budget = 0 } (receive_tables ms₁ ps ws))
       (sym (c ∙ ap (continued 1) t)) (visits_spent_at (sym gave ∙ is))
 
   visits_event_at : (e : Event) (left id : ℕ) (after : Core) (ms' ps' ws' : List ℕ) → PolledEvent e left ≡ leg_poll budget (member_at ms i).queue
       → id ≡ (member_at ms i).membership.id
       → Collected i id e (with_next ((i + 1) % core.counts.members) core) (receive_tables ms₁ ps ws) after (receive_tables ms' ps' ws')
       → Visits (core.counts.waiting + 1) (take_front i (member_at ms i)) core budget (receive_tables ms ps ws)
-      record { took = 1; core = after; budget = left } (receive_tables ms' ps' ws')
+      record { more = true; core = after; budget = left } (receive_tables ms' ps' ws')
   visits_event_at e left id after ms' ps' ws' is named h =
       let g = gave_event budget (member_at ms i).queue e left is in
       let popped = changed_by i ms ms₁ pop changed (ap (λ (q : List Event). with_queue q (member_at ms i)) (queue_goes budget (member_at ms i).queue g.unspent)) in
@@ -266,7 +267,7 @@ module _ (core : Core) (budget : ℕ) (ms ps ws : List ℕ) (i : ℕ) (ms₁ : L
         waiting_long = h.leaves.waiting_long;
         members_same = h.leaves.members_same;
         waiting_most = h.waiting_more;
-        took = λ others log. ap (λ (v : VisitedRun). v.took) (event_taken i (member_at ms i) (under_way core others (receive_tables ms ps ws) log budget) e g.front g.unspent);
+        more = λ others log. ap (λ (v : VisitedRun). v.took) (event_taken i (member_at ms i) (under_way core others (receive_tables ms ps ws) log budget) e g.front g.unspent);
         state =
             λ others log.
             ap (λ (v : VisitedRun). v.run.state) (event_taken i (member_at ms i) (under_way core others (receive_tables ms ps ws) log budget) e g.front g.unspent)
@@ -286,7 +287,7 @@ module _ (core : Core) (budget : ℕ) (ms ps ws : List ℕ) (i : ℕ) (ms₁ : L
       → turned ≡ with_next ((i + 1) % core.counts.members) core → r ≡ PolledEvent e left → r ≡ leg_poll budget (member_at ms i).queue
       → m ≡ (member_at ms i).membership → Collected i m.id e turned (receive_tables ms₁ ps ws) after (receive_tables ms' ps' ws')
       → Visits (core.counts.waiting + 1) (take_front i (member_at ms i)) core budget (receive_tables ms ps ws)
-      record { took = 1; core = after; budget = left } (receive_tables ms' ps' ws')
+      record { more = true; core = after; budget = left } (receive_tables ms' ps' ws')
   visits_event {m = m} turned e left after ms' ps' ws' t gave is named h =
       visits_event_at e left m.id after ms' ps' ws' (sym gave ∙ is) (ap (λ (x : Membership). x.id) named)
       (subst (λ (x : Core). Collected i m.id e x (receive_tables ms₁ ps ws) after (receive_tables ms' ps' ws')) t h)
@@ -297,10 +298,10 @@ module _ (core : Core) (ms ps ws : List ℕ) (usable : Usable core (receive_tabl
   pub row_there : HasRow i ms
   row_there = omega (arith, usable.members_long, usable.members_few, inside)
 
-  data_front : (e : Event) → at_place 0 (member_at ms i).queue ≡ Some e → e.kind ≡ 0 → FrontData (shown core blank ms ps ws) (member_at ms i) e
+  data_front : (e : Event) → at_place 0 (member_at ms i).queue ≡ Some e → is_data e ≡ true → FrontData (shown core blank ms ps ws) (member_at ms i) e
   data_front e in_front is =
       front_data (shown core blank ms ps ws) i (member_at ms i) e usable.sound (members_place core.counts.members ms i inside) in_front
-      (eq-eqb e.kind 0 is)
+      is
 
   collectable_past : (budget left k id : ℕ) (ms₁ : List ℕ) (e : Event)
       → Changed i (λ m. with_queue (queue_after budget m.queue) m) ms ms₁
@@ -360,7 +361,7 @@ usable_after core budget ms ps ws r ms' ps' ws' u few v =
 
 module _ (core : Core) (budget : ℕ) (ms ps ws : List ℕ) (usable : Usable core (receive_tables ms ps ws)) (few : core.counts.waiting < max_waiting) where
   pub collects_none : {r : Option ℕ} → r ≡ None → r ≡ in_turn core.visit.round (members_of core.counts.members ms)
-      → Collects (core.counts.waiting + 1) collect_one_event core budget (receive_tables ms ps ws) record { took = 0; core = core; budget = budget } (receive_tables ms ps ws)
+      → Collects (core.counts.waiting + 1) collect_one_event core budget (receive_tables ms ps ws) record { more = false; core = core; budget = budget } (receive_tables ms ps ws)
   collects_none nowhere found =
       let none_there = found_none (in_turn core.visit.round (members_of core.counts.members ms)) (sym nowhere ∙ found) in
       record {
@@ -371,7 +372,7 @@ module _ (core : Core) (budget : ℕ) (ms ps ws : List ℕ) (usable : Usable cor
               waiting_long = refl;
               members_same = refl;
               waiting_most = omega arith;
-              took = λ others log. ap (λ (v : VisitedRun). v.took) (none_in_turn (under_way core others (receive_tables ms ps ws) log budget) none_there);
+              more = λ others log. ap (λ (v : VisitedRun). v.took) (none_in_turn (under_way core others (receive_tables ms ps ws) log budget) none_there);
               state = λ others log. ap (λ (v : VisitedRun). v.run.state) (none_in_turn (under_way core others (receive_tables ms ps ws) log budget) none_there);
               left = λ others log. ap (λ (v : VisitedRun). v.run.budget) (none_in_turn (under_way core others (receive_tables ms ps ws) log budget) none_there);
             };
@@ -392,10 +393,10 @@ module _ (core : Core) (budget : ℕ) (ms ps ws : List ℕ) (usable : Usable cor
         waiting_long = v.waiting_long;
         members_same = v.members_same;
         waiting_most = v.waiting_most;
-        took =
+        more =
             λ others log.
             ap (λ (x : VisitedRun). x.took) (one_in_turn (under_way core others (receive_tables ms ps ws) log budget) i (member_at ms i) there at)
-            ∙ v.took others log;
+            ∙ v.more others log;
         state =
             λ others log.
             ap (λ (x : VisitedRun). x.run.state) (one_in_turn (under_way core others (receive_tables ms ps ws) log budget) i (member_at ms i) there at)

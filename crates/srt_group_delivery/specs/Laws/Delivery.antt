@@ -1,5 +1,5 @@
 -- What is proved of the definitions in specs/Delivery.antt, with what the proofs need.
-use Rattle.std.specs.Prelude.{◌≡◌, refl, Bool, true, false, ℕ, zero, suc, unwrap_or, slice_index_or, ◌+◌, ◌≤◌, ◌<◌, ◌*◌, leb, length, None, Option, Some}
+use Rattle.std.specs.Prelude.{◌≡◌, refl, Bool, true, false, ℕ, zero, suc, unwrap_or, slice_index_or, ◌+◌, ◌≤◌, ◌<◌, ◌*◌, leb, length, None, Option, Some, MatchOption}
 use Rattle.std.proofs.Math.Path.{ap, ap₂, sym}
 use Rattle.std.proofs.Common.{subst, ◌∙◌, eq-eqb, ne_eqb, arith, is_le, nat_cmp}
 use Rattle.std.proofs.lemmas.Bool.Decides.{nat_tests}
@@ -10,6 +10,7 @@ use Rattle.srt_group_model.specs.declared.Core.{Core}
 use Rattle.srt_group_model.specs.declared.Account.{Account}
 use Rattle.srt_group_model.specs.declared.Leg.{Leg}
 use Rattle.srt_group_model.specs.declared.Packet.{Packet}
+use Rattle.srt_group_model.specs.declared.Receiving.{Receiving}
 use Rattle.srt_group_model.specs.Tools.{if_true◌then◌else◌, if_some◌give◌otherwise◌, or_else, all, first_such, place_of, at_place}
 use Rattle.srt_group_model.specs.State.{Member, State, with_members, with_receive, with_base, with_pending, on_leg, on_membership, with_account, based_at}
 use Rattle.srt_group_model.specs.Accounts.{release}
@@ -69,6 +70,17 @@ module _ (time source : ℕ) (l : Leg) where
   unfolding if_some◌give◌otherwise◌
   given_up_from moment at_moment is compared =
       rw (deadline_some (gives_up_at source l) moment (sym at_moment ∙ is)) (compared ∙ le_is_leb moment.0 time)
+
+  -- the answer by the deadline, if there is one
+  pub given_up_after : {r : Option Timestamp} {answer : Bool} → r ≡ deadline_of (gives_up_at source l)
+      → MatchOption r (answer ≡ false) (λ moment. answer ≡ is_le (nat_cmp moment.0 time)) → answer ≡ leg_given_up time source l
+  unfolding if_some◌give◌otherwise◌
+  given_up_after {r} {answer} is given = go r is given
+    where
+      go : (o : Option Timestamp) → o ≡ deadline_of (gives_up_at source l) → MatchOption o (answer ≡ false) (λ moment. answer ≡ is_le (nat_cmp moment.0 time))
+          → answer ≡ leg_given_up time source l
+      go None none_is g = rw (deadline_none (gives_up_at source l) none_is) g
+      go (Some moment) some_is g = rw (deadline_some (gives_up_at source l) moment some_is) (g ∙ le_is_leb moment.0 time)
 
   pub never_given_up : {r : Option Timestamp} → r ≡ None → r ≡ deadline_of (gives_up_at source l) → false ≡ leg_given_up time source l
   unfolding if_some◌give◌otherwise◌
@@ -288,13 +300,14 @@ module _ (base : ℕ) (p : Packet) (core : Core) (ms ps : List ℕ) where
             };
       }
 
-  pub delivered_all : (next : ℕ) (between : Core) (ms₁ ms₂ : List ℕ) (left : ℕ) (after : Core) (ps' : List ℕ) (places : Covered)
+  pub delivered_all : (next : ℕ) (between : Core) (ms₁ ms₂ : List ℕ) (left : ℕ) (after : Core) (ps' : List ℕ) (places : Covered) {put : Receiving}
       → Covers base run ps core.counts.pending places → Released (packets_at places ps) core ms between ms₁
       → next ≡ sequence_further base run → ChangedAll between.counts.members (on_leg (advance_receive_sequence next)) ms₁ ms₂
-      → Holds (length ps) ps' left (packets_elsewhere core.counts.pending places ps) → after ≡ passed left next between
+      → Holds (length ps) ps' left (packets_elsewhere core.counts.pending places ps)
+      → put ≡ based_at next between.receiving.skipped → after ≡ with_receiving put (passed left next between)
       → Delivered base p core ms ps after ms₂ ps'
-  delivered_all next between ms₁ ms₂ left after ps' places covers released is advanced removed ends =
-      rw ends
+  delivered_all next between ms₁ ms₂ left after ps' places covers released is advanced removed put ends =
+      rw (ends ∙ ap (λ (r : Receiving). with_receiving r (passed left next between)) put)
       (subst (λ (n : ℕ). Parts n between ms₁ ms₂ left ps' → Delivered base p core ms ps (passed left n between) ms₂ ps') (sym is)
       (subst
       (λ (c : Core). Parts (sequence_further base run) c ms₁ ms₂ left ps' → Delivered base p core ms ps (passed left (sequence_further base run) c) ms₂ ps')

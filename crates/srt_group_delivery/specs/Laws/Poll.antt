@@ -1,6 +1,6 @@
 -- What is proved of the definitions in specs/Poll.antt, with what the proofs need.
 use Rattle.srt_group_delivery.specs.declared.delivery.GroupEvent.TheVariants.{Event as AnEvent, Packet as APacket}
-use Rattle.std.specs.Prelude.{◌≡◌, true, ℕ, ◌+◌, ◌-◌, ◌≤◌, ◌<◌, min, length, drop, None, Option, Some}
+use Rattle.std.specs.Prelude.{◌≡◌, Bool, true, false, ℕ, ◌+◌, ◌-◌, ◌≤◌, ◌<◌, min, length, drop, None, Option, Some, is_some}
 use Rattle.std.proofs.Math.Path.{refl, ap}
 use Rattle.std.proofs.Common.{sym, ◌∙◌, arith, eqb-true}
 use mathlib.Core.List.{List}
@@ -11,9 +11,9 @@ use Rattle.srt_group_model.specs.Legs.{largest_64, largest_sequence}
 use Rattle.srt_group_model.specs.Sound.{PacketFit}
 use Rattle.srt_group_model.specs.declared.Core.{Core}
 use Rattle.srt_group_model.specs.declared.Packet.{Packet}
+use Rattle.srt_group_model.specs.declared.Receiving.{Receiving}
 use Rattle.srt_group_model.specs.declared.Waiting.{Waiting}
-use Rattle.srt_group_model.specs.Tools.{All, if_some◌give◌otherwise◌, flagged, place_of, at_place}
-use Rattle.srt_group_model.specs.Laws.Flag.{other_set}
+use Rattle.srt_group_model.specs.Tools.{All, if_some◌give◌otherwise◌, flagged, is_set, place_of, at_place}
 use Rattle.srt_group_model.specs.State.{with_waiting, based_at}
 use Rattle.srt_group_model.specs.Core.{with_receiving, with_waiting_count}
 use Rattle.srt_group_model.specs.Nearest.{sequence_of, has_sequence, held_at}
@@ -213,18 +213,28 @@ skips base next core is =
     }
 
 module _ (core : Core) where
-  pub base_was_set : (option : Option ℕ) → (core.receiving.based ≡ 0 → ⊥) → Bases option core core
-  unfolding set_base flagged if_some◌give◌otherwise◌
-  base_was_set option set =
-      record { counts_same = refl; run = λ others t log budget. rw (other_set core.receiving.based set) record { state = refl; budget = refl } }
+  -- the base's option says whether it is set
+  module _ {was : Option ℕ} {set : Bool} (here : was ≡ flagged (is_set core.receiving.based) core.receiving.base) (told : set ≡ is_some was) where
+    is_told : set ≡ is_set core.receiving.based
+    unfolding flagged
+    is_told = told ∙ ap is_some here ∙ go (is_set core.receiving.based)
+      where
+        go : (b : Bool) → is_some (flagged b core.receiving.base) ≡ b
+        go true = refl
+        go false = refl
 
-  pub base_not_given : {option : Option ℕ} → core.receiving.based ≡ 0 → option ≡ None → Bases option core core
-  unfolding set_base flagged if_some◌give◌otherwise◌
-  base_not_given unset not_given =
-      record { counts_same = refl; run = λ others t log budget. rw (unset, not_given) record { state = refl; budget = refl } }
+    pub base_was_set : (option : Option ℕ) → set ≡ true → Bases option core core
+    unfolding set_base flagged if_some◌give◌otherwise◌
+    base_was_set option there =
+        record { counts_same = refl; run = λ others t log budget. rw (sym is_told ∙ there) record { state = refl; budget = refl } }
 
-  pub base_given : {option : Option ℕ} (base : ℕ) → core.receiving.based ≡ 0 → option ≡ Some base
-      → Bases option core (with_numbers base core.receiving.skipped core)
-  unfolding set_base flagged if_some◌give◌otherwise◌
-  base_given base unset given =
-      record { counts_same = refl; run = λ others t log budget. rw (unset, given) record { state = refl; budget = refl } }
+    pub base_not_given : {option : Option ℕ} → set ≡ false → option ≡ None → Bases option core core
+    unfolding set_base flagged if_some◌give◌otherwise◌
+    base_not_given unset not_given =
+        record { counts_same = refl; run = λ others t log budget. rw (sym is_told ∙ unset, not_given) record { state = refl; budget = refl } }
+
+    pub base_given : {option : Option ℕ} (base : ℕ) {put : Receiving} → set ≡ false → option ≡ Some base → put ≡ based_at base core.receiving.skipped
+        → Bases option core (with_receiving put core)
+    unfolding set_base flagged if_some◌give◌otherwise◌
+    base_given base unset given is =
+        rw is record { counts_same = refl; run = λ others t log budget. rw (sym is_told ∙ unset, given) record { state = refl; budget = refl } }

@@ -15,34 +15,40 @@ use Rattle.srt_group_model.specs.State.{Member, State, with_leg}
 use Rattle.srt_group_model.specs.Sending.{list_size}
 use Rattle.srt_group_model.specs.Guards.{Answer, no_answer, data_polled, Step}
 use Rattle.srt_group_model.specs.Lent.{Lent, Call, call_add_member, call_queue_data, call_send, call_remove_member_connection, step_of, with_bytes, perform}
-use Rattle.srt_group_model.specs.Listing.{Line, column, store_length, leg_of_line, columns, refused_line, printed}
+use Rattle.srt_group_model.specs.Listing.{Line, column, leg_of_line, columns, refused_line, printed}
 use Rattle.srt_group_model.specs.Laws.Answers.{call_answers}
 use Rattle.srt_group_model.specs.Laws.Reason.{if_elim, when_false}
 use Rattle.srt_connection_queue.specs.Queue.{cleared}
 use Rattle.srt_connection_members.specs.Members.{HasRow, Changed}
-use Rattle.srt_group_shown.specs.Ready.{storing, lending, sending_into, Performs}
+use Rattle.srt_group_shown.specs.Tables.{Tables, state_of}
+use Rattle.srt_group_shown.specs.Ready.{Ready, storing, lending, sending_into, Performs}
 use Rattle.srt_group_send.specs.Answers.{send_number, send_answer}
 use Rattle.srt_group_send.specs.Sends.{Sends}
-use Rattle.srt_group_send.specs.declared.sending.GroupSend.{GroupSend}
+use Rattle.srt_group_send.specs.declared.sending.GroupSent.{GroupSent}
 use Rattle.srt_group_addition.specs.Handed.{call_of_row}
 use Rattle.srt_group_removal.specs.Connection.{answer_dropped, PerformsDropping}
 use Rattle.srt_group.specs.Made.{parts_of}
 use Rattle.srt_group.specs.declared.Group.{Group}
-use Rattle.srt_group_listing.specs.declared.Memory.{Memory}
 use Rattle.srt_group_listing.specs.declared.Printed.{Printed}
 use Rattle.srt_group_traces.specs.VerbCalls.{addition, reading, data_of_line, queueing, polling, sending, removing, breaking, event}
-use Rattle.srt_group_listing.specs.Telling.{tables_of, shown_in, numbers_of, prints, packet_line, sent_line, asks, Tells, HandedOver}
+use Rattle.srt_group_listing.specs.Telling.{numbers_of, prints, packet_line, sent_line, asks, Tells, HandedOver}
 
 -- A call in its form for a valid state, whose line prints its code and its answer, tells what the model's listing tells.
-pub tells : (verb : ℕ) (call : Call) (g g' : Group) (m m' : Memory) (output list output' list' : List ℕ) (code : ℕ) (given : Answer) (line : Printed)
-    → length m'.store ≡ store_length
-    → Performs call (parts_of g) (tables_of m) (record { store = m.store; output = output; list = list }) code given (parts_of g') (tables_of m') (record { store = m'.store; output = output'; list = list' }) m'.used
-    → step_of (length m.store) (length output) (length list) call (shown_in m g) ≡ asks call (shown_in m g)
-    → numbers_of line ≡ prints verb code given (shown_in m' g')
-    → Tells verb call g m (record { group = g'; line = line }) m'
+pub tells : (verb : ℕ) (call : Call) (g g' : Group) (t t' : Tables) (bytes bytes' : Lent) (code : ℕ) (given : Answer) (used' : List ℕ)
+    (line : Printed)
+    → Performs call (parts_of g) t bytes code given (parts_of g') t' bytes' used'
+    → step_of (length bytes.store) (length bytes.output) (length bytes.list) call (state_of (parts_of g) t)
+    ≡ asks (length bytes.store) call (state_of (parts_of g) t)
+    → length bytes'.store ≡ length bytes.store
+    → numbers_of line ≡ prints verb code given (state_of (parts_of g') t')
+    → Tells verb call g t (length bytes.store) (record { group = g'; line = line }) t' used'
 unfolding perform with_bytes printed
-tells verb call g g' m m' output list output' list' code given line cells done as_asked says =
-    record { state = done.state ∙ ap (λ (x : Step). x.state) as_asked; line = says ∙ cc; ready = record { call = done.ready; cells = cells } }
+tells verb call g g' t t' bytes bytes' code given used' line done lent size says =
+    record {
+      state = done.state ∙ ap (λ (x : Step). x.state) lent;
+      line = says ∙ cc;
+      ready = subst (λ (n : ℕ). Ready (parts_of g') t' n used') size done.ready;
+    }
 
 -- ---- the lines
 
@@ -100,19 +106,18 @@ module _ (line : Line) where
 -- ---- the verbs
 
 -- those that print their code alone
-module _ (verb : ℕ) {call : Call} (unlent : Unlent call) {g g' : Group} {m m' : Memory} {code : ℕ} {line : Printed}
-    (before : length m.store ≡ store_length) (cells : length m'.store ≡ store_length) (says : numbers_of line ≡ refused_line verb code) where
-  told_without_columns : (given : Answer) → (code ≡ 0 → columns given (shown_in m' g') ≡ 0 ∷ 0 ∷ 0 ∷ 0 ∷ [])
-      → Performs call (parts_of g) (tables_of m) (storing m.store) code given (parts_of g') (tables_of m') (storing m'.store) m'.used
-      → Tells verb call g m (record { group = g'; line = line }) m'
+module _ (verb : ℕ) {call : Call} (unlent : Unlent call) {g g' : Group} {t t' : Tables} {store store' : List ℕ} {code : ℕ} {used' : List ℕ} {line : Printed}
+    (size : length store' ≡ length store) (says : numbers_of line ≡ refused_line verb code) where
+  told_without_columns : (given : Answer) → (code ≡ 0 → columns given (state_of (parts_of g') t') ≡ 0 ∷ 0 ∷ 0 ∷ 0 ∷ [])
+      → Performs call (parts_of g) t (storing store) code given (parts_of g') t' (storing store') used'
+      → Tells verb call g t (length store) (record { group = g'; line = line }) t' used'
   told_without_columns given none_shown done =
-      tells verb call g g' m m' [] [] [] [] code given line cells done
-      (unlent (length m.store) 0 0 output_size list_size (shown_in m g)
-      ∙ ap (λ (n : ℕ). step_of n output_size list_size call (shown_in m g)) before)
-      (says ∙ prints_code verb code given (shown_in m' g') none_shown)
+      tells verb call g g' t t' (storing store) (storing store') code given used' line done
+      (unlent (length store) 0 0 output_size list_size (state_of (parts_of g) t)) size
+      (says ∙ prints_code verb code given (state_of (parts_of g') t') none_shown)
 
-  pub tells_code : Performs call (parts_of g) (tables_of m) (storing m.store) code no_answer (parts_of g') (tables_of m') (storing m'.store) m'.used
-      → Tells verb call g m (record { group = g'; line = line }) m'
+  pub tells_code : Performs call (parts_of g) t (storing store) code no_answer (parts_of g') t' (storing store') used'
+      → Tells verb call g t (length store) (record { group = g'; line = line }) t' used'
   unfolding columns
   tells_code done = told_without_columns no_answer (λ accepted. refl) done
 
@@ -123,50 +128,52 @@ unfolding columns
 removal_no_columns id bytes s s' accepted =
     ap (λ (a : Answer). columns a s') (call_answers (call_remove_member_connection id) bytes s accepted).1
 
-module _ (line : Line) {g g' : Group} {m m' : Memory} {code : ℕ} {out : Printed} (before : length m.store ≡ store_length)
-    (cells : length m'.store ≡ store_length) where
-  pub tells_removal : numbers_of out ≡ refused_line 7 code
-      → PerformsDropping (column 1 line) (parts_of g) (tables_of m) (storing m.store) code (parts_of g') (tables_of m') (storing m'.store) m'.used
-      → Tells 7 (removing line) g m (record { group = g'; line = out }) m'
-  tells_removal says done =
-      told_without_columns 7 (removing_unlent line) before cells says _
-      (λ accepted. removal_no_columns (column 1 line) (storing m.store) (shown_in m g) (shown_in m' g') (sym done.code ∙ accepted)) done
+pub tells_removal : (line : Line) {g g' : Group} {t t' : Tables} {store : List ℕ} {code : ℕ} {used' : List ℕ} {out : Printed}
+    → numbers_of out ≡ refused_line 7 code
+    → PerformsDropping (column 1 line) (parts_of g) t (storing store) code (parts_of g') t' (storing store) used'
+    → Tells 7 (removing line) g t (length store) (record { group = g'; line = out }) t' used'
+tells_removal line {g} {g'} {t} {t'} {store} {code} {used'} {out} says done =
+    told_without_columns 7 (removing_unlent line) refl says _
+    (λ accepted.
+    removal_no_columns (column 1 line) (storing store) (state_of (parts_of g) t) (state_of (parts_of g') t') (sym done.code ∙ accepted))
+    done
 
+module _ (line : Line) {g g' : Group} {t t' : Tables} {store : List ℕ} {code : ℕ} {used' : List ℕ} {out : Printed} where
   pub tells_reading : numbers_of out ≡ refused_line 3 code
-      → Performs (reading line) (parts_of g) (tables_of m) (storing m.store) code no_answer (parts_of g') (tables_of m') (storing m'.store) m'.used
-      → Tells 3 (reading line) g m (record { group = g'; line = out }) m'
-  tells_reading says done = tells_code 3 (reading_unlent line) before cells says done
+      → Performs (reading line) (parts_of g) t (storing store) code no_answer (parts_of g') t' (storing store) used'
+      → Tells 3 (reading line) g t (length store) (record { group = g'; line = out }) t' used'
+  tells_reading says done = tells_code 3 (reading_unlent line) refl says done
 
   pub tells_breaking : numbers_of out ≡ refused_line 8 code
-      → Performs (breaking line) (parts_of g) (tables_of m) (storing m.store) code no_answer (parts_of g') (tables_of m') (storing m'.store) m'.used
-      → Tells 8 (breaking line) g m (record { group = g'; line = out }) m'
-  tells_breaking says done = tells_code 8 (breaking_unlent line) before cells says done
+      → Performs (breaking line) (parts_of g) t (storing store) code no_answer (parts_of g') t' (storing store) used'
+      → Tells 8 (breaking line) g t (length store) (record { group = g'; line = out }) t' used'
+  tells_breaking says done = tells_code 8 (breaking_unlent line) refl says done
 
   pub tells_event : numbers_of out ≡ refused_line 9 code
-      → Performs (event line) (parts_of g) (tables_of m) (storing m.store) code no_answer (parts_of g') (tables_of m') (storing m'.store) m'.used
-      → Tells 9 (event line) g m (record { group = g'; line = out }) m'
-  tells_event says done = tells_code 9 (event_unlent line) before cells says done
+      → Performs (event line) (parts_of g) t (storing store) code no_answer (parts_of g') t' (storing store) used'
+      → Tells 9 (event line) g t (length store) (record { group = g'; line = out }) t' used'
+  tells_event says done = tells_code 9 (event_unlent line) refl says done
 
-  pub tells_queueing : {payload : List ℕ} {content : Data} → content ≡ data_of_line line → payload ≡ column 5 line ∷ []
-      → numbers_of out ≡ refused_line 4 code
-      → Performs (call_queue_data (column 1 line) content payload) (parts_of g) (tables_of m) (storing m.store) code no_answer (parts_of g') (tables_of m')
-      (storing m'.store) m'.used
-      → Tells 4 (queueing line) g m (record { group = g'; line = out }) m'
-  tells_queueing made byte says done =
-      tells_code 4 (queueing_unlent line) before cells says
-      (subst (λ (c : Call). Performs c (parts_of g) (tables_of m) (storing m.store) code no_answer (parts_of g') (tables_of m') (storing m'.store) m'.used)
-      (ap₂ (λ (d : Data) (b : List ℕ). call_queue_data (column 1 line) d b) made byte) done)
+pub tells_queueing : (line : Line) {g g' : Group} {t t' : Tables} {store store' payload : List ℕ} {content : Data} {code : ℕ} {used' : List ℕ} {out : Printed}
+    → content ≡ data_of_line line → payload ≡ column 5 line ∷ [] → length store' ≡ length store
+    → numbers_of out ≡ refused_line 4 code
+    → Performs (call_queue_data (column 1 line) content payload) (parts_of g) t (storing store) code no_answer (parts_of g') t' (storing store') used'
+    → Tells 4 (queueing line) g t (length store) (record { group = g'; line = out }) t' used'
+tells_queueing line {g} {g'} {t} {t'} {store} {store'} {payload} {content} {code} {used'} {out} made byte size says done =
+    tells_code 4 (queueing_unlent line) size says
+    (subst (λ (c : Call). Performs c (parts_of g) t (storing store) code no_answer (parts_of g') t' (storing store') used')
+    (ap₂ (λ (d : Data) (b : List ℕ). call_queue_data (column 1 line) d b) made byte) done)
 
-  -- a leg that a row shows with an empty queue is the one that is added
-  pub tells_addition : {row : List ℕ} → HandedOver (leg_of_line line) row
-      → numbers_of out ≡ refused_line 2 code
-      → Performs (call_of_row (column 1 line) (column 2 line) row) (parts_of g) (tables_of m) (storing m.store) code no_answer (parts_of g') (tables_of m')
-      (storing m'.store) m'.used
-      → Tells 2 (addition line) g m (record { group = g'; line = out }) m'
-  tells_addition handed says done =
-      tells_code 2 (addition_unlent line) before cells says
-      (subst (λ (c : Call). Performs c (parts_of g) (tables_of m) (storing m.store) code no_answer (parts_of g') (tables_of m') (storing m'.store) m'.used)
-      (ap₂ (λ (l : Leg) (q : List Event). call_add_member (column 1 line) (column 2 line) l q) handed.is handed.empty) done)
+-- a leg that a row shows with an empty queue is the one that is added
+pub tells_addition : (line : Line) {g g' : Group} {t t' : Tables} {store row : List ℕ} {code : ℕ} {used' : List ℕ} {out : Printed}
+    → HandedOver (leg_of_line line) row
+    → numbers_of out ≡ refused_line 2 code
+    → Performs (call_of_row (column 1 line) (column 2 line) row) (parts_of g) t (storing store) code no_answer (parts_of g') t' (storing store) used'
+    → Tells 2 (addition line) g t (length store) (record { group = g'; line = out }) t' used'
+tells_addition line {g} {g'} {t} {t'} {store} {row} {code} {used'} {out} handed says done =
+    tells_code 2 (addition_unlent line) refl says
+    (subst (λ (c : Call). Performs c (parts_of g) t (storing store) code no_answer (parts_of g') t' (storing store) used')
+    (ap₂ (λ (l : Leg) (q : List Event). call_add_member (column 1 line) (column 2 line) l q) handed.is handed.empty) done)
 
 pub handed_over : {leg is : Leg} {blank between row : List ℕ} → leg ≡ is → HasRow 0 between
     → Changed 0 (with_leg leg) blank between → Changed 0 cleared between row → HandedOver is row
@@ -184,37 +191,31 @@ pub line_with_packet : {gave : Option Packet} {skipped : ℕ} (p : Packet) → g
     → 5 ∷ 0 ∷ p.member ∷ p.content.sequence ∷ p.content.count ∷ skipped ∷ [] ≡ packet_line gave skipped
 line_with_packet {gave} {skipped} p is = ap (λ (o : Option Packet). packet_line o skipped) (sym is)
 
-pub tells_poll : (line : Line) {g g' : Group} {m m' : Memory} {gave : Option Packet} {more : Bool} {out : Printed}
-    → length m.store ≡ store_length → length m'.store ≡ store_length
-    → length m.output ≡ output_size
+pub tells_poll : (line : Line) {g g' : Group} {t t' : Tables} {store output output' : List ℕ} {gave : Option Packet} {more : Bool} {used' : List ℕ} {out : Printed}
+    → length output ≡ output_size
     → numbers_of out ≡ packet_line gave g'.core.receiving.skipped
-    → Performs (polling line) (parts_of g) (tables_of m) (lending m.store m.output) 0 (data_polled gave more) (parts_of g') (tables_of m')
-    (lending m'.store m'.output) m'.used
-    → Tells 5 (polling line) g m (record { group = g'; line = out }) m'
+    → Performs (polling line) (parts_of g) t (lending store output) 0 (data_polled gave more) (parts_of g') t' (lending store output') used'
+    → Tells 5 (polling line) g t (length store) (record { group = g'; line = out }) t' used'
 unfolding step_of
-tells_poll line {g} {g'} {m} {m'} {gave} {more} {out} before cells size says done =
-    tells 5 (polling line) g g' m m' m.output [] m'.output [] 0 (data_polled gave more) out cells done
-    (ap₂ (λ (n k : ℕ). step_of n k 0 (polling line) (shown_in m g)) before size)
-    (says ∙ prints_packet gave more (shown_in m' g'))
+tells_poll line {g} {g'} {t} {t'} {store} {output} {output'} {gave} {more} {used'} {out} size says done =
+    tells 5 (polling line) g g' t t' (lending store output) (lending store output') 0 (data_polled gave more) used' out done
+    (ap (λ (n : ℕ). step_of (length store) n 0 (polling line) (state_of (parts_of g) t)) size) refl
+    (says ∙ prints_packet gave more (state_of (parts_of g') t'))
 
-pub tells_send : (line : Line) {g : Group} {m m' : Memory} {payload : List ℕ} {sent : GroupSend} {out : Printed}
-    → length m.store ≡ store_length → length m'.store ≡ store_length
-    → length m.list ≡ list_size
+pub tells_send : (line : Line) {g : Group} {t t' : Tables} {store store' list list' payload : List ℕ} {sent : GroupSent} {used' : List ℕ} {out : Printed}
+    → length list ≡ list_size
+    → length store' ≡ length store
     → payload ≡ column 1 line ∷ []
     → numbers_of out ≡ sent_line sent.answer
-    → Sends (column 2 line) payload (parts_of g) (tables_of m) (sending_into m.store m.list) sent (tables_of m') (sending_into m'.store m'.list) m'.used
-    → Tells 6 (sending line) g m
-    (record { group = record { identity = g.identity; core = sent.core; sending = sent.sending; ring = sent.ring }; line = out }) m'
+    → Sends (column 2 line) payload (parts_of g) t (sending_into store list) sent t' (sending_into store' list') used'
+    → Tells 6 (sending line) g t (length store) (record { group = sent.«record»; line = out }) t' used'
 unfolding step_of
-tells_send line {g} {m} {m'} {payload} {sent} {out} before cells rows byte says done =
-    tells 6 (sending line) g after m m' [] m.list [] m'.list (send_number sent.answer) (send_answer sent.answer) out cells
+tells_send line {g} {t} {t'} {store} {store'} {list} {list'} {payload} {sent} {used'} {out} rows size byte says done =
+    tells 6 (sending line) g sent.«record» t t' (sending_into store list) (sending_into store' list') (send_number sent.answer) (send_answer sent.answer) used' out
     (subst
     (λ (b : List ℕ).
-    Performs (call_send (column 2 line) b) (parts_of g) (tables_of m) (sending_into m.store m.list) (send_number sent.answer) (send_answer sent.answer)
-    (parts_of after) (tables_of m') (sending_into m'.store m'.list) m'.used)
+    Performs (call_send (column 2 line) b) (parts_of g) t (sending_into store list) (send_number sent.answer) (send_answer sent.answer) (parts_of sent.«record») t'
+    (sending_into store' list') used')
     byte done.performs)
-    (ap₂ (λ (n k : ℕ). step_of n 0 k (sending line) (shown_in m g)) before rows)
-    (says ∙ prints_sent sent.answer (shown_in m' after))
-  where
-    after : Group
-    after = record { identity = g.identity; core = sent.core; sending = sent.sending; ring = sent.ring }
+    (ap (λ (n : ℕ). step_of (length store) 0 n (sending line) (state_of (parts_of g) t)) rows) size
+    (says ∙ prints_sent sent.answer (state_of (parts_of sent.«record») t'))

@@ -1,6 +1,7 @@
 -- What is proved of the looks at one member.
 use Rattle.srt_protocol.specs.Errors.{Outcome}
-use Rattle.std.specs.Prelude.{◌≡◌, Bool, ℕ, List, None, Ok, Err, Option, Some}
+use Rattle.std.specs.Prelude.{◌≡◌, Bool, ℕ, List, None, Ok, Err, Option, Result, Some}
+use Rattle.std.specs.Option.{ok_or}
 use Rattle.srt_protocol.specs.declared.error.Error.{Error}
 use Rattle.srt_protocol.specs.declared.error.Error.TheVariants.{OutOfRange, UnknownMember}
 use Rattle.srt_protocol.specs.Errors.{error_number}
@@ -46,6 +47,15 @@ module _ (id : ℕ) (p : Parts) (t : Tables) where
         pub unknown_refuses : None ≡ find id s.members → LooksRefused id p t UnknownMember
         unknown_refuses nowhere =
             record { looks = λ look is. member_unknown look p t begins accepted id is fit (is_nowhere id p t nowhere) }
+
+        pub unknown_else : {o : Option ℕ} {found : Result ℕ Error} (e : Error) → found ≡ ok_or o UnknownMember → found ≡ Err e → o ≡ find id s.members
+            → LooksRefused id p t e
+        unknown_else {o} {found} e is refused at = by o (sym is ∙ refused) at
+          where
+            by : (a : Option ℕ) → ok_or a UnknownMember ≡ Err e → a ≡ find id s.members → LooksRefused id p t e
+            by None same nowhere =
+                let known : UnknownMember ≡ e = cc in subst (LooksRefused id p t) known (unknown_refuses nowhere)
+            by (Some i) same there = cc same
 
         pub row_is_found : (i : ℕ) → Some i ≡ find id s.members → {row : List ℕ} → member_of row ≡ member_at t.members i → RowFound id p t row
         unfolding if_some◌give◌otherwise◌

@@ -9,7 +9,6 @@ use Rattle.srt_group_model.specs.State.{Member, with_leg}
 use Rattle.srt_group_model.specs.Legs.{is_connected, has_sender}
 use Rattle.srt_group_model.specs.Members.{has_id, alignment_source, align_leg, align_member_sequence}
 use Rattle.srt_group_model.specs.declared.Leg.{Leg}
-use Rattle.srt_group_model.specs.declared.Membership.{Membership}
 use Rattle.srt_group_model.specs.declared.Sender.{Sender}
 use Rattle.srt_connection.specs.Laws.Answers.{result_ok, result_err}
 use Rattle.srt_connection_queue.specs.Laws.Tab.{tab_past}
@@ -99,26 +98,26 @@ module _ (n i : ℕ) (number : Option ℕ) (t : List ℕ) where
   unfolding align_member_sequence if_some◌give◌otherwise◌ members_of
   align_past h = rw (tab_past n (member_at t) i h) record { long = refl; succeeded = refl; is = refl }
 
-  module _ (there : i < n) {x : Membership} (membership : x ≡ (member_at t i).membership) where
-    pub align_no_source : None ≡ alignment_source number x.id (members_of n t)
+  module _ (there : i < n) {id : ℕ} (is_id : id ≡ (member_at t i).membership.id) where
+    pub align_no_source : None ≡ alignment_source number id (members_of n t)
         → Tried n (align_member_sequence number i (members_of n t)) t true t
     unfolding align_member_sequence if_some◌give◌otherwise◌
     align_no_source e =
         rw (
           members_place n t i there,
-          ← membership,
-          sequence_none (alignment_source number x.id (members_of n t)) e,
+          ← is_id,
+          sequence_none (alignment_source number id (members_of n t)) e,
         ) record { long = refl; succeeded = refl; is = refl }
 
     pub align_with : {answer : Bool} {u : List ℕ} (sequence : ℕ)
-        → Some sequence ≡ alignment_source number x.id (members_of n t) → AlignedAt i sequence t answer u
+        → Some sequence ≡ alignment_source number id (members_of n t) → AlignedAt i sequence t answer u
         → Tried n (align_member_sequence number i (members_of n t)) t answer u
     unfolding align_member_sequence if_some◌give◌otherwise◌
     align_with {answer} {u} sequence e a =
         rw (
           members_place n t i there,
-          ← membership,
-          sequence_some (alignment_source number x.id (members_of n t)) sequence e,
+          ← is_id,
+          sequence_some (alignment_source number id (members_of n t)) sequence e,
         ) (go (align_leg sequence (member_at t i).leg) refl)
       where
         go : (o : Option Leg) → align_leg sequence (member_at t i).leg ≡ o

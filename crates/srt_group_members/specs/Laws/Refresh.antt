@@ -2,20 +2,21 @@
 use Rattle.std.proofs.Math.Path.{◌≡◌, refl, ap}
 use Rattle.std.proofs.Common.{sym, ◌∙◌, add-one}
 use Rattle.std.specs.Prelude.{Bool, ◌&&◌, length, None, Option, Some, is_some}
-use Rattle.std.proofs.Math.Bool.{true, false}
+use Rattle.std.proofs.Math.Bool.{true, false, not}
 use mathlib.Core.List.{List}
 use Prim.Native.Nat.{ℕ, suc, ◌+◌, ◌-◌, ◌≤◌, ◌<◌}
 use native.Mathlib.Omega.{arith}
 use Rattle.srt_group_model.specs.Tools.{if_true◌then◌else◌, if_some◌give◌otherwise◌, change, each}
-use Rattle.srt_group_model.specs.State.{Member, turned, unstable_state, broken_state}
+use Rattle.srt_group_model.specs.State.{Member, is_backup, turned, pending_state, active_state, standby_state, unstable_state, broken_state}
 use Rattle.srt_group_model.specs.Legs.{is_connected, is_disconnected, can_send}
-use Rattle.srt_group_model.specs.Members.{in_state, align_member_sequence, turn_aligned, steps_from, at_each_place, settle, requalify, break_disconnected, promote_if_none, settle_members, requalify_members}
+use Rattle.srt_group_model.specs.Calls.{state_at_addition}
+use Rattle.srt_group_model.specs.Members.{in_state, has_active_member, align_member_sequence, turn_aligned, steps_from, at_each_place, settle, requalify, break_disconnected, promote_if_none, settle_members, requalify_members}
 use Rattle.srt_group_model.specs.declared.Leg.{Leg}
 use Rattle.srt_connection_members.specs.Members.{member_at, members_of, Changed, ChangedAll}
 use Rattle.srt_connection_members.specs.Laws.Members.{members_length, members_place, changed_by, unchanged}
 use Rattle.srt_group_members.specs.Scan.{Became, Tried}
 use Rattle.srt_group_members.specs.Laws.Scan.{became_same, became_then}
-use Rattle.srt_group_members.specs.Refresh.{requalifies}
+use Rattle.srt_group_members.specs.Refresh.{requalifies, requalified_state}
 
 -- ---- the tests
 
@@ -39,6 +40,29 @@ module _ (m : Member) {connected : Bool} (is : connected ≡ (in_state unstable_
       go true true e can = can
       go true false e can = cc e
       go false b e can = cc e
+
+-- ---- the state of a member at its addition
+
+module _ (mode : ℕ) (l : Leg) (ms : List Member) {answer : Bool} (is : answer ≡ is_connected l) where
+  pub added_connected : {state : ℕ} → answer ≡ true → state ≡ requalified_state mode ms → state ≡ state_at_addition mode l ms
+  unfolding requalified_state state_at_addition if_true◌then◌else◌
+  added_connected e to = to ∙ rw (← is, e) (go (is_backup mode) (has_active_member ms))
+    where
+      go : (b a : Bool)
+          → (if_true b && a then standby_state else active_state)
+          ≡ (if_true b then (if_true not a then active_state else standby_state) else active_state)
+      go true true = refl
+      go true false = refl
+      go false a = refl
+
+  module _ {backup : Bool} (in_mode : backup ≡ is_backup mode) (no : answer ≡ false) where
+    pub added_standby : backup ≡ true → standby_state ≡ state_at_addition mode l ms
+    unfolding state_at_addition if_true◌then◌else◌
+    added_standby e = sym (rw (← is, no, ← in_mode, e))
+
+    pub added_pending : backup ≡ false → pending_state ≡ state_at_addition mode l ms
+    unfolding state_at_addition if_true◌then◌else◌
+    added_pending e = sym (rw (← is, no, ← in_mode, e))
 
 -- ---- the member at a place turns, if it can be aligned
 

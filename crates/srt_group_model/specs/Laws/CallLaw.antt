@@ -1,6 +1,6 @@
 -- What a call can do, move by move. A property of the state, of the cell in hand and of the log, that each of these moves keeps, is
 -- kept by every call: EveryCall has the one walk, and the laws of validity are instances.
-use Rattle.std.specs.Prelude.{◌≡◌, Bool, true, false, List, [], ◌∷◌, ◌++◌, ℕ, suc, ◌+◌, ◌%◌, ◌≤◌, ◌<◌, eqb, length, drop, None, Option, Some}
+use Rattle.std.specs.Prelude.{◌≡◌, Bool, true, false, List, [], ◌∷◌, ◌++◌, ℕ, suc, ◌%◌, ◌≤◌, ◌<◌, eqb, length, drop, None, Option, Some}
 use Rattle.srt_protocol.specs.Cells.{cell_size, cells_of}
 use Rattle.srt_protocol.specs.Sequence.{sequence_distance, sequence_further}
 use Rattle.srt_group_model.specs.Tools.{any, such_that, at_place, change}

@@ -1,6 +1,7 @@
 -- A flag read and written: what a test of the word says of the flag, and which word a test is written as.
 use Rattle.std.specs.Prelude.{◌≡◌, refl, Bool, true, false, not, ℕ, zero, suc, ◌≤◌, eqb, None, Some}
 use Rattle.std.proofs.Common.{sym, ap, arith, ne_eqb}
+use Rattle.std.specs.Bool.{then_some}
 use Rattle.srt_group_model.specs.Tools.{is_set, bit, flagged}
 
 -- ---- reading: from the word to the flag, and back
@@ -45,3 +46,9 @@ unset_none flag n h = ap (λ (b : Bool). flagged b n) (zero_unset flag h)
 pub set_some : (flag n : ℕ) → (flag ≡ 0 → ⊥) → flagged (is_set flag) n ≡ Some n
 unfolding flagged
 set_some flag n h = ap (λ (b : Bool). flagged b n) (other_set flag h)
+
+-- the form in which the code shows it
+pub shown : (flag n : ℕ) → then_some (not (eqb flag 0)) n ≡ flagged (is_set flag) n
+unfolding flagged
+shown zero n = refl
+shown (suc m) n = ap (λ (b : Bool). then_some (not b) n) (ne_eqb (suc m) 0 (omega arith))

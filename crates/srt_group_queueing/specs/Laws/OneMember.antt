@@ -1,6 +1,7 @@
 -- The calls that are lent no store and change one member, proved together.
 use Rattle.srt_protocol.specs.Errors.{Outcome}
-use Rattle.std.specs.Prelude.{◌≡◌, refl, Bool, true, false, ℕ, Err, None, Ok, Some}
+use Rattle.std.specs.Prelude.{◌≡◌, refl, Bool, true, false, ℕ, Err, None, Ok, Option, Result, Some}
+use Rattle.std.specs.Option.{ok_or}
 use Rattle.std.proofs.Common.{ap, ◌∙◌}
 use Rattle.std.proofs.Math.Path.{sym, subst}
 use mathlib.Core.List.{List, [], ◌∷◌}
@@ -22,6 +23,21 @@ use Rattle.srt_group_shown.specs.Tables.{Parts, Tables, state_of}
 use Rattle.srt_group_shown.specs.Steps.{Unbroken, StepsKeeping}
 use Rattle.srt_group_shown.specs.Laws.Steps.{left_refused, left_accepted}
 use Rattle.srt_group_shown.specs.Laws.Found.{with_table, long_with, is_nowhere, is_known, of_found, change_found, shown_changed, change_keeps, same_cells}
+
+-- ---- an option that is answered as a refusal where it is none
+
+module _ {A : Type 0} {r : Result A Error} where
+  pub was_there : (o : Option A) (e : Error) {x : A} → r ≡ ok_or o e → r ≡ Ok x → Some x ≡ o
+  was_there None e is accepted = cc (sym is ∙ accepted)
+  was_there (Some y) e is accepted = cc (sym is ∙ accepted)
+
+  pub was_none : (o : Option A) (e : Error) {e' : Error} → r ≡ ok_or o e → r ≡ Err e' → None ≡ o
+  was_none None e is refused = refl
+  was_none (Some y) e is refused = cc (sym is ∙ refused)
+
+  pub which_error : (o : Option A) (e : Error) {e' : Error} → r ≡ ok_or o e → r ≡ Err e' → e ≡ e'
+  which_error None e is refused = cc (sym is ∙ refused)
+  which_error (Some y) e is refused = cc (sym is ∙ refused)
 
 -- its checks after 6: 2, 3, and a code of the member's own
 abbrev pub member_checks : (unfit : Bool) (id : ℕ) → Error → (Member → Bool) → State → List Check
@@ -88,12 +104,14 @@ module _ {call : Call} (c : OneMember call) (p : Parts) (t : Tables) (unbroken :
     after_2 : Is (guard 3_on before body)
     after_2 store output list = starts store output list ∙ guard_goes_on (2 when c.unfit) 3_on before body fit
 
-    pub unknown_refused : None ≡ find c.id before.members → Ends (Err UnknownMember) t.members
-    unknown_refused nowhere =
-        refused (Err UnknownMember)
+    pub unknown_refused : (o : Option ℕ) {r : Result ℕ Error} {e : Error} → o ≡ find c.id before.members → r ≡ ok_or o UnknownMember → r ≡ Err e
+        → Ends (Err e) t.members
+    unknown_refused o found is nowhere =
+        subst (λ (x : Error). Ends (Err x) t.members) (which_error o UnknownMember is nowhere)
+        (refused (Err UnknownMember)
         (λ store output list.
         after_2 store output list
-        ∙ guard_stops (3 when is_unknown c.id before) own_on before body (is_nowhere c.id p t nowhere))
+        ∙ guard_stops (3 when is_unknown c.id before) own_on before body (is_nowhere c.id p t (was_none o UnknownMember is nowhere ∙ found))))
 
     module _ (i : ℕ) (at : Some i ≡ find c.id before.members) where
       after_3 : Is (guard own_on before body)

@@ -1,6 +1,7 @@
 -- What is proved of the definitions in specs/Queueing.antt, with what the proofs need.
 use Rattle.srt_protocol.specs.Errors.{Outcome}
-use Rattle.std.specs.Prelude.{◌≡◌, Bool, true, false, ℕ, ◌+◌, ◌*◌, ◌^◌, ◌≤◌, ◌<◌, eqb, Err, None, Ok, Option, Some}
+use Rattle.std.specs.Prelude.{◌≡◌, Bool, true, false, ℕ, ◌+◌, ◌*◌, ◌^◌, ◌≤◌, ◌<◌, eqb, Err, Ok, Option, Result, Some}
+use Rattle.std.specs.Option.{ok_or}
 use Rattle.std.proofs.Math.Path.{refl, sym, ap, subst}
 use Rattle.std.proofs.Common.{◌∙◌, lt-ltb, le-ltb}
 use mathlib.Core.List.{List, [], ◌∷◌}
@@ -36,6 +37,7 @@ use Rattle.srt_group_shown.specs.Tables.{Parts, Tables, state_of, Long}
 use Rattle.srt_group_shown.specs.Ready.{Ready, storing, Performs}
 use Rattle.srt_group_shown.specs.Laws.Ready.{one_cell, performs_refused, performs_refused_over, performs_accepted}
 use Rattle.srt_group_queueing.specs.Queueing.{Enqueueable, with_data, Enqueues}
+use Rattle.srt_group_queueing.specs.Laws.OneMember.{which_error, was_none}
 use Rattle.srt_group_refusals.specs.Laws.Begins.{never_accepted}
 use Rattle.srt_group_shown.specs.Laws.Found.{with_table, long_with, is_nowhere, place, is_known, of_found, change_found, found_row, shown_changed}
 
@@ -141,10 +143,12 @@ module _ (id : ℕ) (d : Data) (payload : List ℕ) (p : Parts) (t : Tables) (st
     after_2 : step ≡ guard 3_on s body
     after_2 = starts ∙ guard_goes_on (2 when data_unfit id d) 3_on s body fit
 
-    pub unknown_refused : None ≡ find id s.members → Queues (Err UnknownMember) t.members store used
-    unknown_refused nowhere =
-        performs_refused call p t (storing store) used ready (error_number UnknownMember)
-        (after_2 ∙ guard_stops (3 when is_unknown id s) 4_on s body (is_nowhere id p t nowhere))
+    pub unknown_refused : (o : Option ℕ) {r : Result ℕ Error} {e : Error} → o ≡ find id s.members → r ≡ ok_or o UnknownMember → r ≡ Err e
+        → Queues (Err e) t.members store used
+    unknown_refused o found is nowhere =
+        subst (λ (x : Error). Queues (Err x) t.members store used) (which_error o UnknownMember is nowhere)
+        (performs_refused call p t (storing store) used ready (error_number UnknownMember)
+        (after_2 ∙ guard_stops (3 when is_unknown id s) 4_on s body (is_nowhere id p t (was_none o UnknownMember is nowhere ∙ found))))
 
     module _ (i : ℕ) (at : Some i ≡ find id s.members) where
       after_3 : step ≡ guard 4_on s body
@@ -159,14 +163,16 @@ module _ (id : ℕ) (d : Data) (payload : List ℕ) (p : Parts) (t : Tables) (st
         after_4 : step ≡ guard 30_on s body
         after_4 = after_3 ∙ guard_goes_on (4 when above cell_size (length payload)) 30_on s body (le-ltb cell_size (length payload) short)
 
-        pub full_refused : {r : Option ℕ} → LowestFree used room r → r ≡ None → Queues (Err NoFreeCell) t.members store used
+        pub full_refused : (o : Option ℕ) {r : Result ℕ Error} {e : Error} → LowestFree used room o → r ≡ ok_or o NoFreeCell → r ≡ Err e
+            → Queues (Err e) t.members store used
         unfolding if_some◌give◌otherwise◌
-        full_refused lowest is =
-            performs_refused call p t (storing store) used ready (error_number NoFreeCell)
+        full_refused o lowest is none_left =
+            subst (λ (x : Error). Queues (Err x) t.members store used) (which_error o NoFreeCell is none_left)
+            (performs_refused call p t (storing store) used ready (error_number NoFreeCell)
             (after_4
             ∙ guard_stops (30 when no_free_cell room s) 31_on s body
             (ap (λ (o : Option ℕ). if_some o give (λ c. false) otherwise true)
-            (none_found ready.shows lowest is)))
+            (none_found ready.shows lowest (sym (was_none o NoFreeCell is none_left))))))
 
         module _ {r : Option ℕ} (cell : ℕ) (lowest : LowestFree used room r) (is : r ≡ Some cell) where
           free_there : free_cell room s ≡ Some cell

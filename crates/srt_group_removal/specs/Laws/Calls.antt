@@ -9,6 +9,7 @@ use Rattle.srt_protocol.specs.Errors.{error_number, outcome_number}
 use Rattle.srt_group_model.specs.Guards.{Answer, no_answer}
 use Rattle.srt_group_model.specs.Calls.{remove_body, remove_member_connection}
 use Rattle.srt_group_model.specs.Lent.{call_remove_member_connection, step_of}
+use Rattle.srt_group_model.specs.declared.Core.{Core}
 use Rattle.srt_connection_queue.specs.Rows.{row_size}
 use Rattle.srt_group_traces.specs.Statement.{do_call}
 use Rattle.srt_group_traces.specs.Port.{Shown, Promise}
@@ -17,7 +18,7 @@ use Rattle.srt_group_refusals.specs.Begins.{are_short, begun}
 use Rattle.srt_group_refusals.specs.Laws.Begins.{begun_unbroken}
 use Rattle.srt_group_refusals.specs.Promised.{nothing_lent, asking, showing, answered, PromisedRow}
 use Rattle.srt_group_refusals.specs.Laws.Promised.{promised_refused_6, promised_steps, over_row, without_row}
-use Rattle.srt_group_removal.specs.declared.connection.Removal.{Removal}
+use Rattle.srt_group.specs.declared.Answered.{Answered}
 use Rattle.srt_group_removal.specs.Connection.{given_back, StepsRemoval, answer_dropped, PromisedDropping}
 use Rattle.srt_group_removal.specs.Laws.Connection.{none_delivered}
 
@@ -29,14 +30,14 @@ module _ (id : ℕ) (p : Parts) (t : Tables) (row : List ℕ) (long : row_size �
       over_row (call_remove_member_connection id) p t row long
       (promised_refused_6 (call_remove_member_connection id) p t nothing_lent begins _ (remove_body id (state_of p t)) refl e refused)
 
-  pub removal_promised : r ≡ Ok tt → (answer : Removal) (ms' ps' row' : List ℕ)
+  pub removal_promised : r ≡ Ok tt → (answer : Answered Core (Unit {0})) (ms' ps' row' : List ℕ)
       → StepsRemoval id p.core t.members t.pending answer ms' ps' row'
       → PromisedRow (call_remove_member_connection id) p t row
-      (showing (parts p.identity answer.core p.sending p.ring) (tables ms' ps' t.waiting t.history t.sources) nothing_lent
-      (outcome_number answer.outcome) (given_back answer.outcome row') 0)
+      (showing (parts p.identity answer.«record» p.sending p.ring) (tables ms' ps' t.waiting t.history t.sources) nothing_lent
+      (outcome_number answer.answer) (given_back answer.answer row') 0)
   removal_promised accepted answer ms' ps' row' steps =
       over_row (call_remove_member_connection id) p t row long
-      (promised_steps (call_remove_member_connection id) p t nothing_lent begins accepted (none_delivered answer.outcome row')
+      (promised_steps (call_remove_member_connection id) p t nothing_lent begins accepted (none_delivered answer.answer row')
       (steps.over p.identity p.sending p.ring t.waiting t.history t.sources (begun_unbroken p t begins accepted)))
 
 -- ---- the leg is dropped

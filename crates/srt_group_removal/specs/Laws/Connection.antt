@@ -35,7 +35,7 @@ use Rattle.srt_group_shown.specs.Laws.Steps.{rows_unbroken, unbroken_of, left_re
 use Rattle.srt_group_shown.specs.Laws.Found.{is_nowhere, is_known}
 use Rattle.srt_group_collecting.specs.Follows.{Follows}
 use Rattle.srt_group_removal.specs.declared.removal.Removed.{Removed}
-use Rattle.srt_group_removal.specs.declared.connection.Removal.{Removal}
+use Rattle.srt_group.specs.declared.Answered.{Answered}
 use Rattle.srt_group_removal.specs.Removal.{Removes}
 use Rattle.srt_group_removal.specs.Connection.{AnyRemovable, leg_in, GivesBack, RowAfter, given_back, StepsRemoval}
 use Rattle.srt_group_removal.specs.Laws.Removal.{removable, removed_as_called}
@@ -111,7 +111,7 @@ module _ (id : ℕ) (core : Core) (ms ps : List ℕ) where
   starts store output list s valid = guard_goes_on (6 when breaks_rule s) (2_on s) s (remove_body id s) valid
 
   pub unfit_removal : (row : List ℕ) → largest_32 < id
-      → StepsRemoval id core ms ps record { core = core; outcome = Err OutOfRange } ms ps row
+      → StepsRemoval id core ms ps record { «record» = core; answer = Err OutOfRange } ms ps row
   unfit_removal row large =
       record {
         over =
@@ -136,7 +136,7 @@ module _ (id : ℕ) (core : Core) (ms ps : List ℕ) where
         ∙ guard_goes_on (2 when above largest_32 id) (3_on s) s (remove_body id s) (le-ltb largest_32 id fit)
 
     pub unknown_removal : (row : List ℕ) → None ≡ find id (members_of core.counts.members ms)
-        → StepsRemoval id core ms ps record { core = core; outcome = Err UnknownMember } ms ps row
+        → StepsRemoval id core ms ps record { «record» = core; answer = Err UnknownMember } ms ps row
     unknown_removal row nowhere =
         record {
           over =
@@ -156,7 +156,7 @@ module _ (id : ℕ) (core : Core) (ms ps : List ℕ) where
 
     pub named_removed : (i : ℕ) (removed : Removed) (ms' ps' row row' : List ℕ) → Some i ≡ find id (members_of core.counts.members ms)
         → Removes i core ms ps removed ms' ps' → GivesBack removed.leg row row'
-        → StepsRemoval id core ms ps record { core = removed.core; outcome = Ok tt } ms' ps' row'
+        → StepsRemoval id core ms ps record { «record» = removed.core; answer = Ok tt } ms' ps' row'
     unfolding guard
     named_removed i removed ms' ps' row row' at removes gives =
         record {
@@ -187,13 +187,13 @@ module _ (id : ℕ) (core : Core) (ms ps : List ℕ) where
 
 -- ---- in a state that is ready
 
-pub removal_performed : {p : Parts} {t : Tables} {store used : List ℕ} → Ready p t (length store) used → (id : ℕ) (r : Removal) (ms' ps' used' row' : List ℕ)
+pub removal_performed : {p : Parts} {t : Tables} {store used : List ℕ} → Ready p t (length store) used → (id : ℕ) (r : Answered Core (Unit {0})) (ms' ps' used' row' : List ℕ)
     → StepsRemoval id p.core t.members t.pending r ms' ps' row'
-    → Follows p.core t.members t.pending used r.core ms' ps' used'
-    → Performs (call_remove_member_connection id) p t (storing store) (outcome_number r.outcome) (given_back r.outcome row')
-    (parts p.identity r.core p.sending p.ring) (tables ms' ps' t.waiting t.history t.sources) (storing store) used'
+    → Follows p.core t.members t.pending used r.«record» ms' ps' used'
+    → Performs (call_remove_member_connection id) p t (storing store) (outcome_number r.answer) (given_back r.answer row')
+    (parts p.identity r.«record» p.sending p.ring) (tables ms' ps' t.waiting t.history t.sources) (storing store) used'
 unfolding used_cells
 removal_performed {p} {t} ready id r ms' ps' used' row' steps follows =
-    performs_steps ready (none_delivered r.outcome row') used'
+    performs_steps ready (none_delivered r.answer row') used'
     (steps.over p.identity p.sending p.ring t.waiting t.history t.sources (unbroken_of ready))
     record { cells = follows.shows (rest_of p t).send.history ready.shows.cells }

@@ -1,9 +1,9 @@
 -- The cells of a member's queue are freed event by event: what the loop's proof needs.
-use Rattle.std.specs.Prelude.{◌≡◌, List, [], ◌∷◌, ℕ, ◌+◌, ◌≤◌, ◌<◌, length, Some}
-use Rattle.std.proofs.Common.{ap, sym, subst, ◌∙◌, add-one, arith, eq-eqb, ne_eqb}
+use Rattle.std.specs.Prelude.{◌≡◌, Bool, true, false, List, [], ◌∷◌, ℕ, ◌+◌, ◌≤◌, ◌<◌, length, Some}
+use Rattle.std.proofs.Common.{ap, sym, subst, ◌∙◌, add-one, arith}
 use Rattle.srt_group_model.specs.Tools.{if_true◌then◌else◌, at_place}
 use Rattle.srt_group_model.specs.State.{Member}
-use Rattle.srt_group_model.specs.Cells.{queue_cells}
+use Rattle.srt_group_model.specs.Cells.{is_data, queue_cells}
 use Rattle.srt_group_model.specs.declared.Event.{Event}
 use Rattle.cell_set.specs.Sets.{Freed}
 use Rattle.cell_set.specs.Laws.Shows.{none_freed, freed_then}
@@ -15,13 +15,13 @@ pub freed_as : {l m used used' : List ℕ} → l ≡ m → Freed l used used' �
 freed_as {l} {m} {used} {used'} same freed = subst (λ (k : List ℕ). Freed k used used') same freed
 
 module _ (e : Event) (used : List ℕ) where
-  pub data_freed : (used' : List ℕ) → e.kind ≡ 0 → Freed (e.content.cell ∷ []) used used' → Freed (event_cells e) used used'
+  pub data_freed : {b : Bool} (used' : List ℕ) → b ≡ is_data e → b ≡ true → Freed (e.content.cell ∷ []) used used' → Freed (event_cells e) used used'
   unfolding event_cells if_true◌then◌else◌
-  data_freed used' is freed = rw (eq-eqb e.kind 0 is) freed
+  data_freed used' tested is freed = rw (sym tested ∙ is) freed
 
-  pub no_data_kept : length used ≡ set_size → (e.kind ≡ 0 → ⊥) → Freed (event_cells e) used used
+  pub no_data_kept : {b : Bool} → length used ≡ set_size → b ≡ is_data e → b ≡ false → Freed (event_cells e) used used
   unfolding event_cells if_true◌then◌else◌
-  no_data_kept long other = rw (ne_eqb e.kind 0 other) (none_freed used long)
+  no_data_kept long tested is = rw (sym tested ∙ is) (none_freed used long)
 
 -- the cells of the events passed are freed
 pub record FreedTo (m : Member) (used : List ℕ) (at : ℕ) (here : List ℕ) : Type 0 where

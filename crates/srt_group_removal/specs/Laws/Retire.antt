@@ -16,8 +16,7 @@ use Rattle.srt_protocol.specs.Laws.Circle.{distance_up, distance_round}
 use Rattle.srt_group_model.specs.declared.Core.{Core}
 use Rattle.srt_group_model.specs.declared.Account.{Account}
 use Rattle.srt_group_model.specs.declared.Packet.{Packet}
-use Rattle.srt_group_model.specs.Tools.{if_true◌then◌else◌, if_some◌give◌otherwise◌, flagged, such_that, at_place, each, All}
-use Rattle.srt_group_model.specs.Laws.Flag.{other_set}
+use Rattle.srt_group_model.specs.Tools.{if_true◌then◌else◌, if_some◌give◌otherwise◌, is_set, flagged, such_that, at_place, each, All}
 use Rattle.srt_group_model.specs.Laws.Reason.{if_elim, by_test, not_both, and_left, and_right, or_left, or_right, or_cases, none_some, some_inj, all_map}
 use Rattle.srt_group_model.specs.Laws.Weights.{all_such_that}
 use Rattle.srt_group_model.specs.Legs.{largest_sequence}
@@ -502,20 +501,30 @@ module _ {limit base : ℕ} {core : Core} {ps : List ℕ} {here : Core} {ps₁ :
 -- ---- where distances are taken from
 
 module _ (core : Core) (ps : List ℕ) (others : Rest) (ms ws : List ℕ) where
-  pub based_there : (core.receiving.based ≡ 0 → ⊥) → core.receiving.base ≡ retirement_base (shown core others ms ps ws)
-  unfolding retirement_base flagged if_some◌give◌otherwise◌
-  based_there e = rw (other_set core.receiving.based e)
+  module _ {b : Option ℕ} (is : b ≡ flagged (is_set core.receiving.based) core.receiving.base) where
+    pub based_there : {n : ℕ} → b ≡ Some n → n ≡ retirement_base (shown core others ms ps ws)
+    unfolding retirement_base if_some◌give◌otherwise◌
+    based_there some = rw (sym is ∙ some)
 
-  module _ {r : Option ℕ} (unset : core.receiving.based ≡ 0)
-      (near : FoundPacket ps core.counts.pending r (nearest (packets core.counts.pending ps))) where
-    pub based_nowhere : r ≡ None → 0 ≡ retirement_base (shown core others ms ps ws)
-    unfolding retirement_base flagged if_some◌give◌otherwise◌
-    based_nowhere e = rw (unset, sym near.is, e)
+    module _ {r : Option ℕ} (unset : b ≡ None)
+        (near : FoundPacket ps core.counts.pending r (nearest (packets core.counts.pending ps))) where
+      pub based_nowhere : r ≡ None → 0 ≡ retirement_base (shown core others ms ps ws)
+      unfolding retirement_base if_some◌give◌otherwise◌
+      based_nowhere e = rw (sym is ∙ unset, sym near.is, e)
 
-    pub based_nearest : {n : ℕ} (at : ℕ) → r ≡ Some at → n ≡ sequence_of (packet_at ps at) → n ≡ retirement_base (shown core others ms ps ws)
-    unfolding retirement_base flagged if_some◌give◌otherwise◌
-    based_nearest at e is = rw (unset, sym near.is, e) is
+      pub based_nearest : {n : ℕ} (at : ℕ) → r ≡ Some at → n ≡ sequence_of (packet_at ps at) → n ≡ retirement_base (shown core others ms ps ws)
+      unfolding retirement_base if_some◌give◌otherwise◌
+      based_nearest at e is_sequence = rw (sym is ∙ unset, sym near.is, e) is_sequence
+
+flagged_is : (flag : Bool) (n m : ℕ) → flagged flag n ≡ Some m → n ≡ m
+unfolding flagged
+flagged_is false n m e = none_some e
+flagged_is true n m e = some_inj e
 
 -- it is below 2^31
+pub based_upper : (core : Core) (ps : List ℕ) → Held core ps → {b : Option ℕ} {n : ℕ} → b ≡ flagged (is_set core.receiving.based) core.receiving.base
+    → b ≡ Some n → n ≤ largest_sequence
+based_upper core ps held is some = subst (λ (k : ℕ). k ≤ largest_sequence) (flagged_is _ _ _ (sym is ∙ some)) held.base_low
+
 pub based_low : (core : Core) (ps : List ℕ) → Held core ps → (at : ℕ) → at < core.counts.pending → sequence_of (packet_at ps at) ≤ largest_sequence
 based_low core ps held at below = all_tab Low core.counts.pending (packet_at ps) held.low at below

@@ -1,5 +1,5 @@
 -- What is proved of a line of a replay listing, with what the proofs need.
-use Rattle.std.specs.Prelude.{◌≡◌, false, ℕ, zero, suc, ◌-◌, ◌≤◌, ◌<◌, ◌⊎◌, length, Err, None, Ok, Option, Result, Some}
+use Rattle.std.specs.Prelude.{◌≡◌, false, ℕ, zero, suc, ◌-◌, ◌≤◌, ◌<◌, ◌⊎◌, Err, None, Ok, Option, Result, Some}
 use Rattle.std.proofs.Math.Path.{refl, ap, ap₂, sym, subst}
 use Rattle.std.proofs.Common.{◌∙◌, inl, inr, arith}
 use mathlib.Core.List.{List, []}
@@ -20,11 +20,14 @@ use Rattle.srt_group_shown.specs.Laws.Ready.{ready_new}
 use Rattle.srt_group.specs.Made.{parts_of, PromisedNew}
 use Rattle.srt_group.specs.declared.Group.{Group}
 use Rattle.srt_protocol.specs.declared.error.Error.{Error}
-use Rattle.srt_group_listing.specs.declared.Memory.{Memory}
+use Rattle.srt_group_replay.specs.declared.Memory.{Memory}
 use Rattle.srt_group_listing.specs.declared.Printed.{Printed}
-use Rattle.srt_group_listing.specs.Telling.{tables_of, numbers_of, ReadyFor}
-use Rattle.srt_group_replay.specs.Lines.{standing, Standing}
-use Rattle.srt_group_replay.specs.Told.{TellsLine}
+use Rattle.srt_group_listing.specs.Telling.{numbers_of}
+use Rattle.srt_group_replay.specs.declared.verb.Verb.{Verb}
+use Rattle.srt_group_replay.specs.declared.verb.Verb.TheVariants.{New, Add, Reading, Data, Poll, Send, Remove, MarkBroken, Event}
+use Rattle.srt_group_replay.specs.Verb.{number_of}
+use Rattle.srt_group_replay.specs.Lines.{state_over, StandingOver, standing}
+use Rattle.srt_group_replay.specs.Told.{TellsLine, TellsOver, TellsNew}
 
 -- ---- verbs that are none, and no group
 
@@ -53,6 +56,18 @@ without_group line (suc (suc (suc (suc (suc zero))))) few = refl
 without_group line (suc (suc (suc (suc (suc (suc zero)))))) few = refl
 without_group line (suc (suc (suc (suc (suc (suc (suc zero))))))) few = refl
 without_group line (suc (suc (suc (suc (suc (suc (suc (suc k)))))))) few = absurd (omega arith)
+
+-- no verb has a larger number
+pub most_number : (verb : Verb) → number_of verb ≤ 9
+most_number New = omega arith
+most_number Add = omega arith
+most_number Reading = omega arith
+most_number Data = omega arith
+most_number Poll = omega arith
+most_number Send = omega arith
+most_number Remove = omega arith
+most_number MarkBroken = omega arith
+most_number Event = omega arith
 
 -- ---- verb 1
 
@@ -86,19 +101,17 @@ module _ (line : Line) where
           ∙ when_true (eqb (new_code making_of) 0) _ _ (eq-eqb (new_code making_of) 0 (accepted t))
           ∙ ap₂ (λ (x : Option State) (l : List ℕ). record { group = x; line = l }) (ap (λ (x : State). Some x) (sym (shows t))) (sym says)
 
-      pub fresh_stands : {m : Memory} → Long (tables_of m) → length m.store ≡ store_length → ShowsCells m.used [] → Standing (Some fresh) m
-      fresh_stands {m} long cells clean =
+      pub fresh_stands : {t : Tables} {used' : List ℕ} → Long t → ShowsCells used' [] → StandingOver (Some fresh) t used'
+      fresh_stands {t} {used'} long clean =
           record {
             long = long;
-            cells = cells;
-            ready =
-                record {
-                  call =
-                      subst (λ (n : ℕ). Ready (parts_of fresh) (tables_of m) n m.used) (sym cells)
-                      (ready_new (parts_of fresh) (tables_of m) making_of store_length m.used (shows (tables_of m)) (accepted (tables_of m)) long new_fits clean);
-                  cells = cells;
-                };
+            ready = ready_new (parts_of fresh) t making_of store_length used' (shows t) (accepted t) long new_fits clean;
           }
+
+      pub new_made : column 0 line ≡ 1 → {used' : List ℕ} → ShowsCells used' [] → {out : Printed} → numbers_of out ≡ refused_line 1 0
+          → {g : Option Group} {used : List ℕ} → TellsNew line g used (record { group = Some fresh; line = out }) used'
+      new_made verb clean says {g} =
+          record { over = λ t stands. record { told = tells_made verb says (state_over g t) t; stands = fresh_stands stands.long clean } }
 
     -- refused: what stood in its place stays
     pub tells_refused : (e : Error) → r ≡ Err e → column 0 line ≡ 1 → {n : ℕ} → n ≡ error_number e → {out : Printed} → numbers_of out ≡ refused_line 1 n
@@ -114,6 +127,11 @@ module _ (line : Line) where
             ap (λ (x : Shown). x.code)
             ((subst (PromisedNew making_of) is promised).holds record { members = []; pending = []; waiting = []; history = []; sources = [] } (storing [])
             (new making_of))
+
+    pub new_refused : (e : Error) → r ≡ Err e → column 0 line ≡ 1 → {n : ℕ} → n ≡ error_number e → {out : Printed} → numbers_of out ≡ refused_line 1 n
+        → {g : Option Group} {used : List ℕ} → TellsNew line g used (record { group = g; line = out }) used
+    new_refused e is verb number says {g} =
+        record { over = λ t stands. record { told = tells_refused e is verb number says (state_over g t); stands = stands } }
 
 -- ---- a line
 
@@ -144,5 +162,18 @@ pub none_stands : (g : Option Group) (m : Memory) {s : Option State} → standin
 none_stands g m {s} view is = subst (λ (o : Option Group). standing o m ≡ s) is view
 
 -- a group that is ready stands
-pub stands : {g : Group} {m : Memory} → ReadyFor g m → Standing (Some g) m
-stands ready = record { long = ready.call.long; cells = ready.cells; ready = ready }
+pub stands : {g : Group} {t : Tables} {used : List ℕ} → Ready (parts_of g) t store_length used → StandingOver (Some g) t used
+stands ready = record { long = ready.long; ready = ready }
+
+-- ---- a line over the tables
+
+module _ (line : Line) {g : Option Group} {t : Tables} {used : List ℕ} (here : StandingOver g t used) where
+  pub over_no_verb : (column 0 line < 1) ⊎ (9 < column 0 line) → {out : Printed} → numbers_of out ≡ refused_line 0 2
+      → TellsOver line g t (record { group = g; line = out }) t used
+  over_no_verb none says = record { told = tells_no_verb line none (state_over g t) says; stands = here }
+
+  pub over_no_group : g ≡ None → 2 ≤ column 0 line → column 0 line ≤ 9 → {out : Printed} → numbers_of out ≡ refused_line (column 0 line) 6
+      → TellsOver line g t (record { group = None; line = out }) t used
+  over_no_group is from to {out} says =
+      subst (λ (o : Option Group). TellsOver line o t (record { group = None; line = out }) t used) (sym is)
+      (record { told = tells_without_group line from to refl says; stands = subst (λ (o : Option Group). StandingOver o t used) is here })

@@ -1,5 +1,6 @@
 -- A test over the rows of a table, as a walk finds it: the first row that passes, or none.
-use Rattle.std.specs.Prelude.{◌≡◌, Bool, length}
+use Rattle.std.specs.Prelude.{◌≡◌, Bool, length, map}
+use Rattle.std.specs.List.{list_any, range_with_len}
 use Rattle.std.proofs.Math.Path.{refl, ap, ap₂}
 use Rattle.std.proofs.Common.{sym, ◌∙◌, arith, lt-ltb, le-ltb}
 use Rattle.std.proofs.Math.Bool.{true, false, ◌||◌}
@@ -12,6 +13,7 @@ use Rattle.srt_group_model.specs.Backup.{max_history}
 use Rattle.srt_group_model.specs.Validity.{max_queued}
 use Rattle.srt_group_model.specs.declared.Event.{Event}
 use Rattle.srt_connection_queue.specs.declared.rows.Ring.{Ring}
+use Rattle.srt_connection_queue.specs.Laws.Chains.{passes, any_read}
 use Rattle.srt_connection_queue.specs.Rows.{receiver_part, part, ring_of, event_in, queue_of, member_parts, member_of}
 use Rattle.srt_group_tables.specs.declared.history.HistoryRing.{HistoryRing}
 use Rattle.srt_group_tables.specs.Ring.{Arrays, entry_at, entries_of}
@@ -129,3 +131,17 @@ module _ (r : HistoryRing) (a : Arrays) where
       walked
       ∙ ap (λ (long : Bool). long || any entry_breaks_rule (entries_of r a))
       (sym (le-ltb max_history (length (entries_of r a)) (omega (arith, tab_length r.length (entry_at r a)))))
+
+-- ---- a test of each place below n, as a chain asks it
+
+ranged : {A : Type 0} (n a : ℕ) (f g : ℕ → A) → ((i : ℕ) → f (a + i) ≡ g i) → map f (range_with_len a n) ≡ tab n g
+unfolding tab
+ranged zero a f g same = refl
+ranged (suc n) a f g same =
+    ap₂ ◌∷◌ (let here : a ≡ a + 0 = omega arith in ap f here ∙ same 0)
+    (ranged n (a + 1) f (λ i. g (suc i)) (λ i. let later : a + 1 + i ≡ a + suc i = omega arith in ap f later ∙ same (suc i)))
+
+pub any_ranged : {A : Type 0} (test : A → Bool) (n : ℕ) (f : ℕ → A) → list_any (passes f test) (range_with_len 0 n) ≡ any test (tab n f)
+any_ranged test n f =
+    any_read f test (range_with_len 0 n)
+    ∙ ap (any test) (ranged n 0 f f (λ i. let same : 0 + i ≡ i = omega arith in ap f same))

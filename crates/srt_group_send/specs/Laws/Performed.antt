@@ -43,14 +43,16 @@ use Rattle.cell_set.specs.Sets.{ShowsCells, CanTake, LowestFree}
 use Rattle.cell_set.specs.Shows.{Shows}
 use Rattle.cell_set.specs.Laws.Shows.{lowest_found, none_found}
 use Rattle.cell_set.specs.Laws.Sets.{beyond}
-use Rattle.srt_group_shown.specs.Tables.{Parts, parts, Tables, tables, state_of, Long}
+use Rattle.srt_group.specs.declared.Group.{Group}
+use Rattle.srt_group.specs.Made.{parts_of}
+use Rattle.srt_group_shown.specs.Tables.{Parts, Tables, tables, state_of, Long}
 use Rattle.srt_group_shown.specs.Ready.{Ready, sending_into}
 use Rattle.srt_group_shown.specs.Laws.Ready.{one_cell, performs_refused, performs_accepted}
 use Rattle.srt_group_shown.specs.Laws.Steps.{rows_there}
 use Rattle.srt_group_carrier.specs.Freeing.{SendFollows}
 use Rattle.srt_group_carrier.specs.Lendable.{BackupTables, backup_tables, Lendable}
 use Rattle.srt_group_send.specs.Answers.{send_number, send_answer}
-use Rattle.srt_group_send.specs.declared.sending.GroupSend.{GroupSend}
+use Rattle.srt_group_send.specs.declared.sending.GroupSent.{GroupSent}
 use Rattle.srt_group_send.specs.Sends.{FitShown, FlowMade, Storable, Sends}
 
 -- ---- the cells
@@ -88,38 +90,40 @@ by_answer (Err e) sent refused = refused e refl
 
 -- ---- what the parts may rely on
 
-module _ {p : Parts} {t : Tables} {store : ℕ} {used : List ℕ} (ready : Ready p t store used) (list : List ℕ) (list_long : list_size ≤ length list) where
+module _ {g : Group} {t : Tables} {store : ℕ} {used : List ℕ} (ready : Ready (parts_of g) t store used) (list : List ℕ) (list_long : list_size ≤ length list) where
   abbrev lent_tables : BackupTables
   lent_tables = backup_tables t.members t.history t.sources list used
 
-  pub send_lendable : Lendable p.core.counts.members p.ring lent_tables
+  pub send_lendable : Lendable g.core.counts.members g.ring lent_tables
   send_lendable =
       record {
         rows = rows_there ready;
-        fits = omega (arith, (sound_of_valid (cells_of store) (state_of p t) (omega arith) ready.valid).fit.remembered, tab_length p.ring.length (entry_at p.ring (arrays t.history t.sources)));
+        fits = omega (arith, (sound_of_valid (cells_of store) (state_of (parts_of g) t) (omega arith) ready.valid).fit.remembered, tab_length g.ring.length (entry_at g.ring (arrays t.history t.sources)));
         arrays_long = record { history = ready.long.history; sources = ready.long.sources };
         list_long = list_long;
         used_long = ready.shows.cells.long;
       }
 
-  pub send_fit : FitShown p.core p.sending p.ring lent_tables
+  pub send_fit : FitShown g lent_tables
   send_fit =
       record {
-        identity = p.identity;
         pending = t.pending;
         waiting = t.waiting;
-        fit = (sound_of_valid (cells_of store) (state_of p t) (omega arith) ready.valid).fit;
+        fit = (sound_of_valid (cells_of store) (state_of (parts_of g) t) (omega arith) ready.valid).fit;
       }
 
-  pub few_members : p.core.counts.members ≤ max_members
+  pub few_members : g.core.counts.members ≤ max_members
   few_members =
-      let counted = counted_of (state_of p t) (valid_of (cells_of store) (state_of p t) ready.valid).counts in
-      omega (arith, counted.members, members_length p.core.counts.members t.members)
+      let counted = counted_of (state_of (parts_of g) t) (valid_of (cells_of store) (state_of (parts_of g) t) ready.valid).counts in
+      omega (arith, counted.members, members_length g.core.counts.members t.members)
 
 -- ---- the codes before anything is done
 
-module _ (time : ℕ) (payload : List ℕ) (p : Parts) (t : Tables) (store list used : List ℕ) (ready : Ready p t (length store) used)
+module _ (time : ℕ) (payload : List ℕ) (g : Group) (t : Tables) (store list used : List ℕ) (ready : Ready (parts_of g) t (length store) used)
     (list_long : list_size ≤ length list) (small : time ≤ largest_64) where
+  abbrev p : Parts
+  p = parts_of g
+
   abbrev s : State
   s = state_of p t
 
@@ -154,7 +158,7 @@ module _ (time : ℕ) (payload : List ℕ) (p : Parts) (t : Tables) (store list 
 
   -- refused: what is left is what was there
   refused_with : (e : Error) → step ≡ refuse (error_number e) s
-      → Sends time payload p t (sending_into store list) record { answer = Err e; rows = 0; core = p.core; sending = p.sending; ring = p.ring } t
+      → Sends time payload p t (sending_into store list) record { «record» = g; answer = Err e; rows = 0 } t
       (sending_into store list) used
   unfolding perform with_bytes
   refused_with e is =
@@ -164,7 +168,7 @@ module _ (time : ℕ) (payload : List ℕ) (p : Parts) (t : Tables) (store list 
       }
 
   pub long_refused : cell_size < length payload
-      → Sends time payload p t (sending_into store list) record { answer = Err PayloadTooLong; rows = 0; core = p.core; sending = p.sending; ring = p.ring } t
+      → Sends time payload p t (sending_into store list) record { «record» = g; answer = Err PayloadTooLong; rows = 0 } t
       (sending_into store list) used
   long_refused long =
       refused_with PayloadTooLong
@@ -175,7 +179,7 @@ module _ (time : ℕ) (payload : List ℕ) (p : Parts) (t : Tables) (store list 
     after_4 = starts ∙ guard_goes_on (4 when above cell_size (length payload)) 30_on s body (le-ltb cell_size (length payload) short)
 
     pub full_refused : {r : Option ℕ} → is_backup p.core.mode ≡ true → LowestFree used room r → r ≡ None
-        → Sends time payload p t (sending_into store list) record { answer = Err NoFreeCell; rows = 0; core = p.core; sending = p.sending; ring = p.ring } t
+        → Sends time payload p t (sending_into store list) record { «record» = g; answer = Err NoFreeCell; rows = 0 } t
         (sending_into store list) used
     unfolding if_some◌give◌otherwise◌
     full_refused in_backup lowest is =
@@ -206,12 +210,12 @@ module _ (time : ℕ) (payload : List ℕ) (p : Parts) (t : Tables) (store list 
   -- ---- what the flow leaves
 
   -- The model's send takes cell c, the code's flow was made with cell d: the same, but that in Broadcast neither is taken.
-  module _ (c d : ℕ) (answer : GroupSend) (end : BackupTables) (store' : List ℕ) (is : step ≡ send_body c time payload s)
-      (made : FlowMade d time (length payload) p.core p.sending p.ring (lent_tables ready list list_long) answer end)
+  module _ (c d : ℕ) (answer : GroupSent) (end : BackupTables) (store' : List ℕ) (is : step ≡ send_body c time payload s)
+      (made : FlowMade d time (length payload) g (lent_tables ready list list_long) answer end)
       (same_flow : send_flow c time payload s (refresh_states (start s)) ≡ send_flow d time payload s (refresh_states (start s)))
       (free : bit_at used d ≡ 0) (size : length store' ≡ length store) where
     abbrev p' : Parts
-    p' = parts p.identity answer.core answer.sending answer.ring
+    p' = parts_of answer.«record»
 
     abbrev t' : Tables
     t' = tables end.members t.pending t.waiting end.history end.sources
@@ -264,7 +268,7 @@ module _ (time : ℕ) (payload : List ℕ) (p : Parts) (t : Tables) (store list 
     left_is : step ≡ left_by_send c payload run record { state = state_of p' t'; sends = made.sends; code = send_number answer.answer }
     unfolding send_body run
     left_is =
-        is ∙ ap (left_by_send c payload (refresh_states (start s))) (same_flow ∙ made.flow p.identity t.pending t.waiting payload refl)
+        is ∙ ap (left_by_send c payload (refresh_states (start s))) (same_flow ∙ made.flow t.pending t.waiting payload refl)
 
     module _ (b : Bool) (mode : is_backup p.core.mode ≡ b) where
       run_mode : is_backup run.state.making.mode ≡ b
@@ -320,8 +324,8 @@ module _ (time : ℕ) (payload : List ℕ) (p : Parts) (t : Tables) (store list 
       ap (λ (f : Flow). if_true above_limit (length payload) run.state.members then ends_with 23 run.state else f)
       (when_false (is_backup p.core.mode) _ _ in_broadcast ∙ sym (when_false (is_backup p.core.mode) _ _ in_broadcast))
 
-  pub broadcast_performed : {answer : GroupSend} {end : BackupTables} → is_backup p.core.mode ≡ false → length payload ≤ cell_size
-      → FlowMade max_cells time (length payload) p.core p.sending p.ring (lent_tables ready list list_long) answer end
+  pub broadcast_performed : {answer : GroupSent} {end : BackupTables} → is_backup p.core.mode ≡ false → length payload ≤ cell_size
+      → FlowMade max_cells time (length payload) g (lent_tables ready list list_long) answer end
       → Sends time payload p t (sending_into store list) answer (tables end.members t.pending t.waiting end.history end.sources)
       (sending_into store end.list) end.used
   unfolding if_true◌then◌else◌
@@ -344,8 +348,8 @@ module _ (time : ℕ) (payload : List ℕ) (p : Parts) (t : Tables) (store list 
     pub cell_storable : Storable cell (length payload) (length store)
     cell_storable = record { one_cell = one_cell ready; there = cell_there; short = short }
 
-    pub backup_performed : {answer : GroupSend} {end : BackupTables} {store' : List ℕ}
-        → FlowMade cell time (length payload) p.core p.sending p.ring (lent_tables ready list list_long) answer end
+    pub backup_performed : {answer : GroupSent} {end : BackupTables} {store' : List ℕ}
+        → FlowMade cell time (length payload) g (lent_tables ready list list_long) answer end
         → store' ≡ (if_true is_ok answer.answer then overwritten (cell * cell_size) payload store else store) → length store' ≡ length store
         → Sends time payload p t (sending_into store list) answer (tables end.members t.pending t.waiting end.history end.sources)
         (sending_into store' end.list) end.used

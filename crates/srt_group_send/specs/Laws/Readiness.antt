@@ -25,11 +25,8 @@ use Rattle.srt_group_model.specs.Laws.Steps.{refresh_has}
 use Rattle.srt_group_model.specs.Laws.RangesCalls.{fit_law}
 use Rattle.srt_group_model.specs.declared.Core.{Core}
 use Rattle.srt_group_model.specs.declared.Event.{Event}
-use Rattle.srt_group_model.specs.declared.Identity.{Identity}
-use Rattle.srt_group_model.specs.declared.Sending.{Sending}
 use Rattle.srt_connection_members.specs.Members.{members_of}
 use Rattle.srt_group_members.specs.Scan.{Became}
-use Rattle.srt_group_tables.specs.declared.history.HistoryRing.{HistoryRing}
 use Rattle.srt_group_tables.specs.Ring.{Arrays, arrays, entries_of, send_of}
 use Rattle.srt_group_sending.specs.Readiness.{sends_now}
 use Rattle.srt_group_sending.specs.BackupReadiness.{BackupReady}
@@ -39,6 +36,8 @@ use Rattle.srt_group_carrier.specs.Freeing.{TrimFollows, FrontFreed}
 use Rattle.srt_group_carrier.specs.Laws.Freeing.{trim_as}
 use Rattle.srt_group_carrier.specs.Laws.Recording.{Suffix, ring_suffix}
 use Rattle.srt_group_carrier.specs.Laws.Prepared.{showing, trimmed_by_carrier}
+use Rattle.srt_group.specs.declared.Group.{Group}
+use Rattle.srt_group.specs.Made.{parts_of}
 use Rattle.srt_group_collecting.specs.Leaves.{sends}
 use Rattle.srt_group_polls.specs.Refresh.{Refreshes}
 use Rattle.srt_group_shown.specs.Shown.{rest}
@@ -50,7 +49,7 @@ use Rattle.cell_set.specs.Sets.{ShowsCells}
 use Rattle.cell_set.specs.Shows.{Shows}
 use Rattle.cell_set.specs.Laws.Shows.{shows_kept}
 use Rattle.srt_group_send.specs.declared.readiness.Readiness.{Readiness}
-use Rattle.srt_group_send.specs.Readiness.{TrimmedReady, Testable, Tests}
+use Rattle.srt_group_send.specs.Readiness.{call_paced, InWord, TrimmedReady, Testable, Tests}
 
 -- a step that is another
 left_by_step : {a b : Step} {number : ℕ} {given : Answer} {s : State} → a ≡ b → Left b number given s → Left a number given s
@@ -58,23 +57,24 @@ left_by_step {number = number} {given} {s} is left = subst (λ (z : Step). Left 
 
 -- ---- the trim and the test
 
-module _ (time : Option ℕ) (core : Core) (x : Sending) (r : HistoryRing) (members history used used' : List ℕ) {trimmed : SendHistory}
-    (by_carrier : TrimmedByCarrier (members_of core.counts.members members) history x r trimmed) where
+module _ (time : Option ℕ) (g : Group) (members history used used' : List ℕ) {trimmed : SendHistory}
+    (by_carrier : TrimmedByCarrier (members_of g.core.counts.members members) history g.sending g.ring trimmed) where
   suffix : (a : Arrays) → a.history ≡ history
-      → drop (r.length - trimmed.ring.length) (entries_of r a) ≡ entries_of trimmed.ring a
+      → drop (g.ring.length - trimmed.ring.length) (entries_of g.ring a) ≡ entries_of trimmed.ring a
   unfolding showing
   suffix a is =
-      let s : State = showing (members_of core.counts.members members) (send_of x r a) in
+      let s : State = showing (members_of g.core.counts.members members) (send_of g.sending g.ring a) in
       let left : trim_by_carrier s ≡ with_send (send_of trimmed.sending trimmed.ring a) s = by_carrier.is s a refl is refl in
-      ring_suffix r trimmed.ring a
-      (subst (λ (t : State). Suffix (entries_of r a) t.send.history) left (trimmed_by_carrier s).suffix)
+      ring_suffix g.ring trimmed.ring a
+      (subst (λ (t : State). Suffix (entries_of g.ring a) t.send.history) left (trimmed_by_carrier s).suffix)
 
-  pub trimmed_ready : {ready : Bool} → FrontFreed r trimmed.ring.length history used used'
-      → BackupReady time trimmed.sending trimmed.ring history (members_of core.counts.members members) ready
-      → TrimmedReady time core x r members history used record { ready = ready; core = core; sending = trimmed.sending; ring = trimmed.ring } used'
+  pub trimmed_ready : {ready : Bool} → FrontFreed g.ring trimmed.ring.length history used used'
+      → BackupReady time trimmed.sending trimmed.ring history (members_of g.core.counts.members members) ready
+      → TrimmedReady time g members history used
+      record { ready = ready; «record» = record { identity = g.identity; core = g.core; sending = trimmed.sending; ring = trimmed.ring } } used'
   trimmed_ready {ready} freed tested =
       record {
-        core_same = refl;
+        same = refl;
         fits = by_carrier.fits;
         follows = λ a is. trim_as (suffix a is) (freed.follows a is);
         trims = λ s a ms is sent. by_carrier.is s a ms is sent;
@@ -139,26 +139,29 @@ readied_cells mode time ms =
 -- ---- the calls
 
 -- a call of a state that is shown: what no test touches is given
-module _ (core : Core) (x : Sending) (r : HistoryRing) (members history used : List ℕ) (after : Core) (mid : List ℕ)
-    (refreshes : Refreshes (sends x) refresh_states core members after mid) where
-  module _ (identity : Identity) (pending waiting sources : List ℕ) where
+module _ (g : Group) (members history used : List ℕ) (after : Core) (mid : List ℕ)
+    (refreshes : Refreshes (sends g.sending) refresh_states g.core members after mid) where
+  abbrev h : Group
+  h = record { identity = g.identity; core = after; sending = g.sending; ring = g.ring }
+
+  module _ (pending waiting sources : List ℕ) where
     abbrev s : State
-    s = state_of (parts identity core x r) (tables members pending waiting history sources)
+    s = state_of (parts_of g) (tables members pending waiting history sources)
 
     run : Run
     run = refresh_states (start s)
 
-    refreshed : run.state ≡ state_of (parts identity after x r) (tables mid pending waiting history sources)
+    refreshed : run.state ≡ state_of (parts_of h) (tables mid pending waiting history sources)
     unfolding run
-    refreshed = (refreshes.run pending waiting (rest identity x (entries_of r (arrays history sources))) refl [] 0).state
+    refreshed = (refreshes.run pending waiting (rest g.identity g.sending (entries_of g.ring (arrays history sources))) refl [] 0).state
 
-    shows_refreshed : Shows used s → Shows used (state_of (parts identity after x r) (tables mid pending waiting history sources))
+    shows_refreshed : Shows used s → Shows used (state_of (parts_of h) (tables mid pending waiting history sources))
     unfolding run
     shows_refreshed shows = subst (Shows used) refreshed (shows_kept shows (refresh_keeps (start s)))
 
-  long_refreshed : (identity : Identity) (pending waiting sources members' : List ℕ) → length members' ≡ length mid
-      → Unbroken (parts identity core x r) (tables members pending waiting history sources) → Long (tables members' pending waiting history sources)
-  long_refreshed identity pending waiting sources members' same unbroken =
+  long_refreshed : (pending waiting sources members' : List ℕ) → length members' ≡ length mid
+      → Unbroken (parts_of g) (tables members pending waiting history sources) → Long (tables members' pending waiting history sources)
+  long_refreshed pending waiting sources members' same unbroken =
       record {
         members = omega (arith, unbroken.long.members, refreshes.members_long, same);
         pending = unbroken.long.pending;
@@ -168,26 +171,26 @@ module _ (core : Core) (x : Sending) (r : HistoryRing) (members history used : L
       }
 
   -- every number of the members is still in its range
-  pub members_refreshed : Testable core x r members history → AllFit (members_of after.counts.members mid)
+  pub members_refreshed : Testable g members history → AllFit (members_of after.counts.members mid)
   unfolding run
   members_refreshed testable =
-      (subst Fit (refreshed testable.identity testable.pending testable.waiting testable.sources)
-      (refresh_has Fit fit_law (start (s testable.identity testable.pending testable.waiting testable.sources)) testable.fit)
+      (subst Fit (refreshed testable.pending testable.waiting testable.sources)
+      (refresh_has Fit fit_law (start (s testable.pending testable.waiting testable.sources)) testable.fit)
       ).members
 
   -- Backup: the trim and the test, of a state that is shown over these members
-  module _ (time : Option ℕ) (members' : List ℕ) {answer : Readiness} {used' : List ℕ} (tested : TrimmedReady time after x r members' history used answer used')
-      (identity : Identity) (pending waiting sources : List ℕ) where
+  module _ (time : Option ℕ) (members' : List ℕ) {answer : Readiness} {used' : List ℕ} (tested : TrimmedReady time h members' history used answer used')
+      (pending waiting sources : List ℕ) where
     abbrev before_trim : State
-    before_trim = state_of (parts identity after x r) (tables members' pending waiting history sources)
+    before_trim = state_of (parts_of h) (tables members' pending waiting history sources)
 
     abbrev after_trim : State
-    after_trim = state_of (parts identity answer.core answer.sending answer.ring) (tables members' pending waiting history sources)
+    after_trim = state_of (parts_of answer.«record») (tables members' pending waiting history sources)
 
     trims_to : trim_by_carrier before_trim ≡ after_trim
     trims_to =
         tested.trims before_trim (arrays history sources) refl refl refl
-        ∙ ap (λ (k : Core). state_of (parts identity k answer.sending answer.ring) (tables members' pending waiting history sources)) (sym tested.core_same)
+        ∙ ap (λ (k : Group). state_of (parts_of k) (tables members' pending waiting history sources)) (sym tested.same)
 
     left_trimmed : (u : State) (log : List Mark) → u ≡ before_trim
         → Left
@@ -207,60 +210,60 @@ module _ (core : Core) (x : Sending) (r : HistoryRing) (members history used : L
     shows_after : Shows used before_trim → Shows used' after_trim
     shows_after shows =
         subst (Shows used')
-        (ap (λ (k : Core). state_of (parts identity k answer.sending answer.ring) (tables members' pending waiting history sources)) (sym tested.core_same))
-        (shows_trimmed {t = state_of (parts identity after answer.sending answer.ring) (tables members' pending waiting history sources)} shows refl refl
+        (ap (λ (k : Group). state_of (parts_of k) (tables members' pending waiting history sources)) (sym tested.same))
+        (shows_trimmed {t = state_of (parts g.identity after answer.«record».sending answer.«record».ring) (tables members' pending waiting history sources)} shows refl refl
         (tested.follows (arrays history sources) refl))
 
-  pub backup_can_send : {b : Bool} {answer : Readiness} {used' : List ℕ} → b ≡ is_backup core.mode → b ≡ true
-      → TrimmedReady None after x r mid history used answer used' → Tests call_can_send core x r members history used answer mid used'
+  pub backup_can_send : {b : Bool} {answer : Readiness} {used' : List ℕ} → b ≡ is_backup g.core.mode → b ≡ true
+      → TrimmedReady None h mid history used answer used' → Tests call_can_send g members history used answer mid used'
   unfolding step_of can_send_call can_send_body guard run
   backup_can_send {answer = answer} InMode in_backup tested =
       record {
         steps =
-            λ identity pending waiting sources unbroken.
-            let z = s identity pending waiting sources in
+            λ pending waiting sources unbroken.
+            let z = s pending waiting sources in
             record {
               step =
                   λ store output list.
                   left_by_step
                   (guard_goes_on (6 when breaks_rule z) [] z (can_send_body z) unbroken.valid
-                  ∙ when_true (is_backup core.mode) _ _ (sym InMode ∙ in_backup))
-                  (left_trimmed None mid tested identity pending waiting sources (run identity pending waiting sources).state _ (refreshed identity pending waiting sources));
-              long = long_refreshed identity pending waiting sources mid refl unbroken;
+                  ∙ when_true (is_backup g.core.mode) _ _ (sym InMode ∙ in_backup))
+                  (left_trimmed None mid tested pending waiting sources (run pending waiting sources).state _ (refreshed pending waiting sources));
+              long = long_refreshed pending waiting sources mid refl unbroken;
             };
         shows =
-            λ identity pending waiting sources shows.
-            shows_after None mid tested identity pending waiting sources (shows_refreshed identity pending waiting sources shows);
+            λ pending waiting sources shows.
+            shows_after None mid tested pending waiting sources (shows_refreshed pending waiting sources shows);
       }
 
   -- Broadcast
-  pub broadcast_can_send : {b ready : Bool} → b ≡ is_backup core.mode → b ≡ false
+  pub broadcast_can_send : {b ready : Bool} → b ≡ is_backup g.core.mode → b ≡ false
       → ready ≡ any (sends_now None) (members_of after.counts.members mid)
-      → Tests call_can_send core x r members history used record { ready = ready; core = after; sending = x; ring = r } mid used
+      → Tests call_can_send g members history used record { ready = ready; «record» = h } mid used
   unfolding step_of can_send_call can_send_body guard run
   broadcast_can_send {b} {ready} tested in_broadcast is =
       record {
         steps =
-            λ identity pending waiting sources unbroken.
-            let z = s identity pending waiting sources in
+            λ pending waiting sources unbroken.
+            let z = s pending waiting sources in
             record {
               step =
                   λ store output list.
                   left_by_step
                   (guard_goes_on (6 when breaks_rule z) [] z (can_send_body z) unbroken.valid
-                  ∙ when_false (is_backup core.mode) _ _ (sym tested ∙ in_broadcast))
+                  ∙ when_false (is_backup g.core.mode) _ _ (sym tested ∙ in_broadcast))
                   record {
                     code = refl;
                     answer =
                         ap (λ (q : Bool). shown (truth q))
-                        (ap (λ (t : State). any (sends_now None) t.members) (refreshed identity pending waiting sources) ∙ sym is);
-                    state = refreshed identity pending waiting sources;
+                        (ap (λ (t : State). any (sends_now None) t.members) (refreshed pending waiting sources) ∙ sym is);
+                    state = refreshed pending waiting sources;
                     put = refl;
                     sends = refl;
                   };
-              long = long_refreshed identity pending waiting sources mid refl unbroken;
+              long = long_refreshed pending waiting sources mid refl unbroken;
             };
-        shows = λ identity pending waiting sources shows. shows_refreshed identity pending waiting sources shows;
+        shows = λ pending waiting sources shows. shows_refreshed pending waiting sources shows;
       }
 
   module _ (time : ℕ) (small : time ≤ largest_64) where
@@ -270,86 +273,93 @@ module _ (core : Core) (x : Sending) (r : HistoryRing) (members history used : L
         guard_goes_on (6 when breaks_rule z) ((2 when above largest_64 time) ∷ []) z (can_send_with_pacing_body time z) unbroken
         ∙ guard_goes_on (2 when above largest_64 time) [] z (can_send_with_pacing_body time z) (le-ltb largest_64 time small)
 
-    pub broadcast_with_pacing : {b ready : Bool} → b ≡ is_backup core.mode → b ≡ false
+    pub broadcast_with_pacing : {b ready : Bool} → b ≡ is_backup g.core.mode → b ≡ false
         → ready ≡ any (sends_now (Some time)) (members_of after.counts.members mid)
-        → Tests (call_can_send_with_pacing time) core x r members history used record { ready = ready; core = after; sending = x; ring = r } mid used
+        → Tests (call_can_send_with_pacing time) g members history used record { ready = ready; «record» = h } mid used
     unfolding step_of can_send_with_pacing_body run
     broadcast_with_pacing {b} {ready} tested in_broadcast is =
         record {
           steps =
-              λ identity pending waiting sources unbroken.
-              let z = s identity pending waiting sources in
+              λ pending waiting sources unbroken.
+              let z = s pending waiting sources in
               record {
                 step =
                     λ store output list.
-                    left_by_step (checked z unbroken.valid ∙ when_false (is_backup core.mode) _ _ (sym tested ∙ in_broadcast))
+                    left_by_step (checked z unbroken.valid ∙ when_false (is_backup g.core.mode) _ _ (sym tested ∙ in_broadcast))
                     record {
                       code = refl;
                       answer =
                           ap (λ (q : Bool). shown (truth q))
-                          (ap (λ (t : State). any (sends_now (Some time)) t.members) (refreshed identity pending waiting sources) ∙ sym is);
-                      state = refreshed identity pending waiting sources;
+                          (ap (λ (t : State). any (sends_now (Some time)) t.members) (refreshed pending waiting sources) ∙ sym is);
+                      state = refreshed pending waiting sources;
                       put = refl;
                       sends = refl;
                     };
-                long = long_refreshed identity pending waiting sources mid refl unbroken;
+                long = long_refreshed pending waiting sources mid refl unbroken;
               };
-          shows = λ identity pending waiting sources shows. shows_refreshed identity pending waiting sources shows;
+          shows = λ pending waiting sources shows. shows_refreshed pending waiting sources shows;
         }
 
-    pub backup_with_pacing : {b : Bool} {answer : Readiness} {used' members' : List ℕ} → b ≡ is_backup core.mode → b ≡ true
-        → Became after.counts.members (promote_if_none core.mode (demote_stale_backup_carrier time (members_of after.counts.members mid))) mid members'
-        → TrimmedReady (Some time) after x r members' history used answer used'
-        → Tests (call_can_send_with_pacing time) core x r members history used answer members' used'
+    pub backup_with_pacing : {b : Bool} {answer : Readiness} {used' members' : List ℕ} → b ≡ is_backup g.core.mode → b ≡ true
+        → Became after.counts.members (promote_if_none g.core.mode (demote_stale_backup_carrier time (members_of after.counts.members mid))) mid members'
+        → TrimmedReady (Some time) h members' history used answer used'
+        → Tests (call_can_send_with_pacing time) g members history used answer members' used'
     unfolding step_of can_send_with_pacing_body run
     backup_with_pacing {members' = members'} InMode in_backup readied tested =
         record {
           steps =
-              λ identity pending waiting sources unbroken.
-              let z = s identity pending waiting sources in
-              let t = (run identity pending waiting sources).state in
+              λ pending waiting sources unbroken.
+              let z = s pending waiting sources in
+              let t = (run pending waiting sources).state in
               record {
                 step =
                     λ store output list.
-                    left_by_step (checked z unbroken.valid ∙ when_true (is_backup core.mode) _ _ (sym InMode ∙ in_backup))
-                    (left_trimmed (Some time) members' tested identity pending waiting sources
-                    (with_members (promote_if_none core.mode (demote_stale_backup_carrier time t.members)) t) _
-                    (ap (λ (u : State). with_members (promote_if_none core.mode (demote_stale_backup_carrier time u.members)) u)
-                    (refreshed identity pending waiting sources)
+                    left_by_step (checked z unbroken.valid ∙ when_true (is_backup g.core.mode) _ _ (sym InMode ∙ in_backup))
+                    (left_trimmed (Some time) members' tested pending waiting sources
+                    (with_members (promote_if_none g.core.mode (demote_stale_backup_carrier time t.members)) t) _
+                    (ap (λ (u : State). with_members (promote_if_none g.core.mode (demote_stale_backup_carrier time u.members)) u)
+                    (refreshed pending waiting sources)
                     ∙ ap
                     (λ (l : List Member).
-                    with_members l (state_of (parts identity after x r) (tables mid pending waiting history sources)))
+                    with_members l (state_of (parts_of h) (tables mid pending waiting history sources)))
                     (sym readied.is)));
-                long = long_refreshed identity pending waiting sources members' readied.long unbroken;
+                long = long_refreshed pending waiting sources members' readied.long unbroken;
               };
           shows =
-              λ identity pending waiting sources shows.
-              shows_after (Some time) members' tested identity pending waiting sources
-              (shows_queues (state_of (parts identity after x r) (tables mid pending waiting history sources)) (members_of after.counts.members members')
-              (sym (ap queued_cells readied.is ∙ readied_cells core.mode time (members_of after.counts.members mid)))
-              (shows_refreshed identity pending waiting sources shows));
+              λ pending waiting sources shows.
+              shows_after (Some time) members' tested pending waiting sources
+              (shows_queues (state_of (parts_of h) (tables mid pending waiting history sources)) (members_of after.counts.members members')
+              (sym (ap queued_cells readied.is ∙ readied_cells g.core.mode time (members_of after.counts.members mid)))
+              (shows_refreshed pending waiting sources shows));
         }
+
+  -- Broadcast, with a time or without one
+  pub broadcast_tested : (pacing : Option ℕ) {b ready : Bool} → InWord pacing → b ≡ is_backup g.core.mode → b ≡ false
+      → ready ≡ any (sends_now pacing) (members_of after.counts.members mid)
+      → Tests (call_paced pacing) g members history used record { ready = ready; «record» = h } mid used
+  broadcast_tested None small = broadcast_can_send
+  broadcast_tested (Some time) small = broadcast_with_pacing time small
 
 -- ---- for a valid state
 
-module _ {identity : Identity} {core : Core} {x : Sending} {r : HistoryRing} {members pending waiting history sources used : List ℕ} (store : List ℕ)
-    (ready : Ready (parts identity core x r) (tables members pending waiting history sources) (length store) used) where
-  pub testable_of : Testable core x r members history
+module _ {g : Group} {members pending waiting history sources used : List ℕ} (store : List ℕ)
+    (ready : Ready (parts_of g) (tables members pending waiting history sources) (length store) used) where
+  pub testable_of : Testable g members history
   testable_of =
-      let fit = (sound_of_valid (cells_of (length store)) (state_of (parts identity core x r) (tables members pending waiting history sources)) (omega arith) ready.valid).fit in
+      let fit = (sound_of_valid (cells_of (length store)) (state_of (parts_of g) (tables members pending waiting history sources)) (omega arith) ready.valid).fit in
       record {
         rows = rows_there ready;
-        identity = identity;
+        history_long = ready.long.history;
         pending = pending;
         waiting = waiting;
         sources = sources;
         fit = fit;
       }
 
-  pub tests_performed : {call : Call} {answer : Readiness} {members' used' : List ℕ} → Tests call core x r members history used answer members' used'
-      → Performs call (parts identity core x r) (tables members pending waiting history sources) (storing store) 0 (shown (truth answer.ready))
-      (parts identity answer.core answer.sending answer.ring) (tables members' pending waiting history sources) (storing store) used'
+  pub tests_performed : {call : Call} {answer : Readiness} {members' used' : List ℕ} → Tests call g members history used answer members' used'
+      → Performs call (parts_of g) (tables members pending waiting history sources) (storing store) 0 (shown (truth answer.ready))
+      (parts_of answer.«record») (tables members' pending waiting history sources) (storing store) used'
   unfolding delivered_by
   tests_performed {used' = used'} tests =
-      performs_steps ready refl used' (tests.steps identity pending waiting sources (unbroken_of ready))
-      (tests.shows identity pending waiting sources ready.shows)
+      performs_steps ready refl used' (tests.steps pending waiting sources (unbroken_of ready))
+      (tests.shows pending waiting sources ready.shows)

@@ -23,7 +23,6 @@ use Rattle.srt_group_model.specs.Laws.EveryCall.{refresh_mode}
 use Rattle.srt_group_model.specs.Laws.RangesCalls.{fit_law}
 use Rattle.srt_group_model.specs.declared.Core.{Core}
 use Rattle.srt_group_model.specs.declared.Counts.{Counts}
-use Rattle.srt_group_model.specs.declared.Identity.{Identity}
 use Rattle.srt_group_model.specs.declared.Sending.{Sending}
 use Rattle.srt_connection_members.specs.Members.{members_of}
 use Rattle.srt_group_tables.specs.declared.history.HistoryRing.{HistoryRing}
@@ -32,10 +31,11 @@ use Rattle.srt_group_sending.specs.SentList.{send_tables, sent_rows}
 use Rattle.srt_group_sending.specs.Laws.SentList.{wrote_nothing}
 use Rattle.srt_group_sending.specs.Broadcast.{SentBroadcast}
 use Rattle.srt_group_sending.specs.declared.broadcast.BroadcastSend.{BroadcastSend}
+use Rattle.srt_group.specs.declared.Group.{Group}
 use Rattle.srt_group_collecting.specs.Leaves.{sends}
 use Rattle.srt_group_polls.specs.Refresh.{Refreshes}
 use Rattle.srt_group_shown.specs.Shown.{rest}
-use Rattle.srt_group_carrier.specs.declared.recording.BackupSend.{BackupSend}
+use Rattle.srt_group_backup.specs.declared.send.BackupSend.{BackupSend}
 use Rattle.srt_group_carrier.specs.Lendable.{BackupTables, backup_tables, arrays_in, Lendable, NumbersFit}
 use Rattle.srt_group_carrier.specs.Flows.{InMode, BackupFlows}
 use Rattle.srt_group_carrier.specs.Laws.Freeing.{trim_same, trim_sends}
@@ -66,7 +66,7 @@ module _ (mode time size cell n : ℕ) (x : Sending) (r : HistoryRing) (before :
   pub broadcast_by_mode : {sent : BroadcastSend} {members list : List ℕ} {b : Bool} → b ≡ is_backup mode → b ≡ false → n ≤ max_members → Lendable n r before
       → SentBroadcast n time size x (send_tables before.members before.list) sent (send_tables members list)
       → BackupFlows (InMode mode) (by_mode mode time size cell) cell n x r 0 before
-      record { outcome = sent.outcome; sending = sent.sending; ring = r; sent = sent.sent }
+      record { outcome = sent.outcome; send = record { sending = sent.sending; ring = r }; sent = sent.sent }
       (backup_tables members before.history before.sources list before.used)
   broadcast_by_mode {sent} {members} {list} tested in_broadcast few lent cast =
       record {
@@ -105,25 +105,28 @@ pub few_refreshed : {x : Sending} {core after : Core} {ms ms' : List ℕ} → Re
     → core.counts.members ≤ max_members → after.counts.members ≤ max_members
 few_refreshed refreshes few = omega (arith, few, ap (λ (k : Counts). k.members) refreshes.counts_same)
 
-module _ (core : Core) (x : Sending) (r : HistoryRing) (before : BackupTables) (after : Core) (members : List ℕ)
-    (refreshes : Refreshes (sends x) refresh_states core before.members after members) where
+module _ (g : Group) (before : BackupTables) (after : Core) (members : List ℕ)
+    (refreshes : Refreshes (sends g.sending) refresh_states g.core before.members after members) where
+  abbrev refreshed_record : Group
+  refreshed_record = record { identity = g.identity; core = after; sending = g.sending; ring = g.ring }
+
   abbrev mid : BackupTables
   mid = backup_tables members before.history before.sources before.list before.used
 
-  pub refreshed : (identity : Identity) (pending waiting : List ℕ)
-      → (refresh_states (start (sending_state core x r before identity pending waiting))).state ≡ sending_state after x r mid identity pending waiting
-  refreshed identity pending waiting =
-      (refreshes.run pending waiting (rest identity x (entries_of r (arrays_in before))) refl [] 0).state
+  pub refreshed : (pending waiting : List ℕ)
+      → (refresh_states (start (sending_state g before pending waiting))).state ≡ sending_state refreshed_record mid pending waiting
+  refreshed pending waiting =
+      (refreshes.run pending waiting (rest g.identity g.sending (entries_of g.ring (arrays_in before))) refl [] 0).state
 
-  pub numbers_refreshed : FitShown core x r before → NumbersFit (send_of x r (arrays_in before)) (members_of after.counts.members members)
+  pub numbers_refreshed : FitShown g before → NumbersFit (send_of g.sending g.ring (arrays_in before)) (members_of after.counts.members members)
   numbers_refreshed shown =
-      let fit : Fit (sending_state after x r mid shown.identity shown.pending shown.waiting) =
-      subst Fit (refreshed shown.identity shown.pending shown.waiting)
-      (refresh_has Fit fit_law (start (sending_state core x r before shown.identity shown.pending shown.waiting)) shown.fit)
+      let fit : Fit (sending_state refreshed_record mid shown.pending shown.waiting) =
+      subst Fit (refreshed shown.pending shown.waiting)
+      (refresh_has Fit fit_law (start (sending_state g before shown.pending shown.waiting)) shown.fit)
       in
       record { members = fit.members; history = fit.history; next = fit.sending.next }
 
-  pub lendable_refreshed : Lendable core.counts.members r before → Lendable after.counts.members r mid
+  pub lendable_refreshed : Lendable g.core.counts.members g.ring before → Lendable after.counts.members g.ring mid
   lendable_refreshed lent =
       record {
         rows = omega (arith, lent.rows, refreshes.members_long, ap (λ (k : Counts). k.members) refreshes.counts_same);
@@ -134,13 +137,13 @@ module _ (core : Core) (x : Sending) (r : HistoryRing) (before : BackupTables) (
       }
 
   module _ (cell time size : ℕ) {b : Bool} (tested : b ≡ above_limit size (members_of after.counts.members members)) where
-    above : (c : Bool) → b ≡ c → (identity : Identity) (pending waiting payload : List ℕ) → length payload ≡ size
-        → above_limit (length payload) (refresh_states (start (sending_state core x r before identity pending waiting))).state.members ≡ c
-    above c is identity pending waiting payload long =
-        ap₂ (λ (k : ℕ) (s : State). above_limit k s.members) long (refreshed identity pending waiting) ∙ sym tested ∙ is
+    above : (c : Bool) → b ≡ c → (pending waiting payload : List ℕ) → length payload ≡ size
+        → above_limit (length payload) (refresh_states (start (sending_state g before pending waiting))).state.members ≡ c
+    above c is pending waiting payload long =
+        ap₂ (λ (k : ℕ) (s : State). above_limit k s.members) long (refreshed pending waiting) ∙ sym tested ∙ is
 
-    pub limit_made : b ≡ true → Lendable core.counts.members r before
-        → FlowMade cell time size core x r before record { answer = Err PayloadAboveLimit; rows = 0; core = after; sending = x; ring = r } mid
+    pub limit_made : b ≡ true → Lendable g.core.counts.members g.ring before
+        → FlowMade cell time size g before record { «record» = refreshed_record; answer = Err PayloadAboveLimit; rows = 0 } mid
     unfolding send_flow
     limit_made is lent =
         record {
@@ -150,17 +153,21 @@ module _ (core : Core) (x : Sending) (r : HistoryRing) (before : BackupTables) (
           sends = [];
           written = wrote_nothing 0 before.list;
           legs = tt;
-          follows = trim_sends cell (trim_same (entries_of r (arrays_in before)) before.used lent.used_long);
+          follows = trim_sends cell (trim_same (entries_of g.ring (arrays_in before)) before.used lent.used_long);
           flow =
-              λ identity pending waiting payload long.
-              when_true _ _ _ (above true is identity pending waiting payload long) ∙ ap (ends_with 23) (refreshed identity pending waiting);
+              λ pending waiting payload long.
+              when_true _ _ _ (above true is pending waiting payload long) ∙ ap (ends_with 23) (refreshed pending waiting);
         }
 
     pub mode_made : {sent : BackupSend} {end : BackupTables} {answer : Result ℕ Error} → b ≡ false
-        → BackupFlows (InMode core.mode) (by_mode core.mode time size cell) cell after.counts.members x r 0 mid sent end
-        → answer ≡ result_and sent.outcome (Ok (if_true is_backup core.mode then 1 else sent.sent))
-        → FlowMade cell time size core x r before
-        record { answer = answer; rows = sent.sent; core = after; sending = sent.sending; ring = sent.ring } end
+        → BackupFlows (InMode g.core.mode) (by_mode g.core.mode time size cell) cell after.counts.members g.sending g.ring 0 mid sent end
+        → answer ≡ result_and sent.outcome (Ok (if_true is_backup g.core.mode then 1 else sent.sent))
+        → FlowMade cell time size g before
+        record {
+          «record» = record { identity = g.identity; core = after; sending = sent.send.sending; ring = sent.send.ring };
+          answer = answer;
+          rows = sent.sent;
+        } end
     unfolding send_flow
     mode_made {sent} {end} {answer} is flows answers =
         record {
@@ -171,25 +178,25 @@ module _ (core : Core) (x : Sending) (r : HistoryRing) (before : BackupTables) (
           written = flows.written;
           legs =
               let filled : sent.sent ≡ length flows.sends = omega (arith, flows.written.count) in
-              subst (λ (a : Result ℕ Error). IfOk a (λ n. n ≡ (if_true is_backup core.mode then 1 else length flows.sends))) (sym answers)
-              (legs_on sent.outcome (ap (λ (k : ℕ). if_true is_backup core.mode then 1 else k) filled));
+              subst (λ (a : Result ℕ Error). IfOk a (λ n. n ≡ (if_true is_backup g.core.mode then 1 else length flows.sends))) (sym answers)
+              (legs_on sent.outcome (ap (λ (k : ℕ). if_true is_backup g.core.mode then 1 else k) filled));
           follows = flows.follows;
           flow =
-              λ identity pending waiting payload long.
-              let run = refresh_states (start (sending_state core x r before identity pending waiting)) in
-              let same = refreshed identity pending waiting in
-              when_false _ _ _ (above false is identity pending waiting payload long)
-              ∙ ap (λ (k : ℕ). by_mode core.mode time k cell run.state) long
-              ∙ flows.flow run.state (refresh_mode (start (sending_state core x r before identity pending waiting)))
+              λ pending waiting payload long.
+              let run = refresh_states (start (sending_state g before pending waiting)) in
+              let same = refreshed pending waiting in
+              when_false _ _ _ (above false is pending waiting payload long)
+              ∙ ap (λ (k : ℕ). by_mode g.core.mode time k cell run.state) long
+              ∙ flows.flow run.state (refresh_mode (start (sending_state g before pending waiting)))
               (ap (λ (s : State). s.members) same) (ap (λ (s : State). s.send) same)
               ∙ ap (made (outcome_number sent.outcome)) same
-              ∙ ap (λ (k : ℕ). made k (sending_state after x r mid identity pending waiting)) (sym (ap send_number answers ∙ number_on sent.outcome _));
+              ∙ ap (λ (k : ℕ). made k (sending_state refreshed_record mid pending waiting)) (sym (ap send_number answers ∙ number_on sent.outcome _));
         }
       where
         made : ℕ → State → Flow
         made k s =
             record {
-              state = with_send (send_of sent.sending sent.ring (arrays_in end)) (with_members (members_of after.counts.members end.members) s);
+              state = with_send (send_of sent.send.sending sent.send.ring (arrays_in end)) (with_members (members_of after.counts.members end.members) s);
               sends = flows.sends;
               code = k;
             }

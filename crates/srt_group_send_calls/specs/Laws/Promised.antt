@@ -15,13 +15,14 @@ use Rattle.srt_group_model.specs.Lent.{Lent, Call, call_send, step_of}
 use Rattle.srt_group_model.specs.Laws.Reason.{by_test, or_no, or_yes_right}
 use Rattle.srt_group_model.specs.Laws.Refusals.{guard_stops}
 use Rattle.srt_group_traces.specs.Laws.Port.{performs_does}
-use Rattle.srt_group_shown.specs.Tables.{Parts, parts, Tables, state_of}
+use Rattle.srt_group.specs.Made.{parts_of}
+use Rattle.srt_group_shown.specs.Tables.{Parts, Tables, state_of}
 use Rattle.srt_group_shown.specs.Ready.{sending_into}
 use Rattle.srt_group_refusals.specs.Begins.{are_short, BeginsStored}
 use Rattle.srt_group_refusals.specs.Laws.Begins.{not_short}
 use Rattle.srt_group_refusals.specs.Promised.{showing, Promised}
 use Rattle.srt_group_refusals.specs.Laws.Promised.{does_refused, promised_short, promised_does, promised_refused}
-use Rattle.srt_group_send.specs.declared.sending.GroupSend.{GroupSend}
+use Rattle.srt_group_send.specs.declared.sending.GroupSent.{GroupSent}
 use Rattle.srt_group_send.specs.Answers.{send_number, send_answer}
 use Rattle.srt_group_send.specs.Sends.{Sends}
 
@@ -72,12 +73,12 @@ module _ (time : ℕ) (payload : List ℕ) (p : Parts) (t : Tables) (store list 
         e refused
 
     -- what follows 5 and 6 is the form's
-    pub send_performed : r ≡ Ok tt → {sent : GroupSend} {t' : Tables} {bytes' : Lent} {used' : List ℕ}
+    pub send_performed : r ≡ Ok tt → {sent : GroupSent} {t' : Tables} {bytes' : Lent} {used' : List ℕ}
         → Sends time payload p t bytes sent t' bytes' used'
         → Promised call p t bytes
-        (showing (parts p.identity sent.core sent.sending sent.ring) t' bytes' (send_number sent.answer) (send_answer sent.answer) sent.rows)
+        (showing (parts_of sent.«record») t' bytes' (send_number sent.answer) (send_answer sent.answer) sent.rows)
     unfolding showing
     send_performed accepted {sent} {t'} {bytes'} done =
-        let x = showing (parts p.identity sent.core sent.sending sent.ring) t' bytes' (send_number sent.answer) (send_answer sent.answer) sent.rows in
+        let x = showing (parts_of sent.«record») t' bytes' (send_number sent.answer) (send_answer sent.answer) sent.rows in
         promised_does call p t bytes x (not_short begins accepted)
         (performs_does call bytes s x done.performs.code done.performs.answer done.performs.state done.performs.lent done.rows)

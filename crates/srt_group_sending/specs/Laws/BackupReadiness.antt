@@ -1,12 +1,14 @@
 -- What is proved of the definitions in specs/BackupReadiness.antt, with what the proofs need.
-use Rattle.std.specs.Prelude.{◌≡◌, Bool, ◌&&◌, List, ℕ, ◌+◌, ◌%◌, ◌≤◌, ◌<◌, eqb, get_or, None, Option, Some}
+use Rattle.std.specs.Prelude.{◌≡◌, Bool, ◌&&◌, ◌||◌, zero, suc, List, ℕ, ◌+◌, ◌%◌, ◌≤◌, ◌<◌, eqb, get_or, None, Option, Some}
 use Rattle.std.proofs.Math.Path.{refl, ap, sym}
 use Rattle.std.proofs.Common.{◌∙◌, arith}
 use Rattle.std.proofs.Math.Bool.{true, false, not}
 use Rattle.std.proofs.Math.Decide.{dec_lt}
 use borrow.Author.Tests.{eq-eqb, ne_eqb, lt-ltb, le-ltb}
 use Rattle.word_rows.specs.Laws.Tab.{tab_length}
-use Rattle.srt_group_model.specs.Tools.{if_true◌then◌else◌, if_some◌give◌otherwise◌, or_else, place_of, at_place}
+use Rattle.std.specs.Bool.{then_some}
+use Rattle.std.specs.Option.{option_or}
+use Rattle.srt_group_model.specs.Tools.{if_true◌then◌else◌, if_some◌give◌otherwise◌, is_set, flagged, or_else, place_of, at_place}
 use Rattle.srt_group_model.specs.State.{Member, send_side}
 use Rattle.srt_group_model.specs.Laws.Flag.{set_is_not_zero, unset_none, set_some}
 use Rattle.srt_group_model.specs.Legs.{has_sender, can_send, remaining_window_packets}
@@ -36,6 +38,16 @@ pub other_carrier : (id : ℕ) (x : Sending) → (x.carried ≡ 0 → ⊥) → n
 unfolding is_other_carrier if_some◌give◌otherwise◌
 other_carrier id x h = sym (rw (set_some x.carried x.carrier h))
 
+-- the same, of the carrier as an option
+module _ (id : ℕ) (x : Sending) {carrier : Option ℕ} (is : carrier ≡ flagged (is_set x.carried) x.carrier) where
+  pub nobody_carries : carrier ≡ None → false ≡ is_other_carrier id x
+  unfolding is_other_carrier if_some◌give◌otherwise◌
+  nobody_carries e = ap (λ (o : Option ℕ). if_some o give (λ k. not (eqb k id)) otherwise false) (sym e ∙ is)
+
+  pub some_carry : (k : ℕ) → carrier ≡ Some k → not (eqb k id) ≡ is_other_carrier id x
+  unfolding is_other_carrier if_some◌give◌otherwise◌
+  some_carry k e = ap (λ (o : Option ℕ). if_some o give (λ k. not (eqb k id)) otherwise false) (sym e ∙ is)
+
 -- whether a member takes over, whatever the history is
 pub takes_over_is : (id : ℕ) (x : Sending) (h : List Entry) → is_other_carrier id x ≡ takes_over id (send_side x h)
 unfolding is_other_carrier takes_over
@@ -57,6 +69,15 @@ module _ (r : HistoryRing) (history : List ℕ) where
   unfolding front_sequence if_true◌then◌else◌
   front_there h is = ap (λ (n : ℕ). Some n) is ∙ sym (rw (ne_eqb r.length 0 h))
 
+  pub front_shown : {sequence : ℕ} → sequence ≡ word_sequence (get_or history ((r.start + 0) % max_history) 0)
+      → then_some (not (eqb r.length 0)) sequence ≡ front_sequence r history
+  unfolding front_sequence if_true◌then◌else◌
+  front_shown {sequence} is = by (eqb r.length 0) ∙ ap (λ (n : ℕ). if_true eqb r.length 0 then None else Some n) is
+    where
+      by : (b : Bool) → then_some (not b) sequence ≡ (if_true b then None else Some sequence)
+      by true = refl
+      by false = refl
+
   module _ (x : Sending) {takes : Bool} where
     pub no_replay : {number : Option ℕ} → takes ≡ false → number ≡ send_number x
         → number ≡ replay_sequence takes x r history
@@ -73,6 +94,26 @@ module _ (r : HistoryRing) (history : List ℕ) where
         → front ≡ Some n → Some n ≡ replay_sequence takes x r history
     unfolding replay_sequence if_true◌then◌else◌ or_else
     replay_from n e is_front there = sym (rw (e, sequence_some (front_sequence r history) n (sym there ∙ is_front)))
+
+    pub replay_or : {front number : Option ℕ} → takes ≡ true → front ≡ front_sequence r history → number ≡ send_number x
+        → option_or front number ≡ replay_sequence takes x r history
+    unfolding replay_sequence if_true◌then◌else◌ or_else
+    replay_or {front} {number} e is_front is =
+        same front ∙ ap (λ (o : Option ℕ). or_else o number) is_front ∙ ap (or_else (front_sequence r history)) is ∙ sym (rw e)
+      where
+        same : (o : Option ℕ) → option_or o number ≡ or_else o number
+        same None = refl
+        same (Some n) = refl
+
+-- the same in one
+unset_is_0 : (n : ℕ) → eqb n 0 ≡ not (is_set n)
+unset_is_0 zero = refl
+unset_is_0 (suc n) = ne_eqb (suc n) 0 (λ e. omega arith)
+
+pub allows_when : (takes : Bool) (replay gap : ℕ) → (not takes || eqb replay 0 || eqb gap 0) ≡ gap_allows takes replay gap
+unfolding gap_allows
+allows_when true replay gap = ap (λ (b : Bool). eqb replay 0 || b) (unset_is_0 gap)
+allows_when false replay gap = refl
 
 module _ {takes : Bool} (replay gap : ℕ) where
   pub allows_without : takes ≡ false → true ≡ gap_allows takes replay gap
@@ -104,6 +145,10 @@ module _ (l : Leg) (sequence : Option ℕ) where
       → eqb l.sender.flight 0 ≡ stands_at sequence l
   unfolding stands_at if_some◌give◌otherwise◌
   stands_elsewhere n e h = sym (rw (e, ne_eqb l.sender.next n h))
+
+  pub stands_if : (n : ℕ) → sequence ≡ Some n → (eqb l.sender.next n || eqb l.sender.flight 0) ≡ stands_at sequence l
+  unfolding stands_at if_some◌give◌otherwise◌
+  stands_if n e = sym (rw e)
 
 pub replays_all : (r : HistoryRing) {takes : Bool} → takes ≡ true → r.length ≡ replay_length takes r
 unfolding replay_length if_true◌then◌else◌

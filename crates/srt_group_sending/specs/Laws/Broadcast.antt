@@ -13,6 +13,7 @@ use Rattle.word_rows.specs.Laws.Tab.{tab_push}
 use Rattle.srt_protocol.specs.Sequence.{sequence_further}
 use Rattle.srt_protocol.specs.declared.error.Error.TheVariants.{NoActiveMember, SequenceMismatch, AllBroadcastFailed}
 use Rattle.srt_group_tables.specs.Laws.PacketLaws.{each_append}
+use Rattle.std.specs.Option.{unwrap_or}
 use Rattle.srt_group_model.specs.Tools.{if_true◌then◌else◌, if_some◌give◌otherwise◌, is_set, flagged, is_empty, any, such_that, place_of, at_place, each}
 use Rattle.srt_group_model.specs.State.{Member, Send, State, with_leg, turned, unstable_state, broken_state, with_number}
 use Rattle.srt_group_model.specs.Laws.Flag.{zero_unset, other_set}
@@ -147,6 +148,17 @@ module _ (x : Sending) (m : Member) where
   pub numbered_number : (x.numbered ≡ 0 → ⊥) → x.next ≡ number_for_send x m
   unfolding number_for_send if_true◌then◌else◌
   numbered_number h = sym (rw (other_set x.numbered h))
+
+  pub number_or : {number : Option ℕ} {sender : Sender} → number ≡ flagged (is_set x.numbered) x.next → sender ≡ m.leg.sender
+      → unwrap_or number sender.next ≡ number_for_send x m
+  unfolding number_for_send if_true◌then◌else◌ flagged
+  number_or {number} {sender} is is_sender =
+      ap (λ (o : Option ℕ). unwrap_or o sender.next) is ∙ ap (λ (y : Sender). unwrap_or (flagged (is_set x.numbered) x.next) y.next) is_sender
+      ∙ by (is_set x.numbered)
+    where
+      by : (b : Bool) → unwrap_or (flagged b x.next) m.leg.sender.next ≡ (if_true b then x.next else m.leg.sender.next)
+      by true = refl
+      by false = refl
 
   pub leg_number : {sender : Sender} → x.numbered ≡ 0 → sender ≡ m.leg.sender → sender.next ≡ number_for_send x m
   unfolding number_for_send if_true◌then◌else◌

@@ -5,6 +5,7 @@ use Rattle.std.proofs.Common.{◌∙◌, eq-eqb, ne_eqb}
 use Prim.Native.Nat.{ℕ, ◌+◌, ◌-◌, ◌≤◌, ◌<◌, min}
 use native.Mathlib.Omega.{arith}
 use Rattle.std.proofs.Math.Dec.{eqb}
+use Rattle.std.specs.Option.{unwrap_or}
 use Rattle.srt_group_model.specs.Tools.{if_true◌then◌else◌, if_some◌give◌otherwise◌}
 use Rattle.srt_group_model.specs.State.{Member, active_state, standby_state}
 use Rattle.srt_group_model.specs.Legs.{time_until_send}
@@ -44,6 +45,10 @@ module _ (time : ℕ) (m : Member) (least : Option ℕ) {x : Membership} {carrie
     pub least_alone : least ≡ None → Some wait ≡ least_with time m least
     unfolding least_with if_true◌then◌else◌ if_some◌give◌otherwise◌
     least_alone none_yet = sym (rw (none_yet, carrying, e, wait_is))
+
+    pub least_of_both : (other : ℕ) → least ≡ Some other → Some (min wait other) ≡ least_with time m least
+    unfolding least_with if_true◌then◌else◌ if_some◌give◌otherwise◌
+    least_of_both other so_far = sym (rw (so_far, carrying, e, wait_is))
 
     pub least_now : (other : ℕ) → least ≡ Some other → wait < other → Some wait ≡ least_with time m least
     unfolding least_with if_true◌then◌else◌ if_some◌give◌otherwise◌
@@ -92,6 +97,15 @@ module _ (time : ℕ) (rows : List (List ℕ)) where
   least_at_end left least h so_far =
       let end : left ≡ 0 = omega arith in
       so_far.is ∙ ap (λ (k : ℕ). least_time time (drop k (members_in rows))) end
+
+  pub wait_or : (left : ℕ) (least : Option ℕ) → left ≤ 0 → LeastFrom time rows left least
+      → unwrap_or least 100000 ≡ group_time_until_send time (members_in rows)
+  unfolding group_time_until_send if_some◌give◌otherwise◌
+  wait_or left least h so_far = by least ∙ ap (λ (o : Option ℕ). if_some o give (λ n. n) otherwise 100000) (least_at_end left least h so_far)
+    where
+      by : (o : Option ℕ) → unwrap_or o 100000 ≡ (if_some o give (λ n. n) otherwise 100000)
+      by None = refl
+      by (Some n) = refl
 
   pub wait_none : (left : ℕ) (least : Option ℕ) → left ≤ 0 → LeastFrom time rows left least → least ≡ None
       → 100000 ≡ group_time_until_send time (members_in rows)

@@ -10,7 +10,7 @@ use Rattle.srt_group_model.specs.declared.Counts.{Counts}
 use Rattle.srt_group_model.specs.declared.Packet.{Packet}
 use Rattle.srt_group_model.specs.Tools.{if_true◌then◌else◌, if_some◌give◌otherwise◌, is_set, flagged, is_empty}
 use Rattle.srt_group_model.specs.Laws.Flag.{zero_unset, other_set}
-use Rattle.srt_group_model.specs.State.{State, with_receive}
+use Rattle.srt_group_model.specs.State.{State, with_receive, next_receive_sequence}
 use Rattle.srt_group_model.specs.Nearest.{sequence_of, is_held, nearest}
 use Rattle.srt_group_model.specs.Run.{Mark, gap_skipped, Run, on_state, marking, set_base}
 use Rattle.srt_group_model.specs.Collecting.{Emptied as EmptiedRun, collect_until_empty}
@@ -126,10 +126,10 @@ module _ (core : Core) (ms ps ws : List ℕ) {r : Option ℕ} (near : FoundPacke
     near_is : nearest (packets core.counts.pending ps) ≡ Some p
     near_is = sym near.is ∙ ap (packet_found ps) e ∙ ap (λ (q : Packet). Some q) (sym is)
 
-    pub skipped_to : (tested : State) (time base : ℕ) → Skips base (sequence_of p) core after
+    packet_skipped_to : (tested : State) (time base : ℕ) → Skips base (sequence_of p) core after
         → Polls (deliver (sequence_of p)) after (receive_tables ms ps ws) answer (receive_tables ms' ps' ws)
         → Polls (skip_nearest tested time base) core (receive_tables ms ps ws) answer (receive_tables ms' ps' ws)
-    skipped_to tested time base skip =
+    packet_skipped_to tested time base skip =
         polls_on (skip_nearest tested time base) (deliver (sequence_of p)) core after ms ps ws answer ms' ps' ws
         (skip.leaves (receive_tables ms ps ws)).members_same skip.waiting_same
         (λ others log budget. gap_skipped tested time (sequence_distance base (sequence_of p)) ∷ log) goes_on
@@ -163,10 +163,17 @@ module _ (core : Core) (ms ps ws : List ℕ) {r : Option ℕ} (near : FoundPacke
             nearest_delivered (under_way core others (receive_tables ms ps ws) log budget) p near_is
             ∙ ap (deliver (sequence_of p)) (run_is based (shown after others ms ps ws) budget at.state at.budget)
 
-    pub delivered_first : Bases (Some (sequence_of p)) core after → Polls (deliver (sequence_of p)) after (receive_tables ms ps ws) answer (receive_tables ms' ps' ws)
+  -- the packet's sequence is all that is read of it
+  module _ (i : ℕ) (e : r ≡ Some i) {next : ℕ} (is : next ≡ sequence_of (packet_at ps i)) (after : Core) (answer : Poll) (ms' ps' : List ℕ) where
+    pub skipped_to : (tested : State) (time base : ℕ) → Skips base next core after
+        → Polls (deliver next) after (receive_tables ms ps ws) answer (receive_tables ms' ps' ws)
+        → Polls (skip_nearest tested time base) core (receive_tables ms ps ws) answer (receive_tables ms' ps' ws)
+    skipped_to tested time base skip polls =
+        packet_skipped_to i e refl after answer ms' ps' tested time base (rw is at skip) (rw is at polls)
+
+    pub delivered_first : Bases (Some next) core after → Polls (deliver next) after (receive_tables ms ps ws) answer (receive_tables ms' ps' ws)
         → Polls deliver_nearest core (receive_tables ms ps ws) answer (receive_tables ms' ps' ws)
-    unfolding flagged
-    delivered_first bases = delivered_based bases
+    delivered_first bases polls = delivered_based i e refl after answer ms' ps' (rw is at bases) (rw is at polls)
 
 -- ---- after the queues were collected
 
@@ -325,21 +332,21 @@ module _ (time base : ℕ) (core : Core) (budget : ℕ) (ms ps ws : List ℕ) (u
 
     collected_is : (others : Rest) (log : List Mark)
         → ended others log
-        ≡ record { emptied = is_set v.emptied; run = under_way v.core others (receive_tables ms₁ ps₁ ws₁) (ended others log).run.log v.budget }
+        ≡ record { emptied = v.emptied; run = under_way v.core others (receive_tables ms₁ ps₁ ws₁) (ended others log).run.log v.budget }
     collected_is others log =
-        emptied_is (ended others log) (is_set v.emptied) (shown v.core others ms₁ ps₁ ws₁) v.budget (collects.emptied others log)
+        emptied_is (ended others log) v.emptied (shown v.core others ms₁ ps₁ ws₁) v.budget (collects.emptied others log)
         (collects.run others log).state (collects.run others log).budget
 
     skip_is : (others : Rest) (log : List Mark)
         → skip_given_up_gap time base (under_way core others (receive_tables ms ps ws) log budget)
-        ≡ skip_from (is_set v.emptied) (shown core others ms ps ws) time base
+        ≡ skip_from v.emptied (shown core others ms ps ws) time base
         (under_way v.core others (receive_tables ms₁ ps₁ ws₁) (ended others log).run.log v.budget)
     skip_is others log =
         gap_tested time base (under_way core others (receive_tables ms ps ws) log budget) (sym (is others ws) ∙ goes)
         ∙ ap (skip_after time (shown core others ms ps ws) base) (collected_is others log)
 
     pub gap_passed : (answer : Poll) (ms' ps' ws' : List ℕ)
-        → ((tested : State) (time : ℕ) → Polls (skip_from (is_set v.emptied) tested time base) v.core (receive_tables ms₁ ps₁ ws₁) answer (receive_tables ms' ps' ws'))
+        → ((tested : State) (time : ℕ) → Polls (skip_from v.emptied tested time base) v.core (receive_tables ms₁ ps₁ ws₁) answer (receive_tables ms' ps' ws'))
         → PollsFrom every (skip_given_up_gap time base) core budget (receive_tables ms ps ws) answer (receive_tables ms' ps' ws')
     gap_passed answer ms' ps' ws' after =
         let one = after (shown core blank ms ps ws) time in
@@ -357,19 +364,20 @@ module _ (time base : ℕ) (core : Core) (budget : ℕ) (ms ps ws : List ℕ) (u
 -- ---- the next packet
 
 module _ (time : ℕ) (r : Run) where
-  from_base : (r.state.receive.numbers.based ≡ 0 → ⊥) → deliver_next time r ≡ skip_given_up_gap time r.state.receive.numbers.base r
-  unfolding deliver_next flagged if_some◌give◌otherwise◌
-  from_base set = rw (other_set r.state.receive.numbers.based set)
+  from_base : (base : ℕ) → next_receive_sequence r.state.receive ≡ Some base → deliver_next time r ≡ skip_given_up_gap time base r
+  unfolding deliver_next if_some◌give◌otherwise◌
+  from_base base is = rw is
 
-  from_nearest : r.state.receive.numbers.based ≡ 0 → deliver_next time r ≡ deliver_nearest r
-  unfolding deliver_next flagged if_some◌give◌otherwise◌
-  from_nearest unset = rw unset
+  from_nearest : next_receive_sequence r.state.receive ≡ None → deliver_next time r ≡ deliver_nearest r
+  unfolding deliver_next if_some◌give◌otherwise◌
+  from_nearest is = rw is
 
-module _ (time : ℕ) (core : Core) (budget : ℕ) (ms ps ws : List ℕ) (answer : Poll) where
-  pub next_at_base : (ms' ps' ws' : List ℕ) → (core.receiving.based ≡ 0 → ⊥)
-      → PollsFrom every (skip_given_up_gap time core.receiving.base) core budget (receive_tables ms ps ws) answer (receive_tables ms' ps' ws')
+module _ (time : ℕ) (core : Core) (budget : ℕ) (ms ps ws : List ℕ) (answer : Poll) {o : Option ℕ}
+    (shown_base : o ≡ flagged (is_set core.receiving.based) core.receiving.base) where
+  pub next_at_base : (base : ℕ) (ms' ps' ws' : List ℕ) → o ≡ Some base
+      → PollsFrom every (skip_given_up_gap time base) core budget (receive_tables ms ps ws) answer (receive_tables ms' ps' ws')
       → PollsFrom every (deliver_next time) core budget (receive_tables ms ps ws) answer (receive_tables ms' ps' ws')
-  next_at_base ms' ps' ws' set polls =
+  next_at_base base ms' ps' ws' set polls =
       record {
         members_long = polls.members_long;
         pending_long = polls.pending_long;
@@ -379,11 +387,11 @@ module _ (time : ℕ) (core : Core) (budget : ℕ) (ms ps ws : List ℕ) (answer
         run =
             λ others is_among log.
             subst (λ (q : model.Poll). GivesState q answer others (receive_tables ms' ps' ws'))
-            (sym (from_base time (under_way core others (receive_tables ms ps ws) log budget) set)) (polls.run others is_among log);
+            (sym (from_base time (under_way core others (receive_tables ms ps ws) log budget) base (sym shown_base ∙ set))) (polls.run others is_among log);
       }
 
-  pub next_nearest : (ms' ps' : List ℕ) → Usable core (receive_tables ms ps ws) → core.receiving.based ≡ 0
+  pub next_nearest : (ms' ps' : List ℕ) → Usable core (receive_tables ms ps ws) → o ≡ None
       → Polls deliver_nearest core (receive_tables ms ps ws) answer (receive_tables ms' ps' ws) → PollsFrom every (deliver_next time) core budget (receive_tables ms ps ws) answer (receive_tables ms' ps' ws)
   next_nearest ms' ps' usable unset =
       polled_as (deliver_next time) (deliver_next_has Sound sound_law time) core budget ms ps ws usable answer ms' ps' ws deliver_nearest
-      (λ others log. from_nearest time (under_way core others (receive_tables ms ps ws) log budget) unset)
+      (λ others log. from_nearest time (under_way core others (receive_tables ms ps ws) log budget) (sym shown_base ∙ unset))

@@ -1,6 +1,6 @@
 -- What each part of the pass over the named cells does to the words of the set, and what the whole of it says of the state that is shown.
 use Rattle.std.specs.Prelude.{◌≡◌, refl, Bool, true, false, not, ◌||◌, List, [], ◌∷◌, ◌++◌, ℕ, zero, suc, ◌+◌, ◌%◌, ◌≤◌, ◌<◌, leb, length, Option, Some}
-use Rattle.std.proofs.Common.{sym, ap, ap₂, subst, ◌∙◌, append_assoc, append-nil, arith, eq-eqb, ne_eqb}
+use Rattle.std.proofs.Common.{sym, ap, ap₂, subst, ◌∙◌, append_assoc, append-nil, arith}
 use Rattle.srt_group_model.specs.Tools.{if_true◌then◌else◌, if_some◌give◌otherwise◌, any, such_that, at_place, each}
 use Rattle.srt_group_model.specs.Laws.Reason.{by_test, not_both, or_left, or_right}
 use Rattle.srt_group_model.specs.State.{Member}
@@ -126,12 +126,12 @@ module _ (cells : ℕ) (before : List ℕ) (e : Event) where
   unfolding event_cells if_true◌then◌else◌
   its_cell t = rw t
 
-  pub no_data_passed : Marking cells before → (e.kind ≡ 0 → ⊥) → Marks cells (event_cells e) before true before
-  no_data_passed marking other = marks_as (no_cell (ne_eqb e.kind 0 other)) (nothing_marked cells before marking)
+  pub no_data_passed : {tested : Bool} → Marking cells before → tested ≡ is_data e → tested ≡ false → Marks cells (event_cells e) before true before
+  no_data_passed marking is other = marks_as (no_cell (sym is ∙ other)) (nothing_marked cells before marking)
 
-  pub data_marked : (r : Bool) (after : List ℕ) → e.kind ≡ 0 → Marks cells (e.content.cell ∷ []) before r after
+  pub data_marked : {tested : Bool} (r : Bool) (after : List ℕ) → tested ≡ is_data e → tested ≡ true → Marks cells (e.content.cell ∷ []) before r after
       → Marks cells (event_cells e) before r after
-  data_marked r after is_it marks = marks_as (its_cell (eq-eqb e.kind 0 is_it)) marks
+  data_marked r after is it marks = marks_as (its_cell (sym is ∙ it)) marks
 
 -- the event that is read stands at that place of the queue
 pub event_read : (row : List ℕ) (ring : Ring) (index : ℕ) (e : Event) → ring ≡ ring_of (part row receiver_part) → index < length (member_of row).queue

@@ -1,9 +1,9 @@
 -- Laws of the packets that a run covers: where they stand, and that those that stand there are the definition's.
-use Rattle.std.specs.Prelude.{◌≡◌, refl, Bool, true, false, not, List, [], ◌∷◌, ◌++◌, ltb, length}
+use Rattle.std.specs.Option.{MatchOption, unwrap_or}
+use Rattle.std.specs.Prelude.{None, Option, Some, ◌≡◌, refl, Bool, true, false, not, List, [], ◌∷◌, ◌++◌, length}
 use Rattle.std.proofs.Math.Path.{ap}
 use Rattle.std.proofs.Common.{sym, ◌∙◌, append-nil}
 use Prim.Native.Nat.{ℕ, zero, suc, ◌+◌, ◌-◌, ◌≤◌, ◌<◌}
-use Rattle.std.proofs.Math.Decide.{dec_lt}
 use native.Mathlib.Omega.{arith}
 use borrow.Author.Tests.{le-ltb, ltb-false}
 use Rattle.word_rows.specs.Tab.{tab}
@@ -98,48 +98,16 @@ tab_two (suc m) n f g h low high =
       tab_two m n (λ i. f (suc i)) g (λ i. h (suc i)) (λ i below. low (suc i) (omega arith)) (λ i below. ap h (omega arith) ∙ high i below),
     )
 
--- ---- the walk: the packets from `from` up to `at` are covered
+-- ---- the walk: it ends at the first packet that is not covered, or behind the last
 
-pub record Covering (first run : ℕ) (words : List ℕ) (from end at : ℕ) : Type 0 where
-  pub after : from ≤ at
-  pub within : at ≤ end
-  pub covered : (k : ℕ) → from ≤ k → k < at → is_covered first run (packet_at words k) ≡ true
-
--- the test of a packet's sequence is the test of the packet
-tested_packet : (first run : ℕ) {sequence : ℕ} {tested answer : Bool} (words : List ℕ) (at : ℕ) → sequence ≡ sequence_of (packet_at words at)
-    → tested ≡ ltb (sequence_distance first sequence) run → tested ≡ answer → is_covered first run (packet_at words at) ≡ answer
-tested_packet first run words at is tests answered =
-    ap (λ (n : ℕ). ltb (sequence_distance first n) run) (sym is) ∙ sym tests ∙ answered
-
-module _ (first run : ℕ) (words : List ℕ) (from end : ℕ) where
-  pub covering_start : from ≤ end → Covering first run words from end from
-  covering_start ordered = record { after = omega arith; within = ordered; covered = λ k higher lower. absurd (omega arith) }
-
-  module _ (at : ℕ) (here : Covering first run words from end at) where
-    pub covering_one : {sequence : ℕ} {tested : Bool} → at < end → sequence ≡ sequence_of (packet_at words at)
-        → tested ≡ ltb (sequence_distance first sequence) run → tested ≡ true → Covering first run words from end (at + 1)
-    covering_one inside is tests passes =
-        record { after = omega (arith, here.after); within = omega arith; covered = λ k higher lower. go k (dec_lt k at) higher lower }
-      where
-        go : (k : ℕ) → Dec (k < at) → from ≤ k → k < at + 1 → is_covered first run (packet_at words k) ≡ true
-        go k (yes less) higher lower = here.covered k higher less
-        go k (no not_less) higher lower =
-            let same : k ≡ at = omega arith in
-            ap (λ (i : ℕ). is_covered first run (packet_at words i)) same ∙ tested_packet first run words at is tests passes
-
-    pub covering_ends : {sequence : ℕ} {tested : Bool} → sequence ≡ sequence_of (packet_at words at)
-        → tested ≡ ltb (sequence_distance first sequence) run → tested ≡ false → CoveredUntil first run words from end at
-    covering_ends is tests fails =
-        record {
-          after = here.after;
-          within = here.within;
-          covered = here.covered;
-          ended = λ inside. tested_packet first run words at is tests fails;
-        }
-
-    pub covering_all : end ≤ at → CoveredUntil first run words from end at
-    covering_all past =
-        record { after = here.after; within = here.within; covered = here.covered; ended = λ inside. absurd (omega arith) }
+pub walked : (first run : ℕ) (words : List ℕ) (from end : ℕ) → from ≤ end → (found : Option ℕ)
+    → MatchOption found ((k : ℕ) → from ≤ k → k < end → is_covered first run (packet_at words k) ≡ true)
+    (λ i. (from ≤ i) × (i < end) × (is_covered first run (packet_at words i) ≡ false) × ((k : ℕ) → from ≤ k → k < i → is_covered first run (packet_at words k) ≡ true))
+    → CoveredUntil first run words from end (unwrap_or found end)
+walked first run words from end ordered None all =
+    record { after = ordered; within = omega arith; covered = all; ended = λ inside. absurd (omega arith) }
+walked first run words from end ordered (Some i) there =
+    record { after = there.0; within = omega (arith, there.1); covered = there.3; ended = λ inside. there.2 }
 
 -- ---- where the walks end all that is covered ends: what is behind is farther from the run's first sequence
 

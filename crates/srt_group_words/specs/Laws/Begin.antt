@@ -21,7 +21,7 @@ use Rattle.srt_group_refusals.specs.Laws.Begins.{not_short, begins_as_stored, ha
 use Rattle.srt_group_refusals.specs.Promised.{showing, Promised}
 use Rattle.srt_group_refusals.specs.Laws.Promised.{promised_does}
 use Rattle.srt_group_words.specs.Record.{record_size, group_of}
-use Rattle.srt_group_words.specs.Words.{zeros, Says, silent, in_words, sent_words, Words, words, parts_in, are_few, PromisedWords, ReadyWords, PerformsWords, BegunStored, BegunPoll, set_unfit, BeginsValid}
+use Rattle.srt_group_words.specs.Words.{zeros, Says, silent, in_words, sent_words, Words, words, parts_in, are_few, PromisedWords, ReadyWords, PerformsWords, set_unfit, BeginsValid}
 use Rattle.srt_group_words.specs.Laws.Words.{silent_enough, sent_enough, room_in_words, in_words_of}
 
 -- ---- the number of an outcome
@@ -51,47 +51,24 @@ zero_accepted : (o : Outcome) → outcome_number o ≡ 0 → o ≡ Ok tt
 zero_accepted (Ok tt) h = refl
 zero_accepted (Err e) h = absurd (number_refused e h)
 
--- what refuses it has the number
-by_refusal : (B : ℕ → Type 0) (o : Outcome) → (outcome_number o ≡ 0 → ⊥) → ((e : Error) → o ≡ Err e → B (error_number e)) → B (outcome_number o)
-by_refusal B (Ok tt) other refused = absurd (other refl)
-by_refusal B (Err e) other refused = refused e refl
-
 -- ---- the group that was read
 
-module _ (w : List ℕ) {g : Group} (read : g ≡ group_of w) {t : Tables} {store : ℕ} {code : ℕ} {used : List ℕ} {o : Outcome} where
-  pub begun_stored : BeginsStored (parts_of g) t store o used → code ≡ outcome_number o → BegunStored w t store code used
-  begun_stored begins same =
-      record {
-        outcome = o;
-        begins = subst (λ (x : Group). BeginsStored (parts_of x) t store o used) read begins;
-        same = same;
-      }
+module _ (w : List ℕ) {g : Group} (read : g ≡ group_of w) {t : Tables} {store : ℕ} {used : List ℕ} {o : Outcome} where
+  pub begun_stored : BeginsStored (parts_of g) t store o used → BeginsStored (parts_of (group_of w)) t store o used
+  begun_stored begins = subst (λ (x : Group). BeginsStored (parts_of x) t store o used) read begins
 
-  pub begun_poll : {output : ℕ} → BeginsPoll (parts_of g) t store output o used → code ≡ outcome_number o
-      → BegunPoll w t store output code used
-  begun_poll {output} begins same =
-      record {
-        outcome = o;
-        begins = subst (λ (x : Group). BeginsPoll (parts_of x) t store output o used) read begins;
-        same = same;
-      }
+  pub begun_poll : {output : ℕ} → BeginsPoll (parts_of g) t store output o used → BeginsPoll (parts_of (group_of w)) t store output o used
+  begun_poll {output} begins = subst (λ (x : Group). BeginsPoll (parts_of x) t store output o used) read begins
 
 -- ---- it goes on
 
-pub stored_on : {w : List ℕ} {t : Tables} {store code : ℕ} {used : List ℕ} (begun : BegunStored w t store code used) → code ≡ 0 → begun.outcome ≡ Ok tt
-stored_on begun on = zero_accepted begun.outcome (sym begun.same ∙ on)
+module _ {w : List ℕ} {t : Tables} {store : ℕ} {used : List ℕ} {o : Outcome} where
+  pub stored_ready : BeginsStored (parts_of (group_of w)) t store o used → o ≡ Ok tt → record_size ≤ length w → ReadyWords w t store used
+  stored_ready begins on long = record { long = long; ready = begins.ready on }
 
-pub poll_on : {w : List ℕ} {t : Tables} {store output code : ℕ} {used : List ℕ} (begun : BegunPoll w t store output code used) → code ≡ 0
-    → begun.outcome ≡ Ok tt
-poll_on begun on = zero_accepted begun.outcome (sym begun.same ∙ on)
-
-pub stored_ready : {w : List ℕ} {t : Tables} {store code : ℕ} {used : List ℕ} → BegunStored w t store code used → code ≡ 0 → record_size ≤ length w
-    → ReadyWords w t store used
-stored_ready begun on long = record { long = long; ready = begun.begins.ready (stored_on begun on) }
-
-pub poll_ready : {w : List ℕ} {t : Tables} {store output code : ℕ} {used : List ℕ} → BegunPoll w t store output code used → code ≡ 0
-    → record_size ≤ length w → ReadyWords w t store used
-poll_ready begun on long = record { long = long; ready = begun.begins.ready (poll_on begun on) }
+  pub poll_ready : {output : ℕ} → BeginsPoll (parts_of (group_of w)) t store output o used → o ≡ Ok tt → record_size ≤ length w
+      → ReadyWords w t store used
+  poll_ready begins on long = record { long = long; ready = begins.ready on }
 
 -- the form's promise is the call's
 performed_in_words : {call : Call} {says : Says} {w : List ℕ} {t : Tables} {bytes : Lent} {answer : List ℕ} {code : ℕ} {after : Words} {used' : List ℕ}
@@ -107,22 +84,22 @@ performed_in_words {call} {says} {w} {t} {bytes} {answer} {code} {after} long en
     done.said done.behind
 
 module _ {call : Call} {w : List ℕ} {t : Tables} {bytes : Lent} {after : Words} {number : ℕ} {used' : List ℕ} (long : record_size ≤ length w) where
-  pub stored_silent : {store code : ℕ} {used : List ℕ} → BegunStored w t store code used → code ≡ 0
+  pub stored_silent : {store : ℕ} {used : List ℕ} {o : Outcome} → BeginsStored (parts_of (group_of w)) t store o used → o ≡ Ok tt
       → PerformsWords call silent (words w t bytes []) number after used' → PromisedWords call silent false (words w t bytes []) number after
-  stored_silent begun on done = performed_in_words (not_short begun.begins (stored_on begun on)) (silent_enough w t bytes long) done
+  stored_silent begins on done = performed_in_words (not_short begins on) (silent_enough w t bytes long) done
 
-  pub stored_sent : {answer : List ℕ} → 2 ≤ length answer → {store code : ℕ} {used : List ℕ} → BegunStored w t store code used → code ≡ 0
+  pub stored_sent : {answer : List ℕ} → 2 ≤ length answer → {store : ℕ} {used : List ℕ} {o : Outcome}
+      → BeginsStored (parts_of (group_of w)) t store o used → o ≡ Ok tt
       → PerformsWords call sent_words (words w t bytes answer) number after used'
       → PromisedWords call sent_words false (words w t bytes answer) number after
-  stored_sent {answer} room begun on done =
-      performed_in_words (not_short begun.begins (stored_on begun on)) (sent_enough w t bytes answer long room) done
+  stored_sent {answer} room begins on done = performed_in_words (not_short begins on) (sent_enough w t bytes answer long room) done
 
-  pub poll_performed : {size : ℕ} {answer : List ℕ} → size ≤ length answer → {store output code : ℕ} {used : List ℕ} → BegunPoll w t store output code used → code ≡ 0
+  pub poll_performed : {size : ℕ} {answer : List ℕ} → size ≤ length answer → {store output : ℕ} {used : List ℕ} {o : Outcome}
+      → BeginsPoll (parts_of (group_of w)) t store output o used → o ≡ Ok tt
       → PerformsWords call (in_words size) (words w t bytes answer) number after used'
       → PromisedWords call (in_words size) false (words w t bytes answer) number after
-  poll_performed {answer = answer} room begun on done =
-      let accepted = poll_on begun on in
-      performed_in_words (not_short (begins_as_stored begun.begins (has_room begun.begins accepted)) accepted) (room_in_words w t bytes answer long room) done
+  poll_performed {answer = answer} room begins on done =
+      performed_in_words (not_short (begins_as_stored begins (has_room begins on)) on) (room_in_words w t bytes answer long room) done
 
 -- ---- it is refused
 
@@ -130,22 +107,20 @@ module _ (call : Call) (w : List ℕ) (t : Tables) (bytes : Lent) where
   abbrev refused_with : ℕ → Type 0
   refused_with n = Promised call (parts_of (group_of w)) t bytes (showing (parts_of (group_of w)) t bytes n no_answer 0)
 
-  pub refused_in_words : {o : Outcome} {code : ℕ} → code ≡ outcome_number o → (code ≡ 0 → ⊥) → ((e : Error) → o ≡ Err e → refused_with (error_number e))
-      → refused_with code
-  refused_in_words {o} same other refused =
-      subst refused_with (sym same) (by_refusal refused_with o (λ zero. other (same ∙ zero)) refused)
+  pub refused_in_words : (e : Error) {code : ℕ} → code ≡ error_number e → refused_with (error_number e) → refused_with code
+  refused_in_words e same refused = subst refused_with (sym same) refused
 
 -- a poll by 5 of the output, of the tables or of the store, or by 6: the words of its answer are 0
 pub poll_refused : (call : Call) (w : List ℕ) (t : Tables) (store output answer : List ℕ) → record_size ≤ length w → 8 ≤ length answer
-    → {code : ℕ} {used : List ℕ} (begun : BegunPoll w t (length store) (length output) code used) → (code ≡ 0 → ⊥)
+    → (e : Error) {code : ℕ} → code ≡ error_number e
     → {answer' : List ℕ} → answer' ≡ overwritten 0 (0 ∷ 0 ∷ 0 ∷ 0 ∷ 0 ∷ 0 ∷ 0 ∷ 0 ∷ []) answer
-    → ((e : Error) → begun.outcome ≡ Err e → refused_with call w t (lending store output) (error_number e))
+    → refused_with call w t (lending store output) (error_number e)
     → PromisedWords call (in_words 8) false (words w t (lending store output) answer) code (words w t (lending store output) answer')
 unfolding in_words values_of zeros
-poll_refused call w t store output answer long room {code} begun other {answer'} put refused =
+poll_refused call w t store output answer long room e {code} same {answer'} put refused =
     in_words_of call (in_words 8) w t (lending store output) answer (room_in_words w t (lending store output) answer long room) w t
     (lending store output) answer' code no_answer 0
-    (refused_in_words call w t (lending store output) begun.same other refused) put refl
+    (refused_in_words call w t (lending store output) e same refused) put refl
 
 -- ---- a host that is the only writer begins
 
@@ -160,14 +135,14 @@ module _ (w : List ℕ) (t : Tables) (store : ℕ) (used : List ℕ) where
   set_refused other =
       unfit_refused (or_yes_right (ltb (length w) record_size) _ (ap not (ne_eqb (length used) set_size other)))
 
-  pub begins_valid : record_size ≤ length w → length used ≡ set_size → {code : ℕ} {used' : List ℕ} → BegunStored w t store code used'
-      → BeginsValid w t store used code used'
-  begins_valid long size begun =
+  pub begins_valid : record_size ≤ length w → length used ≡ set_size → {o : Outcome} {used' : List ℕ}
+      → BeginsStored (parts_of (group_of w)) t store o used' → {code : ℕ} → code ≡ outcome_number o → BeginsValid w t store used code used'
+  begins_valid long size {o} begins same =
       let fits : set_unfit w used ≡ false =
       ap (λ (b : Bool). b || not (eqb (length used) set_size)) (le-ltb (length w) record_size long)
       ∙ ap not (eq-eqb (length used) set_size size)
       in
       record {
-        is = begun.same ∙ ap outcome_number begun.begins.is ∙ sym (when_false (set_unfit w used) 5 _ fits);
-        ready = λ on. stored_ready begun on long;
+        is = same ∙ ap outcome_number begins.is ∙ sym (when_false (set_unfit w used) 5 _ fits);
+        ready = λ on. stored_ready begins (zero_accepted o (sym same ∙ on)) long;
       }

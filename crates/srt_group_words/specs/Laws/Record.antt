@@ -1,17 +1,36 @@
 -- What is proved of the definitions in specs/Record.antt.
-use Rattle.std.specs.Prelude.{◌≡◌, refl, ℕ, zero, suc, ◌+◌, ◌≤◌, length, drop, get_or}
+use Rattle.std.specs.Prelude.{◌≡◌, refl, Bool, true, false, not, eqb, ℕ, zero, suc, ◌+◌, ◌≤◌, length, drop, get_or}
 use Rattle.std.proofs.Common.{◌∙◌, arith, drop-cons}
-use Rattle.std.proofs.Math.Path.{ap}
+use Rattle.std.proofs.Math.Path.{ap, sym}
+use mir.Val.{bool_byte}
 use mathlib.Core.List.{List, [], ◌∷◌, ◌++◌}
 use Rattle.std.proofs.Math.Seq.{sets}
 use Rattle.srt_protocol.specs.Cells.{overwritten}
 use Rattle.srt_protocol.specs.Laws.CellLaws.{overwritten_length}
+use Rattle.srt_group_model.specs.Tools.{is_set, bit}
+use Rattle.srt_group_model.specs.Laws.Flag.{set_is_not_zero}
 use Rattle.srt_group_model.specs.declared.Core.{Core}
 use Rattle.srt_group_model.specs.declared.Identity.{Identity}
 use Rattle.srt_group_model.specs.declared.Sending.{Sending}
 use Rattle.srt_group_tables.specs.declared.history.HistoryRing.{HistoryRing}
 use Rattle.srt_group.specs.declared.Group.{Group}
 use Rattle.srt_group_words.specs.Record.{record_size, group_of, identity_of, core_of, sending_of, ring_of, group_words, identity_words, core_words, sending_words, ring_words, with_core, with_sent}
+
+-- numbers over the first words of a row, which is lent in two parts
+pub put_front : (whole front behind : List ℕ) (n : ℕ) → length front ≡ n → behind ≡ drop n whole → front ++ behind ≡ overwritten 0 front whole
+unfolding overwritten
+put_front whole front behind n size last =
+    let same : n ≡ 0 + length front = omega (arith, size) in
+    ap (λ (l : List ℕ). front ++ l) (last ∙ ap (λ (k : ℕ). drop k whole) same)
+
+-- a word tested against 0, as 0 or 1
+word_of : (set : Bool) → bool_byte set ≡ bit set
+unfolding bit
+word_of true = refl
+word_of false = refl
+
+pub word_of_test : (word : ℕ) → bool_byte (not (eqb word 0)) ≡ bit (is_set word)
+word_of_test word = word_of (not (eqb word 0)) ∙ ap bit (sym (set_is_not_zero word))
 
 -- a group of parts that were read
 pub group_read : (w : List ℕ) {identity : Identity} {core : Core} {sending : Sending} {ring : HistoryRing} → identity ≡ identity_of w

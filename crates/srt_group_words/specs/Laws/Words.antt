@@ -22,7 +22,7 @@ use Rattle.srt_group.specs.Made.{parts_of}
 use Rattle.srt_group.specs.declared.Group.{Group}
 use Rattle.srt_group_refusals.specs.Begins.{are_short}
 use Rattle.srt_group_refusals.specs.Promised.{asking, showing, Promised, PromisedRow, row_short, nothing_lent}
-use Rattle.srt_group_words.specs.Record.{record_size, identity_of, core_of, sending_of, ring_of, group_of, group_words, with_core, with_sent}
+use Rattle.srt_group_words.specs.Record.{record_size, identity_of, core_of, sending_of, ring_of, group_of, group_words, with_core}
 use Rattle.srt_group_words.specs.Laws.Record.{group_read, group_put, put_length, put_behind}
 use Rattle.srt_group_words.specs.Words.{zeros, Says, silent, in_words, sent_words, Words, words, parts_in, state_in, are_few, PromisedWords, Gives, Said, PutSaid, PutBack, ReadyWords, PerformsWords, PerformsGives}
 
@@ -234,21 +234,25 @@ in_words_of call says w t bytes answer enough w' t' bytes' answer' code given ro
 
 -- ---- a form for a valid state
 
-module _ (w : List ℕ) {identity : Identity} {core : Core} {sending : Sending} {ring : HistoryRing} (one : identity ≡ identity_of w)
-    (two : core ≡ core_of w) (three : sending ≡ sending_of w) (four : ring ≡ ring_of w) where
-  pub parts_read : parts identity core sending ring ≡ parts_of (group_of w)
-  parts_read = ap parts_of (group_read w one two three four)
+-- the parts read one by one are those of the group that the words show
+pub parts_read_each : (w : List ℕ) {identity : Identity} {core : Core} {sending : Sending} {ring : HistoryRing} → identity ≡ identity_of w
+    → core ≡ core_of w → sending ≡ sending_of w → ring ≡ ring_of w → parts identity core sending ring ≡ parts_of (group_of w)
+parts_read_each w one two three four = ap parts_of (group_read w one two three four)
+
+module _ (w : List ℕ) {g : Group} (read : g ≡ group_of w) where
+  pub parts_read : parts_of g ≡ parts_of (group_of w)
+  parts_read = ap parts_of read
 
   -- what a form requires
-  pub parts_ready : {t : Tables} {store : ℕ} {used : List ℕ} → ReadyWords w t store used → Ready (parts identity core sending ring) t store used
-  parts_ready {t} {store} {used} ready = subst (λ (p : Parts). Ready p t store used) (sym parts_read) ready.ready
+  pub group_ready : {t : Tables} {store : ℕ} {used : List ℕ} → ReadyWords w t store used → Ready (parts_of g) t store used
+  group_ready {t} {store} {used} ready = subst (λ (p : Parts). Ready p t store used) (sym parts_read) ready.ready
 
   module _ (call : Call) (t : Tables) (bytes : Lent) (long : record_size ≤ length w) (t' : Tables) (bytes' : Lent) (used' : List ℕ) where
     -- the words show what the form leaves
     performs_over : (says : Says) (answer : List ℕ) (p' : Parts) (w' answer' : List ℕ) (number code : ℕ) (given : Answer) (rows : ℕ)
         → length w' ≡ length w → p' ≡ parts_of (group_of w')
-        → Performs call (parts identity core sending ring) t bytes number given p' t' bytes' used' → code ≡ number
-        → rows ≡ (perform call bytes (state_of (parts identity core sending ring) t)).rows → answer' ≡ overwritten 0 (says given rows) answer
+        → Performs call (parts_of g) t bytes number given p' t' bytes' used' → code ≡ number
+        → rows ≡ (perform call bytes (state_of (parts_of g) t)).rows → answer' ≡ overwritten 0 (says given rows) answer
         → drop record_size w' ≡ drop record_size w
         → PerformsWords call says (words w t bytes answer) code (words w' t' bytes' answer') used'
     performs_over says answer p' w' answer' number code given rows size to done same filled said behind =
@@ -265,37 +269,38 @@ module _ (w : List ℕ) {identity : Identity} {core : Core} {sending : Sending} 
         moved : Performs call (parts_of (group_of w)) t bytes code given (parts_of (group_of w')) t' bytes' used'
         moved =
             subst (λ (p : Parts). Performs call p t bytes code given (parts_of (group_of w')) t' bytes' used') parts_read
-            (subst (λ (p : Parts). Performs call (parts identity core sending ring) t bytes code given p t' bytes' used') to
-            (subst (λ (n : ℕ). Performs call (parts identity core sending ring) t bytes n given p' t' bytes' used') (sym same) done))
+            (subst (λ (p : Parts). Performs call (parts_of g) t bytes code given p t' bytes' used') to
+            (subst (λ (n : ℕ). Performs call (parts_of g) t bytes n given p' t' bytes' used') (sym same) done))
 
-    abbrev no_rows : (takes call).list ≡ false → 0 ≡ (perform call bytes (state_of (parts identity core sending ring) t)).rows
-    no_rows none = sym (only_sends_fill_rows call bytes (state_of (parts identity core sending ring) t) none)
+    abbrev no_rows : (takes call).list ≡ false → 0 ≡ (perform call bytes (state_of (parts_of g) t)).rows
+    no_rows none = sym (only_sends_fill_rows call bytes (state_of (parts_of g) t) none)
 
     -- the record stays as it was
     pub performs_kept : (given : Answer) {number code : ℕ} → (takes call).list ≡ false
-        → Performs call (parts identity core sending ring) t bytes number given (parts identity core sending ring) t' bytes' used' → code ≡ number
+        → Performs call (parts_of g) t bytes number given (parts_of g) t' bytes' used' → code ≡ number
         → PerformsWords call silent (words w t bytes []) code (words w t' bytes' []) used'
     unfolding overwritten
     performs_kept given {number} {code} none done same =
-        performs_over silent [] (parts identity core sending ring) w [] number code given 0 refl parts_read done same (no_rows none) refl refl
+        performs_over silent [] (parts_of g) w [] number code given 0 refl parts_read done same (no_rows none) refl refl
 
     -- the core that it leaves is put back
     shown_core : (core' : Core) (w' : List ℕ) → w' ≡ overwritten 0 (group_words (with_core core' (group_of w))) w
-        → parts identity core' sending ring ≡ parts_of (group_of w')
+        → parts g.identity core' g.sending g.ring ≡ parts_of (group_of w')
     shown_core core' w' put =
-        (λ i. parts (one i) core' (three i) (four i)) ∙ ap parts_of (sym (group_put (with_core core' (group_of w)) w) ∙ ap group_of (sym put))
+        ap (λ (x : Group). parts_of (with_core core' x)) read
+        ∙ ap parts_of (sym (group_put (with_core core' (group_of w)) w) ∙ ap group_of (sym put))
 
     pub performs_silent : (core' : Core) (given : Answer) {w' : List ℕ} {number code : ℕ} → (takes call).list ≡ false
-        → Performs call (parts identity core sending ring) t bytes number given (parts identity core' sending ring) t' bytes' used'
+        → Performs call (parts_of g) t bytes number given (parts g.identity core' g.sending g.ring) t' bytes' used'
         → PutBack (with_core core' (group_of w)) number w code w'
         → PerformsWords call silent (words w t bytes []) code (words w' t' bytes' []) used'
     unfolding overwritten
     performs_silent core' given {w'} {number} {code} none done back =
-        performs_over silent [] (parts identity core' sending ring) w' [] number code given 0 (ap length back.put ∙ put_length _ w long)
+        performs_over silent [] (parts g.identity core' g.sending g.ring) w' [] number code given 0 (ap length back.put ∙ put_length _ w long)
         (shown_core core' w' back.put) done back.same (no_rows none) refl (ap (drop record_size) back.put ∙ put_behind _ w)
 
     pub silent_gives : (core' : Core) (given : Answer) {w' : List ℕ} {number code : ℕ} → (takes call).list ≡ false
-        → Performs call (parts identity core sending ring) t bytes number given (parts identity core' sending ring) t' bytes' used'
+        → Performs call (parts_of g) t bytes number given (parts g.identity core' g.sending g.ring) t' bytes' used'
         → PutBack (with_core core' (group_of w)) number w code w'
         → PerformsGives call silent (words w t bytes []) code (words w' t' bytes' []) used' given
     unfolding performs_silent performs_over
@@ -303,31 +308,29 @@ module _ (w : List ℕ) {identity : Identity} {core : Core} {sending : Sending} 
 
     pub performs_said : (size : ℕ) (answer : List ℕ) (core' : Core) (given : Answer) {w' answer' : List ℕ} {number code : ℕ}
         → (takes call).list ≡ false
-        → Performs call (parts identity core sending ring) t bytes number given (parts identity core' sending ring) t' bytes' used'
+        → Performs call (parts_of g) t bytes number given (parts g.identity core' g.sending g.ring) t' bytes' used'
         → PutSaid (with_core core' (group_of w)) number (in_words size given 0) w answer code w' answer'
         → PerformsWords call (in_words size) (words w t bytes answer) code (words w' t' bytes' answer') used'
     performs_said size answer core' given {w'} {answer'} {number} {code} none done back =
-        performs_over (in_words size) answer (parts identity core' sending ring) w' answer' number code given 0
+        performs_over (in_words size) answer (parts g.identity core' g.sending g.ring) w' answer' number code given 0
         (ap length back.put ∙ put_length _ w long) (shown_core core' w' back.put) done back.same (no_rows none) back.said
         (ap (drop record_size) back.put ∙ put_behind _ w)
 
-    -- all that a send moves is put back
-    pub performs_sent : (says : Says) (answer : List ℕ) (core' : Core) (sending' : Sending) (ring' : HistoryRing) (given : Answer) (rows : ℕ)
-        {w' answer' : List ℕ} {number code : ℕ} → rows ≡ (perform call bytes (state_of (parts identity core sending ring) t)).rows
-        → Performs call (parts identity core sending ring) t bytes number given (parts identity core' sending' ring') t' bytes' used'
-        → PutSaid (with_sent core' sending' ring' (group_of w)) number (says given rows) w answer code w' answer'
+    -- the group that it leaves is put back
+    pub performs_sent : (says : Says) (answer : List ℕ) (g' : Group) (given : Answer) (rows : ℕ)
+        {w' answer' : List ℕ} {number code : ℕ} → rows ≡ (perform call bytes (state_of (parts_of g) t)).rows
+        → Performs call (parts_of g) t bytes number given (parts_of g') t' bytes' used'
+        → PutSaid g' number (says given rows) w answer code w' answer'
         → PerformsWords call says (words w t bytes answer) code (words w' t' bytes' answer') used'
-    performs_sent says answer core' sending' ring' given rows {w'} {answer'} {number} {code} filled done back =
-        performs_over says answer (parts identity core' sending' ring') w' answer' number code given rows
-        (ap length back.put ∙ put_length _ w long)
-        ((λ i. parts (one i) core' sending' ring')
-        ∙ ap parts_of (sym (group_put (with_sent core' sending' ring' (group_of w)) w) ∙ ap group_of (sym back.put)))
+    performs_sent says answer g' given rows {w'} {answer'} {number} {code} filled done back =
+        performs_over says answer (parts_of g') w' answer' number code given rows (ap length back.put ∙ put_length _ w long)
+        (ap parts_of (sym (group_put g' w) ∙ ap group_of (sym back.put)))
         done back.same filled back.said (ap (drop record_size) back.put ∙ put_behind _ w)
 
-    pub performs_ready : (size : ℕ) (answer : List ℕ) (core' : Core) (sending' : Sending) (ring' : HistoryRing) (given : Answer)
+    pub performs_ready : (size : ℕ) (answer : List ℕ) (g' : Group) (given : Answer)
         {w' answer' : List ℕ} {number code : ℕ} → (takes call).list ≡ false
-        → Performs call (parts identity core sending ring) t bytes number given (parts identity core' sending' ring') t' bytes' used'
-        → PutSaid (with_sent core' sending' ring' (group_of w)) number (in_words size given 0) w answer code w' answer'
+        → Performs call (parts_of g) t bytes number given (parts_of g') t' bytes' used'
+        → PutSaid g' number (in_words size given 0) w answer code w' answer'
         → PerformsWords call (in_words size) (words w t bytes answer) code (words w' t' bytes' answer') used'
-    performs_ready size answer core' sending' ring' given none done back =
-        performs_sent (in_words size) answer core' sending' ring' given 0 (no_rows none) done back
+    performs_ready size answer g' given none done back =
+        performs_sent (in_words size) answer g' given 0 (no_rows none) done back

@@ -17,15 +17,15 @@ pub returns-in-Err : goal.returns-in-Err
 returns-in-Err c =
     let a = c.args in
     addition_refused_6 a.id a.weight a.row.now (parts_of a.group) (tables a.members.now a.pending.now a.waiting.now a.history.now a.sources.now)
-    c.if-row-lt-ROW.false c.begin-begun.ensures _ c.in-Err.is
+    c.if-row-lt-ROW.false c.begin.ensures _ c.in-Err.is
 
 pub add_leg-added-requires : goal.add_leg-added-requires
 add_leg-added-requires c =
     let a = c.args in
-    ((begun_unbroken (parts_of a.group) (tables a.members.now a.pending.now a.waiting.now a.history.now a.sources.now) c.begin-begun.ensures c.in_default.is).long.members, omega (arith, c.if-row-lt-ROW.false))
+    ((begun_unbroken (parts_of a.group) (tables a.members.now a.pending.now a.waiting.now a.history.now a.sources.now) c.begin.ensures c.in_default.is).long.members, omega (arith, c.if-row-lt-ROW.false))
 
 pub returns : goal.returns
 returns c =
     let a = c.args in
     addition_promised a.id a.weight a.row.now (parts_of a.group) (tables a.members.now a.pending.now a.waiting.now a.history.now a.sources.now)
-    c.if-row-lt-ROW.false c.begin-begun.ensures c.in_default.is _ _ c.add_leg-added.ensures
+    c.if-row-lt-ROW.false c.begin.ensures c.in_default.is _ _ c.add_leg-added.ensures

@@ -2,9 +2,6 @@
 use Rattle.srt_group_shown.specs.Laws.Steps.{unbroken_of, nothing_delivered, performs_keeping}
 use Rattle.srt_group_addition.proofs.handed.add_member.Goals as goal
 
-pub add_leg-requires : goal.add_leg-requires
-add_leg-requires c = (c.requires.ready.long.members, c.requires.has_row)
-
 pub returns : goal.returns
 returns c =
     let ready = c.requires.ready in

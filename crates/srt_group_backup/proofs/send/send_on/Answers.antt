@@ -6,4 +6,6 @@ pub returns-in_default : goal.returns-in_default
 returns-in_default c = search own_not_sent
 
 pub returns : goal.returns
-returns c = search own_sent
+returns c =
+    own_sent _ _ _ _ _ _ _ c.leg_at.ensures c.send_shared_with_sequence-result.ensures _ c.in-Some.is c.membership_at-membership.ensures
+    c.put_leg_at.ensures (rw c.own.ensures at c.write_sent.ensures)

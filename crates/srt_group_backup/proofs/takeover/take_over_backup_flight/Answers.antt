@@ -3,8 +3,8 @@ use Rattle.srt_group_backup.specs.Laws.TakeOver.{took_over_nothing, took_over_fl
 use Rattle.srt_group_tables.specs.Ring.{arrays}
 use Rattle.srt_group_backup.proofs.takeover.take_over_backup_flight.Goals as goal
 
-pub returns-then-left-eq0 : goal.returns-then-left-eq0
-returns-then-left-eq0 c =
+pub returns-then-trimmed-eq0 : goal.returns-then-trimmed-eq0
+returns-then-trimmed-eq0 c =
     let args = c.args in
     took_over_nothing _ _ _ _
     c.requires.index_lt_count.0
@@ -16,7 +16,7 @@ returns-then-left-eq0 c =
     c.args.history.now.ring_fits
     c.if-not-takes_over.false
     (rw c.rows.ensures.shows at c.trim_by_carrier-trimmed.ensures)
-    c.if-left-eq0.true c.align_carrier-outcome-then-left-eq0.ensures
+    c.if-trimmed-eq0.true c.align_carrier-outcome-then-trimmed-eq0.ensures
 
 pub returns : goal.returns
 returns c =
@@ -31,5 +31,5 @@ returns c =
     c.args.history.now.ring_fits
     c.if-not-takes_over.false
     (rw c.rows.ensures.shows at c.trim_by_carrier-trimmed.ensures)
-    c.if-left-eq0.false
+    c.if-trimmed-eq0.false
     c.replay_flight-flight.ensures

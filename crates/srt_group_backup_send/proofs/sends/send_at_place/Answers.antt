@@ -8,15 +8,15 @@ use Rattle.srt_group_backup_send.proofs.sends.send_at_place.Goals as goal
 
 pub returns-then-sender-sequence : goal.returns-then-sender-sequence
 returns-then-sender-sequence c =
-    place_mismatched _ _ _ _ _ _ _ _ _ c.requires.sendable.below (c.sequence_for_send-sequence.ensures ∙ ap (number_for_send c.args.sending) c.row.ensures) c.sender_at-sender.ensures c.if-sender-sequence.true c.requires.sendable.lent (omega (arith, c.requires.sent_bound.0))
+    place_mismatched _ _ _ _ _ _ _ _ _ c.requires.sendable.below (c.sequence_for_send-sequence.ensures ∙ ap (number_for_send c.args.send.sending) c.row.ensures) c.sender_at-sender.ensures c.if-sender-sequence.true c.requires.sendable.lent (omega (arith, c.requires.sent_bound.0))
 
 pub returns-then-send_on : goal.returns-then-send_on
 returns-then-send_on c =
-    place_flows _ _ _ _ _ _ _ _ _ c.requires.sendable.below (c.sequence_for_send-sequence.ensures ∙ ap (number_for_send c.args.sending) c.row.ensures) c.sender_at-sender.ensures c.if-sender-sequence.false
+    place_flows _ _ _ _ _ _ _ _ _ c.requires.sendable.below (c.sequence_for_send-sequence.ensures ∙ ap (number_for_send c.args.send.sending) c.row.ensures) c.sender_at-sender.ensures c.if-sender-sequence.false
     (own_sent _ _ _ _ _ _ _ _ _ _ _ _ c.requires.sendable.below (sent_as c.if-send_on.true c.send_on.ensures) _ c.requires.sendable.lent.arrays_long (omega (arith, c.requires.sent_bound.0)) c.keep_sent.ensures)
 
 pub returns : goal.returns
 returns c =
-    place_flows _ _ _ _ _ _ _ _ _ c.requires.sendable.below (c.sequence_for_send-sequence.ensures ∙ ap (number_for_send c.args.sending) c.row.ensures) c.sender_at-sender.ensures c.if-sender-sequence.false
+    place_flows _ _ _ _ _ _ _ _ _ c.requires.sendable.below (c.sequence_for_send-sequence.ensures ∙ ap (number_for_send c.args.send.sending) c.row.ensures) c.sender_at-sender.ensures c.if-sender-sequence.false
     (own_failed _ _ _ _ _ _ _ _ _ _ _ _ c.requires.sendable.below (sent_as c.if-send_on.false c.send_on.ensures) _ c.requires.sendable.lent.list_long (omega (arith, c.requires.sent_bound.0))
     (promoted_whoever _ _ _ _ _ _ _ _ c.send_after_promotion.ensures))

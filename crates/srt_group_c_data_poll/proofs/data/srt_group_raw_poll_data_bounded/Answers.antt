@@ -3,8 +3,8 @@ use Rattle.srt_group_words.specs.Laws.Begin.{poll_performed, poll_refused}
 use Rattle.srt_group_refusals.specs.Laws.Polled.{data_poll_refused}
 use Rattle.srt_group_c_data_poll.proofs.data.srt_group_raw_poll_data_bounded.Goals as goal
 
-pub returns-then-code-ne0 : goal.returns-then-code-ne0
-returns-then-code-ne0 c = poll_refused _ _ _ _ _ _ c.if-record-lt-RECORD.false c.if-answer-lt-POLLED.false c.begin_poll-code.ensures c.if-code-ne0.true c.put.ensures (data_poll_refused _ _ _ _ _ _ c.begin_poll-code.ensures.begins)
+pub returns-in-Err : goal.returns-in-Err
+returns-in-Err c = poll_refused _ _ _ _ _ _ c.if-record-lt-RECORD.false c.if-answer-lt-POLLED.false _ c.from.ensures c.put.ensures (data_poll_refused _ _ _ _ _ _ c.begin_poll-begun.ensures _ c.in-Err.is)
 
 pub returns : goal.returns
 returns c = search poll_performed

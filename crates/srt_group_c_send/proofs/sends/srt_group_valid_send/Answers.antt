@@ -1,26 +1,17 @@
 -- `srt_group_valid_send` meets its contract: that of the form over the parts that the words show.
 use Rattle.std.proofs.Common.{◌≡◌, rules}
-use Rattle.srt_group_words.specs.Laws.Words.{parts_ready, performs_sent}
+use Rattle.srt_group_words.specs.Laws.Words.{group_ready, performs_sent}
 use Rattle.srt_group_words.specs.Words.{sent_words}
 use Rattle.srt_group_c_send.proofs.sends.srt_group_valid_send.Goals as goal
 
-pub read_identity-requires : goal.read_identity-requires
-read_identity-requires c = c.requires.ready_words.long
-
-pub read_core-requires : goal.read_core-requires
-read_core-requires c = c.requires.ready_words.long
-
-pub read_sending-requires : goal.read_sending-requires
-read_sending-requires c = c.requires.ready_words.long
-
-pub read_ring-requires : goal.read_ring-requires
-read_ring-requires c = c.requires.ready_words.long
+pub read_group-requires : goal.read_group-requires
+read_group-requires c = c.requires.ready_words.long
 
 pub send-sent-requires : goal.send-sent-requires
 send-sent-requires c =
     let lent : c.of_words_mut.result.now ≡ c.args.used.now = search rules in
     record {
-      ready = rw lent (parts_ready _ c.read_identity.ensures c.read_core.ensures c.read_sending.ensures c.read_ring.ensures c.requires.ready_words);
+      ready = rw lent (group_ready _ c.read_group.ensures c.requires.ready_words);
       list_size_in_bounds = c.requires.list_size_in_bounds.0;
     }
 
@@ -28,4 +19,4 @@ pub put_send-requires : goal.put_send-requires
 put_send-requires c = (c.requires.ready_words.long, c.requires.list_size_in_bounds.1)
 
 pub returns : goal.returns
-returns c = performs_sent _ c.read_identity.ensures c.read_core.ensures c.read_sending.ensures c.read_ring.ensures _ _ _ c.requires.ready_words.long _ _ _ sent_words _ _ _ _ _ _ c.send-sent.ensures.rows c.send-sent.ensures.performs c.put_send.ensures
+returns c = performs_sent _ c.read_group.ensures _ _ _ c.requires.ready_words.long _ _ _ sent_words _ _ _ _ c.send-sent.ensures.rows c.send-sent.ensures.performs c.put_send.ensures

@@ -1,4 +1,5 @@
 -- `collect_until_empty` meets its contract. The loop's invariant: what is left of the visits gives what all of them give (`Emptying`).
+use borrow.Author.Tests.{not-true, not-false}
 use Rattle.srt_group_collecting.specs.Laws.Gather.{held_most, emptying_on, emptying_settled, emptying_ended, emptying_spent}
 use Rattle.std.proofs.Common.{◌≡◌, ◌+◌, ◌-◌}
 use Rattle.srt_group_model.specs.Delivery.{max_visits}
@@ -6,7 +7,7 @@ use borrow.Author.Rules.{rules}
 use native.Mathlib.Omega.{arith}
 use Rattle.srt_group_collecting.specs.Laws.Follows.{follows_then}
 use Rattle.srt_group_collecting.specs.Laws.Used.{follows_continued}
-use Rattle.srt_group_model.specs.Laws.Flag.{zero_unset, other_set}
+use Rattle.std.proofs.Math.Path.{refl}
 use Rattle.srt_group_collecting.proofs.collecting.collect_until_empty.Goals as goal
 
 pub is_settled-requires-clause-pending_size_in_bounds : goal.is_settled-requires-clause-pending_size_in_bounds
@@ -21,13 +22,13 @@ returns-then-is_settled c =
       follows = loop.invariant.1;
     }
 
-pub returns-then-visited-eq0 : goal.returns-then-visited-eq0
-returns-then-visited-eq0 c =
+pub returns-then-not-visited : goal.returns-then-not-visited
+returns-then-not-visited c =
     let args = c.args in
     let loop = c.loop-visit in record {
       empties = emptying_ended args.sequence args.core args.budget args.members.now args.pending.now args.waiting.now _ loop.visited _ _ _
-          loop.invariant.0 (omega arith) c.is_settled.ensures c.if-is_settled.false c.collect_one_event-visited.result _ _ _ c.collect_one_event-visited.ensures.collects c.flag-emptied.result
-          (zero_unset c.collect_one_event-visited.result.took c.if-visited-eq0.true) c.flag-emptied.ensures;
+          loop.invariant.0 (omega arith) c.is_settled.ensures c.if-is_settled.false c.collect_one_event-visited.result _ _ _ c.collect_one_event-visited.ensures.collects _
+          (not-true _ c.if-not-visited.true) refl;
       follows = follows_then loop.invariant.1 c.collect_one_event-visited.ensures.follows;
     }
 
@@ -38,7 +39,7 @@ loop-visit-preserved c =
     let one_less : max_visits - (loop._visit + 1) ≡ max_visits - loop._visit - 1 = omega arith in (
       rw one_less (emptying_on args.sequence args.core args.budget args.members.now args.pending.now args.waiting.now _ loop.visited _ _ _
           loop.invariant.0 (omega arith) c.is_settled.ensures c.if-is_settled.false c.collect_one_event-visited.result _ _ _ c.collect_one_event-visited.ensures.collects
-          (other_set c.collect_one_event-visited.result.took c.if-visited-eq0.false)),
+          (not-false _ c.if-not-visited.false)),
       follows_then loop.invariant.1 c.collect_one_event-visited.ensures.follows,
     )
 

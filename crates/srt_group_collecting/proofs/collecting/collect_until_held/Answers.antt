@@ -1,14 +1,14 @@
 -- `collect_until_held` meets its contract. The loop's invariant: what is left of the visits gives what all of them give (`Holding`).
+use borrow.Author.Tests.{not-true, not-false}
 use Rattle.srt_group_collecting.specs.Laws.Gather.{holding_on, holding_ended, holding_done}
 use Rattle.srt_group_collecting.specs.Laws.Follows.{follows_then}
-use Rattle.srt_group_model.specs.Laws.Flag.{zero_unset, other_set}
 use Rattle.srt_group_collecting.proofs.collecting.collect_until_held.Goals as goal
 
-pub returns-then-visited-eq0 : goal.returns-then-visited-eq0
-returns-then-visited-eq0 c =
+pub returns-then-not-visited : goal.returns-then-not-visited
+returns-then-not-visited c =
     let args = c.args in record {
       gathers = holding_ended args.core args.budget args.members.now args.pending.now args.waiting.now _ _ c.visit_until_held-visited.result _ _ _ _ _ _
-          c.loop-left-test.true c.loop-left.invariant.0 c.visit_until_held-visited.ensures.held_visit (zero_unset c.visit_until_held-visited.result.more c.if-visited-eq0.true);
+          c.loop-left-test.true c.loop-left.invariant.0 c.visit_until_held-visited.ensures.held_visit (not-true _ c.if-not-visited.true);
       follows = follows_then c.loop-left.invariant.1 c.visit_until_held-visited.ensures.follows;
     }
 
@@ -16,7 +16,7 @@ pub loop-left-preserved : goal.loop-left-preserved
 loop-left-preserved c =
     let args = c.args in (
       holding_on args.core args.budget args.members.now args.pending.now args.waiting.now _ _ c.visit_until_held-visited.result _ _ _ _ _ _
-          c.loop-left-test.true c.loop-left.invariant.0 c.visit_until_held-visited.ensures.held_visit (other_set c.visit_until_held-visited.result.more c.if-visited-eq0.false),
+          c.loop-left-test.true c.loop-left.invariant.0 c.visit_until_held-visited.ensures.held_visit (not-false _ c.if-not-visited.false),
       follows_then c.loop-left.invariant.1 c.visit_until_held-visited.ensures.follows,
     )
 

@@ -4,7 +4,7 @@ use Rattle.srt_group_collecting.specs.Laws.Used.{follows_nothing, follows_spent,
 use Rattle.srt_group_collecting.proofs.collecting.take_front.Goals as goal
 
 pub collect_member_event-after-requires : goal.collect_member_event-after-requires
-collect_member_event-after-requires c = let polled = c.poll_event_for_group_at-polled.ensures in collectable _ _ _ _ c.requires.usable _ c.requires.index_lt_members.0 _ _ _ _ _ _ _ c.turn_past-next.ensures polled.changed c.in-Event.is polled.gave c.requires.index_lt_members.1
+collect_member_event-after-requires c = let polled = c.poll_event_for_group_at.ensures in collectable _ _ _ _ c.requires.usable _ c.requires.index_lt_members.0 _ _ _ _ _ _ _ c.turn_past-next.ensures polled.changed c.in-Event.is polled.gave c.requires.index_lt_members.1
 
 pub returns-in-Nothing : goal.returns-in-Nothing
 returns-in-Nothing c =
@@ -16,7 +16,7 @@ returns-in-Continuation c =
 
 pub returns-in-Event : goal.returns-in-Event
 returns-in-Event c =
-    let polled = c.poll_event_for_group_at-polled.ensures in
+    let polled = c.poll_event_for_group_at.ensures in
     let told = c.in-Event.is in
     let turned = c.turn_past-next.ensures in
     let whose = c.membership_at-membership.ensures in record { visits = visits_event _ _ _ _ _ _ _ polled.changed _ _ _ _ _ _ _ turned told polled.gave whose c.collect_member_event-after.ensures.collected; follows = follows_event _ _ _ _ _ _ _ polled.changed _ _ _ _ _ _ _ _ _ c.requires.index_lt_members.0 turned told polled.gave whose c.collect_member_event-after.ensures.collected c.collect_member_event-after.ensures.freed }

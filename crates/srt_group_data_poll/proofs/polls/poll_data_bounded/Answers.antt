@@ -13,5 +13,5 @@ write_payload-requires c = search (rules, writable)
 pub returns : goal.returns
 returns c =
     performed _ _ _ _ _ _ c.poll_data_bounded-polled.ensures.polls_data c.args.store.now c.args.output.now _ c.requires.ready c.requires.output_size_in_bounds
-    _ _ (omega (arith, c.well_formed.1.1.1.1.1.1.1.1.1.1.1.1.0))
+    _ _ (omega (arith, c.well_formed.1.1.1.1.1.1.1.1.1.0))
     c.poll_data_bounded-polled.ensures.follows c.write_payload.ensures

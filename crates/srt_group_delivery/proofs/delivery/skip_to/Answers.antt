@@ -3,4 +3,4 @@ use Rattle.srt_group_delivery.specs.Laws.Poll.{skips}
 use Rattle.srt_group_delivery.proofs.delivery.skip_to.Goals as goal
 
 pub returns : goal.returns
-returns c = search skips
+returns c = rw c.set_base.ensures (search skips)

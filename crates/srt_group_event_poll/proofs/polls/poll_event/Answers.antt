@@ -10,10 +10,10 @@ poll_event-polled-requires c = record { usable = search usable; sending_fit = se
 pub write_payload-requires : goal.write_payload-requires
 write_payload-requires c =
     writable _ _ _ _ _ c.poll_event-polled.ensures.by_index
-    _ c.packet_in-packet.ensures c.requires.ready c.requires.output_size_in_bounds
+    _ c.packet_in.ensures c.requires.ready c.requires.output_size_in_bounds
 
 pub returns : goal.returns
 returns c =
     performed _ _ _ _ _ c.poll_event-polled.ensures.by_index c.args.store.now c.args.output.now _ c.requires.ready c.requires.output_size_in_bounds
-    _ _ (omega (arith, c.well_formed.1.1.1.1.1.1.1.1.1.1.1.1.0))
-    c.poll_event-polled.ensures.follows c.packet_in-packet.ensures c.write_payload.ensures
+    _ _ (omega (arith, c.well_formed.1.1.1.1.1.1.1.1.1.0))
+    c.poll_event-polled.ensures.follows c.packet_in.ensures c.write_payload.ensures

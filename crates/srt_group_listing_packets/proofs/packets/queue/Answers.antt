@@ -12,4 +12,4 @@ returns-then-line-gt255 c = byte_refused (queueing c.args.line.now) c.if-line-gt
 pub returns : goal.returns
 returns c =
     byte_fits (queueing c.args.line.now) (omega (arith, c.if-line-gt255.false))
-    (tells_queueing c.args.line.now (search rules) (search rules) c.data_of_line.ensures (search rules) c.outcome_line-2.ensures c.queue_data-outcome.ensures)
+    (tells_queueing c.args.line.now c.data_of_line.ensures (search rules) (search rules) c.outcome_line-2.ensures c.queue_data-outcome.ensures)

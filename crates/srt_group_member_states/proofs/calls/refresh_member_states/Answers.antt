@@ -12,17 +12,17 @@ use Rattle.srt_group_member_states.proofs.calls.refresh_member_states.Goals as g
 pub returns-in-Err : goal.returns-in-Err
 returns-in-Err c =
     let a = c.args in
-    refresh_refused (parts_of a.group) (tables a.members.now a.pending.now a.waiting.now a.history.now a.sources.now) c.begin-begun.ensures _ c.in-Err.is
+    refresh_refused (parts_of a.group) (tables a.members.now a.pending.now a.waiting.now a.history.now a.sources.now) c.begin.ensures _ c.in-Err.is
 
-pub refresh_states-after-requires : goal.refresh_states-after-requires
-refresh_states-after-requires c =
+pub refresh_states-core-requires : goal.refresh_states-core-requires
+refresh_states-core-requires c =
     let a = c.args in
-    rows_unbroken (begun_unbroken (parts_of a.group) (tables a.members.now a.pending.now a.waiting.now a.history.now a.sources.now) c.begin-begun.ensures c.in_default.is)
+    rows_unbroken (begun_unbroken (parts_of a.group) (tables a.members.now a.pending.now a.waiting.now a.history.now a.sources.now) c.begin.ensures c.in_default.is)
 
 pub returns : goal.returns
 returns c =
     let a = c.args in
     let p = (parts_of a.group) in
     let t = (tables a.members.now a.pending.now a.waiting.now a.history.now a.sources.now) in
-    promised_steps call_refresh_member_states p t nothing_lent c.begin-begun.ensures c.in_default.is nothing_delivered
-    (refreshed p t (begun_unbroken p t c.begin-begun.ensures c.in_default.is) _ _ c.refresh_states-after.ensures).steps
+    promised_steps call_refresh_member_states p t nothing_lent c.begin.ensures c.in_default.is nothing_delivered
+    (refreshed p t (begun_unbroken p t c.begin.ensures c.in_default.is) _ _ c.refresh_states-core.ensures).steps

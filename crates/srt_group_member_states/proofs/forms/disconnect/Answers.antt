@@ -10,4 +10,4 @@ disconnect_all-requires c = rows_there c.requires
 pub returns : goal.returns
 returns c =
     performs_keeping c.requires nothing_delivered
-    (disconnected _ _ _ (unbroken_of c.requires) (omega (arith, c.well_formed.1.1.1.1.1.1.1.1.1.1.1)) _ c.disconnect_all.ensures)
+    (disconnected _ _ _ (unbroken_of c.requires) (omega (arith, c.well_formed.1.1.1.1.1.1.1.1)) _ c.disconnect_all.ensures)

@@ -11,12 +11,12 @@ returns-then-count-index c = align_past _ _ _ _ c.if-count-index.true
 pub returns-in_default : goal.returns-in_default
 returns-in_default c =
     align_no_source _ _ _ _ c.if-count-index.false
-    (c.membership-membership.ensures ∙ ap (λ (m : Member). m.membership) c.row.ensures)
+    (c.member_id-id.ensures ∙ ap (λ (m : Member). m.membership.id) c.row.ensures)
     (sym c.in_default.is ∙ c.alignment_source-source.ensures ∙ ap (alignment_source _ _) c.rows.ensures.shows)
 
 pub returns : goal.returns
 returns c =
     align_with _ _ _ _ c.if-count-index.false
-    (c.membership-membership.ensures ∙ ap (λ (m : Member). m.membership) c.row.ensures) _
+    (c.member_id-id.ensures ∙ ap (λ (m : Member). m.membership.id) c.row.ensures) _
     (sym c.in-Some.is ∙ c.alignment_source-source.ensures ∙ ap (alignment_source _ _) c.rows.ensures.shows)
     c.align_leg_at.ensures

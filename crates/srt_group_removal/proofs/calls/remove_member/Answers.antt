@@ -9,5 +9,5 @@ pub returns : goal.returns
 returns c =
     let a = c.args in
     leg_dropped a.id (parts_of a.group)
-    (tables a.members.now a.pending.now a.waiting.now a.history.now a.sources.now) _ _ _ _ c.remove_member_connection.result.outcome (omega arith)
+    (tables a.members.now a.pending.now a.waiting.now a.history.now a.sources.now) _ _ _ _ c.remove_member_connection.result.answer (omega arith)
     c.remove_member_connection.ensures.promised_row

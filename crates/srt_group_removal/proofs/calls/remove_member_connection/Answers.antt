@@ -19,18 +19,18 @@ returns-in-Err-clause-promised_row c =
     let a = c.args in
     removal_refused a.id (parts_of a.group)
     (tables a.members.now a.pending.now a.waiting.now a.history.now a.sources.now) a.row.now c.if-row-lt-ROW.false
-    c.begin-begun.ensures _ c.in-Err.is
+    c.begin.ensures _ c.in-Err.is
 
 pub remove_named-removed-requires-clause-any_removable : goal.remove_named-removed-requires-clause-any_removable
 remove_named-removed-requires-clause-any_removable c =
     let a = c.args in
     any_removable
     (begun_unbroken (parts_of a.group)
-    (tables a.members.now a.pending.now a.waiting.now a.history.now a.sources.now) c.begin-begun.ensures c.in_default.is)
+    (tables a.members.now a.pending.now a.waiting.now a.history.now a.sources.now) c.begin.ensures c.in_default.is)
 
 pub returns-clause-promised_row : goal.returns-clause-promised_row
 returns-clause-promised_row c =
     let a = c.args in
     removal_promised a.id (parts_of a.group)
     (tables a.members.now a.pending.now a.waiting.now a.history.now a.sources.now) a.row.now c.if-row-lt-ROW.false
-    c.begin-begun.ensures c.in_default.is c.remove_named-removed.result _ _ _ c.remove_named-removed.ensures.steps_removal
+    c.begin.ensures c.in_default.is c.remove_named-removed.result _ _ _ c.remove_named-removed.ensures.steps_removal

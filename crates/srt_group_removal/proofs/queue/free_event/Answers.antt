@@ -2,8 +2,8 @@
 use Rattle.srt_group_removal.specs.Laws.Queue.{data_freed, no_data_kept}
 use Rattle.srt_group_removal.proofs.queue.free_event.Goals as goal
 
-pub returns-then-event-eq0 : goal.returns-then-event-eq0
-returns-then-event-eq0 c = search data_freed
+pub returns-then-is_data : goal.returns-then-is_data
+returns-then-is_data c = search data_freed
 
-pub returns-else-event-eq0 : goal.returns-else-event-eq0
-returns-else-event-eq0 c = search no_data_kept
+pub returns-else-is_data : goal.returns-else-is_data
+returns-else-is_data c = search no_data_kept

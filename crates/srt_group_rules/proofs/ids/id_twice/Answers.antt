@@ -2,7 +2,7 @@
 use Rattle.std.proofs.Common.{◌∙◌, ap, ◌%◌, arith}
 use Prim.Native.Nat.{ℕ}
 use Rattle.srt_group_rules.specs.Ids.{places}
-use Rattle.srt_group_rules.specs.Laws.Ids.{asked, apart_one, twice_in, once_in, taken_on}
+use Rattle.srt_group_rules.specs.Laws.Ids.{asked, apart_one, twice_in, taken_on}
 use Rattle.srt_group_rules.proofs.ids.id_twice.Goals as goal
 
 pub returns-then-is_repeated : goal.returns-then-is_repeated
@@ -18,6 +18,3 @@ loop-index-preserved c =
       apart_one t c.loop-index.index _ tested c.if-is_repeated.false c.loop-index.invariant.0,
       taken_on t c.loop-index.index c.loop-index.table c.loop-index.invariant.1 _ (c.place_of.ensures.0 ∙ ap (λ (k : ℕ). k % places) c.member_id-id.ensures) (omega arith),
     )
-
-pub returns : goal.returns
-returns c = once_in c.args.rows.now c.loop-index.index c.loop-index.invariant.0 (omega arith)

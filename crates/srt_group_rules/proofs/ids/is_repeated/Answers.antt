@@ -5,12 +5,7 @@ use Rattle.std.proofs.lemmas.Iterator.Search.{any_from_yields_List}
 use Rattle.srt_group_model.specs.Members.{has_id}
 use Rattle.srt_connection_queue.specs.Rows.{member_of}
 use Rattle.srt_connection_queue.specs.Laws.Chains.{passes, any_read}
-use Rattle.srt_group_rules.specs.Laws.Ids.{free_place}
 use Rattle.srt_group_rules.proofs.ids.is_repeated.Goals as goal
-
-pub returns-then-table-place_of-eq-NOBODY : goal.returns-then-table-place_of-eq-NOBODY
-returns-then-table-place_of-eq-NOBODY c =
-    free_place c.args.before.now c.args.table.now c.args.id c.requires (rw c.place_of.ensures.0 at c.if-table-place_of-eq-NOBODY.true)
 
 pub returns : goal.returns
 returns c =

@@ -21,8 +21,8 @@ returns-in-Err c =
     (tables a.members.now a.pending.now a.waiting.now a.history.now a.sources.now) a.store.now a.list.now
     c.begin_stored-begun.ensures (le-ltb (length a.list.now) list_size c.if-list-lt-SENT_LENGTH.false) _ c.in-Err.is
 
-pub send-sent-requires : goal.send-sent-requires
-send-sent-requires c =
+pub send-requires : goal.send-requires
+send-requires c =
     let accepted = c.in_default.is in record { ready = c.begin_stored-begun.ensures.ready accepted; list_size_in_bounds = c.if-list-lt-SENT_LENGTH.false }
 
 pub returns : goal.returns
@@ -30,4 +30,4 @@ returns c =
     let a = c.args in
     send_performed a.time.0 a.payload.now (parts_of a.group)
     (tables a.members.now a.pending.now a.waiting.now a.history.now a.sources.now) a.store.now a.list.now
-    c.begin_stored-begun.ensures c.in_default.is c.send-sent.ensures
+    c.begin_stored-begun.ensures c.in_default.is c.send.ensures

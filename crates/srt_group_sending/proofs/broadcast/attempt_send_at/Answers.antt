@@ -25,4 +25,4 @@ returns c =
     _ (sym c.in-Some.is ∙
     c.send_shared_with_sequence-result.ensures)
     c.membership_at-membership.ensures
-    c.put_leg_at.ensures c.write_sent.ensures
+    c.put_leg_at.ensures (rw c.own.ensures at c.write_sent.ensures)

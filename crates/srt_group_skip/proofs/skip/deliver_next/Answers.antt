@@ -2,8 +2,8 @@
 use Rattle.srt_group_skip.specs.Laws.Skip.{next_at_base, next_nearest}
 use Rattle.srt_group_skip.proofs.skip.deliver_next.Goals as goal
 
-pub returns-then-core-ne0-clause-polls_from : goal.returns-then-core-ne0-clause-polls_from
-returns-then-core-ne0-clause-polls_from c = search next_at_base
+pub returns-in-Some-clause-polls_from : goal.returns-in-Some-clause-polls_from
+returns-in-Some-clause-polls_from c = next_at_base _ _ _ _ _ _ _ c.base.ensures _ _ _ _ c.in-Some.is c.skip_given_up_gap.ensures.polls_from
 
-pub returns-clause-polls_from : goal.returns-clause-polls_from
-returns-clause-polls_from c = next_nearest _ _ _ _ _ _ _ _ _ (search) (search) (c.deliver_nearest.ensures.by_index _)
+pub returns-in-None-clause-polls_from : goal.returns-in-None-clause-polls_from
+returns-in-None-clause-polls_from c = next_nearest _ _ _ _ _ _ _ c.base.ensures _ _ (search) c.in-None.is (c.deliver_nearest.ensures.by_index _)

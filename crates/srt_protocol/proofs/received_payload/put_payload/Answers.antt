@@ -1,5 +1,5 @@
 -- `put_payload` meets its contract: the part that was lent on is what `overwritten` says (`part_back`).
-use Rattle.std.proofs.Common.{◌*◌, length, sym, ap, ◌∙◌}
+use Rattle.std.proofs.Common.{◌*◌, length, ap, ◌∙◌}
 use Rattle.srt_protocol.specs.Cells.{cell_size, overwritten}
 use Rattle.srt_protocol.specs.Laws.CellLaws.{part_back}
 use Rattle.srt_protocol.proofs.received_payload.put_payload.Goals as goal

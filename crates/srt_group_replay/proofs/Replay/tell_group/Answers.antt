@@ -1,7 +1,0 @@
--- `tell_group` meets its contract: no group, or a verb over the group that was made.
-use Rattle.srt_group_replay.specs.Laws.Lines.{none_stands, tells_without_group}
-use Rattle.srt_group_replay.proofs.Replay.tell_group.Goals as goal
-
-pub returns-in-None : goal.returns-in-None
-returns-in-None c =
-    tells_without_group c.args.line.now c.requires.0 c.requires.1 (none_stands c.self.inside.group c.self.inside.memory c.self.view_is c.in-None.is) c.outcome_line.ensures

@@ -1,7 +1,0 @@
--- `history_breaks_rule` meets its contract. The loop's invariant: the entries before `index` are good, and their cells are marked.
-use Rattle.srt_group_tables.specs.Ring.{arrays}
-use Rattle.srt_group_state.specs.Laws.Passes.{PassedTo, entry_good, entry_names}
-use Rattle.srt_group_state.proofs.passes.history_breaks_rule.Given as goal
-
-abbrev pub invariant-loop-index : goal.invariant-loop-index
-invariant-loop-index l = PassedTo l.cells (entry_good l.ring (arrays l.history l.sources)) (entry_names l.ring (arrays l.history l.sources)) l.ring.length l.initial.used l.index l.used
