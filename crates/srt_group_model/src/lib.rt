@@ -8,6 +8,7 @@
 
 ghost use Rattle.std.specs.Prelude.{◌≡◌};
 ghost use Rattle.srt_group_model.specs.Cells.{is_data};
+ghost use Rattle.srt_group_model.specs.Removal.{is_owned};
 ghost use Rattle.srt_group_model.specs.State.{based_at};
 ghost use Rattle.srt_group_model.specs.Tools.{is_set, flagged};
 
@@ -60,6 +61,14 @@ pub struct Packet {
     // Kept (1): a flag is a word of the lent row: a C host may lend any number, and 6 has to read it to refuse it.
     pub owned: u64,
     pub content: Data,
+}
+
+impl Packet {
+    pub fn is_owned(&self) -> bool
+        ensures { result ≡ is_owned self.now }
+    {
+        self.owned == 1
+    }
 }
 
 // `GroupEvent` without its data case: member, kind 1 connected, 2 error, 3 disconnected, and the reason's number.
@@ -132,7 +141,7 @@ pub struct Collision {
     // expected_peer_group_id
     pub expected: u64,
     // actual_peer_group_id
-    // Kept (1): a word of the lent row, in which a C host writes 0 for no collision.
+    // Kept (1): a word of the row that a C host lends; whatever stands there has to be readable, so that 6 can refuse it.
     pub actual: u64,
 }
 
@@ -271,7 +280,7 @@ pub struct Core {
     // Kept (1): the mode is the record's word, which a C host lends so that 6 can refuse it; an enum of two modes says what `is_backup` says, and is no plainer.
     pub mode: u64,
     // peer_group_id, 0 while the group is not bound
-    // Kept (1): the record's word, which a C host lends; a bound group's id has the mark of one, so 0 is none.
+    // Kept (1): a word of the record that a C host lends; whatever stands there has to be readable, so that 6 can refuse it.
     pub peer: u64,
     pub counts: Counts,
     pub receiving: Receiving,
