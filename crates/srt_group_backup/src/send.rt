@@ -16,17 +16,7 @@ use srt_group_model::{Entry, Leg};
 use srt_group_sending::broadcast::with_number_after;
 use srt_group_sending::list::{Sent, write_sent};
 use srt_group_tables::history::{HistoryWords, push_back, store};
-use srt_protocol::error::Error;
 use srt_protocol::time::Timestamp;
-
-// What a Backup send, or a part of it, leaves of what sending moves, and how many rows of the list are in use then; or why it was refused,
-// with the same of what it did before.
-#[derive(Clone, Copy)]
-pub struct BackupSend {
-    pub outcome: Result<(), Error>,
-    pub send: SendHistory,
-    pub sent: usize,
-}
 
 // A payload of `size` bytes on the member at an index, at a sequence: whether it was sent. If it was, the list has its row.
 pub fn send_on(

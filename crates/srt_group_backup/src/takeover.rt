@@ -11,23 +11,16 @@ ghost use Rattle.srt_group_sending.specs.SentList.{send_tables};
 ghost use Rattle.srt_group_backup.specs.TakeOver.{HistoryIs, SendIs, FlightReplayed, CarrierAligned, TookOver};
 
 use crate::replay::replay_entries;
-use crate::send::BackupSend;
 use crate::trimming::{SendHistory, trim_by_carrier};
 use srt_connection::legs::remaining_window_packets;
 use srt_connection_members::{leg_at, membership_at, put_leg_at, rows};
 use srt_group_members::alignment::{align_leg, align_member_sequence};
 use srt_group_model::{Leg, Sending};
+use srt_group_sending::flown::Flown;
 use srt_group_sending::readiness::takes_over;
 use srt_group_tables::history::{History, HistoryWords};
 use srt_protocol::error::Error;
 use srt_protocol::time::Timestamp;
-
-// Whether the flight was replayed, and how many rows of the list are in use.
-#[derive(Clone, Copy)]
-pub struct Flight {
-    pub outcome: Result<(), Error>,
-    pub sent: usize,
-}
 
 // The flight on a leg that stands at its first sequence. The window must have room for one more than all: the next send.
 #[tactic(auto, using(crate::specs::Laws::TakeOver::no_room_to_replay, crate::specs::Laws::TakeOver::replayed_with_room))]
@@ -39,7 +32,7 @@ pub fn replay_on(
     list: &mut [u64],
     sent: usize,
     time: Timestamp,
-) -> Flight
+) -> Flown<()>
     requires has_row { HasRow index members.old }
     requires list_size_in_bounds { (list_size ≤ length list.old) × (sent ≤ max_sent - max_history) }
     ensures { FlightReplayed (replay_on time.0 index (member_at members.old index) leg)
@@ -50,8 +43,9 @@ pub fn replay_on(
     let entries = history.words.ring.length as u64;
     if remaining_window_packets(leg) <= entries {
         put_leg_at(members, index, leg);
-        return Flight {
+        return Flown {
             outcome: Err(Error::ReplayRefused),
+            state: (),
             sent,
         };
     }
@@ -59,10 +53,11 @@ pub fn replay_on(
     let id = membership.id;
     let played = replay_entries(leg, history, time, id, list, sent);
     let outcome = played.outcome;
-    let after = played.leg;
+    let after = played.state;
     put_leg_at(members, index, after);
-    Flight {
+    Flown {
         outcome,
+        state: (),
         sent: played.sent,
     }
 }
@@ -76,7 +71,7 @@ pub fn replay_flight(
     list: &mut [u64],
     sent: usize,
     time: Timestamp,
-) -> Flight
+) -> Flown<()>
     requires has_row { HasRow index members.old }
     requires list_size_in_bounds { (list_size ≤ length list.old) × (sent ≤ max_sent - max_history) }
     ensures { FlightReplayed
@@ -87,16 +82,18 @@ pub fn replay_flight(
         (send_tables members.new list.new) }
 {
     if sending.gap != 0 {
-        return Flight {
+        return Flown {
             outcome: Err(Error::ReplayRefused),
+            state: (),
             sent,
         };
     }
     let first = history.entry_at(0);
     let result = align_leg(leg_at(members, index), first.sequence);
     let Some(leg) = result else {
-        return Flight {
+        return Flown {
             outcome: Err(Error::ReplayRefused),
+            state: (),
             sent,
         };
     };
@@ -134,7 +131,7 @@ pub fn take_over_backup_flight(
     list: &mut [u64],
     sent: usize,
     time: Timestamp,
-) -> BackupSend
+) -> Flown<SendHistory>
     requires index_lt_count { (index < count) × (count * row_size ≤ length members.old) }
     requires list_size_in_bounds { (list_size ≤ length list.old) × (sent ≤ max_sent - max_history) }
     ensures { TookOver (take_over_backup_flight time.0 index) count sending history.now.words.ring
@@ -146,9 +143,9 @@ pub fn take_over_backup_flight(
     let id = membership.id;
     if !takes_over(sending, id) {
         let outcome = align_carrier(sending, members, count, index);
-        return BackupSend {
+        return Flown {
             outcome,
-            send: SendHistory {
+            state: SendHistory {
                 sending,
                 ring: history.words.ring,
             },
@@ -159,9 +156,9 @@ pub fn take_over_backup_flight(
     let trimmed = trim_by_carrier(sending, &history.words, rows(members, count));
     if trimmed.ring.length == 0 {
         let outcome = align_carrier(trimmed.sending, members, count, index);
-        return BackupSend {
+        return Flown {
             outcome,
-            send: trimmed,
+            state: trimmed,
             sent,
         };
     }
@@ -173,9 +170,9 @@ pub fn take_over_backup_flight(
         sources: history.sources,
     };
     let flight = replay_flight(trimmed.sending, &rest, members, index, list, sent, time);
-    BackupSend {
+    Flown {
         outcome: flight.outcome,
-        send: trimmed,
+        state: trimmed,
         sent: flight.sent,
     }
 }

@@ -15,13 +15,14 @@ ghost use Rattle.srt_group_backup_send.specs.BackupSend.{on_carrier};
 
 use cell_set::CellSet;
 use srt_connection_members::{row, rows, sender_at};
-use srt_group_backup::send::{BackupSend, send_on};
+use srt_group_backup::send::send_on;
 use srt_group_backup::trimming::SendHistory;
 use srt_group_carrier::carrier::{ready_members, take_over};
 use srt_group_carrier::promotion::send_after_promotion;
 use srt_group_carrier::recording::keep_sent;
 use srt_group_members::states::first_active;
 use srt_group_sending::broadcast::sequence_for_send;
+use srt_group_sending::flown::Flown;
 use srt_group_tables::history::{History, HistoryWords};
 use srt_protocol::error::Error;
 use srt_protocol::time::Timestamp;
@@ -40,7 +41,7 @@ fn send_at_place(
     time: Timestamp,
     size: u64,
     cell: u64,
-) -> BackupSend
+) -> Flown<SendHistory>
     requires sendable { Sendable count index send.ring (backup_tables members.old history.old sources.old list.old used.old) }
     requires sent_bound { (sent ≤ max_sent - max_history - 1) × Packs (number_for_send send.sending (member_at members.old index)) cell size }
     ensures { BackupFlows every (send_at_place time.0 size cell index) cell count send.sending send.ring sent
@@ -50,9 +51,9 @@ fn send_at_place(
     let sequence = sequence_for_send(row(members, index), send.sending);
     let sender = sender_at(members, index);
     if sender.next != sequence {
-        return BackupSend {
+        return Flown {
             outcome: Err(Error::SequenceMismatch),
-            send,
+            state: send,
             sent,
         };
     }
@@ -79,7 +80,7 @@ fn send_on_carrier(
     time: Timestamp,
     size: u64,
     cell: u64,
-) -> BackupSend
+) -> Flown<SendHistory>
     requires sendable { Sendable count index send.ring (backup_tables members.old history.old sources.old list.old used.old) }
     requires numbers_fit { NumbersFit (send_of send.sending send.ring (arrays history.old sources.old)) (members_of count members.old) }
     requires cell_lt_cells_in_word { (cell < cells_in_word) × (size < lengths_in_word) }
@@ -107,7 +108,17 @@ fn send_on_carrier(
         return taken;
     }
     send_at_place(
-        taken.send, history, sources, members, count, index, list, taken.sent, used, time, size,
+        taken.state,
+        history,
+        sources,
+        members,
+        count,
+        index,
+        list,
+        taken.sent,
+        used,
+        time,
+        size,
         cell,
     )
 }
@@ -125,7 +136,7 @@ pub fn send_backup(
     time: Timestamp,
     size: u64,
     cell: u64,
-) -> BackupSend
+) -> Flown<SendHistory>
     requires lendable { Lendable count send.ring (backup_tables members.old history.old sources.old list.old used.old) }
     requires numbers_fit { NumbersFit (send_of send.sending send.ring (arrays history.old sources.old)) (members_of count members.old) }
     requires cell_lt_cells_in_word { (cell < cells_in_word) × (size < lengths_in_word) }
@@ -136,9 +147,9 @@ pub fn send_backup(
     ready_members(members, count, mode, time);
     let found = first_active(rows(members, count));
     let Some(index) = found else {
-        return BackupSend {
+        return Flown {
             outcome: Err(Error::NoActiveMember),
-            send,
+            state: send,
             sent: 0,
         };
     };

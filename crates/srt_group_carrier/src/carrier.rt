@@ -19,12 +19,13 @@ ghost use Rattle.srt_group_carrier.specs.Lendable.{backup_tables, Sendable};
 
 use crate::freeing::free_dropped;
 use cell_set::CellSet;
-use srt_group_backup::send::BackupSend;
 use srt_group_backup::stale::demote_stale_backup_carrier;
 use srt_group_backup::takeover::take_over_backup_flight;
+use srt_group_backup::trimming::SendHistory;
 use srt_group_members::promotion::{promote_backup_member, promote_if_none};
 use srt_group_model::Sending;
 use srt_group_sending::broadcast::mark_send_failure_at;
+use srt_group_sending::flown::Flown;
 use srt_group_tables::history::History;
 use srt_protocol::time::Timestamp;
 
@@ -62,7 +63,7 @@ pub fn take_over(
     sent: usize,
     used: &mut CellSet,
     time: Timestamp,
-) -> BackupSend
+) -> Flown<SendHistory>
     requires sendable { Sendable count index history.now.words.ring (backup_tables members.old history.now.words.history.now history.now.sources.now list.old used.old) }
     requires sent_bound { sent ≤ max_sent - max_history }
     ensures took_over { TookOver (take_over_backup_flight time.0 index) count sending history.now.words.ring
@@ -71,9 +72,9 @@ pub fn take_over(
         (send_tables members.new list.new) }
     ensures trim_follows { TrimFollows
         (entries_of history.now.words.ring (arrays history.now.words.history.now history.now.sources.now)) used.old
-        (entries_of result.send.ring (arrays history.now.words.history.now history.now.sources.now)) used.new }
+        (entries_of result.state.ring (arrays history.now.words.history.now history.now.sources.now)) used.new }
 {
     let taken = take_over_backup_flight(sending, history, members, count, index, list, sent, time);
-    free_dropped(&history.words, taken.send.ring.length, used);
+    free_dropped(&history.words, taken.state.ring.length, used);
     taken
 }

@@ -13,9 +13,10 @@ use crate::carrier::{promote_after_failure, take_over};
 use crate::recording::keep_sent;
 use cell_set::CellSet;
 use srt_connection_members::rows;
-use srt_group_backup::send::{BackupSend, send_on};
+use srt_group_backup::send::send_on;
 use srt_group_backup::trimming::SendHistory;
 use srt_group_members::states::first_active;
+use srt_group_sending::flown::Flown;
 use srt_group_tables::history::{History, HistoryWords};
 use srt_protocol::error::Error;
 use srt_protocol::time::Timestamp;
@@ -35,7 +36,7 @@ fn send_on_promoted(
     size: u64,
     cell: u64,
     sequence: u64,
-) -> BackupSend
+) -> Flown<SendHistory>
     requires sendable { Sendable count index send.ring (backup_tables members.old history.old sources.old list.old used.old) }
     requires sent_bound { (sent ≤ max_sent - max_history - 1) × Packs sequence cell size }
     ensures { BackupFlows every (on_promoted time.0 size cell sequence index) cell count send.sending send.ring sent
@@ -62,13 +63,23 @@ fn send_on_promoted(
         return taken;
     }
     if !send_on(members, index, time, size, sequence, list, taken.sent) {
-        return BackupSend {
+        return Flown {
             outcome: Err(Error::PromotionSendFailed),
             ..taken
         };
     }
     keep_sent(
-        taken.send, history, sources, members, index, taken.sent, used, time, size, cell, sequence,
+        taken.state,
+        history,
+        sources,
+        members,
+        index,
+        taken.sent,
+        used,
+        time,
+        size,
+        cell,
+        sequence,
     )
 }
 
@@ -87,7 +98,7 @@ pub fn send_after_promotion(
     size: u64,
     cell: u64,
     sequence: u64,
-) -> BackupSend
+) -> Flown<SendHistory>
     requires sendable { Sendable count index send.ring (backup_tables members.old history.old sources.old list.old used.old) }
     requires sent_bound { (sent ≤ max_sent - max_history - 1) × Packs sequence cell size }
     ensures { BackupFlows every
@@ -98,9 +109,9 @@ pub fn send_after_promotion(
     promote_after_failure(members, count, index);
     let found = first_active(rows(members, count));
     let Some(promoted) = found else {
-        return BackupSend {
+        return Flown {
             outcome: Err(Error::AllBackupFailed),
-            send,
+            state: send,
             sent,
         };
     };

@@ -13,9 +13,10 @@ ghost use Rattle.srt_group_carrier.specs.Recording.{Kept};
 use crate::freeing::free_dropped;
 use cell_set::{CellSet, take};
 use srt_connection_members::{leg_at, membership_at};
-use srt_group_backup::send::{BackupSend, record_backup_send};
+use srt_group_backup::send::record_backup_send;
 use srt_group_backup::trimming::SendHistory;
 use srt_group_model::{Entry, Leg};
+use srt_group_sending::flown::Flown;
 use srt_group_tables::history::{HistoryWords, MAX_HISTORY, push_back};
 use srt_protocol::time::Timestamp;
 
@@ -67,7 +68,7 @@ pub fn keep_sent(
     size: u64,
     cell: u64,
     sequence: u64,
-) -> BackupSend
+) -> Flown<SendHistory>
     requires has_row { HasRow index members.now }
     requires length_le_max_history { (send.ring.length ≤ max_history) × Long (arrays history.old sources.old) }
     requires packs { Packs sequence cell size }
@@ -85,9 +86,9 @@ pub fn keep_sent(
         source: time,
     };
     let kept = remember_send(send, history, sources, used, entry, leg, membership.id);
-    BackupSend {
+    Flown {
         outcome: Ok(()),
-        send: kept,
+        state: kept,
         sent: sent + 1,
     }
 }

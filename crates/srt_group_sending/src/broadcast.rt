@@ -14,6 +14,7 @@ ghost use Rattle.srt_group_sending.specs.SentList.{send_tables};
 ghost use Rattle.srt_group_sending.specs.Broadcast.{number_for_send, is_mismatched, AttemptedAt, Attempted, SentBroadcast};
 ghost use Rattle.srt_group_model.specs.State.{with_number};
 
+use crate::flown::Flown;
 use crate::list::{Sent, write_sent};
 use srt_connection::legs::{can_send, is_connected, send_shared_with_sequence};
 use srt_connection_members::{leg_at, membership_at, put_leg_at, row, rows};
@@ -23,14 +24,6 @@ use srt_group_model::{Leg, Sending};
 use srt_protocol::error::Error;
 use srt_protocol::srt_packet::word_further;
 use srt_protocol::time::Timestamp;
-
-// What a send answers: the group's numbers after it, and how many rows of the list it has written.
-#[derive(Clone, Copy)]
-pub struct BroadcastSend {
-    pub outcome: Result<(), Error>,
-    pub sending: Sending,
-    pub sent: usize,
-}
 
 // ---- a leg that failed
 
@@ -163,7 +156,7 @@ pub fn send_broadcast(
     list: &mut [u64],
     time: Timestamp,
     size: u64,
-) -> BroadcastSend
+) -> Flown<Sending>
     requires row_size_in_bounds { (count * row_size ≤ length members.old) × (count ≤ max_members) }
     requires list_size_in_bounds { list_size ≤ length list.old }
     ensures { SentBroadcast count time.0 size sending
@@ -172,32 +165,32 @@ pub fn send_broadcast(
 {
     let found = first_active(rows(members, count));
     let Some(first) = found else {
-        return BroadcastSend {
+        return Flown {
             outcome: Err(Error::NoActiveMember),
-            sending,
+            state: sending,
             sent: 0,
         };
     };
     let sequence = sequence_for_send(row(members, first), sending);
     if sequence_mismatch(rows(members, count), sequence) {
-        return BroadcastSend {
+        return Flown {
             outcome: Err(Error::SequenceMismatch),
-            sending,
+            state: sending,
             sent: 0,
         };
     }
     let sent = attempt_sends(members, count, list, time, size, sequence);
     if sent == 0 {
-        return BroadcastSend {
+        return Flown {
             outcome: Err(Error::AllBroadcastFailed),
-            sending,
+            state: sending,
             sent,
         };
     }
     let numbered = with_number_after(sending, sequence);
-    BroadcastSend {
+    Flown {
         outcome: Ok(()),
-        sending: numbered,
+        state: numbered,
         sent,
     }
 }

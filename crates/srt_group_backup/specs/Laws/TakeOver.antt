@@ -28,12 +28,11 @@ use Rattle.srt_connection_members.specs.Laws.Members.{members_place}
 use Rattle.srt_group_members.specs.Scan.{Tried}
 use Rattle.srt_group_tables.specs.Ring.{Arrays, entry_at, entries_of, send_of}
 use Rattle.srt_group_tables.specs.declared.history.HistoryRing.{HistoryRing}
+use Rattle.srt_group_sending.specs.declared.flown.Flown.{Flown}
 use Rattle.srt_group_sending.specs.SentList.{send_tables}
 use Rattle.srt_group_sending.specs.Laws.SentList.{wrote_nothing}
 use Rattle.srt_group_sending.specs.BackupReadiness.{is_other_carrier}
 use Rattle.srt_group_sending.specs.Laws.BackupReadiness.{takes_over_is}
-use Rattle.srt_group_backup.specs.declared.replay.Replayed.{Replayed}
-use Rattle.srt_group_backup.specs.declared.takeover.Flight.{Flight}
 use Rattle.srt_group_backup.specs.declared.trimming.SendHistory.{SendHistory}
 use Rattle.srt_group_backup.specs.Trimming.{TrimmedByCarrier}
 use Rattle.srt_group_backup.specs.Replay.{EntriesReplayed}
@@ -56,7 +55,7 @@ module _ (time i : ℕ) (r : HistoryRing) (a : Arrays) (l : Leg) (t : List ℕ) 
 
   pub no_room_to_replay : {u : List ℕ} {room : ℕ} → room ≡ remaining_window_packets l → room ≤ r.length → Changed i (with_leg l) t u
       → FlightReplayed (replay_on time i (member_at t i) l) (HistoryIs (entries_of r a)) sent (send_tables t list)
-      record { outcome = Err ReplayRefused; sent = sent } (send_tables u list)
+      record { outcome = Err ReplayRefused; state = tt; sent = sent } (send_tables u list)
   unfolding replay_on if_true◌then◌else◌
   no_room_to_replay {u} {room} is full c =
       record {
@@ -70,12 +69,12 @@ module _ (time i : ℕ) (r : HistoryRing) (a : Arrays) (l : Leg) (t : List ℕ) 
             (ap (λ (l : List Member). flow_of (with_members l s) [] 28) (ap (change i (with_leg l)) ms ∙ sym (c.members n)));
       }
 
-  pub replayed_with_room : {u list_after : List ℕ} {room : ℕ} {x : Membership} {played : Replayed}
+  pub replayed_with_room : {u list_after : List ℕ} {room : ℕ} {x : Membership} {played : Flown Leg}
       → room ≡ remaining_window_packets l → r.length < room → x ≡ (member_at t i).membership
       → EntriesReplayed time x.id (entries_of r a) l sent list played list_after
-      → Changed i (with_leg played.leg) t u
+      → Changed i (with_leg played.state) t u
       → FlightReplayed (replay_on time i (member_at t i) l) (HistoryIs (entries_of r a)) sent (send_tables t list)
-      record { outcome = played.outcome; sent = played.sent } (send_tables u list_after)
+      record { outcome = played.outcome; state = tt; sent = played.sent } (send_tables u list_after)
   unfolding replay_on if_true◌then◌else◌
   replayed_with_room {u} {list_after} {room} {x} {played} is enough member replayed c =
       record {
@@ -150,7 +149,7 @@ module _ (time i : ℕ) (x : Sending) (r : HistoryRing) (a : Arrays) (t : List �
 
   pub gap_not_replayed : (x.gap ≡ 0 → ⊥)
       → FlightReplayed whole_flight (SendIs (send_of x r a)) sent (send_tables t list)
-      record { outcome = Err ReplayRefused; sent = sent } (send_tables t list)
+      record { outcome = Err ReplayRefused; state = tt; sent = sent } (send_tables t list)
   gap_not_replayed gap =
       record {
         long = refl;
@@ -175,7 +174,7 @@ module _ (time i : ℕ) (x : Sending) (r : HistoryRing) (a : Arrays) (t : List �
 
     pub unaligned_not_replayed : result ≡ None
         → FlightReplayed whole_flight (SendIs (send_of x r a)) sent (send_tables t list)
-        record { outcome = Err ReplayRefused; sent = sent } (send_tables t list)
+        record { outcome = Err ReplayRefused; state = tt; sent = sent } (send_tables t list)
     unfolding if_some◌give◌otherwise◌
     unaligned_not_replayed err =
         record {
@@ -190,7 +189,7 @@ module _ (time i : ℕ) (x : Sending) (r : HistoryRing) (a : Arrays) (t : List �
               (ap (λ (z : State). flow_of z [] 28) (members_again s (members_of n t) ms));
         }
 
-    pub aligned_replayed : {u list_after : List ℕ} {answer : Flight} (k : Leg) → result ≡ Some k
+    pub aligned_replayed : {u list_after : List ℕ} {answer : Flown (Unit {0})} (k : Leg) → result ≡ Some k
         → FlightReplayed (replay_on time i (member_at t i) k) (HistoryIs (entries_of r a)) sent (send_tables t list) answer
         (send_tables u list_after)
         → FlightReplayed whole_flight (SendIs (send_of x r a)) sent (send_tables t list) answer (send_tables u list_after)
@@ -326,7 +325,7 @@ module _ (time i n : ℕ) (t : List ℕ) (below : i < n) where
 
     pub no_take_over : {u : List ℕ} {outcome : Outcome} → r.length ≤ max_history → answer ≡ false → CarrierAligned i n x t outcome u
         → TookOver (take_over_backup_flight time i) n x r a sent (send_tables t list)
-        record { outcome = outcome; send = record { sending = x; ring = r }; sent = sent } (send_tables u list)
+        record { outcome = outcome; state = record { sending = x; ring = r }; sent = sent } (send_tables u list)
     no_take_over {u} {outcome} fits no_other aligned =
         record {
           long = aligned.long;
@@ -347,7 +346,7 @@ module _ (time i n : ℕ) (t : List ℕ) (below : i < n) where
 
       pub took_over_nothing : {u : List ℕ} {outcome : Outcome} → trimmed.ring.length ≡ 0 → CarrierAligned i n trimmed.sending t outcome u
           → TookOver (take_over_backup_flight time i) n x r a sent (send_tables t list)
-          record { outcome = outcome; send = trimmed; sent = sent } (send_tables u list)
+          record { outcome = outcome; state = trimmed; sent = sent } (send_tables u list)
       unfolding at_place
       took_over_nothing {u} {outcome} empty aligned =
           record {
@@ -365,11 +364,11 @@ module _ (time i n : ℕ) (t : List ℕ) (below : i < n) where
                 ∙ aligned.flow (with_send trimmed_send s) ms refl;
           }
 
-      pub took_over_flight : {u list_after : List ℕ} {flight : Flight} → (trimmed.ring.length ≡ 0 → ⊥)
+      pub took_over_flight : {u list_after : List ℕ} {flight : Flown (Unit {0})} → (trimmed.ring.length ≡ 0 → ⊥)
           → FlightReplayed (replay_flight time i (member_at t i) (entry_at trimmed.ring a 0)) (SendIs trimmed_send) sent
           (send_tables t list) flight (send_tables u list_after)
           → TookOver (take_over_backup_flight time i) n x r a sent (send_tables t list)
-          record { outcome = flight.outcome; send = trimmed; sent = flight.sent }
+          record { outcome = flight.outcome; state = trimmed; sent = flight.sent }
           (send_tables u list_after)
       took_over_flight {u} {list_after} {flight} some_there replayed =
           record {

@@ -425,7 +425,7 @@ answered s xs code = record { state = s; sends = xs; code = code }
 
 module _ (n time size : ℕ) (x : Sending) (t a : List ℕ) where
   pub none_active_left : None ≡ first_active (members_of n t)
-      → SentBroadcast n time size x (send_tables t a) record { outcome = Err NoActiveMember; sending = x; sent = 0 } (send_tables t a)
+      → SentBroadcast n time size x (send_tables t a) record { outcome = Err NoActiveMember; state = x; sent = 0 } (send_tables t a)
   unfolding send_broadcast is_empty if_true◌then◌else◌ tab
   none_active_left e =
       record {
@@ -442,7 +442,7 @@ module _ (n time size : ℕ) (x : Sending) (t a : List ℕ) where
       (is_sequence : sequence ≡ number_for_send x (member_at t i))
       (is_mismatch : mismatch ≡ sequence_mismatch sequence (such_that is_active (members_of n t))) where
     pub mismatch_left : mismatch ≡ true
-        → SentBroadcast n time size x (send_tables t a) record { outcome = Err SequenceMismatch; sending = x; sent = 0 } (send_tables t a)
+        → SentBroadcast n time size x (send_tables t a) record { outcome = Err SequenceMismatch; state = x; sent = 0 } (send_tables t a)
     unfolding send_broadcast if_true◌then◌else◌ tab
     mismatch_left e =
         record {
@@ -473,7 +473,7 @@ module _ (n time size : ℕ) (x : Sending) (t a : List ℕ) where
       members_are s members = ap (each (attempt_send time size sequence)) members ∙ sym tried.members
 
       pub all_failed : sent ≡ 0
-          → SentBroadcast n time size x (send_tables t a) record { outcome = Err AllBroadcastFailed; sending = x; sent = sent } (send_tables u b)
+          → SentBroadcast n time size x (send_tables t a) record { outcome = Err AllBroadcastFailed; state = x; sent = sent } (send_tables u b)
       unfolding send_broadcast if_true◌then◌else◌
       all_failed zero_sent =
           record {
@@ -501,7 +501,7 @@ module _ (n time size : ℕ) (x : Sending) (t a : List ℕ) where
           no_rows = sym (nothing_shown b) ∙ ap (λ (k : ℕ). sent_rows k b) (sym zero_sent)
 
       pub sent_by_some : {y : Sending} → (sent ≡ 0 → ⊥) → y ≡ with_number (sequence_further sequence 1) x
-          → SentBroadcast n time size x (send_tables t a) record { outcome = (Ok tt); sending = y; sent = sent } (send_tables u b)
+          → SentBroadcast n time size x (send_tables t a) record { outcome = (Ok tt); state = y; sent = sent } (send_tables u b)
       unfolding send_broadcast if_true◌then◌else◌
       sent_by_some {y} some_sent is_number =
           record {

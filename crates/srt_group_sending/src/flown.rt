@@ -1,0 +1,11 @@
+// What a part of a send leaves.
+use srt_protocol::error::Error;
+
+// What a send, or a part of it, leaves of what it moves by value, and how many rows of the list are in use then; or why it was refused, with
+// the same of what it did before.
+#[derive(Clone, Copy)]
+pub struct Flown<S> {
+    pub outcome: Result<(), Error>,
+    pub state: S,
+    pub sent: usize,
+}
