@@ -5,4 +5,4 @@ use Rattle.listing_lines.specs.Laws.Taken.{last_line_taken}
 use Rattle.listing_lines.proofs.taking.last_row.Goals as goal
 
 pub returns : goal.returns
-returns g c = last_line_taken c.args.line.now _ _ _ (eqb-false _ _ (sym c.is_empty.ensures ∙ c.if-is_empty.false)) (omega (arith, c.requires)) refl c.read.ensures
+returns c = last_line_taken c.args.line.now _ _ _ (eqb-false _ _ (sym c.is_empty.ensures ∙ c.if-is_empty.false)) (omega (arith, c.requires)) refl c.read.ensures
