@@ -53,11 +53,9 @@ pub fn mark_send_failure_at(members: &mut [u64], index: usize)
 pub fn above_limit(rows: &[Row], size: u64) -> bool
     ensures { result ≡ above_limit size (members_in rows.now) }
 {
-    let first = first_active(rows);
-    let Some(index) = first else {
-        return false;
-    };
-    leg(&rows[index]).link.limit < size
+    rows.iter()
+        .find(|row| is_active(row))
+        .is_some_and(|row| leg(row).link.limit < size)
 }
 
 // The group's send number, else the next number of the member's leg.

@@ -13,8 +13,8 @@ use Rattle.word_rows.specs.Laws.Tab.{tab_push}
 use Rattle.srt_protocol.specs.Sequence.{sequence_further}
 use Rattle.srt_protocol.specs.declared.error.Error.TheVariants.{NoActiveMember, SequenceMismatch, AllBroadcastFailed}
 use Rattle.srt_group_tables.specs.Laws.PacketLaws.{each_append}
-use Rattle.std.specs.Option.{unwrap_or}
-use Rattle.srt_group_model.specs.Tools.{if_true◌then◌else◌, if_some◌give◌otherwise◌, is_set, flagged, is_empty, any, such_that, place_of, at_place, each}
+use Rattle.std.specs.Option.{MatchOption, option_map, unwrap_or}
+use Rattle.srt_group_model.specs.Tools.{if_true◌then◌else◌, if_some◌give◌otherwise◌, is_set, flagged, is_empty, any, first_such, such_that, place_of, at_place, each}
 use Rattle.srt_group_model.specs.State.{Member, Send, State, with_leg, turned, unstable_state, broken_state, with_number}
 use Rattle.srt_group_model.specs.Laws.Flag.{zero_unset, other_set}
 use Rattle.srt_group_model.specs.Legs.{is_connected, can_send, send_shared_with_sequence}
@@ -143,6 +143,30 @@ module _ (rows : List (List ℕ)) (size : ℕ) where
       let first = such_that_first is_active (members_in rows) i (found_some (place_of is_active (members_in rows)) i e) in
       let there = row_there i rows (row_found is_active rows i e) in
       ap (λ (l : Leg). ltb l.link.limit size) is_leg ∙ sym (rw (first, there))
+
+  first_passing : (test : Member → Bool) (ms : List Member) → first_such test ms ≡ at_place 0 (such_that test ms)
+  unfolding first_such such_that at_place if_true◌then◌else◌
+  first_passing test [] = refl
+  first_passing test (m ∷ ms) = go (test m) (first_passing test ms)
+    where
+      go : (b : Bool) → first_such test ms ≡ at_place 0 (such_that test ms)
+          → (if_true b then Some m else first_such test ms) ≡ at_place 0 (if_true b then m ∷ such_that test ms else such_that test ms)
+      go true behind = refl
+      go false behind = behind
+
+  pub limit_by_first : {A : Type 0} (seen : A → Member) (found : Option A) {answer : Bool}
+      → option_map seen found ≡ first_such is_active (members_in rows)
+      → MatchOption found (answer ≡ false) (λ x. answer ≡ ltb (seen x).leg.link.limit size) → answer ≡ above_limit size (members_in rows)
+  unfolding above_limit if_some◌give◌otherwise◌
+  limit_by_first {A = A} seen found {answer} first given =
+      by found given
+      ∙ ap (λ (o : Option Member). if_some o give (λ m. ltb m.leg.link.limit size) otherwise false)
+      (first ∙ first_passing is_active (members_in rows))
+    where
+      by : (o : Option A) → MatchOption o (answer ≡ false) (λ x. answer ≡ ltb (seen x).leg.link.limit size)
+          → answer ≡ (if_some option_map seen o give (λ m. ltb m.leg.link.limit size) otherwise false)
+      by None g = g
+      by (Some x) g = g
 
 module _ (x : Sending) (m : Member) where
   pub numbered_number : (x.numbered ≡ 0 → ⊥) → x.next ≡ number_for_send x m
