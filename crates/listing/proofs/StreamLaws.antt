@@ -14,7 +14,7 @@ use Rattle.std.specs.List.{position, position_or_len}
 use Rattle.std.proofs.lemmas.Option.{cond_some, none-some}
 use borrow.Author.Tests.{ltb-true, ltb-false, leb-true, leb-false}
 use Rattle.listing.proofs.Cases.{by_cases}
-use Rattle.listing.proofs.PlacedLaws.{append_nil}
+use Rattle.std.proofs.lemmas.List.{append-nil}
 use Rattle.listing.specs.Stream.{lines, in_front, joined, has_feed, first_line, after_feed, ended, open_line, last_line}
 use Rattle.listing.specs.Laws.Stream.{lines_of_blocks}
 use Rattle.listing.specs.Held.{Held, SameBuffer, TakenFrom}
@@ -142,7 +142,7 @@ pub ended_at_feed :
 unfolding ended open_line has_feed first_line after_feed
 ended_at_feed before [] h = absurd (true≢false (sym h))
 ended_at_feed before (byte ∷ block) h = by_cases (eqb byte 10)
-    (λ t. (rw (t, append_nil before), rw t))
+    (λ t. (rw (t, append-nil before), rw t))
     (λ f.
     let more = ended_at_feed (before ++ (byte ∷ [])) block (rw f at h) in (
       rw f (more.0 ∙ ap (λ (line : List ℕ). line ∷ ended [] (after_feed block)) (append_snoc before byte (first_line block))),
@@ -153,7 +153,7 @@ ended_at_feed before (byte ∷ block) h = by_cases (eqb byte 10)
 pub ended_without_feed :
     (before block : List ℕ) → has_feed block ≡ false → (ended before block ≡ []) × (open_line before block ≡ before ++ block)
 unfolding ended open_line has_feed
-ended_without_feed before [] h = (refl, sym (append_nil before))
+ended_without_feed before [] h = (refl, sym (append-nil before))
 ended_without_feed before (byte ∷ block) h = by_cases (eqb byte 10)
     (λ t. absurd (true≢false (rw t at h)))
     (λ f.
@@ -182,7 +182,7 @@ beyond_end (inr never) = absurd (omega (arith, never))
 pub none_taken_behind : (block : List ℕ) (from : ℕ) (held : OpenLine) → length block < from → TakenFrom (drop from block) held held None
 unfolding has_feed first_line
 none_taken_behind block from held behind =
-    rw (drop_of_length-le block {i = from} (omega arith)) (record { same = record { reference = refl; room = refl }; holds = λ line h. rw (append_nil line) h; behind = refl })
+    rw (drop_of_length-le block {i = from} (omega arith)) (record { same = record { reference = refl; room = refl }; holds = λ line h. rw (append-nil line) h; behind = refl })
 
 pub held_is_nothing : (line : List ℕ) (held : OpenLine) → held.size ≡ 0 → Held line held → line ≡ []
 held_is_nothing line held none h = sym (h.within (omega arith)) ∙ rw none

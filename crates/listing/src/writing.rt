@@ -4,14 +4,10 @@ ghost use Rattle.listing.specs.Text.{digits, right_justified, line_text};
 ghost use Rattle.listing.specs.Placed.{placed, Placed, PlacedOrRefused};
 
 // How many decimal digits a number has.
-#[tactic(auto, using(crate::proofs::TextLaws::digits_of_one, crate::proofs::TextLaws::digits_from_power, crate::proofs::TextLaws::digits_below_power))]
 fn digit_count(number: u64) -> usize
     ensures { result ≡ length (digits number) }
 {
-    match number.checked_ilog10() {
-        Some(log) => log as usize + 1,
-        None => 1,
-    }
+    number.checked_ilog10().map_or(1, |log| log as usize + 1)
 }
 
 // How wide a number's column is: the width, or as many digits as it needs.

@@ -9,14 +9,14 @@ use lib.ListN.{length, take}
 use lib.Seq.{take_all}
 use Rattle.listing.specs.Line.{begins_with_columns}
 use Rattle.listing.proofs.LineLaws.{columns_done, values_done}
-use Rattle.listing.proofs.PlacedLaws.{append_nil}
+use Rattle.std.proofs.lemmas.List.{append-nil}
 use Rattle.listing.proofs.reading.read_columns.Goals as goal
 
 -- with every number stored and no column left, the numbers are the values
 all_read :
     (numbers rest all : List ℕ) (index : ℕ) → length numbers ≤ index → rest ≡ [] → take index numbers ++ rest ≡ all → numbers ≡ all
 all_read numbers rest all index h none e =
-    sym (append_nil numbers) ∙ (rw (take_all index numbers h, none) at e)
+    sym (append-nil numbers) ∙ (rw (take_all index numbers h, none) at e)
 
 pub returns : goal.returns
 returns c =
