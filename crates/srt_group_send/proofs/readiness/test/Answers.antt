@@ -1,5 +1,5 @@
 -- `test` meets its contract: the mode decides, and in Backup the time.
-use mathlib.Core.Path.{ap, sym, ◌∙◌}
+use mathlib.Core.Path.{ap, ◌∙◌}
 use Rattle.srt_group_model.specs.Tools.{any}
 use Rattle.srt_group_sending.specs.Readiness.{pacing_in, sends_now}
 use native.Mathlib.Omega.{arith}
