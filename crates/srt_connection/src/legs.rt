@@ -150,13 +150,6 @@ pub fn synchronize_send_sequence(mut leg: Leg, sequence: u64) -> Option<Leg>
     Some(leg)
 }
 
-// A sum less a count, least 0.
-pub fn less(sum: u64, count: u64) -> u64
-    ensures { result ≡ sum - count }
-{
-    sum.saturating_sub(count)
-}
-
 pub fn disconnect(mut leg: Leg) -> Leg
     ensures { result ≡ disconnect_leg leg }
 {

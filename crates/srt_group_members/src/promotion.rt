@@ -13,6 +13,7 @@ use crate::states::{ACTIVE, has_active_member, is_backup, is_standby, turn_at};
 use srt_connection_members::rows;
 use srt_connection_queue::rows::{Row, membership};
 
+// Kept (4): as pairs, `(second.weight, first.id) < (first.weight, second.id)`, it is no plainer: weights and ids go opposite ways.
 #[tactic(auto, unfolding(srt_group_model::specs::Members::outranks))]
 fn outranks(a: &Row, b: &Row) -> bool
     ensures { result ≡ outranks (member_of a.now) (member_of b.now) }
@@ -43,7 +44,8 @@ fn first_in_rank_with(rows: &[Row], index: usize, best: Option<usize>) -> Option
 }
 
 // The index of the member that is promoted.
-// Kept (3): from the last row to the first, so that of equals the first stays; a fold would carry each row with its index, and is no plainer.
+// Kept (3): from the last row to the first, so that of equals the first stays. A fold or `min_by_key` is no plainer: it carries each row with its index,
+// its key turns the weight round, and no lemma of the library says which of equals it picks from a list.
 #[tactic(auto, using(crate::specs::Laws::Rank::ranking_start, crate::specs::Laws::Rank::ranking_row, crate::specs::Laws::Rank::ranking_done))]
 pub fn promotion(rows: &[Row]) -> Option<usize>
     ensures { result ≡ promotion (members_in rows.now) }

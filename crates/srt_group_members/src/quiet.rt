@@ -13,6 +13,7 @@ use crate::states::{
 };
 use srt_connection_queue::rows::{Row, admitted, link_state, member_state};
 
+// Kept (1): a flag of the row is asked as the word that it is, as the definitions ask it.
 // Broken; or still handshaking; or connected, admitted, and Active or Standby. Three words of the row are read.
 #[tactic(auto, unfolding(crate::specs::Quiet::is_steady))]
 fn is_steady(row: &Row) -> bool
@@ -37,8 +38,5 @@ fn all_steady(rows: &[Row]) -> bool
 pub fn is_quiet(rows: &[Row], mode: u64) -> bool
     ensures { result ≡ is_quiet mode (members_in rows.now) }
 {
-    if !all_steady(rows) {
-        return false;
-    }
-    !is_backup(mode) || has_active_member(rows)
+    all_steady(rows) && (!is_backup(mode) || has_active_member(rows))
 }

@@ -120,6 +120,7 @@ fn requalify_at(members: &mut [u64], count: usize, refresh: Refresh, index: usiz
     turn_at(members, index, state);
 }
 
+// Kept (2): as one with `settle_pending_members`, over a closure, a clause would say of the closure what `Became` says of each step: longer than the loop.
 #[tactic(auto, using(crate::specs::Laws::Refresh::stepping_start, crate::specs::Laws::Refresh::stepping_on, crate::specs::Laws::Refresh::stepping_done))]
 fn requalify_unstable_members(members: &mut [u64], count: usize, refresh: Refresh)
     requires { count * row_size ≤ length members.old }

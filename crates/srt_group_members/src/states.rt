@@ -79,8 +79,7 @@ pub fn is_standby(row: &Row) -> bool
     is_connected_in(row, STANDBY)
 }
 
-// Kept (5): the membership is put whole, by the writer that srt_connection_members has of it; one of the state's word alone would be
-// faster, but a further way into a row, and is no plainer.
+// Kept (5): the table comes as words through the C interface, and that its row is there is said of this call's own index.
 pub fn turn_at(members: &mut [u64], index: usize, state: u64)
     requires { HasRow index members.old }
     ensures { Changed index (turned state) members.old members.new }

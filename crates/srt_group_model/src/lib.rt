@@ -18,7 +18,7 @@ use srt_protocol::time::Timestamp;
 
 // What a leg's queue holds of a DATA packet: the fields of `ConnectionEvent::DataReceived`, its payload in a cell.
 #[repr(C)]
-#[derive(Clone, Copy)]
+#[derive(Clone, Copy, Default)]
 pub struct Data {
     // sequence_number
     pub sequence: u64,
@@ -171,6 +171,7 @@ pub struct Membership {
 #[derive(Clone, Copy)]
 pub struct MemberShown {
     pub membership: Membership,
+    // Kept (1): the word of the row, which is shown to C as it is.
     pub connection: u64,
 }
 
@@ -186,6 +187,7 @@ pub struct Identity {
     // group_id
     pub id: u64,
     // the store's length given at the start, or 0
+    // Kept (1): a word of the record, in which a C host writes 0 for none.
     pub length: usize,
 }
 
@@ -257,7 +259,7 @@ impl Sending {
 #[derive(Clone, Copy, Default)]
 pub struct Visit {
     // receive_continuation
-    // Kept (1): a C host lends the record as words; a `bool` here cost 50 ns a poll (docs/DECISIONS.md).
+    // Kept (1): a C host lends the record as words, and whatever it lends has to be readable, so that 6 can refuse it.
     pub continuation: u64,
     // next_event_member
     pub round: usize,

@@ -28,11 +28,10 @@ fn read_waiting(row: &[u64; WAITING_WORDS]) -> Waiting
 }
 
 #[tactic(auto, unfolding(crate::specs::Waitings::waiting_words))]
-fn write_waiting(row: &mut [u64], event: Waiting)
-    requires { length row.old ≡ waiting_row_size }
+fn write_waiting(row: &mut [u64; WAITING_WORDS], event: Waiting)
     ensures { row.new ≡ waiting_words event }
 {
-    *row.as_mut_array().unwrap() = [event.member, event.kind, event.reason];
+    *row = [event.member, event.kind, event.reason];
 }
 
 // The event of a row: the first is the front.
@@ -53,7 +52,12 @@ pub fn push_back(waiting: &mut [u64], count: usize, event: Waiting)
         (waitings count waiting.old ++ (event ∷ [])) }
 {
     let start = count * WAITING_WORDS;
-    write_waiting(&mut waiting[start..start + WAITING_WORDS], event);
+    write_waiting(
+        waiting[start..start + WAITING_WORDS]
+            .as_mut_array()
+            .unwrap(),
+        event,
+    );
 }
 
 // The front goes.

@@ -43,11 +43,6 @@ pub lent_member : (t : List ℕ) (i : ℕ) → member_of (take (i * row_size + r
 unfolding member_at
 lent_member t i = ap member_of (row_part row_size t i)
 
--- a row that `as_chunks` lends shows the member at that index
-pub row_shows : (i k : ℕ) (t : List ℕ) → i < k → member_of (get_or (first_chunks row_size k t) i []) ≡ member_at t i
-unfolding member_at
-row_shows i k t below = ap member_of (chunk_there row_size k i t below)
-
 -- the rows that `as_chunks` lends show the members
 pub rows_show : (n k : ℕ) (t : List ℕ) → n ≤ k → members_in (take n (first_chunks row_size k t)) ≡ members_of n t
 unfolding members_of member_at
@@ -215,14 +210,6 @@ changing_done i n f t u l h c =
       others = λ j k. c.left j (omega arith);
       members = tab_each n (member_at t) (member_at u) f (λ j k. c.done j (omega arith));
     }
-
--- ---- rows that are made and moved
-
--- a new member's row: its membership, its leg, and no event
-pub new_put : (r₀ r₁ r₂ r₃ : List ℕ) (x : Membership) (l : Leg) → Kept r₁ (with_membership x (member_of r₀))
-    → Kept r₂ (with_leg l (member_of r₁)) → Kept r₃ (cleared (member_of r₂)) → Kept r₃ (new_member x l)
-new_put r₀ r₁ r₂ r₃ x l a b c =
-    record { long = c.long; is = c.is ∙ ap cleared (b.is ∙ ap (with_leg l) a.is) }
 
 -- ---- the row of an id
 

@@ -104,22 +104,7 @@ module _ (rows : List (List ℕ)) where
   ranking_row left None ranking = tt
   ranking_row left (Some i) ranking = omega (arith, ranking.there)
 
--- ---- one comparison
-
-module _ (a b : Member) {x y : Membership} (first : x ≡ a.membership) (second : y ≡ b.membership) where
-  pub outranks_by_weight : y.weight < x.weight → true ≡ outranks a b
-  unfolding outranks
-  outranks_by_weight more = sym (rw (← first, ← second, lt-ltb y.weight x.weight more))
-
-  pub outranked_by_weight : x.weight ≤ y.weight → (x.weight ≡ y.weight → ⊥) → false ≡ outranks a b
-  unfolding outranks
-  outranked_by_weight less other =
-      sym (rw (← first, ← second, le-ltb y.weight x.weight less, ne_eqb x.weight y.weight other))
-
-  pub outranks_by_id : x.weight ≡ y.weight → ltb x.id y.id ≡ outranks a b
-  unfolding outranks
-  outranks_by_id same =
-      sym (rw (← first, ← second, le-ltb y.weight x.weight (omega arith), eq-eqb x.weight y.weight same))
+-- ---- one row
 
 module _ (rows : List (List ℕ)) (i : ℕ) where
   pub first_unless_standby : {answer : Bool} (best : Option ℕ) → answer ≡ is_standby (shown rows i) → answer ≡ false
