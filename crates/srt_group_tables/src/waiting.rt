@@ -27,11 +27,13 @@ fn read_waiting(row: &[u64; WAITING_WORDS]) -> Waiting
     }
 }
 
+// Kept (6): tried as a lent array of three words: the proof of `push_back` did not close.
 #[tactic(auto, unfolding(crate::specs::Waitings::waiting_words))]
-fn write_waiting(row: &mut [u64; WAITING_WORDS], event: Waiting)
+fn write_waiting(row: &mut [u64], event: Waiting)
+    requires { length row.old ≡ waiting_row_size }
     ensures { row.new ≡ waiting_words event }
 {
-    *row = [event.member, event.kind, event.reason];
+    *row.as_mut_array().unwrap() = [event.member, event.kind, event.reason];
 }
 
 // The event of a row: the first is the front.
@@ -52,12 +54,7 @@ pub fn push_back(waiting: &mut [u64], count: usize, event: Waiting)
         (waitings count waiting.old ++ (event ∷ [])) }
 {
     let start = count * WAITING_WORDS;
-    write_waiting(
-        waiting[start..start + WAITING_WORDS]
-            .as_mut_array()
-            .unwrap(),
-        event,
-    );
+    write_waiting(&mut waiting[start..start + WAITING_WORDS], event);
 }
 
 // The front goes.
