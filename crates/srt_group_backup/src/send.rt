@@ -1,6 +1,6 @@
 // The call's own payload on one member, and what is recorded of it.
 // Kept (5, 6): which tables a function changes differs from one to the next, so a struct of `&mut` would be another for each (docs/DECISIONS.md).
-// Kept (5): the rules take a payload's time, size, cell and sequence one by one, so a struct of them would be taken apart in each clause, and is no plainer.
+// Kept (5): `send_on` alone takes time, size and sequence with no cell, which an `Entry` has: a struct for one function is no plainer.
 ghost use Rattle.std.specs.Prelude.{◌≡◌, ◌+◌, ◌*◌, ◌≤◌, length};
 ghost use Rattle.srt_group_model.specs.Sending.{sent_row_size};
 ghost use Rattle.srt_group_model.specs.Backup.{max_history};
@@ -61,6 +61,7 @@ pub fn record_backup_send(
 {
     store(send.ring, history, sources, entry);
     let mut numbers = with_number_after(send.sending, entry.sequence);
+    // Kept (1): the carrier and its flag are words of the lent record, set here alone: a setter for one place is no plainer.
     numbers.carried = 1;
     numbers.carrier = carrier;
     let pushed = HistoryWords {

@@ -52,11 +52,9 @@ pub fn replay_on(
     let membership = membership_at(members, index);
     let id = membership.id;
     let played = replay_entries(leg, history, time, id, list, sent);
-    let outcome = played.outcome;
-    let after = played.state;
-    put_leg_at(members, index, after);
+    put_leg_at(members, index, played.state);
     Flown {
-        outcome,
+        outcome: played.outcome,
         state: (),
         sent: played.sent,
     }
@@ -111,10 +109,11 @@ pub fn align_carrier(
     requires { count * row_size ≤ length members.old }
     ensures { CarrierAligned index count sending members.old result members.new }
 {
-    if sending.numbered == 0 {
+    let number = sending.next_send_sequence();
+    if number.is_none() {
         return Ok(());
     }
-    if !align_member_sequence(members, count, sending.next_send_sequence(), index) {
+    if !align_member_sequence(members, count, number, index) {
         return Err(Error::AlignmentFailed);
     }
     Ok(())

@@ -1,7 +1,7 @@
 // One Backup send. A carrier that fell silent is demoted first; a member that takes over from another carrier replays the flight that
 // is not acknowledged, so that the receiver gets no hole; after a failed send another member is promoted, and tried once.
 // Kept (5, 6): which tables a function changes differs from one to the next, so a struct of `&mut` would be another for each (docs/DECISIONS.md).
-// Kept (5): the rules take a payload's time, size, cell and sequence one by one, so a struct of them would be taken apart in each clause, and is no plainer.
+// Kept (5): a payload has a time, a size and a cell before it has its sequence; with it, it is an `Entry`.
 // Kept (1): the mode is the record's word, which a C host lends so that 6 can refuse it; an enum of it would be `is_backup` again at each call.
 ghost use Rattle.std.specs.Prelude.{◌-◌, ◌≤◌, ◌<◌};
 ghost use Rattle.srt_group_model.specs.Sending.{max_sent};
@@ -21,9 +21,9 @@ use srt_group_carrier::carrier::{ready_members, take_over};
 use srt_group_carrier::promotion::send_after_promotion;
 use srt_group_carrier::recording::keep_sent;
 use srt_group_members::states::first_active;
+use srt_group_model::Entry;
 use srt_group_sending::broadcast::sequence_for_send;
 use srt_group_sending::flown::Flown;
-use srt_group_tables::history::{History, HistoryWords};
 use srt_protocol::error::Error;
 use srt_protocol::time::Timestamp;
 
@@ -57,13 +57,17 @@ fn send_at_place(
             sent,
         };
     }
+    let entry = Entry {
+        sequence,
+        cell,
+        length: size,
+        source: time,
+    };
     if send_on(members, index, time, size, sequence, list, sent) {
-        return keep_sent(
-            send, history, sources, members, index, sent, used, time, size, cell, sequence,
-        );
+        return keep_sent(send, history, sources, members, index, sent, used, entry);
     }
     send_after_promotion(
-        send, history, sources, members, count, index, list, sent, used, time, size, cell, sequence,
+        send, history, sources, members, count, index, list, sent, used, entry,
     )
 }
 
@@ -88,21 +92,8 @@ fn send_on_carrier(
         (backup_tables members.old history.old sources.old list.old used.old) result
         (backup_tables members.new history.new sources.new list.new used.new) }
 {
-    let words = HistoryWords {
-        ring: send.ring,
-        history,
-    };
-    let flight = History { words, sources };
     let taken = take_over(
-        send.sending,
-        &flight,
-        members,
-        count,
-        index,
-        list,
-        0,
-        used,
-        time,
+        send, history, sources, members, count, index, list, 0, used, time,
     );
     if taken.outcome.is_err() {
         return taken;

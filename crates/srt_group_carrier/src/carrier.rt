@@ -23,10 +23,9 @@ use srt_group_backup::stale::demote_stale_backup_carrier;
 use srt_group_backup::takeover::take_over_backup_flight;
 use srt_group_backup::trimming::SendHistory;
 use srt_group_members::promotion::{promote_backup_member, promote_if_none};
-use srt_group_model::Sending;
 use srt_group_sending::broadcast::mark_send_failure_at;
 use srt_group_sending::flown::Flown;
-use srt_group_tables::history::History;
+use srt_group_tables::history::{History, HistoryWords};
 use srt_protocol::time::Timestamp;
 
 // The carrier is demoted if it fell silent, and another is promoted if no member is active then.
@@ -54,8 +53,9 @@ pub fn promote_after_failure(members: &mut [u64], count: usize, index: usize)
 
 // The take-over, with the cells of the entries that its trim dropped free again.
 pub fn take_over(
-    sending: Sending,
-    history: &History,
+    send: SendHistory,
+    history: &[u64],
+    sources: &[u64],
     members: &mut [u64],
     count: usize,
     index: usize,
@@ -64,17 +64,31 @@ pub fn take_over(
     used: &mut CellSet,
     time: Timestamp,
 ) -> Flown<SendHistory>
-    requires sendable { Sendable count index history.now.words.ring (backup_tables members.old history.now.words.history.now history.now.sources.now list.old used.old) }
+    requires sendable { Sendable count index send.ring (backup_tables members.old history.now sources.now list.old used.old) }
     requires sent_bound { sent ≤ max_sent - max_history }
-    ensures took_over { TookOver (take_over_backup_flight time.0 index) count sending history.now.words.ring
-        (arrays history.now.words.history.now history.now.sources.now) sent
+    ensures took_over { TookOver (take_over_backup_flight time.0 index) count send.sending send.ring
+        (arrays history.now sources.now) sent
         (send_tables members.old list.old) result
         (send_tables members.new list.new) }
     ensures trim_follows { TrimFollows
-        (entries_of history.now.words.ring (arrays history.now.words.history.now history.now.sources.now)) used.old
-        (entries_of result.state.ring (arrays history.now.words.history.now history.now.sources.now)) used.new }
+        (entries_of send.ring (arrays history.now sources.now)) used.old
+        (entries_of result.state.ring (arrays history.now sources.now)) used.new }
 {
-    let taken = take_over_backup_flight(sending, history, members, count, index, list, sent, time);
-    free_dropped(&history.words, taken.state.ring.length, used);
+    let words = HistoryWords {
+        ring: send.ring,
+        history,
+    };
+    let flight = History { words, sources };
+    let taken = take_over_backup_flight(
+        send.sending,
+        &flight,
+        members,
+        count,
+        index,
+        list,
+        sent,
+        time,
+    );
+    free_dropped(&flight.words, taken.state.ring.length, used);
     taken
 }

@@ -1,6 +1,5 @@
 // A payload that was sent joins the history in its cell, until its carrier's peer acknowledges it.
 // Kept (5, 6): which tables a function changes differs from one to the next, so a struct of `&mut` would be another for each (docs/DECISIONS.md).
-// Kept (5): the rules take a payload's time, size, cell and sequence one by one, so a struct of them would be taken apart in each clause, and is no plainer.
 ghost use Rattle.std.specs.Prelude.{◌≤◌, ◌<◌};
 ghost use Rattle.srt_group_model.specs.Sending.{max_sent};
 ghost use Rattle.srt_group_model.specs.Backup.{max_history};
@@ -18,7 +17,6 @@ use srt_group_backup::trimming::SendHistory;
 use srt_group_model::{Entry, Leg};
 use srt_group_sending::flown::Flown;
 use srt_group_tables::history::{HistoryWords, MAX_HISTORY, push_back};
-use srt_protocol::time::Timestamp;
 
 // The entry's cell is taken. A full history loses its oldest entry before, and what the carrier's peer acknowledged after: their cells
 // are free. `leg` is the carrier's leg after the send.
@@ -64,27 +62,18 @@ pub fn keep_sent(
     index: usize,
     sent: usize,
     used: &mut CellSet,
-    time: Timestamp,
-    size: u64,
-    cell: u64,
-    sequence: u64,
+    entry: Entry,
 ) -> Flown<SendHistory>
     requires has_row { HasRow index members.now }
     requires length_le_max_history { (send.ring.length ≤ max_history) × Long (arrays history.old sources.old) }
-    requires packs { Packs sequence cell size }
+    requires packs { Packs entry.sequence entry.cell entry.length }
     requires sent_lt_max_sent { sent < max_sent }
-    ensures { Kept time.0 size cell sequence (member_at members.now index) send.sending send.ring sent
+    ensures { Kept entry.source.0 entry.length entry.cell entry.sequence (member_at members.now index) send.sending send.ring sent
         (arrays history.old sources.old) used.old result
         (arrays history.new sources.new) used.new }
 {
     let membership = membership_at(members, index);
     let leg = leg_at(members, index);
-    let entry = Entry {
-        sequence,
-        cell,
-        length: size,
-        source: time,
-    };
     let kept = remember_send(send, history, sources, used, entry, leg, membership.id);
     Flown {
         outcome: Ok(()),

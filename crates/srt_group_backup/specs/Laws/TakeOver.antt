@@ -1,16 +1,16 @@
 -- What is proved of the definitions in specs/TakeOver.antt, with what the proofs need.
 use Rattle.srt_protocol.specs.Errors.{Outcome}
-use Rattle.std.specs.Prelude.{◌≡◌, Bool, ◌&&◌, ℕ, ◌≤◌, ◌<◌, eqb, length, Err, None, Ok, Option, Some, is_some}
-use Rattle.std.proofs.Math.Path.{refl, ap, sym}
+use Rattle.std.specs.Prelude.{◌≡◌, Bool, ◌&&◌, zero, suc, ℕ, ◌≤◌, ◌<◌, eqb, length, Err, None, Ok, Option, Some, is_some}
+use Rattle.std.proofs.Math.Path.{refl, ap, sym, subst}
 use Rattle.std.proofs.Common.{◌∙◌, arith, le-leb}
-use Rattle.std.proofs.Math.Bool.{true, false}
+use Rattle.std.proofs.Math.Bool.{true, false, not}
 use mathlib.Core.List.{List, []}
 use Rattle.std.proofs.lemmas.Bool.{lt-leb}
 use Rattle.word_rows.specs.Laws.Tab.{tab_length, tab_none}
 use Rattle.srt_protocol.specs.Errors.{outcome_number}
 use Rattle.srt_protocol.specs.declared.error.Error.TheVariants.{AlignmentFailed, ReplayRefused}
 use Rattle.srt_group_model.specs.Tools.{if_true◌then◌else◌, if_some◌give◌otherwise◌, is_set, flagged, at_place, change}
-use Rattle.srt_group_model.specs.Laws.Flag.{zero_unset, other_set}
+use Rattle.srt_group_model.specs.Laws.Flag.{zero_unset, other_set, unset_none, set_some}
 use Rattle.srt_group_model.specs.State.{Member, Send, State, with_send, with_members, with_leg}
 use Rattle.srt_group_model.specs.Legs.{has_sender, remaining_window_packets, synchronize_send_sequence}
 use Rattle.srt_group_model.specs.Members.{id_of, align_leg, align_member_sequence}
@@ -255,7 +255,26 @@ module _ (i n : ℕ) (x : Sending) (t : List ℕ) where
       (other_set x.numbered there)
       ∙ ap (λ (l : List Member). alignment_flow s (align_member_sequence (flagged (is_set x.numbered) x.next) i l)) ms
 
-  module _ {answer : Bool} {u : List ℕ} (numbered : x.numbered ≡ 0 → ⊥) (tried : Tried n numbered_alignment t answer u) where
+  pub without_number : {number : Option ℕ} {none_there : Bool} → number ≡ flagged (is_set x.numbered) x.next → is_some number ≡ not none_there
+      → none_there ≡ true → CarrierAligned i n x t (Ok tt) t
+  without_number is shown none_there = not_numbered_not_aligned (go x.numbered (ap is_some (sym is) ∙ shown ∙ ap not none_there))
+    where
+      go : (k : ℕ) → is_some (flagged (is_set k) x.next) ≡ false → k ≡ 0
+      go zero e = refl
+      go (suc k) e = let there : is_some (flagged (is_set (suc k)) x.next) ≡ true = ap is_some (set_some (suc k) x.next (λ q. omega arith)) in cc
+
+  module _ {number : Option ℕ} {none_there answer : Bool} {u : List ℕ} (is : number ≡ flagged (is_set x.numbered) x.next)
+      (shown : is_some number ≡ not none_there) (there : none_there ≡ false)
+      (of_number : Tried n (align_member_sequence number i (members_of n t)) t answer u) where
+    numbered : x.numbered ≡ 0 → ⊥
+    numbered unset =
+        let gone : is_some number ≡ false = ap is_some (is ∙ unset_none x.numbered x.next unset) in
+        let is_there : is_some number ≡ true = shown ∙ ap not there in
+        cc
+
+    tried : Tried n numbered_alignment t answer u
+    tried = subst (λ (o : Option ℕ). Tried n (align_member_sequence o i (members_of n t)) t answer u) is of_number
+
     pub carrier_not_aligned : answer ≡ false → CarrierAligned i n x t (Err AlignmentFailed) u
     unfolding if_some◌give◌otherwise◌
     carrier_not_aligned failed =
