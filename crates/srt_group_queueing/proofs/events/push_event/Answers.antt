@@ -32,7 +32,7 @@ returns-in_err-index c =
 
 pub push_at-requires : goal.push_at-requires
 push_at-requires c =
-    row_there c.args.core.counts.members c.args.id _ c.args.members.now c.requires (index_found c.args.id c.ok_or.ensures.value c.in_ok-index.was c.find.ensures c.rows.ensures.shows)
+    row_there c.args.core.counts.members c.args.id _ c.args.members.now c.requires (index_found c.args.id _ _ c.ok_or.ensures.value c.in_ok-index.was c.find.ensures c.rows.ensures.shows)
 
 pub returns : goal.returns
 returns c =
@@ -41,6 +41,6 @@ returns c =
       over =
           λ identity sending ring pending waiting history sources unbroken.
           event_pushed a.id a.kind a.reason (parts identity a.core sending ring) (tables a.members.now pending waiting history sources) unbroken
-          (sym c.event_unfit.ensures ∙ c.if-event_unfit.false) _ (index_found c.args.id c.ok_or.ensures.value c.in_ok-index.was c.find.ensures c.rows.ensures.shows)
+          (sym c.event_unfit.ensures ∙ c.if-event_unfit.false) _ (index_found c.args.id _ _ c.ok_or.ensures.value c.in_ok-index.was c.find.ensures c.rows.ensures.shows)
           _ _ _ c.lifecycle_event.ensures c.push_at.ensures;
     }
