@@ -40,11 +40,7 @@ pub fn send(
         (sending_into store.new list.new) (send_number result.answer) (send_answer result.answer) result.rows) }
 {
     if list.len() < SENT_LENGTH {
-        return GroupSent {
-            record: group,
-            answer: Err(Error::InsufficientBuffer),
-            rows: 0,
-        };
+        return GroupSent::refused(group, Error::InsufficientBuffer);
     }
     let mut used = [0u64; WORDS];
     let lent = LentGroup {
@@ -55,13 +51,8 @@ pub fn send(
         history,
         sources,
     };
-    let begun = lent.begin_stored(store.len(), &mut used);
-    if let Err(refusal) = begun {
-        return GroupSent {
-            record: group,
-            answer: Err(refusal),
-            rows: 0,
-        };
+    if let Err(refusal) = lent.begin_stored(store.len(), &mut used) {
+        return GroupSent::refused(group, refusal);
     }
     sending::send(
         group, members, pending, waiting, history, sources, store, list, &mut used, time, payload,
@@ -122,12 +113,8 @@ fn test(
         history,
         sources,
     };
-    let begun = lent.begin();
-    if let Err(error) = begun {
-        return Answered {
-            record: group,
-            answer: Err(error),
-        };
+    if let Err(error) = lent.begin() {
+        return Answered::refused(group, error);
     }
     let mut used = [0u64; WORDS];
     let tested = readiness::test(group, history, members, &mut used, pacing);
