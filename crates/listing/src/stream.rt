@@ -8,7 +8,8 @@ use crate::reading::{read_columns, read_line};
 // A line that is not yet whole: its bytes so far, which stand at the start of a buffer that is lent, and how many they are. Of a line that
 // is longer than the buffer only that is kept, by a larger size.
 // Kept (6): no heap, so the bytes stand in a buffer that the caller lends, with their count beside it.
-// Kept (1): a state of its own for a line that is too long is no plainer: `append` and `read` compare the size with the buffer's length either way.
+// Kept (1): a state of its own for a line that is too long is no plainer: `append` compares with the buffer's length either way, and `read` would match
+// in place of it.
 #[derive(Drop)]
 pub struct OpenLine<'a> {
     pub bytes: &'a mut [u8],

@@ -54,11 +54,10 @@ fn has_room_for_line(width: usize, numbers: &[u64], room: usize) -> bool
 {
     let mut left = room;
     for number in numbers {
-        let length = column_length(width, *number);
-        if left < length {
+        let Some(rest) = left.checked_sub(column_length(width, *number)) else {
             return false;
-        }
-        left -= length;
+        };
+        left = rest;
     }
     0 < left
 }

@@ -1,9 +1,9 @@
 -- `listing::reading::read_columns` meets its contract: the columns that are left decide whether all are numbers, and their
 -- values behind those that are stored are the values of all.
-use Prim.Native.Nat.{ℕ, ◌*◌, ◌≤◌}
+use Prim.Native.Nat.{ℕ, ◌-◌, ◌*◌, ◌≤◌}
 use native.Mathlib.Omega.{arith}
 use mathlib.Core.Bool.{true}
-use mathlib.Core.Path.{◌≡◌, ap, sym, ◌∙◌}
+use mathlib.Core.Path.{◌≡◌, sym, ◌∙◌}
 use mathlib.Core.List.{List, [], ◌++◌}
 use lib.ListN.{length, take}
 use lib.Seq.{take_all}
@@ -23,13 +23,13 @@ returns c =
     let a = c.args in
     let l = c.loop-number in
     let bytes = a.bytes.now in
+    let rest = l.rest.now in
     let count = length a.numbers.now in
     let all : l.number-index ≡ count = omega arith in
     let well : begins_with_columns count a.width bytes ≡ true =
-    sym l.invariant.2 ∙ columns_done count a.width bytes l.at l.number-index (omega arith) in
-    let end : l.at ≡ count * a.width = l.invariant.1 ∙ ap (λ (n : ℕ). n * a.width) all in
+    sym l.invariant.1 ∙ columns_done count a.width rest l.number-index (omega arith) in
+    let end : length bytes - length rest ≡ count * a.width = rw (← all) (omega (arith, l.invariant.0)) in
     record {
       end = rw (well, end);
-      put = λ t. all_read l.numbers _ _ l.number-index (omega arith)
-          (values_done count a.width bytes l.at l.number-index (omega arith)) l.invariant.3;
+      put = λ t. all_read l.numbers _ _ l.number-index (omega arith) (values_done count a.width rest l.number-index (omega arith)) l.invariant.2;
     }
