@@ -1,8 +1,13 @@
 // Rows of 8 numbers from blocks of bytes.
+// Kept (5): that the buffer has room for a line (88 bytes) is asked of each call; a struct with that fact would stand between a caller's open line and
+// these functions, and be made anew at each.
 ghost use Rattle.std.specs.Prelude.{◌≤◌, length};
 ghost use Rattle.listing_lines.specs.Taken.{LinesTakenFrom, LineTakenFrom, LastLineTaken};
 
 use listing::OpenLine;
+
+// The eight numbers of a line.
+pub type Row = [u64; 8];
 
 // The bytes of a line: 8 columns of 11. An open line's buffer has room for them, or for more.
 pub const LINE: usize = 88;
@@ -12,7 +17,7 @@ const WIDTH: usize = 11;
 
 // Takes the bytes of a block up to the next line feed behind what is held of the line, reads the line that it ends, and answers the
 // block behind it.
-fn take_through<'a>(block: &'a [u8], line: &mut OpenLine, row: &mut [u64; 8]) -> Option<&'a [u8]>
+fn take_through<'a>(block: &'a [u8], line: &mut OpenLine, row: &mut Row) -> Option<&'a [u8]>
     requires { 88 ≤ length line.old.bytes.now }
     ensures { LineTakenFrom block.now line.old line.new row.new result }
 {
@@ -24,7 +29,7 @@ fn take_through<'a>(block: &'a [u8], line: &mut OpenLine, row: &mut [u64; 8]) ->
 }
 
 // The same, with a quicker way for a well-formed line that stands whole in the block.
-fn take_next<'a>(block: &'a [u8], line: &mut OpenLine, row: &mut [u64; 8]) -> Option<&'a [u8]>
+fn take_next<'a>(block: &'a [u8], line: &mut OpenLine, row: &mut Row) -> Option<&'a [u8]>
     requires { 88 ≤ length line.old.bytes.now }
     ensures { LineTakenFrom block.now line.old line.new row.new result }
 {
@@ -37,7 +42,7 @@ fn take_next<'a>(block: &'a [u8], line: &mut OpenLine, row: &mut [u64; 8]) -> Op
 }
 
 // Takes all lines that a block ends, the first of them behind what is held of it: a row each. The answer is how many they are.
-pub fn take_lines(block: &[u8], line: &mut OpenLine, rows: &mut [[u64; 8]]) -> usize
+pub fn take_lines(block: &[u8], line: &mut OpenLine, rows: &mut [Row]) -> usize
     requires { (88 ≤ length line.old.bytes.now) × (length block.now ≤ length rows.old) }
     ensures { LinesTakenFrom block.now line.old line.new rows.new result }
 {
@@ -53,7 +58,7 @@ pub fn take_lines(block: &[u8], line: &mut OpenLine, rows: &mut [[u64; 8]]) -> u
 
 // The row of the line that the end of the stream ends, if a byte of it came.
 #[tactic(auto, using(crate::specs::Laws::Taken::no_last_line))]
-pub fn last_row(line: &OpenLine) -> Option<[u64; 8]>
+pub fn last_row(line: &OpenLine) -> Option<Row>
     requires { 88 ≤ length line.now.bytes.now }
     ensures { LastLineTaken line.now result }
 {
