@@ -1,6 +1,8 @@
 // The take-over: a member that is to carry the next send first replays the flight of the carrier before it, as far as it is not
 // acknowledged, at the same sequences. One that cannot replay all of it is refused.
-// Kept (5, 6): which tables a function changes differs from one to the next, so a struct of `&mut` would be another for each (docs/DECISIONS.md).
+// Kept (5, 6): a host lends each table as words; a struct of `&mut` fields wants a clause a field, in every function, that its slice is still the caller's (docs/DECISIONS.md).
+// Kept (5, 6): the list goes with its rows in use: `Wrote` says of the whole list which rows are written, a rest of it (`&mut list[..]`) would say so of the rest alone.
+// Kept (5): the numbers of sending go beside the `History`, which has the ring: a `SendHistory` would hold the ring again.
 ghost use Rattle.std.specs.Prelude.{◌≡◌, ◌-◌, ◌*◌, ◌≤◌, ◌<◌, length};
 ghost use Rattle.srt_group_model.specs.Backup.{max_history, replay_on, replay_flight, take_over_backup_flight};
 ghost use Rattle.srt_group_model.specs.Sending.{max_sent, list_size};
@@ -79,6 +81,7 @@ pub fn replay_flight(
         (send_tables members.old list.old) result
         (send_tables members.new list.new) }
 {
+    // Kept (1): the gap is a word of the lent record, asked here and in the readiness test alone: a method for two places is no plainer.
     if sending.gap != 0 {
         return Flown {
             outcome: Err(Error::ReplayRefused),

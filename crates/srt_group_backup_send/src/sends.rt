@@ -1,8 +1,9 @@
 // One Backup send. A carrier that fell silent is demoted first; a member that takes over from another carrier replays the flight that
 // is not acknowledged, so that the receiver gets no hole; after a failed send another member is promoted, and tried once.
-// Kept (5, 6): which tables a function changes differs from one to the next, so a struct of `&mut` would be another for each (docs/DECISIONS.md).
+// Kept (5, 6): a host lends each table as words; a struct of `&mut` fields wants a clause a field, in every function, that its slice is still the caller's (docs/DECISIONS.md).
+// Kept (5, 6): the list goes with its rows in use: `Wrote` says of the whole list which rows are written, a rest of it (`&mut list[..]`) would say so of the rest alone.
 // Kept (5): a payload has a time, a size and a cell before it has its sequence; with it, it is an `Entry`.
-// Kept (1): the mode is the record's word, which a C host lends so that 6 can refuse it; an enum of it would be `is_backup` again at each call.
+// Kept (1): the mode is the record's word, which a C host lends so that 6 can refuse it; it goes on as it is, to `promote_if_none`.
 ghost use Rattle.std.specs.Prelude.{◌-◌, ◌≤◌, ◌<◌};
 ghost use Rattle.srt_group_model.specs.Sending.{max_sent};
 ghost use Rattle.srt_group_model.specs.Backup.{max_history, send_at_place, send_backup};

@@ -1,5 +1,5 @@
 // A payload that was sent joins the history in its cell, until its carrier's peer acknowledges it.
-// Kept (5, 6): which tables a function changes differs from one to the next, so a struct of `&mut` would be another for each (docs/DECISIONS.md).
+// Kept (5, 6): a host lends each table as words; a struct of `&mut` fields wants a clause a field, in every function, that its slice is still the caller's (docs/DECISIONS.md).
 ghost use Rattle.std.specs.Prelude.{◌≤◌, ◌<◌};
 ghost use Rattle.srt_group_model.specs.Sending.{max_sent};
 ghost use Rattle.srt_group_model.specs.Backup.{max_history};

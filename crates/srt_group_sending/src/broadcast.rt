@@ -1,6 +1,7 @@
 // A send in Broadcast: the same payload at the same sequence on every active leg. A leg that fails is marked, and the others are
 // tried all the same.
-// Kept (5, 6): which tables a function changes differs from one to the next, so a struct of `&mut` would be another for each (docs/DECISIONS.md).
+// Kept (3, 5, 6): a host lends each table as words; a struct of `&mut` fields wants a clause a field, in every function, that its slice is still the caller's, and a loop over rows that it changes an index (docs/DECISIONS.md).
+// Kept (5, 6): the list goes with its rows in use: `Wrote` says of the whole list which rows are written, a rest of it (`&mut list[..]`) would say so of the rest alone.
 ghost use Rattle.std.specs.Prelude.{◌≡◌, not, ◌&&◌, ◌*◌, ◌≤◌, ◌<◌, length};
 ghost use Rattle.srt_protocol.specs.Sequence.{sequence_further};
 ghost use Rattle.srt_group_model.specs.Tools.{such_that};
@@ -141,6 +142,7 @@ fn attempt_sends(
 pub fn with_number_after(mut sending: Sending, sequence: u64) -> Sending
     ensures { result ≡ with_number (sequence_further sequence 1) sending }
 {
+    // Kept (1): the number and its flag are words of the lent record, set here alone: this function is the setter.
     sending.numbered = 1;
     sending.next = word_further(sequence, 1);
     sending

@@ -106,6 +106,7 @@ fn replay_sequence(takes: bool, sending: Sending, history: &HistoryWords) -> Opt
 }
 
 // A history that lost entries cannot be replayed.
+// Kept (1): the gap is a word of the lent record, asked here and in a replay alone: a method for two places is no plainer.
 #[tactic(auto, using(crate::specs::Laws::BackupReadiness::allows_when))]
 fn gap_allows(takes: bool, replay: usize, gap: u64) -> bool
     ensures { result ≡ gap_allows takes replay gap }

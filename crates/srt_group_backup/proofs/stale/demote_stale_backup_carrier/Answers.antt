@@ -8,7 +8,7 @@ use Rattle.srt_group_backup.specs.Laws.Stale.{trip_fits, none_active_none_demote
 use Rattle.srt_group_backup.proofs.stale.demote_stale_backup_carrier.Goals as goal
 
 pub returns-in_default : goal.returns-in_default
-returns-in_default c = none_active_none_demoted _ _ _ (sym c.in_default.is ∙ (c.first_active-found.ensures ∙ ap first_active c.rows.ensures.shows))
+returns-in_default c = none_active_none_demoted _ _ _ (cc)
 
 pub returns-then-not-has_standby : goal.returns-then-not-has_standby
 returns-then-not-has_standby c =
