@@ -18,7 +18,7 @@ send_on_carrier-requires-clause-sendable c =
     record { below = found_row is_active _ _ _ found; lent = lendable_with _ c.requires.lendable c.ready_members.ensures.long }
 
 pub send_on_carrier-requires-clause-numbers_fit : goal.send_on_carrier-requires-clause-numbers_fit
-send_on_carrier-requires-clause-numbers_fit c = numbers_readied _ _ _ _ c.ready_members.ensures c.requires.numbers_fit
+send_on_carrier-requires-clause-numbers_fit c = search numbers_readied
 
 pub returns : goal.returns
 returns c =

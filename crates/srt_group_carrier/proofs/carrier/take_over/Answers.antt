@@ -4,4 +4,3 @@ use Rattle.srt_group_carrier.proofs.carrier.take_over.Goals as goal
 
 pub returns-clause-trim_follows : goal.returns-clause-trim_follows
 returns-clause-trim_follows c = search taken_follows
-

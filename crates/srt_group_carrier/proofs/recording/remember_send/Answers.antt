@@ -4,4 +4,3 @@ use Rattle.srt_group_carrier.proofs.recording.remember_send.Goals as goal
 
 pub returns-clause-send_follows : goal.returns-clause-send_follows
 returns-clause-send_follows c = search send_remembered
-
