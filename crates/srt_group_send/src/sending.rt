@@ -1,7 +1,8 @@
 // `send` for a valid state. The members' states are refreshed first; then the payload's size is tested once, against the first active
 // leg, since a payload that is too large for every leg says nothing of a leg's health; then the send is the mode's.
 // Kept (5, 6): a send changes all tables but two, each lent by itself: of a struct of `&mut` fields each clause names every field's ghost name (docs/DECISIONS.md).
-// Kept (5): the rules take a payload's time, size, cell and sequence one by one, so a struct of them would be taken apart in each clause, and is no plainer.
+// Kept (5): the rules take a payload's time, size and cell one by one, so a struct of the three would be taken apart in each clause, and is no plainer. The mode
+// goes in beside the cell, which says it too (`CellByMode`): the definitions turn on the mode's word.
 // Kept (1): the mode is handed on as the record's word, which the definitions below compare; code asks `is_backup` of it where it chooses.
 ghost use Rattle.std.specs.Prelude.{◌≡◌, true, ◌*◌, ◌≤◌, ◌<◌, length, is_ok, Err, Ok};
 ghost use Rattle.std.specs.Result.{result_and};
@@ -56,6 +57,7 @@ impl GroupSent {
 }
 
 // On how many legs a payload was sent that has filled so many rows: in Backup on one, behind the flight that was replayed.
+#[tactic(auto, using(srt_group_model::specs::Laws::Reason::when_true, srt_group_model::specs::Laws::Reason::when_false))]
 fn legs_sent(outcome: Result<(), Error>, mode: u64, rows: usize) -> Result<usize, Error>
     ensures { result ≡ result_and outcome (Ok (if_true is_backup mode then 1 else rows)) }
 {
@@ -157,7 +159,8 @@ fn refresh_and_send(
     }
 }
 
-// The payload of a send that succeeded goes into its cell.
+// The payload of a send that succeeded goes into its cell, which refuses none that is `Storable`.
+#[tactic(auto, using(crate::specs::Laws::Performed::not_stored))]
 fn store_sent(store: &mut [u8], cell: usize, payload: &[u8], answer: Result<usize, Error>)
     requires { Storable cell (length payload.now) (length store.old) }
     ensures { store.new
@@ -215,7 +218,6 @@ pub fn send(
         size,
         Some(cell),
     );
-    let answer = sent.answer;
-    store_sent(store, cell, payload, answer);
+    store_sent(store, cell, payload, sent.answer);
     sent
 }

@@ -4,13 +4,6 @@ use Rattle.srt_group_model.specs.Sending.{above_limit}
 use Rattle.srt_group_send.specs.Laws.Sends.{numbers_refreshed, lendable_refreshed, few_refreshed, limit_made, mode_made}
 use Rattle.srt_group_send.proofs.sending.refresh_and_send.Goals as goal
 
-pub refresh_states-core-requires : goal.refresh_states-core-requires
-refresh_states-core-requires c = c.requires.lendable.rows
-
-pub rows-requires : goal.rows-requires
-rows-requires c =
-    (lendable_refreshed c.args.group.now _ _ _ c.refresh_states-core.ensures c.requires.lendable).rows
-
 pub returns-then-above_limit : goal.returns-then-above_limit
 returns-then-above_limit c =
     rw c.refused.ensures
