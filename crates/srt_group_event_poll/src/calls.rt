@@ -44,10 +44,7 @@ pub fn poll_event(
     };
     let begun = lent.begin_poll(store.len(), output.len(), &mut used);
     if let Err(error) = begun {
-        return Answered {
-            record: group,
-            answer: Err(error),
-        };
+        return Answered::refused(group, error);
     }
     let poll = polls::poll_event(
         group, members, pending, waiting, history, sources, store, output, &mut used, time,

@@ -31,16 +31,13 @@ pub fn mode(lent: &LentGroup) -> Result<u64, Error>
 }
 
 // The peer group that the group is bound to, if it is.
-#[tactic(auto, using(crate::specs::Laws::Looks::no_peer_shown))]
 pub fn peer_group_id(lent: &LentGroup) -> Result<Option<u64>, Error>
     ensures { Looked look_peer_group_id (parts_of lent.now.group) (tables_of lent.now)
         (optional_code result) (optional_answer result) }
 {
     lent.begin()?;
-    if lent.group.core.peer == 0 {
-        return Ok(None);
-    }
-    Ok(Some(lent.group.core.peer))
+    let peer = lent.group.core.peer;
+    Ok((peer != 0).then_some(peer))
 }
 
 // How many packets were skipped for good.

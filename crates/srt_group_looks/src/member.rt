@@ -8,8 +8,8 @@ ghost use Rattle.srt_group_refusals.specs.LentGroup.{tables_of};
 ghost use Rattle.srt_group_looks.specs.Looks.{Looked, optional_code, optional_answer, member_code, member_answer, RowFound, LooksRefused};
 
 use srt_connection::legs::{LARGEST_32, has_sender};
-use srt_connection_members::{find, row, rows};
-use srt_connection_queue::rows::{Row, leg, link_state, membership};
+use srt_connection_members::rows;
+use srt_connection_queue::rows::{Row, leg, link_state, member_id, membership};
 use srt_group_backup::stale::stability_timeout;
 use srt_group_model::{Core, MemberShown};
 use srt_group_refusals::refusals::LentGroup;
@@ -37,8 +37,9 @@ fn member_row<'a>(lent: &LentGroup<'a>, id: u64) -> Result<&'a Row, Error>
         return Err(Error::OutOfRange);
     }
     let rows = rows(lent.members, lent.group.core.counts.members);
-    let index = find(rows, id).ok_or(Error::UnknownMember)?;
-    Ok(row(lent.members, index))
+    rows.iter()
+        .find(|row| member_id(row) == id)
+        .ok_or(Error::UnknownMember)
 }
 
 // A member: its membership, with its label and its collision, and its leg's state.
@@ -57,8 +58,5 @@ pub fn backup_stability_timeout_micros(lent: &LentGroup, id: u64) -> Result<Opti
 {
     let carrier = member_row(lent, id)?;
     let leg = leg(carrier);
-    if !has_sender(leg) {
-        return Ok(None);
-    }
-    Ok(Some(stability_timeout(leg)))
+    Ok(has_sender(leg).then_some(stability_timeout(leg)))
 }

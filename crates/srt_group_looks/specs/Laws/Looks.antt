@@ -1,6 +1,7 @@
 -- What is proved of the looks: how each is refused, by what it is about, and what it shows.
 use Rattle.srt_protocol.specs.Errors.{Outcome}
-use Rattle.std.specs.Prelude.{◌≡◌, Bool, not, ℕ, ◌≤◌, eqb, Err, None, Ok, Some}
+use Rattle.std.specs.Prelude.{◌≡◌, Bool, not, ℕ, ◌≤◌, eqb, Err, None, Ok, Option, Some}
+use Rattle.std.specs.Bool.{then_some}
 use Rattle.std.proofs.Math.Path.{refl, ap, subst}
 use Rattle.std.proofs.Common.{sym, ◌∙◌, le-ltb}
 use Rattle.std.proofs.Math.Bool.{true, false}
@@ -24,7 +25,7 @@ use Rattle.srt_group_refusals.specs.Begins.{begun}
 use Rattle.srt_group_refusals.specs.Promised.{nothing_lent, showing}
 use Rattle.srt_group_refusals.specs.Laws.Begins.{begun_long, begun_valid, begun_unbroken}
 use Rattle.srt_group_refusals.specs.Laws.Promised.{does_refused, promised_does, promised_refused_6, promised_steps}
-use Rattle.srt_group_looks.specs.Looks.{Looked}
+use Rattle.srt_group_looks.specs.Looks.{Looked, optional_code, optional_answer}
 
 -- the codes of a look after 6, by what it is about
 unfoldable after_6 : About → State → List Check
@@ -106,6 +107,12 @@ module _ (look : Look) (p : Parts) (t : Tables) {r : Outcome} (begins : r ≡ be
         member_look known =
             shown_after (about_member id) is (past_2 ∙ guard_goes_on (3 when is_unknown id s) [] s body known)
 
+-- a number, or none
+pub optional_shown : (look : Look) (p : Parts) (t : Tables) (o : Option ℕ) → Looked look p t 0 (shown (optional o))
+    → Looked look p t (optional_code (Ok o)) (optional_answer (Ok o))
+optional_shown look p t None looked = looked
+optional_shown look p t (Some n) looked = looked
+
 -- ---- the looks at the group
 
 module _ (p : Parts) (t : Tables) {r : Outcome} (begins : r ≡ begun p t) (accepted : r ≡ Ok tt) where
@@ -121,20 +128,17 @@ module _ (p : Parts) (t : Tables) {r : Outcome} (begins : r ≡ begun p t) (acce
   unfolding looking skipped_receive_packets
   skipped_shown = group_look look_skipped_receive_packets p t begins accepted refl
 
-  peer_shown : (b : Bool) → eqb p.core.peer 0 ≡ b
-      → Looked look_peer_group_id p t 0 (shown (optional (if_true b then None else Some p.core.peer)))
-  unfolding looking peer_group_id
-  peer_shown b is =
-      subst (λ (c : Bool). Looked look_peer_group_id p t 0 (shown (optional (if_true c then None else Some p.core.peer)))) is
-      (group_look look_peer_group_id p t begins accepted refl)
-
-  pub no_peer_shown : eqb p.core.peer 0 ≡ true → Looked look_peer_group_id p t 0 (shown (optional None))
-  unfolding if_true◌then◌else◌
-  no_peer_shown is = peer_shown true is
-
-  pub a_peer_shown : eqb p.core.peer 0 ≡ false → Looked look_peer_group_id p t 0 (shown (optional (Some p.core.peer)))
-  unfolding if_true◌then◌else◌
-  a_peer_shown is = peer_shown false is
+  pub peer_shown : (o : Option ℕ) → o ≡ then_some (not (eqb p.core.peer 0)) p.core.peer
+      → Looked look_peer_group_id p t (optional_code (Ok o)) (optional_answer (Ok o))
+  unfolding looking peer_group_id if_true◌then◌else◌
+  peer_shown o is =
+      optional_shown look_peer_group_id p t o
+      (subst (λ (x : Option ℕ). Looked look_peer_group_id p t 0 (shown (optional x))) (by_test (eqb p.core.peer 0) ∙ sym is)
+      (group_look look_peer_group_id p t begins accepted refl))
+    where
+      by_test : (b : Bool) → (if_true b then None else Some p.core.peer) ≡ then_some (not b) p.core.peer
+      by_test true = refl
+      by_test false = refl
 
   pub pending_data_shown : (b : Bool) → b ≡ has_pending_data (state_of p t) → Looked look_has_pending_data p t 0 (shown (truth b))
   unfolding looking has_pending_data_call
