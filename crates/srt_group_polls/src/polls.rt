@@ -1,5 +1,5 @@
 // The polls: what is collected is given in order, a waiting event first.
-// Kept (5, 6): a step that moves tables takes them one beside the other: a struct of `&mut` asks for loans that a call does not need, and for a clause to each field, that its slice is still the caller's (tried); what holds of them is one fact, `Usable`.
+// Kept (5, 6): the tables and the set that a poll moves go one beside the other: of a struct of `&mut` fields each clause names every field's ghost name, and one more says that its slice is still the caller's (docs/DECISIONS.md, "What only reads a table"); what holds of them is one fact, `Usable`.
 // Kept (5): what goes by value beside them is the group's record, which a step gives back, its sending, the time, and what this step alone asks; a struct of those would be made for a single call and is no plainer.
 ghost use Rattle.std.specs.Prelude.{◌≡◌, ℕ, ◌≤◌, ◌*◌, length};
 ghost use Rattle.srt_group_model.specs.Sound.{SendingFit};
@@ -32,7 +32,7 @@ use srt_protocol::time::Timestamp;
 #[derive(Clone, Copy)]
 pub struct DataPoll {
     pub gave: Option<Packet>,
-    // Kept (1): the record's continuation, which a poll without a packet hands on here, and C's answer are words (the C interface); a bool would be made of the one word and made into the other.
+    // Kept (1): the record's word (the C interface), which a poll without a packet hands on as it stands.
     pub continuation: u64,
     pub core: Core,
 }
