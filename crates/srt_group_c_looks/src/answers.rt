@@ -2,7 +2,7 @@
 ghost use Rattle.std.specs.Prelude.{◌≡◌, ◌≤◌, Some, length};
 ghost use Rattle.srt_group_model.specs.Guards.{Answer, shown, number, optional, truth, one_member};
 ghost use Rattle.srt_group_words.specs.Words.{in_words, Said};
-ghost use Rattle.srt_group_c_looks.specs.Look.{given_code, given_answer};
+ghost use Rattle.srt_group_looks.specs.Looks.{given_code, given_answer};
 
 use srt_group_collecting::collecting::flag;
 use srt_group_looks::members::{MEMBER_WORDS, words_of};

@@ -1,12 +1,11 @@
 -- What is proved of the looks at one member.
 use Rattle.srt_protocol.specs.Errors.{Outcome}
-use Rattle.std.specs.Prelude.{◌≡◌, Bool, not, ◌||◌, ℕ, List, [], ◌∷◌, is_some, None, Ok, Err, Option, Result, Some, MatchResult}
+use Rattle.std.specs.Prelude.{◌≡◌, Bool, not, ◌||◌, ℕ, List, [], ◌∷◌, is_some, None, Ok, Err, Option, Result, Some, IsErrAnd, MatchResult}
 use Rattle.std.specs.Bool.{then_some}
 use Rattle.std.specs.Option.{ok_or, option_map}
 use denote.Ref.{Bor}
 use Rattle.srt_protocol.specs.declared.error.Error.{Error}
 use Rattle.srt_protocol.specs.declared.error.Error.TheVariants.{OutOfRange, UnknownMember}
-use Rattle.srt_protocol.specs.Errors.{error_number}
 use Rattle.std.proofs.Math.Path.{refl, ap, subst}
 use Rattle.std.proofs.Common.{sym, ◌∙◌}
 use Rattle.std.proofs.Math.Bool.{true, false}
@@ -18,9 +17,9 @@ use Rattle.srt_group_model.specs.Legs.{has_sender, largest_32}
 use Rattle.srt_group_model.specs.Members.{has_id}
 use Rattle.srt_group_model.specs.Backup.{stability_timeout}
 use Rattle.srt_group_model.specs.Validity.{above}
-use Rattle.srt_group_model.specs.Guards.{no_answer, shown, optional, one_member}
+use Rattle.srt_group_model.specs.Guards.{Answer, shown, optional, one_member, about_member}
 use Rattle.srt_group_model.specs.Calls.{cells_given, member_shown, member, backup_stability_timeout_micros}
-use Rattle.srt_group_model.specs.Lent.{look_member, look_backup_stability_timeout_micros, looking}
+use Rattle.srt_group_model.specs.Lent.{Look, look_member, look_backup_stability_timeout_micros, looking}
 use Rattle.srt_group_model.specs.Sound.{MemberFit}
 use Rattle.srt_group_model.specs.Laws.Reason.{first_such_of}
 use Rattle.srt_group_model.specs.Laws.Valid.{valid_of, fit_of}
@@ -28,8 +27,8 @@ use Rattle.srt_connection_queue.specs.Rows.{member_of}
 use Rattle.srt_group_shown.specs.Tables.{Parts, Tables, state_of}
 use Rattle.srt_group_refusals.specs.Begins.{begun}
 use Rattle.srt_group_refusals.specs.Laws.Begins.{begun_unbroken}
-use Rattle.srt_group_looks.specs.Looks.{Looked, RowFound, LooksRefused, optional_code, optional_answer}
-use Rattle.srt_group_looks.specs.Laws.Looks.{look_refused, member_unfit, member_unknown, member_look, optional_shown}
+use Rattle.srt_group_looks.specs.Looks.{Looked, RowFound, LooksRefused, LookGives}
+use Rattle.srt_group_looks.specs.Laws.Looks.{look_refused, member_unfit, member_unknown, member_look}
 
 any_such : (test : Member → Bool) (ms : List Member) → any test ms ≡ is_some (first_such test ms)
 unfolding any first_such if_true◌then◌else◌
@@ -76,11 +75,18 @@ module _ (id : ℕ) (p : Parts) (t : Tables) where
         row_or_refused None nowhere is = rw is (unknown_refuses nowhere)
         row_or_refused (Some row) there is = rw is (row_is_found row.now there)
 
+  -- the refusal of every such look goes up with `?`
+  gives_member_refusal : {A : Type 0} (says : A → Answer) (look : Look) → (looking look).about ≡ about_member id → (e : Error) → LooksRefused id p t e
+      → (given : Result A Error) → IsErrAnd given (λ y. y ≡ e) → LookGives says look p t given
+  gives_member_refusal says look about e refused (Ok x) up = absurd up
+  gives_member_refusal says look about e refused (Err y) up = rw up (refused.looks look about)
+
   -- ---- `member`
 
-  pub member_refused : (e : Error) → LooksRefused id p t e → Looked (look_member id) p t (error_number e) no_answer
+  pub member_refused : (e : Error) → LooksRefused id p t e → (given : Result MemberShown Error) → IsErrAnd given (λ y. y ≡ e)
+      → LookGives (λ m. shown (one_member (Some m))) (look_member id) p t given
   unfolding looking member
-  member_refused e refused = refused.looks (look_member id) refl
+  member_refused e refused given up = gives_member_refusal _ (look_member id) refl e refused given up
 
   module _ (row : List ℕ) (found : RowFound id p t row) where
     pub member_is_shown : (m : MemberShown) → m ≡ member_shown (member_of row) → Looked (look_member id) p t 0 (shown (one_member (Some m)))
@@ -108,17 +114,17 @@ module _ (id : ℕ) (p : Parts) (t : Tables) where
           (found.looks (look_backup_stability_timeout_micros id) refl)
 
       pub timeout_shown : {b : Bool} {n : ℕ} → b ≡ has_sender l → n ≡ stability_timeout l → (o : Option ℕ) → o ≡ then_some b n
-          → Looked (look_backup_stability_timeout_micros id) p t (optional_code (Ok o)) (optional_answer (Ok o))
+          → Looked (look_backup_stability_timeout_micros id) p t 0 (shown (optional o))
       unfolding if_true◌then◌else◌
       timeout_shown {b} sender made o is =
-          optional_shown (look_backup_stability_timeout_micros id) p t o
-          (subst (λ (x : Option ℕ). Looked (look_backup_stability_timeout_micros id) p t 0 (shown (optional x)))
-          (by_test b ∙ ap (then_some b) (sym made) ∙ sym is) (timeout_is_shown b (sym sender)))
+          subst (λ (x : Option ℕ). Looked (look_backup_stability_timeout_micros id) p t 0 (shown (optional x)))
+          (by_test b ∙ ap (then_some b) (sym made) ∙ sym is) (timeout_is_shown b (sym sender))
         where
           by_test : (c : Bool) → (if_true c then Some (stability_timeout l) else None) ≡ then_some c (stability_timeout l)
           by_test true = refl
           by_test false = refl
 
-  pub timeout_refused : (e : Error) → LooksRefused id p t e → Looked (look_backup_stability_timeout_micros id) p t (error_number e) no_answer
+  pub timeout_refused : (e : Error) → LooksRefused id p t e → (given : Result (Option ℕ) Error) → IsErrAnd given (λ y. y ≡ e)
+      → LookGives (λ n. shown (optional n)) (look_backup_stability_timeout_micros id) p t given
   unfolding looking backup_stability_timeout_micros
-  timeout_refused e refused = refused.looks (look_backup_stability_timeout_micros id) refl
+  timeout_refused e refused given up = gives_member_refusal _ (look_backup_stability_timeout_micros id) refl e refused given up

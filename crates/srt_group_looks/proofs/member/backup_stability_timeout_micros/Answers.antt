@@ -1,12 +1,9 @@
 -- `backup_stability_timeout_micros` meets its contract: the refusal of every look at the member, the timeout, or nothing.
-use Rattle.std.proofs.lemmas.Result.{err_from_is_err_and}
 use Rattle.srt_group_looks.specs.Laws.Member.{timeout_refused, timeout_shown}
 use Rattle.srt_group_looks.proofs.member.backup_stability_timeout_micros.Goals as goal
 
 pub returns-in_err-carrier : goal.returns-in_err-carrier
-returns-in_err-carrier c =
-    let p = err_from_is_err_and c.from_residual.result c.from_residual.ensures.1 in
-    rw (p.1, p.2) (timeout_refused _ _ _ _ c.in_err-carrier.ensures)
+returns-in_err-carrier c = timeout_refused _ _ _ _ c.in_err-carrier.ensures _ c.from_residual.ensures.1
 
 pub returns : goal.returns
 returns c =
