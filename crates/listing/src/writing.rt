@@ -78,7 +78,7 @@ fn put_line(out: &mut [u8], width: usize, numbers: &[u64]) -> usize
 
 // Writes a line of numbers at a place, with its line feed, and answers its end; or changes nothing where there is no room for it, as behind the
 // end of all.
-#[tactic(auto, using(crate::proofs::PlacedLaws::text_refused, crate::proofs::PlacedLaws::text_placed))]
+#[tactic(auto, using(crate::proofs::PlacedLaws::text_refused))]
 pub fn write_line(out: &mut [u8], at: usize, width: usize, numbers: &[u64]) -> Option<usize>
     ensures { PlacedOrRefused out.old at (line_text width numbers.now) out.new result }
 {
