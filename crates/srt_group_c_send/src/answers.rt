@@ -1,4 +1,5 @@
 // What a send answers, in words, and the record that it leaves.
+// Kept (5): C lends rows that may be longer.
 ghost use Rattle.std.specs.Prelude.{◌≤◌, length};
 ghost use Rattle.srt_group_send.specs.Answers.{send_number, send_answer};
 ghost use Rattle.srt_group_words.specs.Record.{record_size};
