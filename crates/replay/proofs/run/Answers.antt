@@ -4,14 +4,15 @@ use Rattle.replay_io.specs.Laws.Turns.{none_so_far, further, whole_if}
 use Rattle.replay.proofs.run.Goals as goal
 
 pub loop-init : goal.loop-init
-loop-init g c = none_so_far (record { replay = c.new.result; line = c.new-2.result }) _ _ c.new.ensures c.new-2.ensures
+loop-init g c = (none_so_far c.new-2.result _ _ c.new.ensures c.new-2.ensures.empty, omega (arith, rw c.new-2.ensures.same_bytes))
 
 pub returns-then-count-eq0 : goal.returns-then-count-eq0
 returns-then-count-eq0 g c =
     let turned = c.in_ok-count.ensures in
-    whole_if c.finish.result _ (further c.loop.invariant turned.read turned.replayed)
-    (turned.read.at_end c.if-count-eq0.true (omega arith)) c.finish.ensures
+    whole_if c.finish.result _ (further c.loop.invariant.0 turned.read turned.replayed)
+    (turned.read.at_end c.if-count-eq0.true (omega arith)) c.finish.ensures.replayed
 
 pub loop-preserved : goal.loop-preserved
 loop-preserved g c =
-    let turned = c.in_ok-count.ensures in further c.loop.invariant turned.read turned.replayed
+    let turned = c.in_ok-count.ensures in
+    (further c.loop.invariant.0 turned.read turned.replayed, omega (arith, turned.same_buffer.room, c.loop.invariant.1))
