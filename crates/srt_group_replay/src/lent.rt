@@ -1,5 +1,6 @@
 // A replay over tables that a caller lends.
 ghost use Rattle.std.specs.Prelude.{◌≡◌, [], ◌∷◌, length};
+ghost use Rattle.std.proofs.Props.{props};
 ghost use Rattle.srt_protocol.specs.Cells.{output_size};
 ghost use Rattle.srt_group_model.specs.Sending.{list_size};
 ghost use Rattle.srt_group_model.specs.Listing.{store_length};
@@ -25,7 +26,7 @@ pub struct LentReplay<'a> {
     pub output: &'a mut [u8],
     pub list: &'a mut [u64],
     pub used: &'a mut CellSet,
-    ghost stands: { StandingOver group (tables members.now pending.now waiting.now history.now sources.now) used.now },
+    ghost stands: { StandingOver group (tables members.now pending.now waiting.now history.now sources.now) used.now } by { Prim.hlevel props },
     ghost store_len: { length store.now ≡ store_length },
     ghost output_len: { length output.now ≡ output_size },
     ghost list_len: { length list.now ≡ list_size },
