@@ -1,10 +1,12 @@
 -- `run` meets its contract: each turn answers a block more, and the last one the listing's end.
-use Rattle.std.proofs.Common.{arith}
+use Rattle.std.proofs.Common.{◌≤◌, length, arith, rules}
 use Rattle.replay_io.specs.Laws.Turns.{none_so_far, further, whole_if}
 use Rattle.replay.proofs.run.Goals as goal
 
 pub loop-init : goal.loop-init
-loop-init g c = (none_so_far c.new-2.result _ _ c.new.ensures c.new-2.ensures.empty, omega (arith, rw c.new-2.ensures.same_bytes))
+loop-init g c =
+    let room : 88 ≤ length c.new-2.result.bytes.now = search rules in
+    (none_so_far c.new-2.result _ _ c.new.ensures c.new-2.ensures.empty, room)
 
 pub returns-then-count-eq0 : goal.returns-then-count-eq0
 returns-then-count-eq0 g c =
