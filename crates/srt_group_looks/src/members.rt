@@ -24,7 +24,6 @@ pub const MEMBER_WORDS: usize = 8;
 pub const LIST_LENGTH: usize = MAX_MEMBERS * MEMBER_WORDS;
 
 // The words of a member that is shown.
-#[tactic(auto, unfolding(srt_group_model::specs::Answers::member_values))]
 pub fn words_of(shown: MemberShown) -> [u64; MEMBER_WORDS]
     ensures { result ≡ member_values shown }
 {
