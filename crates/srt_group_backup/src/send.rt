@@ -12,7 +12,8 @@ ghost use Rattle.srt_group_backup.specs.OwnSend.{SentOn, SendRecorded};
 
 use crate::trimming::{SendHistory, trim_backup_history};
 use srt_connection::legs::send_shared_with_sequence;
-use srt_connection_members::{leg_at, membership_at, put_leg_at};
+use srt_connection_members::{leg_at, put_leg_at, row};
+use srt_connection_queue::rows::member_id;
 use srt_group_model::{Entry, Leg};
 use srt_group_sending::broadcast::with_number_after;
 use srt_group_sending::list::{Sent, write_sent};
@@ -39,9 +40,9 @@ pub fn send_on(
     let Some(leg) = result else {
         return false;
     };
-    let membership = membership_at(members, index);
+    let id = member_id(row(members, index));
     put_leg_at(members, index, leg);
-    write_sent(list, sent, Sent::own(membership.id, sequence, time));
+    write_sent(list, sent, Sent::own(id, sequence, time));
     true
 }
 

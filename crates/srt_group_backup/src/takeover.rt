@@ -15,7 +15,8 @@ ghost use Rattle.srt_group_backup.specs.TakeOver.{HistoryIs, SendIs, FlightRepla
 use crate::replay::replay_entries;
 use crate::trimming::{SendHistory, trim_by_carrier};
 use srt_connection::legs::remaining_window_packets;
-use srt_connection_members::{leg_at, membership_at, put_leg_at, rows};
+use srt_connection_members::{leg_at, put_leg_at, row, rows};
+use srt_connection_queue::rows::member_id;
 use srt_group_members::alignment::{align_leg, align_member_sequence};
 use srt_group_model::{Leg, Sending};
 use srt_group_sending::flown::Flown;
@@ -51,8 +52,7 @@ pub fn replay_on(
             sent,
         };
     }
-    let membership = membership_at(members, index);
-    let id = membership.id;
+    let id = member_id(row(members, index));
     let played = replay_entries(leg, history, time, id, list, sent);
     put_leg_at(members, index, played.state);
     Flown {
@@ -141,8 +141,7 @@ pub fn take_over_backup_flight(
         (send_tables members.old list.old) result
         (send_tables members.new list.new) }
 {
-    let membership = membership_at(members, index);
-    let id = membership.id;
+    let id = member_id(row(members, index));
     if !takes_over(sending, id) {
         let outcome = align_carrier(sending, members, count, index);
         return Flown {

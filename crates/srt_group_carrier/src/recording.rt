@@ -11,7 +11,8 @@ ghost use Rattle.srt_group_carrier.specs.Recording.{Kept};
 
 use crate::freeing::free_dropped;
 use cell_set::{CellSet, take};
-use srt_connection_members::{leg_at, membership_at};
+use srt_connection_members::{leg_at, row};
+use srt_connection_queue::rows::member_id;
 use srt_group_backup::send::record_backup_send;
 use srt_group_backup::trimming::SendHistory;
 use srt_group_model::{Entry, Leg};
@@ -72,9 +73,9 @@ pub fn keep_sent(
         (arrays history.old sources.old) used.old result
         (arrays history.new sources.new) used.new }
 {
-    let membership = membership_at(members, index);
+    let id = member_id(row(members, index));
     let leg = leg_at(members, index);
-    let kept = remember_send(send, history, sources, used, entry, leg, membership.id);
+    let kept = remember_send(send, history, sources, used, entry, leg, id);
     Flown {
         outcome: Ok(()),
         state: kept,

@@ -18,8 +18,8 @@ ghost use Rattle.srt_group_model.specs.State.{with_number};
 use crate::flown::Flown;
 use crate::list::{Sent, write_sent};
 use srt_connection::legs::{can_send, is_connected, send_shared_with_sequence};
-use srt_connection_members::{leg_at, membership_at, put_leg_at, row, rows};
-use srt_connection_queue::rows::{Row, leg, sender};
+use srt_connection_members::{leg_at, put_leg_at, row, rows};
+use srt_connection_queue::rows::{Row, leg, member_id, sender};
 use srt_group_members::states::{BROKEN, UNSTABLE, first_active, is_active, turn_at};
 use srt_group_model::{Leg, Sending};
 use srt_protocol::error::Error;
@@ -109,9 +109,9 @@ fn attempt_send_at(
         mark_send_failure_at(members, index);
         return sent;
     };
-    let membership = membership_at(members, index);
+    let id = member_id(row(members, index));
     put_leg_at(members, index, after);
-    write_sent(list, sent, Sent::own(membership.id, sequence, time));
+    write_sent(list, sent, Sent::own(id, sequence, time));
     sent + 1
 }
 

@@ -12,7 +12,7 @@ ghost use Rattle.srt_group_sending.specs.BackupReadiness.{stands_at, could_take_
 use srt_connection::legs::{
     can_send, can_send_with_pacing, has_sender, remaining_window_packets, time_until_send,
 };
-use srt_connection_queue::rows::{Row, leg, membership};
+use srt_connection_queue::rows::{Row, leg, member_id, member_state};
 use srt_group_members::promotion::promotion;
 use srt_group_members::states::{ACTIVE, STANDBY, first_active, is_active};
 use srt_group_model::{Leg, Sending};
@@ -60,8 +60,7 @@ fn may_carry(state: u64) -> bool
 fn wait_of(row: &Row, time: Timestamp) -> Option<u64>
     ensures { result ≡ wait_of time.0 (member_of row.now) }
 {
-    let membership = membership(row);
-    if !may_carry(membership.state) {
+    if !may_carry(member_state(row)) {
         return None;
     }
     Some(time_until_send(leg(row), time))
@@ -155,7 +154,7 @@ pub fn backup_member_ready(
     let leg = leg(row);
     ready_to_send(leg, pacing)
         && has_sender(leg)
-        && could_take_over(leg, membership(row).id, sending, history)
+        && could_take_over(leg, member_id(row), sending, history)
 }
 
 // Whether the first active member could carry the next send or, if its window is full, the one that would be promoted.

@@ -12,7 +12,6 @@ use Rattle.srt_group_model.specs.Sending.{Flow, own_payload, own_send}
 use Rattle.srt_group_model.specs.Backup.{max_history, trim_backup_history, append_history, record_backup_send, send_own}
 use Rattle.srt_group_model.specs.declared.Entry.{Entry}
 use Rattle.srt_group_model.specs.declared.Leg.{Leg}
-use Rattle.srt_group_model.specs.declared.Membership.{Membership}
 use Rattle.srt_group_model.specs.declared.Sending.{Sending}
 use Rattle.srt_connection.specs.Laws.Answers.{result_ok, result_err}
 use Rattle.srt_connection_members.specs.Members.{member_at, members_of, Changed}
@@ -52,12 +51,12 @@ module _ (time size sequence i sent : ℕ) (t list : List ℕ) {l : Leg} {result
       failed : send_shared_with_sequence time size sequence (member_at t i).leg ≡ None
       failed = its_send None (result_err (send_shared_with_sequence time size sequence l) (sym err ∙ is))
 
-  pub own_sent : {x : Membership} {u list_after : List ℕ} (k : Leg) → result ≡ Some k
-      → x ≡ (member_at t i).membership → Changed i (with_leg k) t u
-      → Wrote sent (sent_row x.id sequence own_payload time time ∷ []) list (sent + 1) list_after
+  pub own_sent : {id : ℕ} {u list_after : List ℕ} (k : Leg) → result ≡ Some k
+      → id ≡ id_of (member_at t i) → Changed i (with_leg k) t u
+      → Wrote sent (sent_row id sequence own_payload time time ∷ []) list (sent + 1) list_after
       → SentOn time size sequence i sent (send_tables t list) true (send_tables u list_after)
   unfolding if_true◌then◌else◌ if_some◌give◌otherwise◌
-  own_sent {x} {u} {list_after} k ok member c wrote =
+  own_sent {id} {u} {list_after} k ok member c wrote =
       record {
         succeeded = sym (rw succeeds);
         changed = changed_by i t u (after_own_send time size sequence) c (sym (rw succeeds));

@@ -19,7 +19,6 @@ use Rattle.srt_group_model.specs.Backup.{max_history, takes_over, trim_by_carrie
 use Rattle.srt_group_model.specs.Backup as backup
 use Rattle.srt_group_model.specs.declared.Entry.{Entry}
 use Rattle.srt_group_model.specs.declared.Leg.{Leg}
-use Rattle.srt_group_model.specs.declared.Membership.{Membership}
 use Rattle.srt_group_model.specs.declared.Sending.{Sending}
 use Rattle.srt_connection.specs.Laws.Answers.{result_ok, result_err}
 use Rattle.srt_connection_queue.specs.Laws.Tab.{tab_place}
@@ -69,14 +68,14 @@ module _ (time i : ℕ) (r : HistoryRing) (a : Arrays) (l : Leg) (t : List ℕ) 
             (ap (λ (l : List Member). flow_of (with_members l s) [] 28) (ap (change i (with_leg l)) ms ∙ sym (c.members n)));
       }
 
-  pub replayed_with_room : {u list_after : List ℕ} {room : ℕ} {x : Membership} {played : Flown Leg}
-      → room ≡ remaining_window_packets l → r.length < room → x ≡ (member_at t i).membership
-      → EntriesReplayed time x.id (entries_of r a) l sent list played list_after
+  pub replayed_with_room : {u list_after : List ℕ} {room id : ℕ} {played : Flown Leg}
+      → room ≡ remaining_window_packets l → r.length < room → id ≡ id_of (member_at t i)
+      → EntriesReplayed time id (entries_of r a) l sent list played list_after
       → Changed i (with_leg played.state) t u
       → FlightReplayed (replay_on time i (member_at t i) l) (HistoryIs (entries_of r a)) sent (send_tables t list)
       record { outcome = played.outcome; state = tt; sent = played.sent } (send_tables u list_after)
   unfolding replay_on if_true◌then◌else◌
-  replayed_with_room {u} {list_after} {room} {x} {played} is enough member replayed c =
+  replayed_with_room {u} {list_after} {room} {id} {played} is enough member replayed c =
       record {
         long = c.long;
         few = replayed.few;
@@ -94,13 +93,13 @@ module _ (time i : ℕ) (r : HistoryRing) (a : Arrays) (l : Leg) (t : List ℕ) 
       }
     where
       whole : backup.Replayed
-      whole = replay_entries time x.id (entries_of r a) l
+      whole = replay_entries time id (entries_of r a) l
 
       same_replay : (y : Send) → y.history ≡ entries_of r a
           → replay_entries time (id_of (member_at t i)) y.history l ≡ whole
       same_replay y known =
           ap (λ (es : List Entry). replay_entries time (id_of (member_at t i)) es l) known
-          ∙ ap (λ (m : Membership). replay_entries time m.id (entries_of r a) l) (sym member)
+          ∙ ap (λ (k : ℕ). replay_entries time k (entries_of r a) l) (sym member)
 
       changed : (n : ℕ) (s : State) → s.members ≡ members_of n t → change i (with_leg whole.leg) s.members ≡ members_of n u
       changed n s ms =
@@ -334,13 +333,13 @@ module _ (time i n : ℕ) (t : List ℕ) (below : i < n) where
       unfolding take_over_backup_flight if_true◌then◌else◌ if_some◌give◌otherwise◌
       flight_to_replay first there = rw (its_place, other, there)
 
-  module _ (x : Sending) (r : HistoryRing) (a : Arrays) (sent : ℕ) (list : List ℕ) {m : Membership} {answer : Bool}
-      (member : m ≡ (member_at t i).membership) (takes : answer ≡ is_other_carrier m.id x) where
+  module _ (x : Sending) (r : HistoryRing) (a : Arrays) (sent : ℕ) (list : List ℕ) {id : ℕ} {answer : Bool}
+      (member : id ≡ id_of (member_at t i)) (takes : answer ≡ is_other_carrier id x) where
     takes_now : (b : Bool) → answer ≡ b → (s : State) → s.send ≡ send_of x r a → takes_over (id_of (member_at t i)) s.send ≡ b
     takes_now b is s sends =
         ap (takes_over (id_of (member_at t i))) sends
-        ∙ ap (λ (k : Membership). takes_over k.id (send_of x r a)) (sym member)
-        ∙ sym (takes ∙ takes_over_is m.id x (entries_of r a)) ∙ is
+        ∙ ap (λ (k : ℕ). takes_over k (send_of x r a)) (sym member)
+        ∙ sym (takes ∙ takes_over_is id x (entries_of r a)) ∙ is
 
     pub no_take_over : {u : List ℕ} {outcome : Outcome} → r.length ≤ max_history → answer ≡ false → CarrierAligned i n x t outcome u
         → TookOver (take_over_backup_flight time i) n x r a sent (send_tables t list)

@@ -16,7 +16,6 @@ use Rattle.srt_group_model.specs.Members.{id_of, is_active, first_active, promot
 use Rattle.srt_group_model.specs.Backup.{max_history, takes_over, ready_to_send, backup_member_ready, backup_send_ready}
 use Rattle.srt_group_model.specs.declared.Entry.{Entry}
 use Rattle.srt_group_model.specs.declared.Leg.{Leg}
-use Rattle.srt_group_model.specs.declared.Membership.{Membership}
 use Rattle.srt_group_model.specs.declared.Sending.{Sending}
 use Rattle.srt_connection_queue.specs.Laws.Tab.{tab_place, tab_past}
 use Rattle.srt_connection_members.specs.Members.{members_in}
@@ -234,13 +233,13 @@ module _ (time : Option ℕ) (x : Sending) (r : HistoryRing) (history : List ℕ
   pub has_no_sender : {has : Bool} → can ≡ true → has ≡ has_sender leg → has ≡ false → MemberReady time x r history m false
   has_no_sender e is_has h = record { is = λ a q. sym (member_parts a q ∙ rw (e, ← is_has, h)) }
 
-  pub ready_if_takes_over : {y : Membership} {has answer : Bool} → can ≡ true → has ≡ has_sender leg → has ≡ true → y ≡ m.membership
-      → answer ≡ could_take_over y.id x r history leg → MemberReady time x r history m answer
-  ready_if_takes_over {y} {has} {answer} e is_has h is_membership is_answer =
+  pub ready_if_takes_over : {id : ℕ} {has answer : Bool} → can ≡ true → has ≡ has_sender leg → has ≡ true → id ≡ id_of m
+      → answer ≡ could_take_over id x r history leg → MemberReady time x r history m answer
+  ready_if_takes_over {id} {has} {answer} e is_has h is_id is_answer =
       record {
         is =
             λ a q.
-            is_answer ∙ ap (λ (z : Membership). could_take_over z.id x r history leg) is_membership
+            is_answer ∙ ap (λ (k : ℕ). could_take_over k x r history leg) is_id
             ∙ sym (member_parts a q ∙ rw (e, ← is_has, h));
       }
 

@@ -18,11 +18,10 @@ use Rattle.srt_group_model.specs.Tools.{if_true◌then◌else◌, if_some◌give
 use Rattle.srt_group_model.specs.State.{Member, Send, State, with_leg, turned, unstable_state, broken_state, with_number}
 use Rattle.srt_group_model.specs.Laws.Flag.{zero_unset, other_set}
 use Rattle.srt_group_model.specs.Legs.{is_connected, can_send, send_shared_with_sequence}
-use Rattle.srt_group_model.specs.Members.{is_active, first_active}
+use Rattle.srt_group_model.specs.Members.{id_of, is_active, first_active}
 use Rattle.srt_group_model.specs.Sending.{sent_row_size, list_size, Sent, own_payload, own_send, Flow, mark_send_failure, sequence_for_send, sequence_mismatch, above_limit, takes_send, attempt_send, send_broadcast}
 use Rattle.srt_group_model.specs.Validity.{max_members}
 use Rattle.srt_group_model.specs.declared.Leg.{Leg}
-use Rattle.srt_group_model.specs.declared.Membership.{Membership}
 use Rattle.srt_group_model.specs.declared.Sender.{Sender}
 use Rattle.srt_group_model.specs.declared.Sending.{Sending}
 use Rattle.srt_connection.specs.Laws.Answers.{result_ok, result_err}
@@ -299,11 +298,11 @@ module _ (i time size sequence sent : ℕ) (t a : List ℕ) {active : Bool} (is 
             ap (send_shared_with_sequence time size sequence) (sym is_leg)
             ∙ result_err (send_shared_with_sequence time size sequence leg) failed
 
-    pub attempt_noted : {u b : List ℕ} {x : Membership} (l : Leg) → Some l ≡ send_shared_with_sequence time size sequence leg
-        → x ≡ (member_at t i).membership → Changed i (with_leg l) t u
-        → Wrote sent (sent_row x.id sequence own_payload time time ∷ []) a (sent + 1) b
+    pub attempt_noted : {u b : List ℕ} {id : ℕ} (l : Leg) → Some l ≡ send_shared_with_sequence time size sequence leg
+        → id ≡ id_of (member_at t i) → Changed i (with_leg l) t u
+        → Wrote sent (sent_row id sequence own_payload time time ∷ []) a (sent + 1) b
         → AttemptedAt i time size sequence sent (send_tables t a) (sent + 1) (send_tables u b)
-    attempt_noted {u} {b} {x} l succeeded is_membership c w =
+    attempt_noted {u} {b} {id} l succeeded is_id c w =
         record {
           changed =
               changed_by i t u (attempt_send time size sequence) c
@@ -316,9 +315,9 @@ module _ (i time size sequence sent : ℕ) (t a : List ℕ) {active : Bool} (is 
             ap (send_shared_with_sequence time size sequence) (sym is_leg)
             ∙ result_ok (send_shared_with_sequence time size sequence leg) l succeeded
 
-        rows : sent_row x.id sequence own_payload time time ∷ [] ≡ sends_of time size sequence (member_at t i ∷ [])
+        rows : sent_row id sequence own_payload time time ∷ [] ≡ sends_of time size sequence (member_at t i ∷ [])
         rows =
-            ap (λ (y : Membership). sent_row y.id sequence own_payload time time ∷ []) is_membership
+            ap (λ (k : ℕ). sent_row k sequence own_payload time time ∷ []) is_id
             ∙ sym (sends_one time size sequence (member_at t i) (takes_sent time size sequence (member_at t i) l (sym is ∙ e) goes))
 
 -- ---- the attempts, one after the other

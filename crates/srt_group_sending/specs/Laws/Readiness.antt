@@ -13,7 +13,6 @@ use Rattle.srt_group_model.specs.Legs.{time_until_send}
 use Rattle.srt_group_model.specs.Members.{in_state}
 use Rattle.srt_group_model.specs.Backup.{least_time, group_time_until_send}
 use Rattle.srt_group_model.specs.declared.Leg.{Leg}
-use Rattle.srt_group_model.specs.declared.Membership.{Membership}
 use Rattle.srt_connection_queue.specs.Rows.{member_of}
 use Rattle.srt_connection_members.specs.Members.{members_in}
 use Rattle.srt_group_sending.specs.Readiness.{may_carry, wait_of}
@@ -28,10 +27,10 @@ pub standby_carries : (state : ℕ) → (state ≡ active_state → ⊥) → eqb
 unfolding may_carry
 standby_carries state h = sym (rw (ne_eqb state active_state h))
 
-module _ (time : ℕ) (m : Member) {x : Membership} {carries : Bool} (is : x ≡ m.membership) (is_carries : carries ≡ may_carry x.state) where
+module _ (time : ℕ) (m : Member) {state : ℕ} {carries : Bool} (is : state ≡ m.membership.state) (is_carries : carries ≡ may_carry state) where
   carrying : (in_state active_state m || in_state standby_state m) ≡ carries
   unfolding may_carry
-  carrying = sym (is_carries ∙ ap (λ (y : Membership). eqb y.state active_state || eqb y.state standby_state) is)
+  carrying = sym (is_carries ∙ ap (λ (k : ℕ). eqb k active_state || eqb k standby_state) is)
 
   pub no_wait : carries ≡ false → None ≡ wait_of time m
   unfolding wait_of if_true◌then◌else◌

@@ -1,6 +1,6 @@
 -- `attempt_send_at` meets its contract: one law for each way out.
 use mathlib.Core.Path.{ap, sym, ◌∙◌}
-use Rattle.srt_group_model.specs.Members.{is_active}
+use Rattle.srt_group_model.specs.Members.{id_of, is_active}
 use Rattle.srt_group_sending.specs.Laws.Broadcast.{not_attempted, attempt_marked, attempt_noted}
 use Rattle.srt_group_sending.proofs.broadcast.attempt_send_at.Goals as goal
 
@@ -24,5 +24,5 @@ returns c =
     c.leg_at.ensures
     _ (sym c.in-Some.is ∙
     c.send_shared_with_sequence-result.ensures)
-    c.membership_at-membership.ensures
+    (c.member_id-id.ensures ∙ ap id_of c.row-2.ensures)
     c.put_leg_at.ensures (rw c.own.ensures at c.write_sent.ensures)
