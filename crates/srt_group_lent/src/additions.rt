@@ -33,5 +33,5 @@ pub extern "C" fn srt_group_lent_add_member(
         *group, members, pending, waiting, history, sources, row, id, weight,
     );
     *group = added.group;
-    added.code
+    added.answer
 }

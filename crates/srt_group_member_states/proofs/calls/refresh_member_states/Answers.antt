@@ -12,7 +12,8 @@ use Rattle.srt_group_member_states.proofs.calls.refresh_member_states.Goals as g
 pub returns-in-Err : goal.returns-in-Err
 returns-in-Err c =
     let a = c.args in
-    refresh_refused (parts_of a.group) (tables a.members.now a.pending.now a.waiting.now a.history.now a.sources.now) c.begin.ensures _ c.in-Err.is
+    rw (c.refused.ensures.0, c.refused.ensures.1)
+    (refresh_refused (parts_of a.group) (tables a.members.now a.pending.now a.waiting.now a.history.now a.sources.now) c.begin.ensures _ c.in-Err.is)
 
 pub refresh_states-core-requires : goal.refresh_states-core-requires
 refresh_states-core-requires c =
