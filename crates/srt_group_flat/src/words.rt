@@ -36,6 +36,7 @@ pub const NO_PACKET: Packet = Packet {
 };
 
 // The words of a poll that was accepted.
+#[tactic(auto, using(crate::specs::Laws::Words::says_given))]
 fn words_of_poll(poll: GroupDataPoll) -> DataWords
     ensures { Says (Ok poll) result }
 {
@@ -88,7 +89,7 @@ pub fn words_of_send(answer: Result<usize, Error>, rows: usize) -> SendWords
             rows,
         },
         Err(error) => SendWords {
-            code: u64::from(u32::from(error)),
+            code: u32::from(error) as u64,
             legs: 0,
             rows,
         },
