@@ -14,13 +14,13 @@ pub returns : goal.returns
 returns c =
     let a = c.args in
     elim c.else-admitted_at-eq1.branch [
-      else-admitted_at-eq1-via-then-admitted_at-eq1+else-not-align_member_sequence w ↦
-        rw w.members-is
-        (adds_aligned a.member.id a.member.weight a.member.leg a.core a.sending a.members.now _ _
-        c.handed_over-leg.ensures c.join-after.ensures c.admitted_at.ensures w.if-admitted_at-eq1.true _
-        (rw w.next_send_sequence.ensures at w.align_member_sequence.ensures) w.if-not-align_member_sequence.false)
-    | else-admitted_at-eq1-via-else-admitted_at-eq1 w ↦
-        rw w.members-is
-        (adds_unaligned a.member.id a.member.weight a.member.leg a.core a.sending a.members.now _ _
-        c.handed_over-leg.ensures c.join-after.ensures c.admitted_at.ensures w.if-admitted_at-eq1.false)
+      | else-admitted_at-eq1-via-then-admitted_at-eq1+else-not-align_member_sequence w ↦
+          rw w.members-is
+          (adds_aligned a.member.id a.member.weight a.member.leg a.core a.sending a.members.now _ _
+          c.handed_over-leg.ensures c.join-after.ensures c.admitted_at.ensures w.if-admitted_at-eq1.true _
+          (rw w.next_send_sequence.ensures at w.align_member_sequence.ensures) w.if-not-align_member_sequence.false)
+      | else-admitted_at-eq1-via-else-admitted_at-eq1 w ↦
+          rw w.members-is
+          (adds_unaligned a.member.id a.member.weight a.member.leg a.core a.sending a.members.now _ _
+          c.handed_over-leg.ensures c.join-after.ensures c.admitted_at.ensures w.if-admitted_at-eq1.false)
     ]
