@@ -130,12 +130,9 @@ fn acknowledges(leg: Leg, number: u64) -> bool
 pub fn goes_back(leg: Leg, field: u64, number: u64) -> bool
     ensures { result ≡ goes_back field number leg }
 {
-    let Some(field) = Field::of(field) else {
-        return false;
-    };
-    match field {
-        Field::State => number < leg.link.state,
-        Field::Acknowledged => !acknowledges(leg, number),
+    match Field::of(field) {
+        Some(Field::State) => number < leg.link.state,
+        Some(Field::Acknowledged) => !acknowledges(leg, number),
         _ => false,
     }
 }

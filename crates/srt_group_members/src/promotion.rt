@@ -63,11 +63,9 @@ pub fn promote_backup_member(members: &mut [u64], count: usize)
     ensures { Became count (promote_backup_member (members_of count members.old))
         members.old members.new }
 {
-    let found = promotion(rows(members, count));
-    let Some(index) = found else {
-        return;
-    };
-    turn_at(members, index, ACTIVE);
+    if let Some(index) = promotion(rows(members, count)) {
+        turn_at(members, index, ACTIVE);
+    }
 }
 
 // In Backup, if no member is active.
@@ -77,11 +75,7 @@ pub fn promote_if_none(members: &mut [u64], count: usize, mode: u64)
     ensures { Became count (promote_if_none mode (members_of count members.old))
         members.old members.new }
 {
-    if !is_backup(mode) {
-        return;
+    if is_backup(mode) && !has_active_member(rows(members, count)) {
+        promote_backup_member(members, count);
     }
-    if has_active_member(rows(members, count)) {
-        return;
-    }
-    promote_backup_member(members, count);
 }
