@@ -27,10 +27,12 @@ fn is_steady(row: &Row) -> bool
             | ((link == CONNECTED) & ((admitted != 0) & ((state == ACTIVE) | (state == STANDBY)))))
 }
 
+// Every row is read: where the first unsteady one ends it, each row costs 5 instructions more (callgrind).
 fn all_steady(rows: &[Row]) -> bool
     ensures { result ≡ all is_steady (members_in rows.now) }
 {
-    rows.iter().all(is_steady)
+    rows.iter()
+        .fold(true, |steady, row| steady & is_steady(row))
 }
 
 // Every member is steady, and in Backup one is active.

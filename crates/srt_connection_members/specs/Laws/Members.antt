@@ -21,12 +21,12 @@ use Rattle.word_rows.specs.Tab.{tab}
 use Rattle.word_rows.specs.Laws.Tab.{tab_length, tab_push}
 use Rattle.srt_connection_queue.specs.Laws.Tab.{tab_place, tab_change, tab_without, tab_each, place_below, tab_passes}
 use Rattle.word_rows.specs.Rows.{row_at, Closed}
-use Rattle.word_rows.specs.Laws.Rows.{chunk_there, row_same, row_part, chunks_read}
+use Rattle.word_rows.specs.Laws.Rows.{row_same, row_part, chunks_read}
 use Rattle.srt_connection_queue.specs.Row.{put_row}
 use Rattle.srt_connection_queue.specs.Laws.Row.{row_put, row_put_other, put_length}
 use Rattle.srt_connection_queue.specs.Rows.{row_size, member_of, Kept, with_membership}
-use Rattle.srt_connection_queue.specs.Queue.{cleared, Pushed, queue_after, Polled}
-use Rattle.srt_connection_members.specs.Members.{member_at, members_of, members_in, member_in, HasRow, new_member, RowLent, Changed, PushedAt, PolledAt, ChangedAll, Appended, Removed}
+use Rattle.srt_connection_queue.specs.Queue.{Pushed, queue_after, Polled}
+use Rattle.srt_connection_members.specs.Members.{member_at, members_of, members_in, member_in, HasRow, RowLent, Changed, PushedAt, PolledAt, ChangedAll, Appended, Removed}
 
 -- ---- laws
 

@@ -1,16 +1,14 @@
 -- What is proved of the definitions in specs/Rank.antt, with what the proofs need.
 use Rattle.std.proofs.Math.Path.{◌≡◌, refl, ap, sym}
-use Rattle.std.specs.Prelude.{Bool, ◌&&◌, List, [], ◌∷◌, ltb, drop, None, Option, Some, IfSome}
+use Rattle.std.specs.Prelude.{Bool, ◌&&◌, List, [], ◌∷◌, drop, None, Option, Some, IfSome}
 use Rattle.std.proofs.Math.Bool.{true, false, not}
 use Prim.Native.Nat.{ℕ, zero, suc, ◌+◌, ◌-◌, ◌≤◌, ◌<◌}
 use native.Mathlib.Omega.{arith}
 use Rattle.std.proofs.Common.{◌∙◌}
-use borrow.Author.Tests.{lt-ltb, le-ltb, eq-eqb, ne_eqb}
 use Rattle.std.proofs.Math.ListN.{length}
 use Rattle.srt_group_model.specs.Tools.{if_true◌then◌else◌, if_some◌give◌otherwise◌}
 use Rattle.srt_group_model.specs.State.{Member, is_backup, turned, active_state}
 use Rattle.srt_group_model.specs.Members.{Placed, is_standby, outranks, first_in_rank, promotion, promote_backup_member, promote_if_none, has_active_member}
-use Rattle.srt_group_model.specs.declared.Membership.{Membership}
 use Rattle.srt_connection_members.specs.Members.{members_in, members_of, Changed}
 use Rattle.srt_connection_members.specs.Laws.Members.{members_length, found_some, found_none}
 use Rattle.srt_group_members.specs.Scan.{Became}

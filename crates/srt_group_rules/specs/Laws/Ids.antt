@@ -1,20 +1,18 @@
 -- What is proved of the definitions in specs/Ids.antt, with what the proofs need.
-use Rattle.std.specs.Prelude.{◌≡◌, Bool, true, false, List, [], take, eqb, length, set, replicate, Some}
+use Rattle.std.specs.Prelude.{◌≡◌, Bool, true, false, List, take, eqb, length, set, Some}
 use Rattle.std.proofs.Math.Path.{refl, ap, sym}
-use Rattle.std.proofs.Common.{◌∙◌, length-set, length-take-le, get_or-take, get_or-set_same, get_or-set_other}
+use Rattle.std.proofs.Common.{◌∙◌, length-set, get_or-set_same, get_or-set_other}
 use Prim.Native.Nat.{ℕ, zero, suc, ◌+◌, ◌%◌, ◌≤◌, ◌<◌}
 use Rattle.std.proofs.Math.Decide.{dec_lt}
 use native.Mathlib.Omega.{arith}
 use borrow.Author.Tests.{eq-eqb, ne_eqb, eqb-true, eqb-false}
 use Rattle.std.proofs.Math.ListN.{get_or}
-use Rattle.std.proofs.lemmas.List.{length-replicate}
 use Rattle.srt_group_model.specs.Tools.{any, each}
 use Rattle.srt_group_model.specs.State.{Member}
 use Rattle.srt_group_model.specs.Laws.Reason.{by_test, not_both, or_yes_left, or_yes_right, or_cases}
 use Rattle.srt_group_model.specs.Members.{id_of, has_id, find}
 use Rattle.srt_group_model.specs.Cells.{is_among}
 use Rattle.srt_group_model.specs.Validity.{one_twice}
-use Rattle.srt_connection_queue.specs.Rows.{member_of}
 use Rattle.srt_connection_members.specs.Members.{member_in, members_in}
 use Rattle.srt_connection_members.specs.Laws.Members.{members_tab, members_front}
 use Rattle.word_rows.specs.Laws.Tab.{tab_length}

@@ -6,7 +6,6 @@ use Rattle.std.proofs.Common.{sym, ◌∙◌, arith, lt-ltb, le-ltb}
 use Rattle.std.proofs.Math.Bool.{true, false, ◌||◌}
 use mathlib.Core.List.{List, [], ◌∷◌}
 use Prim.Native.Nat.{ℕ, zero, suc, ◌+◌, ◌%◌, ◌≤◌, ◌<◌}
-use Rattle.std.proofs.Math.Decide.{dec_lt}
 use Rattle.srt_group_model.specs.Tools.{any, All}
 use Rattle.srt_group_model.specs.Laws.Reason.{or_left, or_right, or_yes_left, or_yes_right}
 use Rattle.srt_group_model.specs.Backup.{max_history}

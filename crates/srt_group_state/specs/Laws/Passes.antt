@@ -6,7 +6,7 @@ use Rattle.std.proofs.Math.Bool.{not}
 use mathlib.Core.List.{List, [], ◌∷◌, ◌++◌}
 use Rattle.std.proofs.Math.Decide.{dec_lt}
 use native.Mathlib.Omega.{arith}
-use borrow.Author.Tests.{eq-eqb, eqb-true, eqb-false, lt-ltb, ltb-true, ltb-false}
+use borrow.Author.Tests.{eq-eqb, eqb-true, eqb-false, lt-ltb, ltb-false}
 use Rattle.srt_group_model.specs.Tools.{any, each, such_that}
 use Rattle.srt_group_model.specs.Laws.Reason.{by_test, not_both, or_left, or_right, or_cases, no_either, or_yes_left}
 use Rattle.srt_group_model.specs.Laws.CellsKept.{occurs_append}
@@ -40,7 +40,7 @@ use Rattle.srt_group_rules.specs.Sums.{account_place, differs, accounts_wrong, o
 use Rattle.srt_group_rules.specs.Laws.Walks.{any_nowhere, none_there, queued, the_queue, queue_too_long, queue_walked, history_too_long, history_walked}
 use Rattle.srt_group_rules.specs.Laws.Sums.{Queued, queued_all, placed_nowhere, placed_somewhere, wrong_is}
 use Rattle.srt_group_state.specs.Cells.{event_cells}
-use Rattle.srt_group_state.specs.Passes.{Passes, QueueGood, MemberGood, PacketGood, RowsGood, TablesGood, is_nothing, PlacesPacket}
+use Rattle.srt_group_state.specs.Passes.{Passes, QueueGood, MemberGood, PacketGood, RowsGood, is_nothing, PlacesPacket}
 use Rattle.srt_group_state.specs.Laws.Cells.{answered_true, answered_false, nothing_marked, marks_as, joined, joined_next, joined_more, events_are, entries_are, pending_are, queues_are}
 
 -- ---- one test, one cell
