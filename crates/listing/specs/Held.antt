@@ -43,6 +43,11 @@ pub record HeldRead (width : ℕ) (held : OpenLine) (numbers after : List ℕ) (
       (line : List ℕ) → Held line held
       → after ≡ cond (leb (length line) (length held.bytes.now)) (line_numbers (length numbers) width line) (replicate (length numbers) 0)
 
+-- the same of a buffer and a size, whatever open line holds them
+abbrev pub BytesRead : ℕ → List ℕ → ℕ → List ℕ → List ℕ → Result (Unit {0}) MalformedLine → Type 0
+BytesRead width bytes size numbers after answer =
+    (held : OpenLine) → held.bytes.now ≡ bytes → held.size ≡ size → HeldRead width held numbers after answer
+
 -- a well-formed line with its line feed is read where it stands at a block's start; where none stands there, what the numbers
 -- then hold is free
 abbrev pub whole_here : ℕ → ℕ → List ℕ → Bool

@@ -1,6 +1,6 @@
 // Lines from blocks.
 ghost use Rattle.std.specs.Prelude.{◌≡◌, drop, eqb};
-ghost use Rattle.listing.specs.Held.{SameBuffer, Appended, TakenFrom, HeldRead, WholeRead};
+ghost use Rattle.listing.specs.Held.{SameBuffer, Appended, TakenFrom, HeldRead, BytesRead, WholeRead};
 
 use crate::MalformedLine;
 use crate::reading::{read_columns, read_line};
@@ -76,16 +76,28 @@ impl<'a> OpenLine<'a> {
         }
     }
 
-    // Reads the line. One that is longer than the buffer is malformed.
+    // Reads the line.
     pub fn read(&self, width: usize, numbers: &mut [u64]) -> Result<(), MalformedLine>
         ensures { HeldRead width self.now numbers.old numbers.new result }
     {
-        if self.bytes.len() < self.size {
-            numbers.fill(0);
-            return Err(MalformedLine);
-        }
-        read_line(&self.bytes[..self.size], width, numbers)
+        read_held_line(self.bytes, self.size, width, numbers)
     }
+}
+
+// Reads the line that a buffer holds, of which so many bytes stand at the start. One that is longer than the buffer is malformed.
+pub fn read_held_line(
+    bytes: &[u8],
+    size: usize,
+    width: usize,
+    numbers: &mut [u64],
+) -> Result<(), MalformedLine>
+    ensures { BytesRead width bytes.now size numbers.old numbers.new result }
+{
+    if bytes.len() < size {
+        numbers.fill(0);
+        return Err(MalformedLine);
+    }
+    read_line(&bytes[..size], width, numbers)
 }
 
 // Reads a well-formed line where it stands in a block from a place on, with its line feed, and answers the block behind it: no search for

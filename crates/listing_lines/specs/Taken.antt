@@ -28,3 +28,7 @@ abbrev pub LastLineTaken : OpenLine → Option (List ℕ) → Type 0
 LastLineTaken held row =
     (line : List ℕ) → Held line held
     → MatchOption row (last_line line ≡ []) (λ row. map (line_numbers 8 11) (last_line line) ≡ row ∷ [])
+
+-- the same of a buffer and a size, whatever open line holds them
+abbrev pub LastBytesTaken : List ℕ → ℕ → Option (List ℕ) → Type 0
+LastBytesTaken bytes size row = (held : OpenLine) → held.bytes.now ≡ bytes → held.size ≡ size → LastLineTaken held row
