@@ -113,11 +113,9 @@ fn release_pending_reservation(mut core: Core, members: &mut [u64], packet: Pack
         core.own = accounts::release_packet(core.own, run);
         return core;
     }
-    let found = find(rows(members, core.counts.members), packet.member);
-    let Some(index) = found else {
-        return core;
-    };
-    release_at(members, index, run);
+    if let Some(index) = find(rows(members, core.counts.members), packet.member) {
+        release_at(members, index, run);
+    }
     core
 }
 

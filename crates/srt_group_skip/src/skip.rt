@@ -83,13 +83,9 @@ fn base_stays(core: Core, members: &[u64], pending: &[u64], time: Timestamp, bas
     ensures { (others : Rest) (waiting : List ℕ)
         → result ≡ base_stays time.0 base (shown core others members.now pending.now waiting) }
 {
-    if is_held(pending, core.counts.pending, base) {
-        return true;
-    }
-    if core.visit.continuation != 0 {
-        return true;
-    }
-    !gap_given_up(core, members, pending, time)
+    is_held(pending, core.counts.pending, base)
+        || core.visit.continuation != 0
+        || !gap_given_up(core, members, pending, time)
 }
 
 // The give-up test is made once, before the queues are collected: what they bring does not take it back.
