@@ -38,6 +38,7 @@ pub fn queue_and_poll(
         (tables members.new pending.new waiting.new history.now sources.now)
         (length store.new) used.new }
 {
+    // a refused packet leaves all as it was, and the poll is made all the same
     let _ = queue_data(
         group, members, pending, waiting, history, sources, store, used, id, content, payload,
     );

@@ -26,6 +26,7 @@ pub fn write_payload(store: &[u8], output: &mut [u8], gave: Option<Packet>)
         let content = packet.content;
         let cell = content.cell as usize;
         let size = content.length as usize;
+        // a payload of a held packet fits the output (`Writable`): this is never refused
         let _ = copy_payload(store, cell, size, output);
     }
 }

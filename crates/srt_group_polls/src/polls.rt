@@ -168,16 +168,14 @@ fn pass_event(poll: Poll) -> Option<DataPoll>
     ensures { Passes poll result }
 {
     let core = poll.core;
-    let Some(given) = poll.gave else {
-        return Some(DataPoll {
+    match poll.gave {
+        None => Some(DataPoll {
             gave: None,
             continuation: core.visit.continuation,
             core,
-        });
-    };
-    match given {
-        GroupEvent::Event(_) => None,
-        GroupEvent::Packet(packet) => Some(DataPoll {
+        }),
+        Some(GroupEvent::Event(_)) => None,
+        Some(GroupEvent::Packet(packet)) => Some(DataPoll {
             gave: Some(packet),
             continuation: 0,
             core,
