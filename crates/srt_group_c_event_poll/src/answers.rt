@@ -18,13 +18,16 @@ fn put_polled(answer: &mut [u64], gave: Option<GroupEvent>)
     requires { 8 ≤ length answer.old }
     ensures { answer.new ≡ overwritten 0 (in_words 8 (polled (polled_of gave)) 0) answer.old }
 {
-    match gave {
-        None => put(answer, [0; POLLED]),
-        Some(GroupEvent::Event(event)) => put(
+    let Some(given) = gave else {
+        put(answer, [0; POLLED]);
+        return;
+    };
+    match given {
+        GroupEvent::Event(event) => put(
             answer,
             [event.kind, event.member, event.reason, 0, 0, 0, 0, 0],
         ),
-        Some(GroupEvent::Packet(packet)) => put_packet(answer, 0, packet),
+        GroupEvent::Packet(packet) => put_packet(answer, 0, packet),
     }
 }
 
@@ -34,7 +37,9 @@ pub fn put_poll(record: &mut [u64], answer: &mut [u64], poll: Poll) -> u32
     ensures { PutSaid (with_core poll.core (group_of «record».old)) 0 (in_words 8 (answer_of poll) 0)
         «record».old answer.old result «record».new answer.new }
 {
-    put_core(record, poll.core);
-    put_polled(answer, poll.gave);
+    let after = poll.core;
+    let gave = poll.gave;
+    put_core(record, after);
+    put_polled(answer, gave);
     0
 }

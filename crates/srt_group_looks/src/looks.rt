@@ -59,6 +59,7 @@ pub fn has_receive_continuation(lent: &LentGroup) -> Result<bool, Error>
     ensures { LookGives (λ b. shown (truth b)) look_has_receive_continuation (parts_of lent.now.group) (tables_of lent.now) result }
 {
     lent.begin()?;
+    // Kept (1): the record's flag is asked as the word that it is, as the definitions ask it.
     Ok(lent.group.core.visit.continuation != 0)
 }
 

@@ -34,6 +34,7 @@ fn member_row<'a>(lent: &LentGroup<'a>, id: u64) -> Result<&'a Row, Error>
         (λ e. LooksRefused id (parts_of lent.now.group) (tables_of lent.now) e) }
 {
     lent.begin()?;
+    // Kept (2): 2, then 3, in the order of the call's own definition; a function of the two lines is no plainer.
     if LARGEST_32 < id {
         return Err(Error::OutOfRange);
     }

@@ -1,6 +1,7 @@
 // The skip: when a missing packet is passed over for good. A gap is skipped once it is given up and every queue was found empty.
 // Kept (5, 6): a step that moves tables takes them one beside the other: a struct of `&mut` asks for loans that a call does not need, and for a clause to each field, that its slice is still the caller's (tried); what holds of them is one fact, `Usable` or `Deliverable`.
 // Kept (5): what goes by value beside them is the group's record, which a step gives back, and the one or two numbers that this step is about; a struct of those would be made for a single call and is no plainer.
+// Kept (1): the record's flag of the continuation is asked as the word that it is, as the definitions ask it.
 ghost use Rattle.std.specs.Prelude.{◌≡◌, List, ℕ, length};
 ghost use Rattle.srt_group_model.specs.State.{State};
 ghost use Rattle.srt_group_model.specs.Delivery.{skip_nearest, skip_after, base_stays, skip_given_up_gap};
