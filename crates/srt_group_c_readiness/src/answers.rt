@@ -24,7 +24,7 @@ pub fn put_tested(record: &mut [u64], answer: &mut [u64], tested: Answered<Group
     put_given(answer, tested.answer)
 }
 
-// The same of a valid state, which is not refused: 0.
+// The same of a valid state, which is not refused: 0. The record is put with its identity, which a test answers as it was lent.
 pub fn put_readiness(record: &mut [u64], answer: &mut [u64], tested: Readiness) -> u32
     requires { (record_size ≤ length «record».old) × (1 ≤ length answer.old) }
     ensures { PutSaid tested.«record» 0
