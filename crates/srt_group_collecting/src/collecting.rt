@@ -84,7 +84,7 @@ pub fn flag(set: bool) -> u64
 // ---- a packet is held or discarded
 
 // Whether a sequence is before the base.
-// Kept (1): tried with the base as an option, in a step that cost 3 instructions more for each event that is collected (callgrind).
+// Kept (1): tried with the base as an option: with what else that step changed, an event that is collected cost 3 instructions more (callgrind).
 #[tactic(auto, using(crate::specs::Laws::Collect::late_based, crate::specs::Laws::Collect::late_unbased))]
 fn is_late(receiving: Receiving, sequence: u64) -> bool
     ensures { result ≡ (if_some flagged (is_set receiving.based) receiving.base

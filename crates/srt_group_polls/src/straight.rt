@@ -37,7 +37,7 @@ fn is_alone_at(event: Event, sequence: u64) -> bool
     event.is_data() & ((content.sequence == sequence) & (content.count == 1))
 }
 
-// Kept (1): with the base as an option here, and one match in `pass_event`, a packet in order costs 14 instructions more (callgrind).
+// Kept (1): tried with the base as an option: with one match in `pass_event`, which is made, a packet in order cost 14 instructions more (callgrind).
 // The packet at the base, if it is next in turn, alone in its run and not held, no event waits, and `quiet` says that a refresh would change nothing.
 #[tactic(auto, using(crate::specs::Laws::StraightPolls::turn_has_row))]
 pub fn next_straight(core: Core, members: &[u64], pending: &[u64], quiet: bool) -> Option<Straight>
