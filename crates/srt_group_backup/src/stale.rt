@@ -60,11 +60,7 @@ pub fn demote_stale_backup_carrier(members: &mut [u64], count: usize, time: Time
     let Some(index) = found else {
         return;
     };
-    if !has_standby(rows(members, count)) {
-        return;
+    if has_standby(rows(members, count)) && is_stale(leg_at(members, index), time) {
+        turn_at(members, index, UNSTABLE);
     }
-    if !is_stale(leg_at(members, index), time) {
-        return;
-    }
-    turn_at(members, index, UNSTABLE);
 }

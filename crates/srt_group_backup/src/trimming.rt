@@ -21,7 +21,7 @@ pub struct SendHistory {
 }
 
 // Whether the oldest entry is after a sequence: older ones were lost.
-// Kept (1): the gap is the rules' word of a flag, and `u64::from` promises the byte of the bool: a step from one to the other would be no plainer.
+// Kept (1, 3): the flag goes into the lent record as the word that it is, in this place alone, as the definition asks it (`bit`): a bool would be turned into that word at once.
 #[tactic(auto, using(crate::specs::Laws::Trimming::none_after, crate::specs::Laws::Trimming::first_after, crate::specs::Laws::Trimming::first_not_after))]
 fn starts_after(history: &HistoryWords, oldest: u64) -> u64
     ensures { result ≡ bit (front_after oldest history.now.history.now history.now.ring) }

@@ -16,10 +16,10 @@ ghost use Rattle.srt_group_sending.specs.Broadcast.{number_for_send, is_mismatch
 ghost use Rattle.srt_group_model.specs.State.{with_number};
 
 use crate::flown::Flown;
-use crate::list::{Sent, write_sent};
-use srt_connection::legs::{can_send, is_connected, send_shared_with_sequence};
-use srt_connection_members::{leg_at, put_leg_at, row, rows};
-use srt_connection_queue::rows::{Row, leg, member_id, sender};
+use crate::own::send_on;
+use srt_connection::legs::{can_send, is_connected};
+use srt_connection_members::{leg_at, row, rows};
+use srt_connection_queue::rows::{Row, leg, sender};
 use srt_group_members::states::{BROKEN, UNSTABLE, first_active, is_active, turn_at};
 use srt_group_model::{Leg, Sending};
 use srt_protocol::error::Error;
@@ -41,11 +41,12 @@ pub fn mark_send_failure_at(members: &mut [u64], index: usize)
     requires { HasRow index members.old }
     ensures { Changed index mark_send_failure members.old members.new }
 {
-    if has_full_window(leg_at(members, index)) {
-        turn_at(members, index, UNSTABLE);
-        return;
-    }
-    turn_at(members, index, BROKEN);
+    let state = if has_full_window(leg_at(members, index)) {
+        UNSTABLE
+    } else {
+        BROKEN
+    };
+    turn_at(members, index, state);
 }
 
 // ---- before anything is sent
@@ -104,14 +105,10 @@ fn attempt_send_at(
     if !is_active(row(members, index)) {
         return sent;
     }
-    let result = send_shared_with_sequence(leg_at(members, index), time, size, sequence);
-    let Some(after) = result else {
+    if !send_on(members, index, time, size, sequence, list, sent) {
         mark_send_failure_at(members, index);
         return sent;
-    };
-    let id = member_id(row(members, index));
-    put_leg_at(members, index, after);
-    write_sent(list, sent, Sent::own(id, sequence, time));
+    }
     sent + 1
 }
 

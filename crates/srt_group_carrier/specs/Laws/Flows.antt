@@ -1,6 +1,6 @@
 -- What a part of a Backup send leaves is the flow of the model.
 use Rattle.srt_protocol.specs.Errors.{Outcome}
-use Rattle.std.specs.Prelude.{◌≡◌, Bool, true, false, length, Err, None, Ok, Option, Some, is_some}
+use Rattle.std.specs.Prelude.{◌≡◌, Bool, true, false, length, Err, None, Ok, Option, Some}
 use Rattle.std.specs.Result.{is_err}
 use Rattle.std.proofs.Math.Path.{refl, ap, ap₂, sym, subst}
 use Rattle.std.proofs.Common.{◌∙◌, arith}
@@ -20,7 +20,6 @@ use Rattle.srt_group_model.specs.Sending.{max_sent, list_size, Sent, own_send, F
 use Rattle.srt_group_model.specs.Backup.{max_history, send_own, send_after_promotion}
 use Rattle.srt_group_model.specs.Laws.Reason.{if_some_elim}
 use Rattle.srt_group_model.specs.Laws.Places.{change_nothing}
-use Rattle.srt_group_model.specs.declared.Leg.{Leg}
 use Rattle.srt_group_model.specs.declared.Sending.{Sending}
 use Rattle.srt_connection_members.specs.Members.{member_at, members_of}
 use Rattle.srt_connection_members.specs.Laws.Members.{found_some, found_none, changed_by}
@@ -32,7 +31,8 @@ use Rattle.srt_group_sending.specs.Laws.SentList.{wrote_nothing, wrote_length, w
 use Rattle.srt_group_sending.specs.declared.flown.Flown.{Flown}
 use Rattle.srt_group_backup.specs.declared.trimming.SendHistory.{SendHistory}
 use Rattle.srt_group_backup.specs.TakeOver.{TookOver}
-use Rattle.srt_group_backup.specs.OwnSend.{SentOn}
+use Rattle.srt_group_sending.specs.OwnSend.{SentOn}
+use Rattle.srt_group_sending.specs.Laws.OwnSend.{not_some}
 use Rattle.srt_group_backup.specs.Laws.OwnSend.{send_own_failed, send_own_met}
 use Rattle.srt_group_carrier.specs.Freeing.{TrimFollows}
 use Rattle.srt_group_carrier.specs.Lendable.{BackupTables, backup_tables, arrays_in, Lendable}
@@ -186,10 +186,6 @@ module _ (among : State → Type 0) (f : State → Flow) (ready : State → List
 pub sent_as : {time size sequence i sent : ℕ} {before after : SendTables} {answer b : Bool} → answer ≡ b
     → SentOn time size sequence i sent before answer after → SentOn time size sequence i sent before b after
 sent_as {time} {size} {sequence} {i} {sent} {before} {after} is on = subst (λ (c : Bool). SentOn time size sequence i sent before c after) is on
-
-not_some : (o : Option Leg) → false ≡ is_some o → o ≡ None
-not_some None is = refl
-not_some (Some l) is = cc is
 
 module _ (time size cell sequence i n : ℕ) (x : Sending) (r : HistoryRing) (sent : ℕ) (before : BackupTables) (members list : List ℕ)
     (below : i < n) where

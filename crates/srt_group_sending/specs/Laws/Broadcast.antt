@@ -18,18 +18,19 @@ use Rattle.srt_group_model.specs.Tools.{if_true◌then◌else◌, if_some◌give
 use Rattle.srt_group_model.specs.State.{Member, Send, State, with_leg, turned, unstable_state, broken_state, with_number}
 use Rattle.srt_group_model.specs.Laws.Flag.{zero_unset, other_set}
 use Rattle.srt_group_model.specs.Legs.{is_connected, can_send, send_shared_with_sequence}
-use Rattle.srt_group_model.specs.Members.{id_of, is_active, first_active}
-use Rattle.srt_group_model.specs.Sending.{sent_row_size, list_size, Sent, own_payload, own_send, Flow, mark_send_failure, sequence_for_send, sequence_mismatch, above_limit, takes_send, attempt_send, send_broadcast}
+use Rattle.srt_group_model.specs.Members.{is_active, first_active}
+use Rattle.srt_group_model.specs.Sending.{sent_row_size, list_size, Sent, own_send, Flow, mark_send_failure, sequence_for_send, sequence_mismatch, above_limit, takes_send, attempt_send, send_broadcast}
 use Rattle.srt_group_model.specs.Validity.{max_members}
 use Rattle.srt_group_model.specs.declared.Leg.{Leg}
 use Rattle.srt_group_model.specs.declared.Sender.{Sender}
 use Rattle.srt_group_model.specs.declared.Sending.{Sending}
-use Rattle.srt_connection.specs.Laws.Answers.{result_ok, result_err}
 use Rattle.srt_connection_members.specs.Members.{member_at, members_in, members_of, Changed}
-use Rattle.srt_connection_members.specs.Laws.Members.{members_place, found_some, found_none, changed_by, unchanged, Changing, changing_start, changing_on, changing_done}
+use Rattle.srt_connection_members.specs.Laws.Members.{members_place, found_some, found_none, changed_by, changed_twice, unchanged, Changing, changing_start, changing_on, changing_done}
 use Rattle.srt_group_members.specs.Laws.Scan.{found_row}
 use Rattle.srt_group_members.specs.Rank.{shown}
-use Rattle.srt_group_sending.specs.SentList.{sent_row, sent_rows, send_tables, Wrote}
+use Rattle.srt_group_sending.specs.SentList.{sent_rows, send_tables, Wrote}
+use Rattle.srt_group_sending.specs.OwnSend.{SentOn}
+use Rattle.srt_group_sending.specs.Laws.OwnSend.{not_some, with_some}
 use Rattle.srt_group_sending.specs.Laws.Rows.{row_there, row_found}
 use Rattle.srt_group_sending.specs.Laws.SentList.{wrote_nothing, wrote_length, wrote_then, wrote_rows}
 use Rattle.srt_group_sending.specs.Broadcast.{number_for_send, is_mismatched, sends_of, left_by_send, AttemptedAt, Attempted, SentBroadcast}
@@ -282,43 +283,39 @@ module _ (i time size sequence sent : ℕ) (t a : List ℕ) {active : Bool} (is 
         wrote = wrote_none (takes_inactive time size sequence (member_at t i) (sym is ∙ e));
       }
 
-  module _ {leg : Leg} (e : active ≡ true) (is_leg : leg ≡ (member_at t i).leg) where
-    pub attempt_marked : {u : List ℕ} → None ≡ send_shared_with_sequence time size sequence leg
-        → Changed i mark_send_failure t u → AttemptedAt i time size sequence sent (send_tables t a) sent (send_tables u a)
+  module _ {went : Bool} {v b : List ℕ} (e : active ≡ true)
+      (on : SentOn time size sequence i sent (send_tables t a) went (send_tables v b)) where
+    pub attempt_marked : {u : List ℕ} → went ≡ false → Changed i mark_send_failure v u
+        → AttemptedAt i time size sequence sent (send_tables t a) sent (send_tables u b)
+    unfolding if_true◌then◌else◌ if_some◌give◌otherwise◌
     attempt_marked {u} failed c =
         record {
           changed =
-              changed_by i t u (attempt_send time size sequence) c
-              (sym (attempt_failed time size sequence (member_at t i) (sym is ∙ e) fails));
-          wrote = wrote_none (takes_failed time size sequence (member_at t i) (sym is ∙ e) fails);
+              changed_by i t u (attempt_send time size sequence) (changed_twice i t v u on.changed c)
+              (ap mark_send_failure (rw fails) ∙ sym (attempt_failed time size sequence (member_at t i) (sym is ∙ e) fails));
+          wrote =
+              subst (λ (xs : List Sent). Wrote sent xs a sent b)
+              (sym (sends_none time size sequence (member_at t i) (takes_failed time size sequence (member_at t i) (sym is ∙ e) fails)))
+              (rw failed at on.written);
         }
       where
         fails : send_shared_with_sequence time size sequence (member_at t i).leg ≡ None
-        fails =
-            ap (send_shared_with_sequence time size sequence) (sym is_leg)
-            ∙ result_err (send_shared_with_sequence time size sequence leg) failed
+        fails = not_some (send_shared_with_sequence time size sequence (member_at t i).leg) (sym failed ∙ on.succeeded)
 
-    pub attempt_noted : {u b : List ℕ} {id : ℕ} (l : Leg) → Some l ≡ send_shared_with_sequence time size sequence leg
-        → id ≡ id_of (member_at t i) → Changed i (with_leg l) t u
-        → Wrote sent (sent_row id sequence own_payload time time ∷ []) a (sent + 1) b
-        → AttemptedAt i time size sequence sent (send_tables t a) (sent + 1) (send_tables u b)
-    attempt_noted {u} {b} {id} l succeeded is_id c w =
+    pub attempt_noted : went ≡ true → AttemptedAt i time size sequence sent (send_tables t a) (sent + 1) (send_tables v b)
+    unfolding if_true◌then◌else◌ if_some◌give◌otherwise◌
+    attempt_noted succeeded =
+        with_some (send_shared_with_sequence time size sequence (member_at t i).leg) (sym succeeded ∙ on.succeeded)
+        (λ l goes.
         record {
           changed =
-              changed_by i t u (attempt_send time size sequence) c
-              (sym (attempt_sent time size sequence (member_at t i) l (sym is ∙ e) goes));
-          wrote = subst (λ (xs : List Sent). Wrote sent xs a (sent + 1) b) rows w;
-        }
-      where
-        goes : send_shared_with_sequence time size sequence (member_at t i).leg ≡ Some l
-        goes =
-            ap (send_shared_with_sequence time size sequence) (sym is_leg)
-            ∙ result_ok (send_shared_with_sequence time size sequence leg) l succeeded
-
-        rows : sent_row id sequence own_payload time time ∷ [] ≡ sends_of time size sequence (member_at t i ∷ [])
-        rows =
-            ap (λ (k : ℕ). sent_row k sequence own_payload time time ∷ []) is_id
-            ∙ sym (sends_one time size sequence (member_at t i) (takes_sent time size sequence (member_at t i) l (sym is ∙ e) goes))
+              changed_by i t v (attempt_send time size sequence) on.changed
+              (rw goes (sym (attempt_sent time size sequence (member_at t i) l (sym is ∙ e) goes)));
+          wrote =
+              subst (λ (xs : List Sent). Wrote sent xs a (sent + 1) b)
+              (sym (sends_one time size sequence (member_at t i) (takes_sent time size sequence (member_at t i) l (sym is ∙ e) goes)))
+              (rw succeeded at on.written);
+        })
 
 -- ---- the attempts, one after the other
 

@@ -1,8 +1,8 @@
 -- `send_on` meets its contract.
 use Rattle.std.proofs.Common.{◌∙◌, ap}
 use Rattle.srt_group_model.specs.Members.{id_of}
-use Rattle.srt_group_backup.specs.Laws.OwnSend.{own_not_sent, own_sent}
-use Rattle.srt_group_backup.proofs.send.send_on.Goals as goal
+use Rattle.srt_group_sending.specs.Laws.OwnSend.{own_not_sent, own_sent}
+use Rattle.srt_group_sending.proofs.own.send_on.Goals as goal
 
 pub returns-in_default : goal.returns-in_default
 returns-in_default c = search own_not_sent
