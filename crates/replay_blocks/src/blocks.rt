@@ -1,4 +1,6 @@
 // The blocks of a listing: the lines that a block ends are taken, told and written as text. `main` only reads blocks and writes texts.
+// Kept (5): rows, answers and text are lent one by one, of any length that suffices: of a struct of `&mut` fields each clause names each field. Of a line's
+// 88 bytes see listing_lines.
 ghost use Rattle.std.specs.Prelude.{◌≡◌, ◌*◌, ◌≤◌, length, replicate};
 ghost use Rattle.replay_blocks.specs.Blocks.{Roomy, RowsAnswered, BlockAnswered, LastAnswered};
 

@@ -1,5 +1,7 @@
 // A block is read, answered and written. What a file gives or takes no contract can say; over any reader and writer it says that the bytes which
 // were read are answered (`answer_block`, `answer_last_line`), that nothing else is written, and that the group stands from block to block.
+// Kept (5): rows, answers and text are lent one by one, of any length that suffices: of a struct of `&mut` fields each clause names each field. Of a line's
+// 88 bytes see listing_lines.
 ghost use Rattle.std.specs.Prelude.{◌≡◌, ◌≤◌, length, take, IfOk, OnOk};
 ghost use Rattle.std.specs.Io.KnownBytes.{Appends};
 ghost use Rattle.listing.specs.Held.{SameBuffer};

@@ -7,6 +7,7 @@ use srt_group_listing::{Line, Printed};
 use srt_group_replay::Teller;
 
 // The numbers of an output line.
+// Kept (4): a `From` would stand beside `Printed`, in srt_group_listing, for this one call here: no plainer.
 fn numbers(line: Printed) -> [u64; 6]
     ensures { result ≡ numbers_of line }
 {

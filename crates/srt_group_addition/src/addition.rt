@@ -1,6 +1,6 @@
 // A member is added behind the others. If its leg is connected it is admitted, which may set the base and bind the group, and, if
 // that succeeds, its send sequence is aligned with the group's. Where that fails, 22, it stays added, as in the Rust.
-// Kept (1): the state is the number that the member's word holds: an enum, made to be taken apart again at the write, would be no plainer.
+// Kept (1): state and admission are the words that the member's row holds: an enum or a bool, made to be taken apart again at the write, would be no plainer.
 ghost use Rattle.std.specs.Prelude.{◌≡◌, ◌≤◌, ◌<◌, length};
 ghost use Rattle.srt_group_model.specs.Validity.{max_members};
 ghost use Rattle.srt_connection_members.specs.Members.{members_size};

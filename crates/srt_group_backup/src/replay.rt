@@ -1,5 +1,6 @@
 // The history is replayed on a leg that stands at its first sequence, each entry at its own sequence and with its own source
 // time, so that the receiver gets no hole and no packet is given up early.
+// Kept (5, 6): the list goes with its rows in use: `Wrote` says of the whole list which rows are written, a rest of it (`&mut list[..]`) would say so of the rest alone.
 // Kept (5): how many rows the lent list still has room for differs from call to call; a type for it would be made at each and taken apart.
 ghost use Rattle.std.specs.Prelude.{◌≡◌, ◌+◌, ◌-◌, ◌*◌, ◌≤◌, ◌<◌, length};
 ghost use Rattle.srt_group_model.specs.Sending.{sent_row_size, max_sent, list_size};

@@ -22,6 +22,7 @@ pub fn group_id(lent: &LentGroup) -> Result<u64, Error>
 }
 
 // 0 for Broadcast, 1 for Backup.
+// Kept (1): the record's word, which is shown to C as it is.
 pub fn mode(lent: &LentGroup) -> Result<u64, Error>
     ensures { LookGives (λ n. shown (number n)) look_mode (parts_of lent.now.group) (tables_of lent.now) result }
 {

@@ -27,7 +27,8 @@ fn is_steady(row: &Row) -> bool
             | ((link == CONNECTED) & ((admitted != 0) & ((state == ACTIVE) | (state == STANDBY)))))
 }
 
-// Every row is read: where the first unsteady one ends it, each row costs 4 to 5 instructions more (as counted in the compiled loop).
+// Kept (3): by `all`, which ends at the first unsteady row, a row costs 23 instructions in place of 19 (as counted in the compiled loop), and a poll with
+// 64 legs 1.07 of what it cost with a loop by index (callgrind).
 fn all_steady(rows: &[Row]) -> bool
     ensures { result ≡ all is_steady (members_in rows.now) }
 {

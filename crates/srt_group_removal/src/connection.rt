@@ -49,6 +49,7 @@ pub fn remove_named(
     ensures follows { Follows core members.old pending.old used.old
         result.«record» members.new pending.new used.new }
 {
+    // Kept (2): 2, then 3, in the order of the call's own definition; a function of the two lines is no plainer.
     if LARGEST_32 < id {
         return Answered::refused(core, Error::OutOfRange);
     }

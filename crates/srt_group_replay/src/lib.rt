@@ -46,6 +46,7 @@ pub struct Memory {
 }
 
 // The group after a line, if one stands, and what the line prints.
+// Kept (2): `Told` with an `Option`; as one generic struct each verb's contract would name the parameter, for this one use: no plainer.
 #[derive(Clone, Copy)]
 pub struct Replayed {
     pub group: Option<Group>,

@@ -2,6 +2,7 @@
 ghost use Rattle.srt_group_replay.specs.Verb.{Names};
 
 // What a line asks for. A verb's number is its line's first column.
+// Kept (1): a new group is a case by its name, and no call that is missing, as an `Option` would have it.
 #[derive(Clone, Copy, PartialEq, Eq, Debug)]
 pub enum Verb {
     // 1: a new group, in place of the old.

@@ -1,5 +1,6 @@
 // `send` and the readiness tests with their refusals, over the record and the lent tables: 5 and 6, and then what follows them.
-// Kept (5, 6): which tables a function changes differs from one to the next, so a struct of `&mut` would be another for each (docs/DECISIONS.md).
+// Kept (5, 6): the calls are lent flat tables, as C lends them; of a struct of them each clause would name every `&mut` field by a ghost name (docs/DECISIONS.md, "What only reads a table").
+// Kept (2): public names, each with the promise of its call; each is one call of `send` or of `test`.
 ghost use Rattle.srt_group_model.specs.Lent.{call_send, call_can_send, call_can_send_with_pacing};
 ghost use Rattle.srt_group_looks.specs.Looks.{truth_code, truth_answer};
 ghost use Rattle.srt_group_shown.specs.Tables.{tables};
