@@ -33,9 +33,7 @@ pub fn put_poll(record: &mut [u64], answer: &mut [u64], poll: DataPoll) -> u32
     ensures { PutSaid (with_core poll.core (group_of «record».old)) 0 (in_words 8 (answer_of poll) 0)
         «record».old answer.old result «record».new answer.new }
 {
-    let after = poll.core;
-    let gave = poll.gave;
-    put_core(record, after);
-    put_data(answer, gave, poll.continuation);
+    put_core(record, poll.core);
+    put_data(answer, poll.gave, poll.continuation);
     0
 }
