@@ -84,16 +84,13 @@ pub fn flag(set: bool) -> u64
 // ---- a packet is held or discarded
 
 // Whether a sequence is before the base.
-// Kept (1): tried with the base as an option: with what else that step changed, an event that is collected cost 3 instructions more (callgrind).
-#[tactic(auto, using(crate::specs::Laws::Collect::late_based, crate::specs::Laws::Collect::late_unbased))]
 fn is_late(receiving: Receiving, sequence: u64) -> bool
     ensures { result ≡ (if_some flagged (is_set receiving.based) receiving.base
         give (λ base. sequence_before sequence base) otherwise false) }
 {
-    if receiving.based == 0 {
-        return false;
-    }
-    word_before(sequence, receiving.base)
+    receiving
+        .base()
+        .is_some_and(|base| word_before(sequence, base))
 }
 
 // The count of a packet that is held for a member is added to its sum.
