@@ -27,7 +27,7 @@ pub fn tell_lines<T: Teller>(replay: &mut T, rows: &[Line], answers: &mut [[u64;
     ensures told { RowsTold rows.now (T.shown replay.old) (T.shown replay.new) (take (length rows.now) answers.new) }
     ensures keeps { T.lent replay.new ≡ T.lent replay.old }
 {
-    // Kept (3): tried as a zip with `answers.iter_mut()`: of what such a loop wrote the check knows no more than the length.
+    // Kept (3): tried as a zip with `answers.iter_mut()`: its proof did not close, since of what such a loop wrote the check knows no more than the length.
     for (index, row) in rows.iter().enumerate() {
         answers[index] = numbers(replay.tell(row));
     }

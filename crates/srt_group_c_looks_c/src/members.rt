@@ -1,5 +1,6 @@
 // The looks at members. Each is a function of its own, since C calls it by its name.
 // Kept (2, 5, 6): C calls each look by its name, and lends each table by its own name and length.
+// Kept (2, 7): `srt_group_raw_members` fills a lent list too, so it is no `look`: a closure that kept the list would have no value of it after the call.
 ghost use Rattle.std.specs.Prelude.{false};
 ghost use Rattle.srt_group_model.specs.Lent.{call_look, look_member, look_backup_stability_timeout_micros};
 ghost use Rattle.srt_group_shown.specs.Tables.{tables};
@@ -78,7 +79,6 @@ pub extern "C" fn srt_group_raw_backup_stability_timeout_micros(
 }
 
 // All members as rows of a lent list, in the order of their addition. The answer is how many rows were filled.
-// Kept (2, 7): it fills a lent list too, so it is no `look`: a closure that kept the list would have no value of it after the call.
 #[tactic(auto, using(srt_group_c_looks::specs::Laws::Listed::listed_few, srt_group_c_looks::specs::Laws::Listed::listed_no_room))]
 #[unsafe(no_mangle)]
 pub extern "C" fn srt_group_raw_members(

@@ -1,5 +1,6 @@
 // The verbs that queue a packet, poll for one and send one.
 // Kept (5, 6): tables and store are lent anew to each verb, of any length that suffices; of a struct of `&mut`, no plainer, each clause names each field.
+// Kept (1): the verb is the printed column, as in srt_group_listing.
 ghost use Rattle.std.specs.Prelude.{◌≡◌, length};
 ghost use Rattle.srt_protocol.specs.Cells.{output_size};
 ghost use Rattle.srt_group_model.specs.Sending.{list_size};

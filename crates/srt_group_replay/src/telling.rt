@@ -1,5 +1,6 @@
 // A line of a replay listing: its verb, over the group that stands, if any, and tables of any length that suffices.
 // Kept (5, 6): each verb is lent the tables that it needs, so a struct of `&mut`, as `LentReplay`, would be taken apart again here.
+// Kept (1): the verb is the printed column, as in srt_group_listing.
 ghost use Rattle.std.specs.Prelude.{◌≡◌, length};
 ghost use Rattle.srt_protocol.specs.Cells.{output_size};
 ghost use Rattle.srt_group_model.specs.Sending.{list_size};

@@ -1,6 +1,6 @@
 // Document 01's code 6, value by value: a sequence of 2^31 or more, and a field above its range. A word is never above 64 bits,
 // so a field that may take all of them has no test.
-// Kept (1): a kind or a flag is tested here as the word that it is, against the largest that the rule allows: 3 or 1.
+// Kept (1): a kind, a state or a flag is tested here as the word that it is, against the largest that the rule allows.
 ghost use Rattle.std.specs.Prelude.{◌≡◌};
 ghost use Rattle.srt_group_model.specs.Validity.{is_too_large, leg_sequence_too_large, data_out_of_range, leg_out_of_range, membership_out_of_range, packet_out_of_range, entry_out_of_range, waiting_out_of_range};
 ghost use Rattle.srt_group_rules.specs.Rules.{flight_out_of_range};

@@ -85,11 +85,10 @@ pub fn test(
             record: refreshed,
         };
     }
-    let Some(time) = pacing else {
-        return trim_and_test(refreshed, history, members, used, None);
-    };
-    ready_members(members, count, mode, time);
-    trim_and_test(refreshed, history, members, used, Some(time))
+    if let Some(time) = pacing {
+        ready_members(members, count, mode, time);
+    }
+    trim_and_test(refreshed, history, members, used, pacing)
 }
 
 // `can_send` after 5 and 6.

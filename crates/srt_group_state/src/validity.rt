@@ -2,6 +2,7 @@
 // Kept (5): what the test promised at the beginning is over the tables as they are lent; over `LentGroup`, moved down here, the public name would ask
 // for a struct where tables stood.
 // Kept (6): a C host lends the tables as words, with the counts of their rows in the record (docs/TABLES.md).
+// Kept (1): a mode or a flag is tested here as the word that it is, against the largest that the rule allows: 1.
 ghost use Rattle.std.specs.Prelude.{◌≡◌, not, ◌≤◌, length};
 ghost use Rattle.srt_group_model.specs.Validity.{any_above};
 ghost use Rattle.srt_protocol.specs.Handshake.{has_group_mask};
