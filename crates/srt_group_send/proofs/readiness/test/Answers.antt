@@ -31,5 +31,5 @@ returns c = elim c.match-pacing.branch [
   | in_default w ↦
       rw (w.in_default.is, w.members-is)
       (backup_can_send _ _ _ _ _ _ c.refresh_states-core.ensures c.is_backup.ensures c.if-not-is_backup.false
-      (rw (w.pacing-is, w.members-is) at c.trim_and_test.ensures))
+      (rw (w.pacing-is, w.in_default.is, w.members-is) at c.trim_and_test.ensures))
 ]
