@@ -1,4 +1,5 @@
 -- `refresh_member_states` meets its contract: 5, 6, and then what follows them.
+use mathlib.Core.Path.{ap}
 use Rattle.srt_group_model.specs.Lent.{call_refresh_member_states}
 use Rattle.srt_group_shown.specs.Tables.{tables}
 use Rattle.srt_group.specs.Made.{parts_of}
@@ -12,8 +13,8 @@ use Rattle.srt_group_member_states.proofs.calls.refresh_member_states.Goals as g
 pub returns-in-Err : goal.returns-in-Err
 returns-in-Err c =
     let a = c.args in
-    rw (c.refused.ensures.0, c.refused.ensures.1)
-    (refresh_refused (parts_of a.group) (tables a.members.now a.pending.now a.waiting.now a.history.now a.sources.now) c.begin.ensures _ c.in-Err.is)
+    refresh_refused (parts_of a.group) (tables a.members.now a.pending.now a.waiting.now a.history.now a.sources.now) c.begin.ensures _ c.in-Err.is
+    (ap parts_of c.refused.ensures.0) c.refused.ensures.1
 
 pub refresh_states-core-requires : goal.refresh_states-core-requires
 refresh_states-core-requires c =
