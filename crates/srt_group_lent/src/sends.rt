@@ -14,7 +14,6 @@ use srt_protocol::time::Timestamp;
 
 // One payload through the group, on every active leg or on the carrier; each send that a leg takes fills a row of the list. The call is made
 // here, and not by its flat form, which would copy the record once more.
-#[tactic(auto, using(srt_group_flat::specs::Laws::Words::send_in_words))]
 #[unsafe(no_mangle)]
 pub extern "C" fn srt_group_lent_send(
     group: &mut Group,
