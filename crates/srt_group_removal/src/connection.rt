@@ -32,7 +32,7 @@ fn give_back(row: &mut [u64], leg: Leg)
 }
 
 // `remove_member_connection` after 5 and 6: 2 or 3, or the member is removed and its leg stands in the row.
-#[tactic(auto, using(crate::specs::Laws::Connection::unfit_removal, crate::specs::Laws::Connection::unknown_removal, crate::specs::Laws::Connection::named_removed, srt_connection_members::specs::Laws::Members::found_below))]
+#[tactic(auto, using(crate::specs::Laws::Connection::unfit_removal, crate::specs::Laws::Connection::named_removed, srt_connection_members::specs::Laws::Members::found_below))]
 pub fn remove_named(
     core: Core,
     members: &mut [u64],
