@@ -9,7 +9,7 @@ use srt_group_model::{Core, Counts, Data, Receiving, Sending};
 use srt_protocol::time::Timestamp;
 
 // A Broadcast group of so many members and held packets, with `based` 0 before its first packet.
-// Kept (1): the record's own word.
+// Kept (1): `based` is a word of the record, which a C host lends.
 pub fn core(members: usize, pending: usize, based: u64) -> Core
     ensures { result ≡ core_of members pending based }
 {

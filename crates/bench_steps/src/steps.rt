@@ -1,6 +1,8 @@
 // Runs of steps. A step is one word: a leg times 2^32, and the sequence of the packet that is queued there; with leg 0 it is a poll. The step's
 // answer, one number, takes its place.
 // Kept (5, 6): each table is a parameter of its own, as C lends it and the calls that are timed take it.
+// Kept (1): a step and its answer are one word of the row that the measuring program lends; an enum of a step would be read here and used at once.
+// Kept (2): the two loops differ in their call; what the forms rest on, `Ready`, is said of the tables, which one loop over a closure would not see.
 ghost use Rattle.std.specs.Prelude.{◌≤◌, length};
 ghost use Rattle.srt_protocol.specs.Cells.{output_size};
 ghost use Rattle.srt_group_shown.specs.Tables.{parts, tables};

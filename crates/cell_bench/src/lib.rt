@@ -1,5 +1,6 @@
 // The set of cells under plain names, for bench/cells to time. A measuring crate: no product links it.
 // Kept (5, 6): each table is a parameter of its own, as the measuring program lends it over the C interface.
+// Kept (1): a place or cell that is none is answered as a number: the measuring program reads one word.
 
 #![tactic(auto)]
 

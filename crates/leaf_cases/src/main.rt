@@ -47,10 +47,7 @@ fn answer_line(line: &[u8], out: &mut [u8]) -> usize
         Ok(()) => run_leaf(numbers[0], numbers[1], numbers[2]),
         Err(MalformedLine) => None,
     };
-    let pair = match answer {
-        Some(number) => [numbers[0], number],
-        None => [0, 2],
-    };
+    let pair = answer.map_or([0, 2], |number| [numbers[0], number]);
     listing::write_line(out, 0, WIDTH, &pair).unwrap_or(0)
 }
 

@@ -8,7 +8,7 @@ use mathlib.Core.Path.{◌≡◌, refl, sym, ◌∙◌}
 use mathlib.Core.List.{List, [], ◌∷◌, ◌++◌}
 use lib.Dec.{leb, eqb}
 use lib.ListN.{length, take, drop, set, replicate, length-drop}
-use lib.Seq.{drop-drop, take-suc-set, append_snoc}
+use lib.Seq.{take-suc-set, append_snoc}
 use borrow.Author.Tests.{le-leb, lt-leb, eq-eqb, ne_eqb, leb-true, eqb-true, eqb-false}
 use Rattle.listing.proofs.Cases.{by_cases}
 use Rattle.listing.specs.Column.{column}
@@ -54,46 +54,46 @@ values_with_number :
 unfolding values cut
 values_with_number count width value bytes e = rw e
 
--- the same, from a place on, for the column of an index: what is left of the columns decides for the whole
-module _ (count width : ℕ) (bytes : List ℕ) (at index : ℕ) (more : index < count) where
-  pub columns_too_short : length bytes - at < width → begins_with_columns (count - index) width (drop at bytes) ≡ false
+-- the same, for the column of an index and what is left from it on: what is left of the columns decides for the whole
+module _ (count width : ℕ) (rest : List ℕ) (index : ℕ) (more : index < count) where
+  pub columns_too_short : length rest < width → begins_with_columns (count - index) width rest ≡ false
   columns_too_short h =
       let one : count - index ≡ suc (count - (index + 1)) = omega arith in
-      let left = length-drop at bytes in
-      rw one (begins_too_short (count - (index + 1)) width (drop at bytes) (omega arith))
+      rw one (begins_too_short (count - (index + 1)) width rest h)
 
-  pub columns_malformed :
-      column (take width (drop at bytes)) ≡ None → begins_with_columns (count - index) width (drop at bytes) ≡ false
+  pub columns_malformed : column (take width rest) ≡ None → begins_with_columns (count - index) width rest ≡ false
   columns_malformed e =
       let one : count - index ≡ suc (count - (index + 1)) = omega arith in
-      rw one (begins_malformed (count - (index + 1)) width (drop at bytes) e)
+      rw one (begins_malformed (count - (index + 1)) width rest e)
 
   pub columns_more :
-      (value : ℕ) → width ≤ length bytes - at → column (take width (drop at bytes)) ≡ Some value
-      → begins_with_columns (count - index) width (drop at bytes)
-      ≡ begins_with_columns (count - (index + 1)) width (drop (at + width) bytes)
+      (value : ℕ) → width ≤ length rest → column (take width rest) ≡ Some value
+      → begins_with_columns (count - index) width rest ≡ begins_with_columns (count - (index + 1)) width (drop width rest)
   columns_more value h e =
       let one : count - index ≡ suc (count - (index + 1)) = omega arith in
-      let left = length-drop at bytes in
-      rw (one, ← drop-drop width at bytes) (begins_with_number (count - (index + 1)) width value (drop at bytes) (omega arith) e)
+      rw one (begins_with_number (count - (index + 1)) width value rest h e)
 
   pub values_more :
-      (value : ℕ) (numbers : List ℕ) → index < length numbers → column (take width (drop at bytes)) ≡ Some value
-      → take index numbers ++ values (cut (count - index) width (drop at bytes))
-      ≡ take (index + 1) (set numbers index value) ++ values (cut (count - (index + 1)) width (drop (at + width) bytes))
+      (value : ℕ) (numbers : List ℕ) → index < length numbers → column (take width rest) ≡ Some value
+      → take index numbers ++ values (cut (count - index) width rest)
+      ≡ take (index + 1) (set numbers index value) ++ values (cut (count - (index + 1)) width (drop width rest))
   values_more value numbers h e =
       let one : count - index ≡ suc (count - (index + 1)) = omega arith in
-      rw (one, values_with_number (count - (index + 1)) width value (drop at bytes) e, drop-drop width at bytes, add-one index, take-suc-set numbers index value h)
-      (sym (append_snoc (take index numbers) value (values (cut (count - suc index) width (drop (at + width) bytes)))))
+      rw (one, values_with_number (count - (index + 1)) width value rest e, add-one index, take-suc-set numbers index value h)
+      (sym (append_snoc (take index numbers) value (values (cut (count - suc index) width (drop width rest)))))
 
-pub columns_done : (count width : ℕ) (bytes : List ℕ) (at index : ℕ) → count ≤ index → begins_with_columns (count - index) width (drop at bytes) ≡ true
-columns_done count width bytes at index h =
+-- a column more is passed
+pub column_passed : (index width : ℕ) → (index + 1) * width ≡ index * width + width
+column_passed index width = rw (add-one index) (suc-mul index width)
+
+pub columns_done : (count width : ℕ) (rest : List ℕ) (index : ℕ) → count ≤ index → begins_with_columns (count - index) width rest ≡ true
+columns_done count width rest index h =
     let none : count - index ≡ 0 = omega arith in
-    rw none (begins_with_none width (drop at bytes))
+    rw none (begins_with_none width rest)
 
-pub values_done : (count width : ℕ) (bytes : List ℕ) (at index : ℕ) → count ≤ index → values (cut (count - index) width (drop at bytes)) ≡ []
+pub values_done : (count width : ℕ) (rest : List ℕ) (index : ℕ) → count ≤ index → values (cut (count - index) width rest) ≡ []
 unfolding values cut
-values_done count width bytes at index h = let none : count - index ≡ 0 = omega arith in rw none
+values_done count width rest index h = let none : count - index ≡ 0 = omega arith in rw none
 
 -- what the answer of `read_columns` says
 module _ (width : ℕ) (bytes numbers after : List ℕ) where

@@ -10,12 +10,9 @@ use mathlib.Core.Path.{◌≡◌, refl, ap, sym, subst, ◌∙◌}
 use mathlib.Core.List.{List, [], ◌∷◌, ◌++◌, append_assoc}
 use lib.ListN.{length, take, drop, set, length-append, length-drop, length-set, drop_of_length-le}
 use lib.Seq.{append_snoc, drop-cons, drop-set-lt, get_or-set_same, take-set-le, length-take-le, take_at, drop-append-add, drop-drop, set_split, take_all}
+use Rattle.std.proofs.lemmas.List.{append-nil}
 use Rattle.std.specs.Prelude.{Some, None}
 use Rattle.listing.specs.Placed.{placed, begun, Placed, PlacedOrRefused}
-
-pub append_nil : (s : List ℕ) → s ++ [] ≡ s
-append_nil [] = refl
-append_nil (byte ∷ s) = ap (λ (t : List ℕ). byte ∷ t) (append_nil s)
 
 drop_longer : (t rest : List ℕ) (n : ℕ) → length t ≤ n → drop n (t ++ rest) ≡ drop (n - length t) rest
 drop_longer t rest n h =
@@ -95,7 +92,7 @@ placed_behind out at text part inside put =
       put,
       take_all (length out - at) (drop at out) (omega arith),
       drop_of_length-le (drop at out) {i = length out - at} (omega arith),
-      append_nil (text ++ drop (length text) (drop at out)),
+      append-nil (text ++ drop (length text) (drop at out)),
       drop-drop (length text) at out,
     ) (placed_is out at text)
 

@@ -13,8 +13,8 @@ use borrow.Author.Tests.{lt-ltb, le-leb, ne_eqb, ltb-true, ltb-false, leb-true, 
 use Rattle.listing.proofs.Cases.{by_cases}
 use Rattle.listing.proofs.ColumnLaws.{value_of_digit_more}
 use Rattle.listing.proofs.TextLaws.{digits_of_one, digits_of_more, digits_some}
-use Rattle.listing.proofs.PlacedLaws.{append_nil}
-use Rattle.listing.proofs.WholeLaws.{both}
+use Rattle.std.proofs.lemmas.List.{append-nil}
+use Rattle.std.proofs.lemmas.Bool.{and_parts}
 use Rattle.listing.specs.Column.{is_digit, after_spaces, all_digits, decimal_value, digits_read, number_in_64_bits, column}
 use Rattle.listing.specs.Text.{digits, right_justified}
 use Rattle.std.specs.Prelude.{Some, None}
@@ -27,7 +27,7 @@ all_digits_snoc [] digit h e =
     let high : digit + 48 ≤ 57 = omega arith in
     rw (le-leb _ _ low, le-leb _ _ high)
 all_digits_snoc (byte ∷ bytes) digit h e =
-    let parts = both (is_digit byte) (all_digits bytes) e in
+    let parts = and_parts (is_digit byte) (all_digits bytes) e in
     rw (parts.0, all_digits_snoc bytes digit h parts.1)
 
 decimal_value_snoc : (bytes : List ℕ) (digit : ℕ) → decimal_value (bytes ++ ((digit + 48) ∷ [])) ≡ decimal_value bytes * 10 + digit
@@ -67,8 +67,8 @@ after_spaces_digits : (count : ℕ) (bytes : List ℕ) → all_digits bytes ≡ 
 unfolding after_spaces all_digits
 after_spaces_digits zero [] e h = absurd (omega arith)
 after_spaces_digits zero (byte ∷ bytes) e h =
-    let parts = both (is_digit byte) (all_digits bytes) e in
-    let low = leb-true 48 byte (both (leb 48 byte) (leb byte 57) parts.0).0 in
+    let parts = and_parts (is_digit byte) (all_digits bytes) e in
+    let low = leb-true 48 byte (and_parts (leb 48 byte) (leb byte 57) parts.0).0 in
     let other : byte ≡ 32 → ⊥ = λ s. omega arith in
     rw (ne_eqb byte 32 other)
 after_spaces_digits (suc count) bytes e h = after_spaces_digits count bytes e h
@@ -91,10 +91,10 @@ digits_behind : (number : ℕ) (bytes : List ℕ) → 0 < number → all_digits 
 unfolding decimal_value all_digits
 digits_behind number [] h e =
     let same : number * 1 + 0 ≡ number = omega arith in
-    rw same (sym (append_nil (digits number)))
+    rw same (sym (append-nil (digits number)))
 digits_behind number (byte ∷ bytes) h e =
-    let parts = both (is_digit byte) (all_digits bytes) e in
-    let digit = both (leb 48 byte) (leb byte 57) parts.0 in
+    let parts = and_parts (is_digit byte) (all_digits bytes) e in
+    let digit = and_parts (leb 48 byte) (leb byte 57) parts.0 in
     let low = leb-true 48 byte digit.0 in
     let high = leb-true byte 57 digit.1 in
     let more = number * 10 + (byte - 48) in
@@ -108,8 +108,8 @@ digits_behind number (byte ∷ bytes) h e =
 digits_of_value : (byte : ℕ) (bytes : List ℕ) → all_digits (byte ∷ bytes) ≡ true → (byte ≡ 48 → bytes ≡ []) → digits (decimal_value (byte ∷ bytes)) ≡ byte ∷ bytes
 unfolding all_digits decimal_value
 digits_of_value byte bytes e no_zeros =
-    let parts = both (is_digit byte) (all_digits bytes) e in
-    let digit = both (leb 48 byte) (leb byte 57) parts.0 in
+    let parts = and_parts (is_digit byte) (all_digits bytes) e in
+    let digit = and_parts (leb 48 byte) (leb byte 57) parts.0 in
     let low = leb-true 48 byte digit.0 in
     let high = leb-true byte 57 digit.1 in
     let back : byte - 48 + 48 ≡ byte = omega arith in

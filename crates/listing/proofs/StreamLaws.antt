@@ -14,10 +14,10 @@ use Rattle.std.specs.List.{position, position_or_len}
 use Rattle.std.proofs.lemmas.Option.{cond_some, none-some}
 use borrow.Author.Tests.{ltb-true, ltb-false, leb-true, leb-false}
 use Rattle.listing.proofs.Cases.{by_cases}
-use Rattle.listing.proofs.PlacedLaws.{append_nil}
+use Rattle.std.proofs.lemmas.List.{append-nil}
 use Rattle.listing.specs.Stream.{lines, in_front, joined, has_feed, first_line, after_feed, ended, open_line, last_line}
 use Rattle.listing.specs.Laws.Stream.{lines_of_blocks}
-use Rattle.listing.specs.Held.{Held, TakenFrom}
+use Rattle.listing.specs.Held.{Held, SameBuffer, TakenFrom}
 use Rattle.listing.specs.declared.stream.OpenLine.{OpenLine}
 
 -- the place of a stream's first line feed, or its end where it has none
@@ -142,7 +142,7 @@ pub ended_at_feed :
 unfolding ended open_line has_feed first_line after_feed
 ended_at_feed before [] h = absurd (true≢false (sym h))
 ended_at_feed before (byte ∷ block) h = by_cases (eqb byte 10)
-    (λ t. (rw (t, append_nil before), rw t))
+    (λ t. (rw (t, append-nil before), rw t))
     (λ f.
     let more = ended_at_feed (before ++ (byte ∷ [])) block (rw f at h) in (
       rw f (more.0 ∙ ap (λ (line : List ℕ). line ∷ ended [] (after_feed block)) (append_snoc before byte (first_line block))),
@@ -153,7 +153,7 @@ ended_at_feed before (byte ∷ block) h = by_cases (eqb byte 10)
 pub ended_without_feed :
     (before block : List ℕ) → has_feed block ≡ false → (ended before block ≡ []) × (open_line before block ≡ before ++ block)
 unfolding ended open_line has_feed
-ended_without_feed before [] h = (refl, sym (append_nil before))
+ended_without_feed before [] h = (refl, sym (append-nil before))
 ended_without_feed before (byte ∷ block) h = by_cases (eqb byte 10)
     (λ t. absurd (true≢false (rw t at h)))
     (λ f.
@@ -161,8 +161,12 @@ ended_without_feed before (byte ∷ block) h = by_cases (eqb byte 10)
     (rw f more.0, rw f (more.1 ∙ append_snoc before byte block)))
 
 -- an empty line is held at size 0, and nothing else is
-pub held_nothing : {n : ℕ} (held : OpenLine n) → held.size ≡ 0 → Held [] held
+pub held_nothing : (held : OpenLine) → held.size ≡ 0 → Held [] held
 held_nothing held none = record { within = λ h. rw none; beyond = λ h. absurd (omega arith) }
+
+-- one change of an open line behind another keeps the buffer
+pub same_buffer_then : {held between after : OpenLine} → SameBuffer held between → SameBuffer between after → SameBuffer held after
+same_buffer_then first second = record { reference = second.reference ∙ first.reference; room = second.room ∙ first.room }
 
 -- a part from a place on that is lent
 pub lent_from :
@@ -175,18 +179,18 @@ beyond_end (inl beyond) = beyond
 beyond_end (inr never) = absurd (omega (arith, never))
 
 -- behind a block's end there is no line, and what is held stays
-pub none_taken_behind : {n : ℕ} (block : List ℕ) (from : ℕ) (held : OpenLine n) → length block < from → TakenFrom (drop from block) held held None
+pub none_taken_behind : (block : List ℕ) (from : ℕ) (held : OpenLine) → length block < from → TakenFrom (drop from block) held held None
 unfolding has_feed first_line
 none_taken_behind block from held behind =
-    rw (drop_of_length-le block {i = from} (omega arith)) (record { holds = λ line h. rw (append_nil line) h; behind = refl })
+    rw (drop_of_length-le block {i = from} (omega arith)) (record { same = record { reference = refl; room = refl }; holds = λ line h. rw (append-nil line) h; behind = refl })
 
-pub held_is_nothing : {n : ℕ} (line : List ℕ) (held : OpenLine n) → held.size ≡ 0 → Held line held → line ≡ []
+pub held_is_nothing : (line : List ℕ) (held : OpenLine) → held.size ≡ 0 → Held line held → line ≡ []
 held_is_nothing line held none h = sym (h.within (omega arith)) ∙ rw none
 
 -- a line that is held at a larger size has a byte
-pub held_some : {n : ℕ} (line : List ℕ) (held : OpenLine n) → 0 < held.size → Held line held → 0 < length line
-held_some line held some h = by_cases (leb held.size (length held.bytes))
+pub held_some : (line : List ℕ) (held : OpenLine) → 0 < held.size → Held line held → 0 < length line
+held_some line held some h = by_cases (leb held.size (length held.bytes.now))
     (λ t.
-    let inside = leb-true held.size (length held.bytes) t in
-    omega (arith, ap length (h.within inside), length-take-le held.size held.bytes inside))
-    (λ f. let long = h.beyond (leb-false held.size (length held.bytes) f) in omega arith)
+    let inside = leb-true held.size (length held.bytes.now) t in
+    omega (arith, ap length (h.within inside), length-take-le held.size held.bytes.now inside))
+    (λ f. let long = h.beyond (leb-false held.size (length held.bytes.now) f) in omega arith)

@@ -9,9 +9,12 @@ use lib.Dec.{ltb}
 use lib.ListN.{length, take, drop, get_or, replicate, length-append, length-replicate, replicate-append-replicate, take-append-drop}
 use lib.Seq.{take-suc}
 use borrow.Author.Tests.{lt-ltb, le-ltb, ltb-true, ltb-false}
+use Rattle.std.specs.Prelude.{Option, Some, None, IfNone, IfSome}
+use Rattle.std.specs.Option.{MatchOption}
 use Rattle.listing.proofs.Cases.{by_cases, cond_equal}
 use Rattle.listing.proofs.ColumnLaws.{drop_at_byte, drop_at_end}
-use Rattle.listing.proofs.PlacedLaws.{append_nil, placed_over}
+use Rattle.std.proofs.lemmas.List.{append-nil}
+use Rattle.listing.proofs.PlacedLaws.{placed_over}
 use Rattle.listing.specs.Placed.{placed}
 use Rattle.listing.specs.Text.{digits_within, digits, right_justified, columns_text, line_text}
 
@@ -66,6 +69,15 @@ digits_below_power (suc k) number h =
     let here : number / 10 < 10 ^ suc k = omega (arith, pow-suc 10 (suc k)) in
     omega (arith, length_digits_of_more number (ltb-false number 10 large), digits_below_power k (number / 10) here))
 
+-- so a number's logarithm counts its digits
+pub digits_by_log :
+    {More : ℕ → Type 0} (number count : ℕ) (log : Option ℕ) → IfNone log (number ≡ 0) → IfSome log (λ k. 10 ^ k ≤ number)
+    → IfSome log (λ k. number < 10 * 10 ^ k) → MatchOption log (count ≡ 1) More → ((k : ℕ) → More k → count ≡ k + 1)
+    → count ≡ length (digits number)
+digits_by_log number count None none from below one more = rw (one, none, digits_of_one 0 (omega arith)) refl
+digits_by_log number count (Some log) none from below one more =
+    omega (arith, more log one, digits_from_power log number from, digits_below_power log number (omega (arith, pow-suc 10 log)))
+
 pub length_right_justified :
     (width number : ℕ) → length (right_justified width number) ≡ width - length (digits number) + length (digits number)
 unfolding right_justified
@@ -104,7 +116,7 @@ columns_text_append width (number ∷ s) t =
 
 columns_text_one : (width number : ℕ) → columns_text width (number ∷ []) ≡ right_justified width number
 unfolding columns_text
-columns_text_one width number = append_nil (right_justified width number)
+columns_text_one width number = append-nil (right_justified width number)
 
 -- the columns of the numbers up to an index, and the column of the number there
 pub columns_text_next :

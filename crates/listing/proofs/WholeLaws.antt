@@ -5,13 +5,14 @@ use native.Mathlib.Omega.{arith}
 use native.Mathlib.Nat.{zero-mul, suc-mul}
 use native.Mathlib.Numerals.{add-one}
 use denote.Ref.{Bor}
-use mathlib.Core.Bool.{Bool, true, false, ◌&&◌, true≢false}
+use mathlib.Core.Bool.{true, false, ◌&&◌, true≢false}
 use mathlib.Core.Path.{◌≡◌, refl, ap, sym, subst, ◌∙◌}
 use mathlib.Core.List.{List, [], ◌∷◌, ◌++◌}
 use lib.Dec.{leb, eqb}
 use lib.ListN.{length, take, drop, drop_of_length-le, get_or, length-append, length-drop, take-append-drop}
 use lib.Seq.{drop-append-add, take-append-le, drop-append-le, drop-cons, get_or_at, length-take-le}
 use borrow.Author.Tests.{le-leb, eq-eqb, ne_eqb, leb-true, eqb-true}
+use Rattle.std.proofs.lemmas.Bool.{and_parts, false≢true}
 use Rattle.listing.proofs.Cases.{by_cases}
 use Rattle.listing.specs.Column.{column, after_spaces, all_digits, digits_read, is_digit}
 use Rattle.listing.specs.Line.{cut, is_number, all_numbers, values, begins_with_columns, well_formed, line_numbers}
@@ -20,17 +21,10 @@ use Rattle.listing.specs.Held.{WholeRead, whole_here}
 use Rattle.std.specs.Prelude.{Option, Some, None, ◌≢◌}
 use Rattle.std.specs.Option.{MatchOption}
 
-pub both : (a b : Bool) → (a && b) ≡ true → (a ≡ true) × (b ≡ true)
-both true b h = (refl, h)
-both false b h = absurd (true≢false (sym h))
-
-not_both : false ≡ true → ⊥
-not_both h = true≢false (sym h)
-
 -- a digit or a space is no line feed
 digit_no_feed : (byte : ℕ) → is_digit byte ≡ true → eqb byte 10 ≡ false
 digit_no_feed byte h =
-    let low = leb-true 48 byte (both (leb 48 byte) (leb byte 57) h).0 in
+    let low = leb-true 48 byte (and_parts (leb 48 byte) (leb byte 57) h).0 in
     let other : byte ≡ 10 → ⊥ = λ e. omega arith in
     ne_eqb byte 10 other
 
@@ -38,15 +32,15 @@ digits_no_feed : (bytes : List ℕ) → all_digits bytes ≡ true → has_feed b
 unfolding all_digits has_feed
 digits_no_feed [] h = refl
 digits_no_feed (byte ∷ bytes) h =
-    let parts = both (is_digit byte) (all_digits bytes) h in
+    let parts = and_parts (is_digit byte) (all_digits bytes) h in
     rw (digit_no_feed byte parts.0, digits_no_feed bytes parts.1)
 
 digits_read_no_feed : (bytes : List ℕ) → is_number (digits_read bytes) ≡ true → has_feed bytes ≡ false
 unfolding digits_read
-digits_read_no_feed [] h = absurd (not_both h)
+digits_read_no_feed [] h = absurd (false≢true h)
 digits_read_no_feed (byte ∷ bytes) h = by_cases (all_digits (byte ∷ bytes))
     (λ t. digits_no_feed (byte ∷ bytes) t)
-    (λ f. absurd (not_both (rw f at h)))
+    (λ f. absurd (false≢true (rw f at h)))
 
 after_spaces_no_feed : (bytes : List ℕ) → has_feed (after_spaces bytes) ≡ false → has_feed bytes ≡ false
 unfolding after_spaces has_feed
@@ -76,7 +70,7 @@ unfolding all_numbers cut has_feed
 columns_no_feed zero width [] e h = refl
 columns_no_feed zero width (byte ∷ bytes) e h = absurd (omega (arith, zero-mul width))
 columns_no_feed (suc count) width bytes e h =
-    let parts = both (is_number (column (take width bytes))) (all_numbers (cut count width (drop width bytes))) h in
+    let parts = and_parts (is_number (column (take width bytes))) (all_numbers (cut count width (drop width bytes))) h in
     let left : length (drop width bytes) ≡ count * width = omega (arith, length-drop width bytes, suc-mul count width) in
     subst (λ (s : List ℕ). has_feed s ≡ false) (take-append-drop width bytes)
     (has_feed_append (take width bytes) (drop width bytes) (column_no_feed (take width bytes) parts.0)
@@ -102,7 +96,7 @@ first_line_before_feed (byte ∷ line) rest h = by_cases (eqb byte 10)
 -- a stream with a line feed is its first line, the line feed and the rest
 pub feed_behind_first_line : (stream : List ℕ) → has_feed stream ≡ true → stream ≡ first_line stream ++ (10 ∷ after_feed stream)
 unfolding has_feed first_line after_feed
-feed_behind_first_line [] h = absurd (not_both h)
+feed_behind_first_line [] h = absurd (false≢true h)
 feed_behind_first_line (byte ∷ stream) h = by_cases (eqb byte 10)
     (λ t. rw (t, eqb-true byte 10 t))
     (λ f. rw f (ap (λ (s : List ℕ). byte ∷ s) (feed_behind_first_line stream (rw f at h))))
@@ -122,7 +116,7 @@ whole_line count width stream h inside feed =
     let split : line ++ (10 ∷ rest) ≡ stream = ap (λ (s : List ℕ). line ++ s) (rw (← feed) (sym (drop-cons stream size 0 inside))) ∙ take-append-drop size stream in
     let same : cut count width stream ≡ cut count width line =
     subst (λ (s : List ℕ). cut count width s ≡ cut count width line) split (cut_append count width line (10 ∷ rest) (omega arith)) in
-    let all : all_numbers (cut count width line) ≡ true = rw same at (both (leb size (length stream)) (all_numbers (cut count width stream)) h).1 in
+    let all : all_numbers (cut count width line) ≡ true = rw same at (and_parts (leb size (length stream)) (all_numbers (cut count width stream)) h).1 in
     let parts = first_line_before_feed line rest (columns_no_feed count width line long all) in
     let first : first_line stream ≡ line = subst (λ (s : List ℕ). first_line s ≡ line) split parts.0 in
     let well : (eqb (length line) size && all_numbers (cut count width line)) ≡ true = rw (eq-eqb (length line) size long, all) in
@@ -135,7 +129,7 @@ pub whole_line_begins :
 unfolding begins_with_columns well_formed
 whole_line_begins count width stream h well =
     let line = first_line stream in
-    let parts = both (eqb (length line) (count * width)) (all_numbers (cut count width line)) well in
+    let parts = and_parts (eqb (length line) (count * width)) (all_numbers (cut count width line)) well in
     let long : length line ≡ count * width = eqb-true _ _ parts.0 in
     let split : stream ≡ line ++ (10 ∷ after_feed stream) = feed_behind_first_line stream h in
     let total : length stream ≡ length line + suc (length (after_feed stream)) = ap length split ∙ length-append line (10 ∷ after_feed stream) in
@@ -154,7 +148,7 @@ pub not_whole_here :
     → whole_here count width stream ≡ false
 not_whole_here count width stream never = by_cases (whole_here count width stream)
     (λ t.
-    let parts = both (has_feed stream) (well_formed count width (first_line stream)) t in
+    let parts = and_parts (has_feed stream) (well_formed count width (first_line stream)) t in
     let facts = whole_line_begins count width stream parts.0 parts.1 in
     absurd (never facts.0 facts.1 facts.2))
     (λ f. f)
@@ -164,8 +158,8 @@ pub whole_line_rest : (count width : ℕ) (stream : List ℕ) → whole_here cou
 unfolding well_formed
 whole_line_rest count width stream h =
     let line = first_line stream in
-    let parts = both (has_feed stream) (well_formed count width line) h in
-    let long : length line ≡ count * width = eqb-true _ _ (both (eqb (length line) (count * width)) (all_numbers (cut count width line)) parts.1).0 in
+    let parts = and_parts (has_feed stream) (well_formed count width line) h in
+    let long : length line ≡ count * width = eqb-true _ _ (and_parts (eqb (length line) (count * width)) (all_numbers (cut count width line)) parts.1).0 in
     let place : count * width + 1 ≡ length line + 1 = omega arith in
     ap (λ (n : ℕ). drop n stream) place
     ∙ (ap (drop (length line + 1)) (feed_behind_first_line stream parts.0) ∙ drop-append-add line (10 ∷ after_feed stream) 1)
@@ -190,7 +184,7 @@ module _ (block : List ℕ) (width : ℕ) (numbers after : List ℕ) (same : len
       record { found = none; put = λ t. absurd (true≢false (sym t ∙ none)); same = same }
 
   pub whole_refused : begins_with_columns (length numbers) width block ≡ false → WholeRead block width numbers after None
-  whole_refused malformed = whole_not_found (λ t inside feed. not_both (sym malformed ∙ t))
+  whole_refused malformed = whole_not_found (λ t inside feed. false≢true (sym malformed ∙ t))
 
   -- what is left behind the columns begins with a line feed, or there is no answer
   pub whole_or_not :
@@ -211,11 +205,11 @@ module _ (block : List ℕ) (width : ℕ) (numbers after : List ℕ) (same : len
 pub columns_inside : (count width end : ℕ) (bytes : List ℕ) → begins_with_columns count width bytes ≡ true → end ≡ count * width → end ≤ length bytes
 unfolding begins_with_columns
 columns_inside count width end bytes begins is =
-    let few = leb-true _ _ (both (leb (count * width) (length bytes)) (all_numbers (cut count width bytes)) begins).0 in omega (arith, is)
+    let few = leb-true _ _ (and_parts (leb (count * width) (length bytes)) (all_numbers (cut count width bytes)) begins).0 in omega (arith, is)
 
 -- behind a block's end no line stands
 pub none_whole_behind :
     (block : List ℕ) (from width : ℕ) (numbers : List ℕ) → length block < from → WholeRead (drop from block) width numbers numbers None
 unfolding has_feed
 none_whole_behind block from width numbers behind =
-    rw (drop_of_length-le block {i = from} (omega arith)) (record { found = refl; put = λ t. absurd (not_both t); same = refl })
+    rw (drop_of_length-le block {i = from} (omega arith)) (record { found = refl; put = λ t. absurd (false≢true t); same = refl })

@@ -8,7 +8,7 @@ mod stream;
 mod writing;
 
 pub use reading::{read_column, read_line};
-pub use stream::{OpenLine, read_whole_line};
+pub use stream::{OpenLine, read_held_line, read_whole_line};
 pub use writing::write_line;
 
 // A line that does not read as numbers.

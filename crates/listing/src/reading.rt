@@ -43,20 +43,17 @@ pub fn read_column(bytes: &[u8]) -> Option<u64>
 }
 
 // Reads the columns that the bytes begin with, one for each number, and answers where they end.
-#[tactic(auto, using(crate::proofs::LineLaws::columns_too_short, crate::proofs::LineLaws::columns_malformed, crate::proofs::LineLaws::columns_more, crate::proofs::LineLaws::values_more, crate::proofs::LineLaws::columns_done, crate::proofs::LineLaws::values_done, crate::proofs::LineLaws::no_columns))]
+#[tactic(auto, using(crate::proofs::LineLaws::columns_too_short, crate::proofs::LineLaws::columns_malformed, crate::proofs::LineLaws::columns_more, crate::proofs::LineLaws::values_more, crate::proofs::LineLaws::column_passed, crate::proofs::LineLaws::no_columns))]
 pub fn read_columns(bytes: &[u8], width: usize, numbers: &mut [u64]) -> Option<usize>
     ensures { ColumnsRead width bytes.now numbers.old numbers.new result }
 {
-    let mut at: usize = 0;
+    let mut rest = bytes;
     for number in numbers.iter_mut() {
-        if bytes.len() - at < width {
-            return None;
-        }
-        let end = at + width;
-        *number = read_column(&bytes[at..end])?;
-        at = end;
+        let (column, behind) = rest.split_at_checked(width)?;
+        *number = read_column(column)?;
+        rest = behind;
     }
-    Some(at)
+    Some(bytes.len() - rest.len())
 }
 
 // Reads a line that is exactly one column for each number. The numbers of a malformed line are 0.

@@ -4,14 +4,10 @@ ghost use Rattle.listing.specs.Text.{digits, right_justified, line_text};
 ghost use Rattle.listing.specs.Placed.{placed, Placed, PlacedOrRefused};
 
 // How many decimal digits a number has.
-#[tactic(auto, using(crate::proofs::TextLaws::digits_of_one, crate::proofs::TextLaws::digits_from_power, crate::proofs::TextLaws::digits_below_power))]
 fn digit_count(number: u64) -> usize
     ensures { result ≡ length (digits number) }
 {
-    match number.checked_ilog10() {
-        Some(log) => log as usize + 1,
-        None => 1,
-    }
+    number.checked_ilog10().map_or(1, |log| log as usize + 1)
 }
 
 // How wide a number's column is: the width, or as many digits as it needs.
@@ -29,6 +25,7 @@ fn put_digits(out: &mut [u8], end: usize, number: u64)
     ensures { out.new ≡ placed out.old (end - length (digits number)) (digits number) }
 {
     let mut rest = number;
+    // Kept (3): from the last place to the first; `out[..end].iter_mut().rev()` goes the same way, and is no plainer.
     for at in (0..end).rev() {
         out[at] = (rest % 10) as u8 + b'0';
         rest /= 10;
@@ -58,11 +55,10 @@ fn has_room_for_line(width: usize, numbers: &[u64], room: usize) -> bool
 {
     let mut left = room;
     for number in numbers {
-        let length = column_length(width, *number);
-        if left < length {
+        let Some(rest) = left.checked_sub(column_length(width, *number)) else {
             return false;
-        }
-        left -= length;
+        };
+        left = rest;
     }
     0 < left
 }
@@ -83,12 +79,12 @@ fn put_line(out: &mut [u8], width: usize, numbers: &[u64]) -> usize
 
 // Writes a line of numbers at a place, with its line feed, and answers its end; or changes nothing where there is no room for it, as behind the
 // end of all.
-#[tactic(auto, using(crate::proofs::PlacedLaws::text_refused, crate::proofs::PlacedLaws::text_placed))]
+#[tactic(auto, using(crate::proofs::PlacedLaws::text_refused))]
 pub fn write_line(out: &mut [u8], at: usize, width: usize, numbers: &[u64]) -> Option<usize>
     ensures { PlacedOrRefused out.old at (line_text width numbers.now) out.new result }
 {
     let room = out.len().checked_sub(at)?;
-    // Kept (1): `then`, by a closure that borrows `out`, was tried, and its proof did not close.
+    // Kept (4): `then`, by a closure that borrows `out`, was tried, and its proof did not close.
     if !has_room_for_line(width, numbers, room) {
         return None;
     }

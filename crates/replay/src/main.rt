@@ -26,16 +26,25 @@ const TEXT: usize = 121 * BLOCK;
 fn run<R: Read, W: Write>(input: &mut R, to: &mut W) -> Result<(), Stopped>
     ensures { OnOk result (ListingReplayed (R.remaining input.old) (R.remaining input.new) (W.contents to.old) (W.contents to.new)) }
 {
+    let mut bytes = [0u8; LINE];
     let mut state = State {
         replay: Replay::new(),
-        line: OpenLine::<LINE>::new(),
+        line: OpenLine::new(&mut bytes),
     };
     let mut block = [0u8; BLOCK];
     let mut room = Room::<BLOCK, TEXT>::new();
     for _ in 0..u64::MAX {
-        let count = turn(input, to, &mut state, &mut block, &mut room)?;
+        let count = turn(
+            input,
+            to,
+            &mut state,
+            &mut block,
+            &mut room.rows,
+            &mut room.answers,
+            &mut room.text,
+        )?;
         if count == 0 {
-            return finish(to, &mut state, &mut room);
+            return finish(to, &mut state, &mut room.answers, &mut room.text);
         }
     }
     Err(Stopped::Reading(ErrorKind::TimedOut.into()))

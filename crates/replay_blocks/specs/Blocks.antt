@@ -1,9 +1,9 @@
 -- WHAT THE REPLAY WRITES for a listing, and what the code promises of a block of it: the text of the answers to the lines that the block ends, the
 -- group after them, and the line that it leaves open. A block may be cut anywhere (laws, `blocks_replayed`).
-use Rattle.std.specs.Prelude.{◌≡◌, List, map, ℕ, ◌≤◌, length, take, Option}
+use Rattle.std.specs.Prelude.{◌≡◌, List, map, ℕ, ◌≤◌, length, ◌*◌, take, Option}
 use Rattle.listing.specs.Line.{line_numbers}
 use Rattle.listing.specs.Stream.{lines, ended, open_line, last_line}
-use Rattle.listing.specs.Held.{Held}
+use Rattle.listing.specs.Held.{Held, SameBuffer}
 use Rattle.listing.specs.declared.stream.OpenLine.{OpenLine}
 use Rattle.listing_lines.specs.Text.{texts}
 use Rattle.srt_group_model.specs.State.{State}
@@ -17,6 +17,13 @@ replayed stream = texts (replay (map (line_numbers 8 11) (lines stream)))
 
 -- ---- a block
 
+-- There is room for the lines of so many bytes: their rows, the answers to them, and the text of those, 121 bytes a line. Each line ends with a
+-- byte of its own, so there are no more lines than bytes.
+pub record Roomy (bytes : ℕ) (rows answers : List (List ℕ)) (text : List ℕ) : Type 0 where
+  pub read : bytes ≤ length rows
+  pub told : bytes ≤ length answers
+  pub written : 121 * bytes ≤ length text
+
 -- the lines are answered: their text at the start, and the group after them
 pub record RowsAnswered (told : List Line) (s s' : Option State) (out : List ℕ) (end : ℕ) : Type 0 where
   pub inside : end ≤ length out
@@ -27,14 +34,15 @@ pub record RowsAnswered (told : List Line) (s s' : Option State) (out : List ℕ
 abbrev pub numbers : List (List ℕ) → List Line
 numbers ls = map (line_numbers 8 11) ls
 
--- the lines that a block ends are answered, whatever line began before it, in so many bytes at most
-pub record BlockAnswered {n : ℕ} (most : ℕ) (block : List ℕ) (held held' : OpenLine n) (s s' : Option State) (out : List ℕ) (end : ℕ) : Type 0 where
-  pub inside : end ≤ most
+-- the lines that a block ends are answered, whatever line began before it
+pub record BlockAnswered (block : List ℕ) (held held' : OpenLine) (s s' : Option State) (out : List ℕ) (end : ℕ) : Type 0 where
+  pub same : SameBuffer held held'
+  pub inside : end ≤ length out
   pub text : (line : List ℕ) → Held line held → take end out ≡ texts (prints_from s (numbers (ended line block)))
   pub group : (line : List ℕ) → Held line held → s' ≡ group_after s (numbers (ended line block))
   pub open_held : (line : List ℕ) → Held line held → Held (open_line line block) held'
 
 -- the line that the end of the listing ends is answered
-pub record LastAnswered {n : ℕ} (most : ℕ) (held : OpenLine n) (s : Option State) (out : List ℕ) (end : ℕ) : Type 0 where
-  pub inside : end ≤ most
+pub record LastAnswered (held : OpenLine) (s : Option State) (out : List ℕ) (end : ℕ) : Type 0 where
+  pub inside : end ≤ length out
   pub text : (line : List ℕ) → Held line held → take end out ≡ texts (prints_from s (numbers (last_line line)))

@@ -7,7 +7,8 @@ use Rattle.listing.specs.Held.{Held}
 use Rattle.listing_lines.specs.Text.{texts}
 use Rattle.replay_rows.specs.Rows.{group_after, prints_from}
 use Rattle.replay_blocks.specs.Blocks.{replayed, numbers}
-use Rattle.replay_io.specs.declared.turns.State.{State}
+use Rattle.listing.specs.declared.stream.OpenLine.{OpenLine}
+use Rattle.srt_group_model.specs.State.{State}
 
 -- a block is what a read gives: so many bytes, none only at the listing's end or where a block has no room
 pub record BlockRead (left left' : Option (List ℕ)) (count : ℕ) (block : List ℕ) : Type 0 where
@@ -17,14 +18,14 @@ pub record BlockRead (left left' : Option (List ℕ)) (count : ℕ) (block : Lis
 
 -- it is answered and written: the text of the answers to the lines that it ends, whatever line began before it; the group after them, and the
 -- line that it leaves open
-pub record BlockReplayed {n : ℕ} (block : List ℕ) (s s' : State n) (written written' : Option (List ℕ)) : Type 0 where
-  pub text : (line : List ℕ) → Held line s.line → Appends written written' (texts (prints_from s.replay (numbers (ended line block))))
-  pub group : (line : List ℕ) → Held line s.line → s'.replay ≡ group_after s.replay (numbers (ended line block))
-  pub open_held : (line : List ℕ) → Held line s.line → Held (open_line line block) s'.line
+pub record BlockReplayed (block : List ℕ) (held held' : OpenLine) (s s' : Option State) (written written' : Option (List ℕ)) : Type 0 where
+  pub text : (line : List ℕ) → Held line held → Appends written written' (texts (prints_from s (numbers (ended line block))))
+  pub group : (line : List ℕ) → Held line held → s' ≡ group_after s (numbers (ended line block))
+  pub open_held : (line : List ℕ) → Held line held → Held (open_line line block) held'
 
 -- so is the line that the listing's end ends
-pub record LastReplayed {n : ℕ} (s : State n) (written written' : Option (List ℕ)) : Type 0 where
-  pub text : (line : List ℕ) → Held line s.line → Appends written written' (texts (prints_from s.replay (numbers (last_line line))))
+pub record LastReplayed (held : OpenLine) (s : Option State) (written written' : Option (List ℕ)) : Type 0 where
+  pub text : (line : List ℕ) → Held line held → Appends written written' (texts (prints_from s (numbers (last_line line))))
 
 -- THE PROMISE of a replay: a listing is read to its end, and what is written is its replay
 pub record ListingReplayed (left left' written written' : Option (List ℕ)) : Type 0 where

@@ -1,20 +1,25 @@
 // A block is read, answered and written. What a file gives or takes no contract can say; over any reader and writer it says that the bytes which
 // were read are answered (`answer_block`, `answer_last_line`), that nothing else is written, and that the group stands from block to block.
-ghost use Rattle.std.specs.Prelude.{◌≤◌, length, take, IfOk, OnOk};
+// Kept (5): rows, answers and text are lent one by one, of any length that suffices: of a struct of `&mut` fields each clause names each field. Of a line's
+// 88 bytes see listing_lines.
+ghost use Rattle.std.specs.Prelude.{◌≡◌, ◌≤◌, length, take, IfOk, OnOk};
 ghost use Rattle.std.specs.Io.KnownBytes.{Appends};
+ghost use Rattle.listing.specs.Held.{SameBuffer};
+ghost use Rattle.replay_blocks.specs.Blocks.{Roomy};
 ghost use Rattle.replay_io.specs.Turns.{BlockRead, BlockReplayed, LastReplayed};
 
 use crate::stopped::Stopped;
 use listing::OpenLine;
-use replay_blocks::blocks::Room;
-use srt_group_replay::Replay;
+use replay_blocks::blocks::{answer_block, answer_last_line};
+use srt_group_listing::Line;
+use srt_group_replay::Teller;
 use std::io::{Read, Write};
 
-// What is kept from one block to the next: the group, if one was made, and the open line.
+// What is kept from one block to the next: the replay, with its group if one was made, and the open line.
 #[derive(Drop)]
-pub struct State<const N: usize> {
-    pub replay: Replay,
-    pub line: OpenLine<N>,
+pub struct State<'a, T> {
+    pub replay: T,
+    pub line: OpenLine<'a>,
 }
 
 // Writes a text, all of it or to the first error.
@@ -25,35 +30,47 @@ fn write_text<W: Write>(to: &mut W, text: &[u8]) -> Result<(), Stopped>
 }
 
 // Reads one block, answers it, and writes the text of its answers. The answer is how many bytes were read: none where the listing ended.
-pub fn turn<R: Read, W: Write, const N: usize, const LINES: usize, const TEXT: usize>(
+pub fn turn<R: Read, W: Write, T: Teller>(
     input: &mut R,
     to: &mut W,
-    state: &mut State<N>,
+    state: &mut State<T>,
     block: &mut [u8],
-    room: &mut Room<LINES, TEXT>,
+    rows: &mut [Line],
+    answers: &mut [[u64; 6]],
+    text: &mut [u8],
 ) -> Result<usize, Stopped>
-    requires { (88 ≤ N) × (length block.old ≤ LINES) }
+    requires whole_line { 88 ≤ length state.old.line.bytes.now }
+    requires roomy { Roomy (length block.old) rows.old answers.old text.old }
+    ensures keeps { T.lent state.new.replay ≡ T.lent state.old.replay }
+    ensures same_buffer { SameBuffer state.old.line state.new.line }
     ensures read { IfOk result (λ count. BlockRead (R.remaining input.old) (R.remaining input.new) count block.new) }
-    ensures replayed { IfOk result (λ count. BlockReplayed (take count block.new) state.old state.new (W.contents to.old) (W.contents to.new)) }
+    ensures replayed { IfOk result (λ count. BlockReplayed (take count block.new)
+        state.old.line state.new.line
+        (T.shown state.old.replay) (T.shown state.new.replay) (W.contents to.old) (W.contents to.new)) }
 {
     let count = input.read(block).map_err(Stopped::Reading)?;
     if count == 0 {
         return Ok(0);
     }
-    let end = room.answer_block(&mut state.replay, &mut state.line, &block[..count]);
-    write_text(to, &room.text[..end])?;
+    let State { replay, line } = state;
+    let end = answer_block(replay, line, &block[..count], rows, answers, text);
+    write_text(to, &text[..end])?;
     Ok(count)
 }
 
 // The line that the end of the listing ends, where there is one.
-pub fn finish<W: Write, const N: usize, const LINES: usize, const TEXT: usize>(
+pub fn finish<W: Write, T: Teller>(
     to: &mut W,
-    state: &mut State<N>,
-    room: &mut Room<LINES, TEXT>,
+    state: &mut State<T>,
+    answers: &mut [[u64; 6]],
+    text: &mut [u8],
 ) -> Result<(), Stopped>
-    requires { (88 ≤ N) × (1 ≤ LINES) }
-    ensures { OnOk result (LastReplayed state.old (W.contents to.old) (W.contents to.new)) }
+    requires whole_line { 88 ≤ length state.old.line.bytes.now }
+    requires roomy { (1 ≤ length answers.old) × (121 ≤ length text.old) }
+    ensures keeps { T.lent state.new.replay ≡ T.lent state.old.replay }
+    ensures same_buffer { state.new.line.bytes.ghost_name ≡ state.old.line.bytes.ghost_name }
+    ensures replayed { OnOk result (LastReplayed state.old.line (T.shown state.old.replay) (W.contents to.old) (W.contents to.new)) }
 {
-    let end = room.answer_last_line(&mut state.replay, &state.line);
-    write_text(to, &room.text[..end])
+    let end = answer_last_line(&mut state.replay, &state.line, answers, text);
+    write_text(to, &text[..end])
 }

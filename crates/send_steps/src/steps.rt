@@ -1,6 +1,8 @@
 // Runs of sends. A step is one word: a leg times 2^32, and the sequence up to which that leg is acknowledged; with leg 0 it is a send of the
 // payload, at the time that the word says. The step's answer, one number, takes its place.
 // Kept (5, 6): each table is a parameter of its own, as C lends it and the calls that are timed take it.
+// Kept (1): a step and its answer are one word of the row that the measuring program lends, and so is the field that a reading names.
+// Kept (2): the two loops differ in their call; what the forms rest on, `Ready`, is said of the tables, which one loop over a closure would not see.
 ghost use Rattle.std.specs.Prelude.{◌≤◌, length};
 ghost use Rattle.srt_group_model.specs.Sending.{list_size};
 ghost use Rattle.srt_group_shown.specs.Tables.{tables};

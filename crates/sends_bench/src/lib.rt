@@ -8,13 +8,12 @@ use cell_set::WORDS;
 use send_steps::steps::{call_each, step_each};
 use srt_group_refusals::refusals::LentGroup;
 use srt_group_sending::list::SENT_LENGTH;
-use srt_group_words::record::{put_group, read_group};
-use srt_protocol::error::Error;
+use srt_group_words::record::{RECORD, SHORT, put_group, read_group};
 
 // The steps of a run of sends in turn by the public calls.
 #[unsafe(no_mangle)]
 pub extern "C" fn calls_sends(
-    record: &mut [u64; 20],
+    record: &mut [u64; RECORD],
     members: &mut [u64],
     pending: &[u64],
     waiting: &[u64],
@@ -36,7 +35,7 @@ pub extern "C" fn calls_sends(
 // The same by the forms for a valid state: 5 and 6 are tested once, before the first step. Answers their code.
 #[unsafe(no_mangle)]
 pub extern "C" fn calls_sends_valid(
-    record: &mut [u64; 20],
+    record: &mut [u64; RECORD],
     members: &mut [u64],
     pending: &[u64],
     waiting: &[u64],
@@ -48,7 +47,7 @@ pub extern "C" fn calls_sends_valid(
     payload: &[u8],
 ) -> u32 {
     if list.len() < SENT_LENGTH {
-        return u32::from(Error::InsufficientBuffer);
+        return SHORT;
     }
     let group = read_group(record);
     let mut used = [0; WORDS];
@@ -60,8 +59,7 @@ pub extern "C" fn calls_sends_valid(
         history,
         sources,
     };
-    let begun = lent.begin_stored(store.len(), &mut used);
-    if let Err(error) = begun {
+    if let Err(error) = lent.begin_stored(store.len(), &mut used) {
         return u32::from(error);
     }
     let after = step_each(

@@ -1,6 +1,6 @@
 // A leg by value: what it can do, what a send, a synchronising and a release do to it. The names are those of `SrtConnection`
 // and of its sender.
-// Kept (1): a state is a word of the lent row: a C host may lend any number, and 6 has to read it to refuse it.
+// Kept (1): a state and the flag `started` are words of the lent row: a C host may lend any number, and 6 has to read it to refuse it.
 ghost use Rattle.std.specs.Prelude.{◌≡◌, ◌+◌, ◌-◌, ◌<◌};
 ghost use Rattle.srt_group_model.specs.Legs.{is_connected, is_disconnected, has_sender, remaining_window_packets, can_send, can_send_with_pacing, time_until_send, oldest_unacked_sequence, gives_up_at, peer_initial_sequence, after_send};
 ghost use Rattle.srt_group_model.specs.Legs.{send_shared_with_sequence, synchronize_send_sequence, disconnect_leg, handed, read_state, acknowledge};
@@ -148,13 +148,6 @@ pub fn synchronize_send_sequence(mut leg: Leg, sequence: u64) -> Option<Leg>
     }
     leg.sender.next = sequence;
     Some(leg)
-}
-
-// A sum less a count, least 0.
-pub fn less(sum: u64, count: u64) -> u64
-    ensures { result ≡ sum - count }
-{
-    sum.saturating_sub(count)
 }
 
 pub fn disconnect(mut leg: Leg) -> Leg

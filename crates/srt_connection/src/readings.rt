@@ -36,7 +36,7 @@ pub enum Field {
 
 impl Field {
     // The field of a number: 1 to 12, in document 01's order.
-    // Kept (4): a `TryFrom` is no plainer: it needs an error type of its own, which says no more than None does.
+    // Kept (4): a `TryFrom` is no plainer: its three callers hand no error on; one gives the leg back, two answer a `bool`.
     #[tactic(auto, unfolding(crate::specs::Readings::field_number))]
     pub fn of(number: u64) -> Option<Field>
         ensures { MatchOption result (NoField number) (λ field. IsField field number) }
@@ -130,12 +130,9 @@ fn acknowledges(leg: Leg, number: u64) -> bool
 pub fn goes_back(leg: Leg, field: u64, number: u64) -> bool
     ensures { result ≡ goes_back field number leg }
 {
-    let Some(field) = Field::of(field) else {
-        return false;
-    };
-    match field {
-        Field::State => number < leg.link.state,
-        Field::Acknowledged => !acknowledges(leg, number),
+    match Field::of(field) {
+        Some(Field::State) => number < leg.link.state,
+        Some(Field::Acknowledged) => !acknowledges(leg, number),
         _ => false,
     }
 }

@@ -15,7 +15,7 @@ ghost use Rattle.srt_connection_queue.specs.Queue.{popped, cleared};
 ghost use Rattle.srt_connection_members.specs.Members.{member_at, members_of, members_in, HasRow, new_member, RowLent, Changed, PushedAt, PolledAt, Appended, Removed, ChangedAll};
 ghost use Rattle.srt_group_model.specs.Legs.{with_reservation, advance_receive_sequence, release_data_reservation, disconnect_leg};
 
-use srt_connection::legs::{disconnect, less};
+use srt_connection::legs::disconnect;
 use srt_connection_queue::queue::{
     LegPoll, clear, front, poll_event_for_group, pop, push, queue_is_empty,
 };
@@ -35,6 +35,8 @@ pub const MAX_MEMBERS: usize = 64;
 pub const MEMBERS_LENGTH: usize = MAX_MEMBERS * ROW;
 
 // ---- one row is read
+// Kept (2): a reader for each part or word, and below a writer: each is one line over `row` or `with_row`, and what it promises is promised by
+// a public name, which a rule of the project keeps.
 
 // The rows of the first `count` members.
 pub fn rows(members: &[u64], count: usize) -> &[Row]
@@ -219,7 +221,7 @@ pub fn release_data_reservation_at(members: &mut [u64], index: usize, count: u64
     requires { HasRow index members.old }
     ensures { Changed index (on_leg (release_data_reservation count)) members.old members.new }
 {
-    let reserved = less(reservation_at(members, index), count);
+    let reserved = reservation_at(members, index).saturating_sub(count);
     put_reservation_at(members, index, reserved);
 }
 
@@ -243,6 +245,7 @@ pub fn advance_receive_sequence_of_all(members: &mut [u64], count: usize, sequen
 }
 
 // Every leg of the first `count` members is disconnected.
+// Kept (2): as one with the advance of all, over a closure, a clause would say of the closure that it changes its row and no other: longer than the loop.
 #[tactic(auto, using(crate::specs::Laws::Members::changing_done))]
 pub fn disconnect_all(members: &mut [u64], count: usize)
     requires { count * row_size ≤ length members.old }

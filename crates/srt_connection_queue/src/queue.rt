@@ -4,9 +4,7 @@ ghost use Rattle.srt_group_model.specs.Tools.{at_place, is_empty};
 ghost use Rattle.srt_connection_queue.specs.Rows.{row_size, member_of, Kept};
 ghost use Rattle.srt_connection_queue.specs.Queue.{Pushed, Polled, popped, cleared, budget_after};
 
-use crate::rows::{
-    FIRST_EVENT, MAX_QUEUED, Ring, Row, event_part, put_event_part, put_ring, ring_of,
-};
+use crate::rows::{MAX_QUEUED, Ring, Row, event_part, put_event_part, put_ring, ring_of};
 use srt_group_model::Event;
 use srt_protocol::error::Error;
 
@@ -23,16 +21,14 @@ pub enum LegPoll {
 pub fn queue_length(row: &Row) -> u64
     ensures { result ≡ length (member_of row.now).queue }
 {
-    let ring = ring_of(row);
-    ring.length
+    ring_of(row).length
 }
 
 #[tactic(auto, using(crate::specs::Laws::Queue::empty_is))]
 pub fn queue_is_empty(row: &Row) -> bool
     ensures { result ≡ is_empty (member_of row.now).queue }
 {
-    let ring = ring_of(row);
-    ring.length == 0
+    ring_of(row).length == 0
 }
 
 #[tactic(auto, using(crate::specs::Laws::Queue::front_none, crate::specs::Laws::Queue::front_is))]
@@ -43,8 +39,7 @@ pub fn front(row: &Row) -> Option<Event>
     if ring.length == 0 {
         return None;
     }
-    let slot = (FIRST_EVENT + ring.start % MAX_QUEUED) as usize;
-    Some(event_part(row, slot))
+    Some(event_part(row, ring.slot(0)))
 }
 
 // The front event goes; an empty queue stays.
@@ -72,8 +67,7 @@ pub fn push(row: &mut Row, event: Event) -> Result<(), Error>
     }
     let start = ring.start;
     let length = ring.length + 1;
-    let slot = (FIRST_EVENT + (start % MAX_QUEUED + ring.length) % MAX_QUEUED) as usize;
-    put_event_part(row, slot, event);
+    put_event_part(row, ring.slot(ring.length), event);
     put_ring(row, Ring { start, length });
     Ok(())
 }

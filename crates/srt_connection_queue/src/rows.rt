@@ -1,8 +1,9 @@
 // A member's row in the lent table: parts of nine words, in the order of the constants below. Words that a part does not use
 // are 0, those of the spare part apart. Every row of ROW words shows a member: there is no row that does not decode.
 // Kept (5): a part's place comes of the ring's arithmetic; a type of places would be made for each read and taken apart at once.
-ghost use Rattle.std.specs.Prelude.{◌≡◌, ◌<◌};
-ghost use Rattle.srt_connection_queue.specs.Rows.{link_part, receiver_part, parts, part, put_part, membership_of, membership_words, link_part_of, link_part_words, sender_of, sender_words, receiver_of, receiver_in, ring_of, ring_in, event_of, event_words, member_of, Kept, with_membership, with_link_trip, with_sender, with_receiver};
+ghost use Rattle.std.specs.Prelude.{◌≡◌, ◌+◌, ◌%◌, ◌<◌};
+ghost use Rattle.srt_group_model.specs.Validity.{max_queued};
+ghost use Rattle.srt_connection_queue.specs.Rows.{link_part, receiver_part, first_event_part, parts, part, put_part, membership_of, membership_words, link_part_of, link_part_words, sender_of, sender_words, receiver_of, receiver_in, ring_of, ring_in, event_of, event_words, member_of, Kept, with_membership, with_link_trip, with_sender, with_receiver};
 ghost use Rattle.srt_group_model.specs.State.{with_leg, on_leg, on_membership, with_account};
 ghost use Rattle.srt_group_model.specs.Legs.{with_reservation, advance_receive_sequence};
 
@@ -68,13 +69,25 @@ pub struct LinkPart {
 }
 
 // Where a queue's events stand in the ring: the front's place, read modulo MAX_QUEUED, and how many there are.
+// Kept (2): two words of a row; `HistoryRing` is a part of the record that C lends, in `usize`, and over another number of places.
 #[derive(Clone, Copy)]
 pub struct Ring {
     pub start: u64,
     pub length: u64,
 }
 
-// ---- nine words: a pair of functions for each part. A trait for the pair takes as many lines, for its ghosts in each impl
+impl Ring {
+    // The part of a row in which the event stands that is so many after the front.
+    pub fn slot(self, at: u64) -> usize
+        requires { at < max_queued }
+        ensures { (result ≡ first_event_part + (self.start + at) % max_queued) × (result < parts) }
+    {
+        (FIRST_EVENT + (self.start % MAX_QUEUED + at) % MAX_QUEUED) as usize
+    }
+}
+
+// ---- nine words: a pair of functions for each part
+// Kept (2, 4): a trait for the pair is no plainer: it takes as many lines, for its ghosts in each impl.
 
 #[tactic(auto, unfolding(crate::specs::Rows::membership_of))]
 fn read_membership(words: &Part) -> Membership
@@ -365,15 +378,11 @@ pub fn put_receiver(row: &mut Row, receiver: Receiver)
 pub fn leg(row: &Row) -> Leg
     ensures { result ≡ (member_of row.now).leg }
 {
-    let part = link_part(row);
-    let link = part.link;
-    let trip = part.trip;
-    let sending = sender(row);
-    let receiving = receiver(row);
+    let LinkPart { link, trip } = link_part(row);
     Leg {
         link,
-        sender: sending,
-        receiver: receiving,
+        sender: sender(row),
+        receiver: receiver(row),
         trip,
     }
 }

@@ -5,7 +5,7 @@
 
 #![tactic(auto)]
 
-ghost use Rattle.std.specs.Prelude.{◌≡◌, ◌||◌, length};
+ghost use Rattle.std.specs.Prelude.{◌≡◌, ◌||◌, length, Err};
 ghost use Rattle.srt_group_model.specs.Legs.{largest_32};
 ghost use Rattle.srt_group_model.specs.Validity.{above};
 ghost use Rattle.srt_group_model.specs.Backup.{max_history};
@@ -36,6 +36,18 @@ pub struct Group {
 pub struct Answered<R, T> {
     pub record: R,
     pub answer: Result<T, Error>,
+}
+
+impl<R, T> Answered<R, T> {
+    // The call is refused.
+    pub fn refused(record: R, error: Error) -> Self
+        ensures { (result.«record» ≡ «record») × (result.answer ≡ Err error) }
+    {
+        Answered {
+            record,
+            answer: Err(error),
+        }
+    }
 }
 
 // 2: an id beyond 32 bits, or a mode above 1.

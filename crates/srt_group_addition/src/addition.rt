@@ -1,13 +1,13 @@
 // A member is added behind the others. If its leg is connected it is admitted, which may set the base and bind the group, and, if
 // that succeeds, its send sequence is aligned with the group's. Where that fails, 22, it stays added, as in the Rust.
-// Kept (1): the state is the number that the member's word holds: an enum, made to be taken apart again at the write, would be no plainer.
+// Kept (1): state and admission are the words that the member's row holds: an enum or a bool, made to be taken apart again at the write, would be no plainer.
 ghost use Rattle.std.specs.Prelude.{◌≡◌, ◌≤◌, ◌<◌, length};
 ghost use Rattle.srt_group_model.specs.Validity.{max_members};
 ghost use Rattle.srt_connection_members.specs.Members.{members_size};
 ghost use Rattle.srt_group_addition.specs.Addition.{membership_at_addition, Joins, Adds};
 
 use srt_connection::legs::handed_over;
-use srt_connection_members::{append_member, membership_at, rows};
+use srt_connection_members::{admitted_at, append_member, rows};
 use srt_group::Answered;
 use srt_group_delivery::delivery::set_base;
 use srt_group_members::accounts::NO_PACKETS;
@@ -81,20 +81,13 @@ pub fn add_member_at_end(
     let index = core.counts.members;
     let leg = handed_over(member.leg);
     let after = join(core, members, NewMember { leg, ..member });
-    let membership = membership_at(members, index);
-    let kept = Answered {
+    if admitted_at(members, index) == 1
+        && !align_member_sequence(members, index + 1, sending.next_send_sequence(), index)
+    {
+        return Answered::refused(after, Error::AlignmentFailed);
+    }
+    Answered {
         record: after,
         answer: Ok(()),
-    };
-    if membership.admitted != 1 {
-        return kept;
-    }
-    if align_member_sequence(members, index + 1, sending.next_send_sequence(), index) {
-        kept
-    } else {
-        Answered {
-            answer: Err(Error::AlignmentFailed),
-            ..kept
-        }
     }
 }

@@ -33,10 +33,7 @@ pub fn add_member(
         nothing_lent (outcome_number result.answer) no_answer 0) }
 {
     if row.len() < ROW {
-        return Answered {
-            record: group,
-            answer: Err(Error::InsufficientBuffer),
-        };
+        return Answered::refused(group, Error::InsufficientBuffer);
     }
     let lent = LentGroup {
         group,
@@ -47,10 +44,7 @@ pub fn add_member(
         sources,
     };
     if let Err(error) = lent.begin() {
-        return Answered {
-            record: group,
-            answer: Err(error),
-        };
+        return Answered::refused(group, error);
     }
     let added = add_leg(group.core, group.sending, members, row, id, weight);
     Answered {

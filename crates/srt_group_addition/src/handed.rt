@@ -73,7 +73,7 @@ fn refusal(members: &[u64], count: usize, row: &Row, member: NewMember) -> Resul
 }
 
 // `add_leg` over the handed row itself.
-#[tactic(auto, using(crate::specs::Laws::Handed::leg_refused, crate::specs::Laws::Handed::leg_room, crate::specs::Laws::Handed::leg_added))]
+#[tactic(auto, using(crate::specs::Laws::Handed::leg_room, crate::specs::Laws::Handed::leg_added))]
 fn add_row(
     core: Core,
     sending: Sending,
@@ -89,10 +89,7 @@ fn add_row(
     let leg = leg(row);
     let member = NewMember { id, weight, leg };
     if let Err(error) = refusal(members, core.counts.members, row, member) {
-        return Answered {
-            record: core,
-            answer: Err(error),
-        };
+        return Answered::refused(core, error);
     }
     add_member_at_end(core, sending, members, member)
 }

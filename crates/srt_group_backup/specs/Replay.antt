@@ -10,7 +10,7 @@ use Rattle.srt_group_model.specs.Backup.{max_history, replay_entries}
 use Rattle.srt_group_model.specs.declared.Entry.{Entry}
 use Rattle.srt_group_model.specs.declared.Leg.{Leg}
 use Rattle.srt_group_sending.specs.SentList.{Wrote}
-use Rattle.srt_group_backup.specs.declared.replay.Replayed.{Replayed}
+use Rattle.srt_group_sending.specs.declared.flown.Flown.{Flown}
 
 -- ---- definitions
 
@@ -30,8 +30,8 @@ pub record EntryReplayed (time id : ℕ) (e : Entry) (l : Leg) (sent : ℕ) (bef
       give (λ k. overwritten (sent * sent_row_size) (list_rows (replayed_sent time id e ∷ [])) before)
       otherwise before)
 
-pub record EntriesReplayed (time id : ℕ) (es : List Entry) (l : Leg) (sent : ℕ) (before : List ℕ) (answer : Replayed) (after : List ℕ) : Type 0 where
+pub record EntriesReplayed (time id : ℕ) (es : List Entry) (l : Leg) (sent : ℕ) (before : List ℕ) (answer : Flown Leg) (after : List ℕ) : Type 0 where
   pub outcome : outcome_number answer.outcome ≡ (if_true (replay_entries time id es l).whole then 0 else 28)
-  pub leg : answer.leg ≡ (replay_entries time id es l).leg
+  pub leg : answer.state ≡ (replay_entries time id es l).leg
   pub written : Wrote sent (replay_entries time id es l).sends before answer.sent after
   pub few : answer.sent ≤ sent + max_history

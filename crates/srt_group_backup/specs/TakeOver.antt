@@ -11,8 +11,8 @@ use Rattle.srt_connection_members.specs.Members.{members_of}
 use Rattle.srt_group_tables.specs.Ring.{Arrays, send_of}
 use Rattle.srt_group_tables.specs.declared.history.HistoryRing.{HistoryRing}
 use Rattle.srt_group_sending.specs.SentList.{SendTables, Wrote}
-use Rattle.srt_group_backup.specs.declared.takeover.Flight.{Flight}
-use Rattle.srt_group_backup.specs.declared.send.BackupSend.{BackupSend}
+use Rattle.srt_group_sending.specs.declared.flown.Flown.{Flown}
+use Rattle.srt_group_backup.specs.declared.trimming.SendHistory.{SendHistory}
 
 -- ---- definitions
 
@@ -25,7 +25,7 @@ SendIs x y = y ≡ x
 
 -- A flow of the model was made, and the rows written to the list are its sends. It leaves what sending moves. In the laws t is
 -- the table of members before and u after.
-pub record FlightReplayed (f : State → Flow) (known : Send → Type 0) (sent : ℕ) (before : SendTables) (answer : Flight) (after : SendTables) : Type 0 where
+pub record FlightReplayed (f : State → Flow) (known : Send → Type 0) (sent : ℕ) (before : SendTables) (answer : Flown (Unit {0})) (after : SendTables) : Type 0 where
   pub long : length after.members ≡ length before.members
   pub few : answer.sent ≤ sent + max_history
   pub sends : List Sent
@@ -38,16 +38,16 @@ pub record CarrierAligned (i n : ℕ) (x : Sending) (t : List ℕ) (answer : Out
   pub flow : (s : State) → s.members ≡ members_of n t → s.send.numbers ≡ x
       → align_carrier i s ≡ record { state = with_members (members_of n u) s; sends = []; code = outcome_number answer }
 
-pub record TookOver (f : State → Flow) (n : ℕ) (x : Sending) (r : HistoryRing) (a : Arrays) (sent : ℕ) (before : SendTables) (answer : BackupSend) (after : SendTables) : Type 0 where
+pub record TookOver (f : State → Flow) (n : ℕ) (x : Sending) (r : HistoryRing) (a : Arrays) (sent : ℕ) (before : SendTables) (answer : Flown SendHistory) (after : SendTables) : Type 0 where
   pub long : length after.members ≡ length before.members
-  pub fits : answer.send.ring.length ≤ max_history
+  pub fits : answer.state.ring.length ≤ max_history
   pub few : answer.sent ≤ sent + max_history
   pub sends : List Sent
   pub written : Wrote sent sends before.list answer.sent after.list
   pub flow : (s : State) → s.members ≡ members_of n before.members → s.send ≡ send_of x r a
       → f s
       ≡ record {
-        state = with_send (send_of answer.send.sending answer.send.ring a) (with_members (members_of n after.members) s);
+        state = with_send (send_of answer.state.sending answer.state.ring a) (with_members (members_of n after.members) s);
         sends = sends;
         code = outcome_number answer.outcome;
       }

@@ -1,5 +1,6 @@
 // The history is replayed on a leg that stands at its first sequence, each entry at its own sequence and with its own source
 // time, so that the receiver gets no hole and no packet is given up early.
+// Kept (5, 6): the list goes with its rows in use: `Wrote` says of the whole list which rows are written, a rest of it (`&mut list[..]`) would say so of the rest alone.
 // Kept (5): how many rows the lent list still has room for differs from call to call; a type for it would be made at each and taken apart.
 ghost use Rattle.std.specs.Prelude.{◌≡◌, ◌+◌, ◌-◌, ◌*◌, ◌≤◌, ◌<◌, length};
 ghost use Rattle.srt_group_model.specs.Sending.{sent_row_size, max_sent, list_size};
@@ -9,19 +10,11 @@ ghost use Rattle.srt_group_backup.specs.Replay.{EntryReplayed, EntriesReplayed};
 
 use srt_connection::legs::send_shared_with_sequence;
 use srt_group_model::{Entry, Leg};
+use srt_group_sending::flown::Flown;
 use srt_group_sending::list::{Sent, write_sent};
 use srt_group_tables::history::History;
 use srt_protocol::error::Error;
 use srt_protocol::time::Timestamp;
-
-// The leg after a replay, how many rows of the list are in use, and whether all entries were sent: the rows of those that were stay in
-// use after a refusal too.
-#[derive(Clone, Copy)]
-pub struct Replayed {
-    pub outcome: Result<(), Error>,
-    pub leg: Leg,
-    pub sent: usize,
-}
 
 // One entry on a leg, with its row in the list if it was sent.
 #[tactic(auto, using(crate::specs::Laws::Replay::entry_failed))]
@@ -48,7 +41,7 @@ fn replay_entry(
     Some(after)
 }
 
-// All entries, oldest first, up to one that fails.
+// All entries, oldest first, up to one that fails: the rows of those before it stay in use.
 #[tactic(auto, using(crate::specs::Laws::Replay::replaying_start))]
 pub fn replay_entries(
     leg: Leg,
@@ -57,7 +50,7 @@ pub fn replay_entries(
     id: u64,
     list: &mut [u64],
     sent: usize,
-) -> Replayed
+) -> Flown<Leg>
     requires { (list_size ≤ length list.old) × (sent ≤ max_sent - max_history) }
     ensures { EntriesReplayed time.0 id
         (entries_of history.now.words.ring (arrays history.now.words.history.now history.now.sources.now)) leg sent
@@ -68,17 +61,17 @@ pub fn replay_entries(
         let entry = history.entry_at(index);
         let result = replay_entry(here, entry, time, id, list, sent + index);
         let Some(after) = result else {
-            return Replayed {
+            return Flown {
                 outcome: Err(Error::ReplayRefused),
-                leg: here,
+                state: here,
                 sent: sent + index,
             };
         };
         here = after;
     }
-    Replayed {
+    Flown {
         outcome: Ok(()),
-        leg: here,
+        state: here,
         sent: sent + history.words.ring.length,
     }
 }

@@ -1,58 +1,15 @@
-// The call's own payload on one member, and what is recorded of it.
-// Kept (5, 6): which tables a function changes differs from one to the next, so a struct of `&mut` would be another for each (docs/DECISIONS.md).
-// Kept (5): the rules take a payload's time, size, cell and sequence one by one, so a struct of them would be taken apart in each clause, and is no plainer.
-ghost use Rattle.std.specs.Prelude.{◌≡◌, ◌+◌, ◌*◌, ◌≤◌, length};
-ghost use Rattle.srt_group_model.specs.Sending.{sent_row_size};
+// What is recorded of the call's own payload once it was sent on one member.
+// Kept (5, 6): a host lends each table as words; a struct of `&mut` fields wants a clause a field, in every function, that its slice is still the caller's (docs/DECISIONS.md).
+ghost use Rattle.std.specs.Prelude.{◌≤◌};
 ghost use Rattle.srt_group_model.specs.Backup.{max_history};
-ghost use Rattle.srt_connection_members.specs.Members.{HasRow};
 ghost use Rattle.srt_group_tables.specs.Ring.{arrays, Long, Packs};
-ghost use Rattle.srt_group_sending.specs.SentList.{send_tables};
-ghost use Rattle.srt_group_backup.specs.OwnSend.{SentOn, SendRecorded};
+ghost use Rattle.srt_group_backup.specs.OwnSend.{SendRecorded};
 
 use crate::trimming::{SendHistory, trim_backup_history};
-use srt_connection::legs::send_shared_with_sequence;
-use srt_connection_members::{leg_at, membership_at, put_leg_at};
 use srt_group_model::{Entry, Leg};
 use srt_group_sending::broadcast::with_number_after;
-use srt_group_sending::list::{Sent, write_sent};
+pub use srt_group_sending::own::send_on;
 use srt_group_tables::history::{HistoryWords, push_back, store};
-use srt_protocol::error::Error;
-use srt_protocol::time::Timestamp;
-
-// What a Backup send, or a part of it, leaves of what sending moves, and how many rows of the list are in use then; or why it was refused,
-// with the same of what it did before.
-#[derive(Clone, Copy)]
-pub struct BackupSend {
-    pub outcome: Result<(), Error>,
-    pub send: SendHistory,
-    pub sent: usize,
-}
-
-// A payload of `size` bytes on the member at an index, at a sequence: whether it was sent. If it was, the list has its row.
-pub fn send_on(
-    members: &mut [u64],
-    index: usize,
-    time: Timestamp,
-    size: u64,
-    sequence: u64,
-    list: &mut [u64],
-    sent: usize,
-) -> bool
-    requires has_row { HasRow index members.old }
-    requires sent_row_size_in_bounds { sent * sent_row_size + sent_row_size ≤ length list.old }
-    ensures { SentOn time.0 size sequence index sent
-        (send_tables members.old list.old) result
-        (send_tables members.new list.new) }
-{
-    let result = send_shared_with_sequence(leg_at(members, index), time, size, sequence);
-    let Some(leg) = result else {
-        return false;
-    };
-    let membership = membership_at(members, index);
-    put_leg_at(members, index, leg);
-    write_sent(list, sent, Sent::own(membership.id, sequence, time));
-    true
-}
 
 // The payload that was sent is kept until its carrier's peer acknowledges it. `leg` is the carrier's leg after the send.
 pub fn record_backup_send(
@@ -71,6 +28,7 @@ pub fn record_backup_send(
 {
     store(send.ring, history, sources, entry);
     let mut numbers = with_number_after(send.sending, entry.sequence);
+    // Kept (1): the carrier and its flag are words of the lent record, set here alone: a setter for one place is no plainer.
     numbers.carried = 1;
     numbers.carrier = carrier;
     let pushed = HistoryWords {

@@ -1,5 +1,5 @@
 // A carrier that fell silent turns Unstable, so that a Standby member takes over.
-// Kept (5, 6): which tables a function changes differs from one to the next, so a struct of `&mut` would be another for each (docs/DECISIONS.md).
+// Kept (5, 6): a C host lends the members as words, with the count of rows in use; `as_chunks_mut` says nothing of what the words end as.
 ghost use Rattle.std.specs.Prelude.{◌≡◌, ◌&&◌, ◌*◌, ◌≤◌, length};
 ghost use Rattle.srt_group_model.specs.Tools.{any};
 ghost use Rattle.srt_group_model.specs.Members.{is_standby};
@@ -37,16 +37,9 @@ pub fn is_stale(leg: Leg, time: Timestamp) -> bool
     requires { TripFit leg }
     ensures { result ≡ is_stale time.0 leg }
 {
-    if !has_sender(leg) {
-        return false;
-    }
-    if leg.sender.flight == 0 {
-        return false;
-    }
-    let timeout = stability_timeout(leg);
-    let since = leg.trip.heard.0.max(leg.sender.oldest.0);
-    let silence = time.saturating_sub(Timestamp(since));
-    timeout < silence
+    let since = leg.trip.heard.max(leg.sender.oldest);
+    let silence = time.saturating_sub(since);
+    has_sender(leg) && leg.sender.flight != 0 && stability_timeout(leg) < silence
 }
 
 // Whether a connected Standby member could take over.
@@ -67,11 +60,7 @@ pub fn demote_stale_backup_carrier(members: &mut [u64], count: usize, time: Time
     let Some(index) = found else {
         return;
     };
-    if !has_standby(rows(members, count)) {
-        return;
+    if has_standby(rows(members, count)) && is_stale(leg_at(members, index), time) {
+        turn_at(members, index, UNSTABLE);
     }
-    if !is_stale(leg_at(members, index), time) {
-        return;
-    }
-    turn_at(members, index, UNSTABLE);
 }

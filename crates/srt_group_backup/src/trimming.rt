@@ -21,18 +21,12 @@ pub struct SendHistory {
 }
 
 // Whether the oldest entry is after a sequence: older ones were lost.
-// Kept (1): the gap is the rules' word of a flag, and `u64::from` promises the byte of the bool: a step from one to the other would be no plainer.
+// Kept (1): the gap goes into the lent record as the word that it is.
 #[tactic(auto, using(crate::specs::Laws::Trimming::none_after, crate::specs::Laws::Trimming::first_after, crate::specs::Laws::Trimming::first_not_after))]
 fn starts_after(history: &HistoryWords, oldest: u64) -> u64
     ensures { result ≡ bit (front_after oldest history.now.history.now history.now.ring) }
 {
-    if history.ring.length == 0 {
-        return 0;
-    }
-    if word_before(oldest, history.sequence_at(0)) {
-        return 1;
-    }
-    0
+    (history.ring.length != 0 && word_before(oldest, history.sequence_at(0))) as u64
 }
 
 // What the carrier's leg has had acknowledged is dropped.

@@ -1,8 +1,9 @@
 // One Backup send. A carrier that fell silent is demoted first; a member that takes over from another carrier replays the flight that
 // is not acknowledged, so that the receiver gets no hole; after a failed send another member is promoted, and tried once.
-// Kept (5, 6): which tables a function changes differs from one to the next, so a struct of `&mut` would be another for each (docs/DECISIONS.md).
-// Kept (5): the rules take a payload's time, size, cell and sequence one by one, so a struct of them would be taken apart in each clause, and is no plainer.
-// Kept (1): the mode is the record's word, which a C host lends so that 6 can refuse it; an enum of it would be `is_backup` again at each call.
+// Kept (5, 6): a host lends each table as words; a struct of `&mut` fields wants a clause a field, in every function, that its slice is still the caller's (docs/DECISIONS.md).
+// Kept (5, 6): the list goes with its rows in use: `Wrote` says of the whole list which rows are written, a rest of it (`&mut list[..]`) would say so of the rest alone.
+// Kept (5): a payload has a time, a size and a cell before it has its sequence; with it, it is an `Entry`.
+// Kept (1): the mode is the record's word, which a C host lends so that 6 can refuse it; it goes on as it is, to `promote_if_none`.
 ghost use Rattle.std.specs.Prelude.{◌-◌, ◌≤◌, ◌<◌};
 ghost use Rattle.srt_group_model.specs.Sending.{max_sent};
 ghost use Rattle.srt_group_model.specs.Backup.{max_history, send_at_place, send_backup};
@@ -15,14 +16,15 @@ ghost use Rattle.srt_group_backup_send.specs.BackupSend.{on_carrier};
 
 use cell_set::CellSet;
 use srt_connection_members::{row, rows, sender_at};
-use srt_group_backup::send::{BackupSend, send_on};
+use srt_group_backup::send::send_on;
 use srt_group_backup::trimming::SendHistory;
 use srt_group_carrier::carrier::{ready_members, take_over};
 use srt_group_carrier::promotion::send_after_promotion;
 use srt_group_carrier::recording::keep_sent;
 use srt_group_members::states::first_active;
+use srt_group_model::Entry;
 use srt_group_sending::broadcast::sequence_for_send;
-use srt_group_tables::history::{History, HistoryWords};
+use srt_group_sending::flown::Flown;
 use srt_protocol::error::Error;
 use srt_protocol::time::Timestamp;
 
@@ -40,7 +42,7 @@ fn send_at_place(
     time: Timestamp,
     size: u64,
     cell: u64,
-) -> BackupSend
+) -> Flown<SendHistory>
     requires sendable { Sendable count index send.ring (backup_tables members.old history.old sources.old list.old used.old) }
     requires sent_bound { (sent ≤ max_sent - max_history - 1) × Packs (number_for_send send.sending (member_at members.old index)) cell size }
     ensures { BackupFlows every (send_at_place time.0 size cell index) cell count send.sending send.ring sent
@@ -50,19 +52,23 @@ fn send_at_place(
     let sequence = sequence_for_send(row(members, index), send.sending);
     let sender = sender_at(members, index);
     if sender.next != sequence {
-        return BackupSend {
+        return Flown {
             outcome: Err(Error::SequenceMismatch),
-            send,
+            state: send,
             sent,
         };
     }
+    let entry = Entry {
+        sequence,
+        cell,
+        length: size,
+        source: time,
+    };
     if send_on(members, index, time, size, sequence, list, sent) {
-        return keep_sent(
-            send, history, sources, members, index, sent, used, time, size, cell, sequence,
-        );
+        return keep_sent(send, history, sources, members, index, sent, used, entry);
     }
     send_after_promotion(
-        send, history, sources, members, count, index, list, sent, used, time, size, cell, sequence,
+        send, history, sources, members, count, index, list, sent, used, entry,
     )
 }
 
@@ -79,7 +85,7 @@ fn send_on_carrier(
     time: Timestamp,
     size: u64,
     cell: u64,
-) -> BackupSend
+) -> Flown<SendHistory>
     requires sendable { Sendable count index send.ring (backup_tables members.old history.old sources.old list.old used.old) }
     requires numbers_fit { NumbersFit (send_of send.sending send.ring (arrays history.old sources.old)) (members_of count members.old) }
     requires cell_lt_cells_in_word { (cell < cells_in_word) × (size < lengths_in_word) }
@@ -87,27 +93,24 @@ fn send_on_carrier(
         (backup_tables members.old history.old sources.old list.old used.old) result
         (backup_tables members.new history.new sources.new list.new used.new) }
 {
-    let words = HistoryWords {
-        ring: send.ring,
-        history,
-    };
-    let flight = History { words, sources };
     let taken = take_over(
-        send.sending,
-        &flight,
-        members,
-        count,
-        index,
-        list,
-        0,
-        used,
-        time,
+        send, history, sources, members, count, index, list, 0, used, time,
     );
     if taken.outcome.is_err() {
         return taken;
     }
     send_at_place(
-        taken.send, history, sources, members, count, index, list, taken.sent, used, time, size,
+        taken.state,
+        history,
+        sources,
+        members,
+        count,
+        index,
+        list,
+        taken.sent,
+        used,
+        time,
+        size,
         cell,
     )
 }
@@ -125,7 +128,7 @@ pub fn send_backup(
     time: Timestamp,
     size: u64,
     cell: u64,
-) -> BackupSend
+) -> Flown<SendHistory>
     requires lendable { Lendable count send.ring (backup_tables members.old history.old sources.old list.old used.old) }
     requires numbers_fit { NumbersFit (send_of send.sending send.ring (arrays history.old sources.old)) (members_of count members.old) }
     requires cell_lt_cells_in_word { (cell < cells_in_word) × (size < lengths_in_word) }
@@ -136,9 +139,9 @@ pub fn send_backup(
     ready_members(members, count, mode, time);
     let found = first_active(rows(members, count));
     let Some(index) = found else {
-        return BackupSend {
+        return Flown {
             outcome: Err(Error::NoActiveMember),
-            send,
+            state: send,
             sent: 0,
         };
     };

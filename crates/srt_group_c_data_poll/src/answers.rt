@@ -1,5 +1,5 @@
 // What a poll answers, in words: document 01's values.
-// Kept (1, 5): C has no bool with a packet beside it, and lends rows that may be longer.
+// Kept (1, 5): the answer is a row of words, of which a host may lend more; a packet of count 0 there is none (docs/TABLES.md).
 ghost use Rattle.std.specs.Prelude.{◌≡◌, ◌≤◌, length};
 ghost use Rattle.srt_protocol.specs.Cells.{overwritten};
 ghost use Rattle.srt_group_model.specs.Tools.{is_set};
@@ -33,9 +33,7 @@ pub fn put_poll(record: &mut [u64], answer: &mut [u64], poll: DataPoll) -> u32
     ensures { PutSaid (with_core poll.core (group_of «record».old)) 0 (in_words 8 (answer_of poll) 0)
         «record».old answer.old result «record».new answer.new }
 {
-    let after = poll.core;
-    let gave = poll.gave;
-    put_core(record, after);
-    put_data(answer, gave, poll.continuation);
+    put_core(record, poll.core);
+    put_data(answer, poll.gave, poll.continuation);
     0
 }

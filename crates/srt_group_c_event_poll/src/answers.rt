@@ -18,16 +18,13 @@ fn put_polled(answer: &mut [u64], gave: Option<GroupEvent>)
     requires { 8 ≤ length answer.old }
     ensures { answer.new ≡ overwritten 0 (in_words 8 (polled (polled_of gave)) 0) answer.old }
 {
-    let Some(given) = gave else {
-        put(answer, [0; POLLED]);
-        return;
-    };
-    match given {
-        GroupEvent::Event(event) => put(
+    match gave {
+        None => put(answer, [0; POLLED]),
+        Some(GroupEvent::Event(event)) => put(
             answer,
             [event.kind, event.member, event.reason, 0, 0, 0, 0, 0],
         ),
-        GroupEvent::Packet(packet) => put_packet(answer, 0, packet),
+        Some(GroupEvent::Packet(packet)) => put_packet(answer, 0, packet),
     }
 }
 
@@ -37,9 +34,7 @@ pub fn put_poll(record: &mut [u64], answer: &mut [u64], poll: Poll) -> u32
     ensures { PutSaid (with_core poll.core (group_of «record».old)) 0 (in_words 8 (answer_of poll) 0)
         «record».old answer.old result «record».new answer.new }
 {
-    let after = poll.core;
-    let gave = poll.gave;
-    put_core(record, after);
-    put_polled(answer, gave);
+    put_core(record, poll.core);
+    put_polled(answer, poll.gave);
     0
 }

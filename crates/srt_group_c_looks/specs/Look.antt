@@ -1,22 +1,13 @@
 -- A look in words, whatever it gives.
-use Rattle.std.specs.Prelude.{◌≡◌, List, ℕ, Err, Ok, Result}
+use Rattle.std.specs.Prelude.{◌≡◌, List, ℕ, Result}
 use Rattle.srt_protocol.specs.declared.error.Error.{Error}
-use Rattle.srt_protocol.specs.Errors.{error_number}
-use Rattle.srt_group_model.specs.Guards.{Answer, no_answer}
+use Rattle.srt_group_model.specs.Guards.{Answer}
 use Rattle.srt_group_shown.specs.Tables.{Tables}
 use Rattle.srt_group_refusals.specs.declared.refusals.LentGroup.{LentGroup}
 use Rattle.srt_group_refusals.specs.LentGroup.{tables_of}
+use Rattle.srt_group_looks.specs.Looks.{given_code, given_answer}
 use Rattle.srt_group_words.specs.Record.{group_of}
 use Rattle.srt_group_words.specs.Words.{in_words, Said}
-
--- the code of what a look gives, and its answer: none where it is refused
-abbrev pub given_code : {A : Type 0} → Result A Error → ℕ
-given_code (Ok x) = 0
-given_code (Err e) = error_number e
-
-abbrev pub given_answer : {A : Type 0} → (A → Answer) → Result A Error → Answer
-given_answer says (Ok x) = says x
-given_answer says (Err e) = no_answer
 
 -- the answer's row says what the look gives of the group that the words show
 pub record Shows {A : Type 0} (size : ℕ) (says : A → Answer) (gives : LentGroup → Result A Error → Type 0) (w : List ℕ) (t : Tables)

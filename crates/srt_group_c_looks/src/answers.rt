@@ -2,18 +2,16 @@
 ghost use Rattle.std.specs.Prelude.{◌≡◌, ◌≤◌, Some, length};
 ghost use Rattle.srt_group_model.specs.Guards.{Answer, shown, number, optional, truth, one_member};
 ghost use Rattle.srt_group_words.specs.Words.{in_words, Said};
-ghost use Rattle.srt_group_c_looks.specs.Look.{given_code, given_answer};
+ghost use Rattle.srt_group_looks.specs.Looks.{given_code, given_answer};
 
 use srt_group_collecting::collecting::flag;
+use srt_group_looks::members::{MEMBER_WORDS, words_of};
 use srt_group_model::MemberShown;
 use srt_group_words::answers::put;
 use srt_protocol::error::Error;
 
 // The word of a number or a flag.
 pub const SHOWN: usize = 1;
-
-// The words of a member: id, weight, label, the leg's state, admitted, reserved, the collision's expected and actual peer group.
-pub const MEMBER: usize = 8;
 
 // What a look gives, as so many numbers.
 pub trait InWords<const N: usize>: Copy {
@@ -61,25 +59,12 @@ impl InWords<SHOWN> for bool {
     }
 }
 
-// Kept (2): a list's row of the same words is written in place, word by word (srt_group_looks); here they are an array, as all of a look's numbers.
-impl InWords<MEMBER> for MemberShown {
+impl InWords<MEMBER_WORDS> for MemberShown {
     ghost answer = { λ m. shown (one_member (Some m)) };
 
     #[tactic(auto, unfolding(srt_group_words::specs::Words::in_words, srt_group_words::specs::Words::zeros, srt_group_model::specs::Answers::values_of, srt_group_model::specs::Answers::shown_values))]
-    fn numbers(self) -> [u64; MEMBER] {
-        let membership = self.membership;
-        let collision = membership.collision;
-        let account = membership.account;
-        [
-            membership.id,
-            membership.weight,
-            membership.state,
-            self.connection,
-            membership.admitted,
-            account.reserved,
-            collision.expected,
-            collision.actual,
-        ]
+    fn numbers(self) -> [u64; MEMBER_WORDS] {
+        words_of(self)
     }
 }
 

@@ -1,6 +1,6 @@
 // The looks at members. Each is a function of its own, since C calls it by its name.
 // Kept (2, 5, 6): C calls each look by its name, and lends each table by its own name and length.
-// `members` fills a lent list too, so it is no `look`: a closure that kept the list would have no value of it after the call.
+// Kept (2, 7): `srt_group_raw_members` fills a lent list too, so it is no `look`: a closure that kept the list would have no value of it after the call.
 ghost use Rattle.std.specs.Prelude.{false};
 ghost use Rattle.srt_group_model.specs.Lent.{call_look, look_member, look_backup_stability_timeout_micros};
 ghost use Rattle.srt_group_shown.specs.Tables.{tables};

@@ -1,6 +1,6 @@
 // A group's start.
 // Kept (5, 6): C lends each table by its name and length (docs/TABLES.md), so each is a parameter of its own.
-// Kept (1): the mode is the record's word, which a C host lends so that 6 can refuse it; an enum of it would be `is_backup` again at each call.
+// Kept (1): the mode is a word of the C call: any is a legal question, and 2 refuses what is none.
 ghost use Rattle.srt_group_shown.specs.Tables.{tables};
 ghost use Rattle.srt_group_words.specs.Words.{PromisedNewWords, BeginsValid};
 
@@ -50,7 +50,7 @@ pub extern "C" fn srt_group_valid_begin(
     if record.len() < RECORD {
         return SHORT;
     }
-    // Kept (4): one test of both by `||` was tried: the goal of what it refuses stays open.
+    // Apart from the test before: of one `||` the goal of what is refused stays open.
     if used.len() != WORDS {
         return SHORT;
     }

@@ -1,4 +1,5 @@
 // What a readiness test answers, in a word, and the record that it leaves.
+// Kept (5): C lends rows that may be longer.
 ghost use Rattle.std.specs.Prelude.{◌≤◌, length};
 ghost use Rattle.srt_group_model.specs.Guards.{shown, truth};
 ghost use Rattle.srt_group_looks.specs.Looks.{truth_code, truth_answer};
@@ -19,15 +20,11 @@ pub fn put_tested(record: &mut [u64], answer: &mut [u64], tested: Answered<Group
     ensures { PutSaid tested.«record» (truth_code tested.answer) (in_words 1 (truth_answer tested.answer) 0)
         «record».old answer.old result «record».new answer.new }
 {
-    let Answered {
-        record: after,
-        answer: given,
-    } = tested;
-    put_group(record, after);
-    put_given(answer, given)
+    put_group(record, tested.record);
+    put_given(answer, tested.answer)
 }
 
-// The same of a valid state, which is not refused: 0.
+// The same of a valid state, which is not refused: 0. The record is put with its identity, which a test answers as it was lent.
 pub fn put_readiness(record: &mut [u64], answer: &mut [u64], tested: Readiness) -> u32
     requires { (record_size ≤ length «record».old) × (1 ≤ length answer.old) }
     ensures { PutSaid tested.«record» 0

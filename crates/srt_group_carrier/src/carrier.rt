@@ -1,7 +1,8 @@
 // Who carries. Before a send a carrier that fell silent is demoted; after one that failed another member is promoted; and who carries in
 // another's place replays the flight that is not acknowledged, so that the receiver gets no hole.
-// Kept (5, 6): which tables a function changes differs from one to the next, so a struct of `&mut` would be another for each (docs/DECISIONS.md).
-// Kept (1): the mode is the record's word, which a C host lends so that 6 can refuse it; an enum of it would be `is_backup` again at each call.
+// Kept (5, 6): a host lends each table as words; a struct of `&mut` fields wants a clause a field, in every function, that its slice is still the caller's (docs/DECISIONS.md).
+// Kept (5, 6): the list goes with its rows in use: `Wrote` says of the whole list which rows are written, a rest of it (`&mut list[..]`) would say so of the rest alone.
+// Kept (1): the mode is the record's word, which a C host lends so that 6 can refuse it; it goes on as it is, to `promote_if_none`.
 ghost use Rattle.std.specs.Prelude.{◌-◌, ◌*◌, ◌≤◌, ◌<◌, length};
 ghost use Rattle.srt_group_model.specs.Tools.{change};
 ghost use Rattle.srt_group_model.specs.Members.{promote_backup_member, promote_if_none};
@@ -19,13 +20,13 @@ ghost use Rattle.srt_group_carrier.specs.Lendable.{backup_tables, Sendable};
 
 use crate::freeing::free_dropped;
 use cell_set::CellSet;
-use srt_group_backup::send::BackupSend;
 use srt_group_backup::stale::demote_stale_backup_carrier;
 use srt_group_backup::takeover::take_over_backup_flight;
+use srt_group_backup::trimming::SendHistory;
 use srt_group_members::promotion::{promote_backup_member, promote_if_none};
-use srt_group_model::Sending;
 use srt_group_sending::broadcast::mark_send_failure_at;
-use srt_group_tables::history::History;
+use srt_group_sending::flown::Flown;
+use srt_group_tables::history::{History, HistoryWords};
 use srt_protocol::time::Timestamp;
 
 // The carrier is demoted if it fell silent, and another is promoted if no member is active then.
@@ -53,8 +54,9 @@ pub fn promote_after_failure(members: &mut [u64], count: usize, index: usize)
 
 // The take-over, with the cells of the entries that its trim dropped free again.
 pub fn take_over(
-    sending: Sending,
-    history: &History,
+    send: SendHistory,
+    history: &[u64],
+    sources: &[u64],
     members: &mut [u64],
     count: usize,
     index: usize,
@@ -62,18 +64,32 @@ pub fn take_over(
     sent: usize,
     used: &mut CellSet,
     time: Timestamp,
-) -> BackupSend
-    requires sendable { Sendable count index history.now.words.ring (backup_tables members.old history.now.words.history.now history.now.sources.now list.old used.old) }
+) -> Flown<SendHistory>
+    requires sendable { Sendable count index send.ring (backup_tables members.old history.now sources.now list.old used.old) }
     requires sent_bound { sent ≤ max_sent - max_history }
-    ensures took_over { TookOver (take_over_backup_flight time.0 index) count sending history.now.words.ring
-        (arrays history.now.words.history.now history.now.sources.now) sent
+    ensures took_over { TookOver (take_over_backup_flight time.0 index) count send.sending send.ring
+        (arrays history.now sources.now) sent
         (send_tables members.old list.old) result
         (send_tables members.new list.new) }
     ensures trim_follows { TrimFollows
-        (entries_of history.now.words.ring (arrays history.now.words.history.now history.now.sources.now)) used.old
-        (entries_of result.send.ring (arrays history.now.words.history.now history.now.sources.now)) used.new }
+        (entries_of send.ring (arrays history.now sources.now)) used.old
+        (entries_of result.state.ring (arrays history.now sources.now)) used.new }
 {
-    let taken = take_over_backup_flight(sending, history, members, count, index, list, sent, time);
-    free_dropped(&history.words, taken.send.ring.length, used);
+    let words = HistoryWords {
+        ring: send.ring,
+        history,
+    };
+    let flight = History { words, sources };
+    let taken = take_over_backup_flight(
+        send.sending,
+        &flight,
+        members,
+        count,
+        index,
+        list,
+        sent,
+        time,
+    );
+    free_dropped(&flight.words, taken.state.ring.length, used);
     taken
 }

@@ -1,6 +1,6 @@
 // After a failed send another member is promoted, and tried once with the same sequence.
-// Kept (5, 6): which tables a function changes differs from one to the next, so a struct of `&mut` would be another for each (docs/DECISIONS.md).
-// Kept (5): the rules take a payload's time, size, cell and sequence one by one, so a struct of them would be taken apart in each clause, and is no plainer.
+// Kept (5, 6): a host lends each table as words; a struct of `&mut` fields wants a clause a field, in every function, that its slice is still the caller's (docs/DECISIONS.md).
+// Kept (5, 6): the list goes with its rows in use: `Wrote` says of the whole list which rows are written, a rest of it (`&mut list[..]`) would say so of the rest alone.
 ghost use Rattle.std.specs.Prelude.{◌-◌, ◌≤◌};
 ghost use Rattle.srt_group_model.specs.Sending.{max_sent};
 ghost use Rattle.srt_group_model.specs.Backup.{max_history, send_after_promotion};
@@ -13,12 +13,12 @@ use crate::carrier::{promote_after_failure, take_over};
 use crate::recording::keep_sent;
 use cell_set::CellSet;
 use srt_connection_members::rows;
-use srt_group_backup::send::{BackupSend, send_on};
+use srt_group_backup::send::send_on;
 use srt_group_backup::trimming::SendHistory;
 use srt_group_members::states::first_active;
-use srt_group_tables::history::{History, HistoryWords};
+use srt_group_model::Entry;
+use srt_group_sending::flown::Flown;
 use srt_protocol::error::Error;
-use srt_protocol::time::Timestamp;
 
 // A promoted member takes over, and is tried with the sequence of the send that failed.
 fn send_on_promoted(
@@ -31,44 +31,52 @@ fn send_on_promoted(
     list: &mut [u64],
     sent: usize,
     used: &mut CellSet,
-    time: Timestamp,
-    size: u64,
-    cell: u64,
-    sequence: u64,
-) -> BackupSend
+    entry: Entry,
+) -> Flown<SendHistory>
     requires sendable { Sendable count index send.ring (backup_tables members.old history.old sources.old list.old used.old) }
-    requires sent_bound { (sent ≤ max_sent - max_history - 1) × Packs sequence cell size }
-    ensures { BackupFlows every (on_promoted time.0 size cell sequence index) cell count send.sending send.ring sent
+    requires sent_bound { (sent ≤ max_sent - max_history - 1) × Packs entry.sequence entry.cell entry.length }
+    ensures { BackupFlows every (on_promoted entry.source.0 entry.length entry.cell entry.sequence index) entry.cell count send.sending send.ring sent
         (backup_tables members.old history.old sources.old list.old used.old) result
         (backup_tables members.new history.new sources.new list.new used.new) }
 {
-    let words = HistoryWords {
-        ring: send.ring,
-        history,
-    };
-    let flight = History { words, sources };
     let taken = take_over(
-        send.sending,
-        &flight,
+        send,
+        history,
+        sources,
         members,
         count,
         index,
         list,
         sent,
         used,
-        time,
+        entry.source,
     );
     if taken.outcome.is_err() {
         return taken;
     }
-    if !send_on(members, index, time, size, sequence, list, taken.sent) {
-        return BackupSend {
+    if !send_on(
+        members,
+        index,
+        entry.source,
+        entry.length,
+        entry.sequence,
+        list,
+        taken.sent,
+    ) {
+        return Flown {
             outcome: Err(Error::PromotionSendFailed),
             ..taken
         };
     }
     keep_sent(
-        taken.send, history, sources, members, index, taken.sent, used, time, size, cell, sequence,
+        taken.state,
+        history,
+        sources,
+        members,
+        index,
+        taken.sent,
+        used,
+        entry,
     )
 }
 
@@ -83,29 +91,25 @@ pub fn send_after_promotion(
     list: &mut [u64],
     sent: usize,
     used: &mut CellSet,
-    time: Timestamp,
-    size: u64,
-    cell: u64,
-    sequence: u64,
-) -> BackupSend
+    entry: Entry,
+) -> Flown<SendHistory>
     requires sendable { Sendable count index send.ring (backup_tables members.old history.old sources.old list.old used.old) }
-    requires sent_bound { (sent ≤ max_sent - max_history - 1) × Packs sequence cell size }
+    requires sent_bound { (sent ≤ max_sent - max_history - 1) × Packs entry.sequence entry.cell entry.length }
     ensures { BackupFlows every
-        (send_after_promotion time.0 size cell sequence index (member_at members.old index)) cell count send.sending send.ring sent
+        (send_after_promotion entry.source.0 entry.length entry.cell entry.sequence index (member_at members.old index)) entry.cell count send.sending send.ring sent
         (backup_tables members.old history.old sources.old list.old used.old) result
         (backup_tables members.new history.new sources.new list.new used.new) }
 {
     promote_after_failure(members, count, index);
     let found = first_active(rows(members, count));
     let Some(promoted) = found else {
-        return BackupSend {
+        return Flown {
             outcome: Err(Error::AllBackupFailed),
-            send,
+            state: send,
             sent,
         };
     };
     send_on_promoted(
-        send, history, sources, members, count, promoted, list, sent, used, time, size, cell,
-        sequence,
+        send, history, sources, members, count, promoted, list, sent, used, entry,
     )
 }

@@ -1,6 +1,5 @@
 // A payload that was sent joins the history in its cell, until its carrier's peer acknowledges it.
-// Kept (5, 6): which tables a function changes differs from one to the next, so a struct of `&mut` would be another for each (docs/DECISIONS.md).
-// Kept (5): the rules take a payload's time, size, cell and sequence one by one, so a struct of them would be taken apart in each clause, and is no plainer.
+// Kept (5, 6): a host lends each table as words; a struct of `&mut` fields wants a clause a field, in every function, that its slice is still the caller's (docs/DECISIONS.md).
 ghost use Rattle.std.specs.Prelude.{◌≤◌, ◌<◌};
 ghost use Rattle.srt_group_model.specs.Sending.{max_sent};
 ghost use Rattle.srt_group_model.specs.Backup.{max_history};
@@ -12,12 +11,13 @@ ghost use Rattle.srt_group_carrier.specs.Recording.{Kept};
 
 use crate::freeing::free_dropped;
 use cell_set::{CellSet, take};
-use srt_connection_members::{leg_at, membership_at};
-use srt_group_backup::send::{BackupSend, record_backup_send};
+use srt_connection_members::{leg_at, row};
+use srt_connection_queue::rows::member_id;
+use srt_group_backup::send::record_backup_send;
 use srt_group_backup::trimming::SendHistory;
 use srt_group_model::{Entry, Leg};
+use srt_group_sending::flown::Flown;
 use srt_group_tables::history::{HistoryWords, MAX_HISTORY, push_back};
-use srt_protocol::time::Timestamp;
 
 // The entry's cell is taken. A full history loses its oldest entry before, and what the carrier's peer acknowledged after: their cells
 // are free. `leg` is the carrier's leg after the send.
@@ -63,31 +63,22 @@ pub fn keep_sent(
     index: usize,
     sent: usize,
     used: &mut CellSet,
-    time: Timestamp,
-    size: u64,
-    cell: u64,
-    sequence: u64,
-) -> BackupSend
+    entry: Entry,
+) -> Flown<SendHistory>
     requires has_row { HasRow index members.now }
     requires length_le_max_history { (send.ring.length ≤ max_history) × Long (arrays history.old sources.old) }
-    requires packs { Packs sequence cell size }
+    requires packs { Packs entry.sequence entry.cell entry.length }
     requires sent_lt_max_sent { sent < max_sent }
-    ensures { Kept time.0 size cell sequence (member_at members.now index) send.sending send.ring sent
+    ensures { Kept entry.source.0 entry.length entry.cell entry.sequence (member_at members.now index) send.sending send.ring sent
         (arrays history.old sources.old) used.old result
         (arrays history.new sources.new) used.new }
 {
-    let membership = membership_at(members, index);
+    let id = member_id(row(members, index));
     let leg = leg_at(members, index);
-    let entry = Entry {
-        sequence,
-        cell,
-        length: size,
-        source: time,
-    };
-    let kept = remember_send(send, history, sources, used, entry, leg, membership.id);
-    BackupSend {
+    let kept = remember_send(send, history, sources, used, entry, leg, id);
+    Flown {
         outcome: Ok(()),
-        send: kept,
+        state: kept,
         sent: sent + 1,
     }
 }

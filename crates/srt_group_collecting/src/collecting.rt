@@ -2,6 +2,7 @@
 // poll visits until there is something to give, and before it skips a gap until every queue is empty.
 // Kept (5, 6): a step that moves tables takes them one beside the other: a struct of `&mut` asks for loans that a call does not need, and for a clause to each field, that its slice is still the caller's (tried); what holds of them is one fact, `Usable`.
 // Kept (5): what goes by value beside them is the group's record, which a step gives back, and the one or two numbers that this step is about; a struct of those would be made for a single call and is no plainer.
+// Kept (1): the record's flag of the continuation is asked as the word that it is, as the definitions ask it.
 ghost use Rattle.std.specs.Prelude.{◌≡◌, true, false, ◌&&◌, ◌||◌, ◌+◌, ◌*◌, ◌%◌, ◌≤◌, ◌<◌, eqb, length};
 ghost use Rattle.srt_protocol.specs.Sequence.{sequence_before};
 ghost use Rattle.srt_group_model.specs.Tools.{is_set, bit, flagged, if_some◌give◌otherwise◌};
@@ -27,10 +28,10 @@ ghost use Rattle.srt_group_collecting.specs.Visit.{freed_by_event, Collectable, 
 
 use cell_set::{CellSet, free};
 use srt_connection_members::{
-    account_at, membership_at, poll_event_for_group_at, put_account_at,
-    release_data_reservation_at, rows,
+    account_at, poll_event_for_group_at, put_account_at, release_data_reservation_at, row, rows,
 };
 use srt_connection_queue::queue::LegPoll;
+use srt_connection_queue::rows::member_id;
 use srt_group_members::accounts;
 use srt_group_members::collecting::in_turn;
 use srt_group_members::promotion::promote_backup_member;
@@ -68,6 +69,9 @@ pub struct Gathered {
 // The visits of one loop, and the event polls of one data poll, at most.
 pub const MAX_VISITS: usize = 64;
 
+// The least kind of event that breaks its member: an error; behind it stands the disconnect.
+const FIRST_BREAKING: u64 = 2;
+
 // A flag's word.
 // Kept (4): `u64::from` promises the byte of the bool, this the rules' `bit`: without it each caller would have to go from the one to the other, which is no plainer.
 #[tactic(auto, using(crate::specs::Laws::Gather::word_of_flag))]
@@ -80,16 +84,13 @@ pub fn flag(set: bool) -> u64
 // ---- a packet is held or discarded
 
 // Whether a sequence is before the base.
-// Kept (1): tried with the base as an option, in a step that cost 3 instructions more for each event that is collected (callgrind).
-#[tactic(auto, using(crate::specs::Laws::Collect::late_based, crate::specs::Laws::Collect::late_unbased))]
 fn is_late(receiving: Receiving, sequence: u64) -> bool
     ensures { result ≡ (if_some flagged (is_set receiving.based) receiving.base
         give (λ base. sequence_before sequence base) otherwise false) }
 {
-    if receiving.based == 0 {
-        return false;
-    }
-    word_before(sequence, receiving.base)
+    receiving
+        .base()
+        .is_some_and(|base| word_before(sequence, base))
 }
 
 // The count of a packet that is held for a member is added to its sum.
@@ -121,11 +122,8 @@ fn is_discarded(core: Core, pending: &[u64], packet: Packet) -> bool
     requires pending_value { ascends (packets core.counts.pending pending.now) ≡ true }
     ensures { result ≡ is_discarded packet (receive_of core pending.now) }
 {
-    let content = packet.content;
-    if is_late(core.receiving, content.sequence) {
-        return true;
-    }
-    is_held(pending, core.counts.pending, content.sequence)
+    let sequence = packet.content.sequence;
+    is_late(core.receiving, sequence) || is_held(pending, core.counts.pending, sequence)
 }
 
 // The packet of the member at an index is held, and its reservation with it, or discarded, and the leg released.
@@ -167,7 +165,7 @@ fn break_member(members: &mut [u64], count: usize, mode: u64, kind: u64, index: 
     ensures { Became count (broken_by mode kind index (members_of count members.old))
         members.old members.new }
 {
-    if kind < 2 {
+    if kind < FIRST_BREAKING {
         return;
     }
     turn_at(members, index, BROKEN);
@@ -267,7 +265,7 @@ fn take_front(
     ensures follows { Follows core members.old pending.old used.old
         result.core members.new pending.new used.new }
 {
-    let membership = membership_at(members, index);
+    let id = member_id(row(members, index));
     match poll_event_for_group_at(members, index, budget) {
         LegPoll::Nothing => Visited {
             more: false,
@@ -288,14 +286,7 @@ fn take_front(
         } => {
             let next = turn_past(core, index);
             let after = collect_member_event(
-                next,
-                members,
-                pending,
-                waiting,
-                used,
-                index,
-                membership.id,
-                event,
+                next, members, pending, waiting, used, index, id, event,
             );
             Visited {
                 more: true,
@@ -342,13 +333,7 @@ pub fn collect_one_event(
 pub fn has_pending_data(core: Core) -> bool
     ensures { Shows has_pending_data core result }
 {
-    if 0 < core.counts.pending {
-        return true;
-    }
-    if 0 < core.counts.waiting {
-        return true;
-    }
-    core.visit.continuation != 0
+    0 < core.counts.pending || 0 < core.counts.waiting || core.visit.continuation != 0
 }
 
 // The continuation is asked for as well.
@@ -391,19 +376,14 @@ fn visit_until_held(
     if 0 < here.counts.waiting {
         return Visited {
             more: false,
-            core: here,
-            budget: before.budget,
+            ..before
         };
     }
     let visited = collect_one_event(here, members, pending, waiting, used, before.budget);
-    let collected = visited.core;
     if !visited.more {
-        return Visited {
-            more: false,
-            core: collected,
-            budget: visited.budget,
-        };
+        return visited;
     }
+    let collected = visited.core;
     let asked = ends_with_none_held(visits, collected.counts.pending);
     let after = or_continue(collected, asked);
     Visited {
@@ -439,10 +419,7 @@ pub fn collect_until_held(
     for left in (0..MAX_VISITS).rev() {
         visited = visit_until_held(visited, members, pending, waiting, used, left);
         if !visited.more {
-            return Gathered {
-                core: visited.core,
-                budget: visited.budget,
-            };
+            break;
         }
     }
     Gathered {
@@ -460,10 +437,7 @@ fn is_settled(core: Core, pending: &[u64], sequence: u64) -> bool
     ensures { result ≡ (is_set core.visit.continuation
         || is_held sequence (packets core.counts.pending pending.now)) }
 {
-    if core.visit.continuation != 0 {
-        return true;
-    }
-    is_held(pending, core.counts.pending, sequence)
+    core.visit.continuation != 0 || is_held(pending, core.counts.pending, sequence)
 }
 
 // Visits until the sequence is held, the continuation is asked for or every queue is empty. Only where the queues ended

@@ -1,5 +1,5 @@
 // `poll_data_bounded` with its refusals, over the record and the lent tables: 5 and 6, and then the form for a valid state.
-// Kept (5, 6): which tables a call changes differs from call to call (a poll: members, pending and waiting; a send: history and sources), so a struct of those that it only reads would be another for each kind of call.
+// Kept (5, 6): the three tables that a poll moves go beside the two that it reads: of a struct of `&mut` fields each clause names every field's ghost name, and one more says that its slice is still the caller's (docs/DECISIONS.md, "What only reads a table").
 ghost use Rattle.srt_group_model.specs.Lent.{call_poll_data_bounded, call_poll_data};
 ghost use Rattle.srt_group_shown.specs.Tables.{tables};
 ghost use Rattle.srt_group_shown.specs.Ready.{lending};
@@ -19,7 +19,7 @@ use srt_protocol::time::Timestamp;
 #[derive(Clone, Copy)]
 pub struct GroupDataPoll {
     pub packet: Option<Packet>,
-    // Kept (1): as in `DataPoll`, a word: the record's continuation and C's answer are words (the C interface), and a bool would be made of the one word and made into the other.
+    // Kept (1): the word of `DataPoll`, handed on as it stands.
     pub continuation: u64,
 }
 
@@ -54,10 +54,7 @@ pub fn poll_data_bounded(
     };
     let begun = lent.begin_poll(store.len(), output.len(), &mut used);
     if let Err(error) = begun {
-        return Answered {
-            record: group,
-            answer: Err(error),
-        };
+        return Answered::refused(group, error);
     }
     let poll = polls::poll_data_bounded(
         group, members, pending, waiting, history, sources, store, output, &mut used, time,

@@ -1,5 +1,5 @@
 // A caller that is the only writer: packets are queued and polled for, and nothing is tested again from call to call.
-// Kept (5, 6): which tables a call changes differs from call to call (queued data: members and the store; a poll: members, pending and waiting), so a struct of those that it only reads would be another for each kind of call.
+// Kept (5, 6): the tables go one beside the other, as the two calls take them: of a struct of `&mut` fields each clause names every field's ghost name (docs/DECISIONS.md, "What only reads a table").
 ghost use Rattle.std.specs.Prelude.{◌≤◌, length};
 ghost use Rattle.srt_protocol.specs.Cells.{output_size};
 ghost use Rattle.srt_group_shown.specs.Tables.{parts, tables};
@@ -38,6 +38,7 @@ pub fn queue_and_poll(
         (tables members.new pending.new waiting.new history.now sources.now)
         (length store.new) used.new }
 {
+    // a refused packet leaves all as it was, and the poll is made all the same
     let _ = queue_data(
         group, members, pending, waiting, history, sources, store, used, id, content, payload,
     );

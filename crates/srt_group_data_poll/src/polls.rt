@@ -1,5 +1,5 @@
 // `poll_data_bounded` for a valid state: the poll, the payload of the packet that it gives, and the set of used cells after it.
-// Kept (5, 6): which tables a call changes differs from call to call (a poll: members, pending and waiting; a send: history and sources), so a struct of those that it only reads would be another for each kind of call.
+// Kept (5, 6): the three tables that a poll moves go beside the two that it reads: of a struct of `&mut` fields each clause names every field's ghost name, and one more says that its slice is still the caller's (docs/DECISIONS.md, "What only reads a table").
 ghost use Rattle.std.specs.Prelude.{◌≡◌, ◌≤◌, length};
 ghost use Rattle.srt_group_model.specs.Lent.{call_poll_data_bounded, written_out};
 ghost use Rattle.srt_protocol.specs.Cells.{output_size};
@@ -26,6 +26,7 @@ pub fn write_payload(store: &[u8], output: &mut [u8], gave: Option<Packet>)
         let content = packet.content;
         let cell = content.cell as usize;
         let size = content.length as usize;
+        // a payload of a held packet fits the output (`Writable`): this is never refused
         let _ = copy_payload(store, cell, size, output);
     }
 }

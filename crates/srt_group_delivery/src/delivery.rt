@@ -2,7 +2,6 @@
 // is passed over once the leg of the nearest held packet gives up on it.
 // Kept (5, 6): a step that moves tables takes them one beside the other: a struct of `&mut` asks for loans that a call does not need, and for a clause to each field, that its slice is still the caller's (tried); what holds of them is one fact, `Deliverable`.
 // Kept (5): what goes by value beside them is the group's record, which a step gives back, and the one or two numbers that this step is about; a struct of those would be made for a single call and is no plainer.
-// Kept (1): a packet's `owned` is a word of the lent row (the C interface).
 ghost use Rattle.std.specs.Prelude.{◌≡◌, List, [], ◌∷◌, ℕ, ◌+◌, ◌-◌, ◌*◌, ◌≤◌, ◌<◌, min, length};
 ghost use Rattle.srt_protocol.specs.Sequence.{sequence_distance};
 ghost use Rattle.srt_group_model.specs.Legs.{largest_64};
@@ -28,7 +27,7 @@ use srt_connection_members::{
     account_at, advance_receive_sequence_of_all, find, put_account_at, release_data_reservation_at,
     rows,
 };
-use srt_connection_queue::rows::{Row, leg};
+use srt_connection_queue::rows::{Row, leg, member_id};
 use srt_group_members::accounts;
 use srt_group_members::states::all_disconnected;
 use srt_group_model::{Core, Leg, Packet, Waiting};
@@ -61,15 +60,14 @@ fn leg_given_up(leg: Leg, source: Timestamp, time: Timestamp) -> bool
 }
 
 // The leg of the packet's member gives up on it; where that member is gone, the first leg.
-#[tactic(auto, using(crate::specs::Laws::Delivery::leg_asked, crate::specs::Laws::Delivery::no_leg_asked))]
 fn leg_gives_up(rows: &[Row], packet: Packet, time: Timestamp) -> bool
     ensures { result ≡ leg_gives_up time.0 packet (members_in rows.now) }
 {
-    let asked = find(rows, packet.member).unwrap_or(0);
-    let Some(row) = rows.get(asked) else {
-        return false;
-    };
-    leg_given_up(leg(row), packet.content.source, time)
+    let source = packet.content.source;
+    rows.iter()
+        .find(|row| member_id(row) == packet.member)
+        .or(rows.first())
+        .is_some_and(|row| leg_given_up(leg(row), source, time))
 }
 
 // A gap is given up if all legs are disconnected, or if the nearest held packet's leg gives up on it.
@@ -111,15 +109,13 @@ fn release_pending_reservation(mut core: Core, members: &mut [u64], packet: Pack
     ensures { Released (packet ∷ []) core members.old result members.new }
 {
     let run = packet.content.count;
-    if packet.owned == 1 {
+    if packet.is_owned() {
         core.own = accounts::release_packet(core.own, run);
         return core;
     }
-    let found = find(rows(members, core.counts.members), packet.member);
-    let Some(index) = found else {
-        return core;
-    };
-    release_at(members, index, run);
+    if let Some(index) = find(rows(members, core.counts.members), packet.member) {
+        release_at(members, index, run);
+    }
     core
 }
 

@@ -1,5 +1,5 @@
 // `poll_event` with its refusals, over the record and the lent tables: 5 and 6, and then the form for a valid state.
-// Kept (5, 6): which tables a call changes differs from call to call (a poll: members, pending and waiting; a send: history and sources), so a struct of those that it only reads would be another for each kind of call.
+// Kept (5, 6): the three tables that a poll moves go beside the two that it reads: of a struct of `&mut` fields each clause names every field's ghost name, and one more says that its slice is still the caller's (docs/DECISIONS.md, "What only reads a table").
 ghost use Rattle.srt_group_model.specs.Lent.{call_poll_event};
 ghost use Rattle.srt_group_shown.specs.Tables.{tables};
 ghost use Rattle.srt_group_shown.specs.Ready.{lending};
@@ -44,10 +44,7 @@ pub fn poll_event(
     };
     let begun = lent.begin_poll(store.len(), output.len(), &mut used);
     if let Err(error) = begun {
-        return Answered {
-            record: group,
-            answer: Err(error),
-        };
+        return Answered::refused(group, error);
     }
     let poll = polls::poll_event(
         group, members, pending, waiting, history, sources, store, output, &mut used, time,

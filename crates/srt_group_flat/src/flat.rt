@@ -1,5 +1,4 @@
 // `poll_data`, `add_member` and `send` by value with answers of words: each makes the call and turns its answer into words.
-// Kept (2): C is answered plain words and no Result, so srt_group's `Answered` does not fit these three, and each holds the words of its call.
 // Kept (1, 5, 6): srt_group_lent exports these calls to C, which has no Result and lends each table by its own name.
 ghost use Rattle.srt_group_model.specs.Guards.{no_answer};
 ghost use Rattle.srt_group_model.specs.Lent.{call_poll_data, call_send};
@@ -18,25 +17,11 @@ use srt_group_send_calls::calls as sends;
 use srt_protocol::error::outcome_number;
 use srt_protocol::time::Timestamp;
 
-// The words of a data poll's answer, and the record after it.
+// The answer of a call in words, a code among them, and the record after it.
 #[derive(Clone, Copy)]
-pub struct DataPolledWords {
+pub struct AnsweredWords<T> {
     pub group: Group,
-    pub answer: DataWords,
-}
-
-// The code of an addition, 0 if it was accepted, and the record after it.
-#[derive(Clone, Copy)]
-pub struct MemberAddedWords {
-    pub group: Group,
-    pub code: u64,
-}
-
-// The words of a send's answer, and the record after it.
-#[derive(Clone, Copy)]
-pub struct GroupSentWords {
-    pub group: Group,
-    pub answer: SendWords,
+    pub answer: T,
 }
 
 // `poll_data` with its answer in words.
@@ -50,7 +35,7 @@ pub fn poll_data(
     store: &[u8],
     output: &mut [u8],
     time: Timestamp,
-) -> DataPolledWords
+) -> AnsweredWords<DataWords>
     ensures promised { Promised (call_poll_data time.0) (parts_of group)
         (tables members.old pending.old waiting.old history.now sources.now)
         (lending store.now output.old)
@@ -62,10 +47,9 @@ pub fn poll_data(
     let polled = polls::poll_data(
         group, members, pending, waiting, history, sources, store, output, time,
     );
-    let answer = words_of(polled.answer);
-    DataPolledWords {
+    AnsweredWords {
         group: polled.record,
-        answer,
+        answer: words_of(polled.answer),
     }
 }
 
@@ -80,21 +64,20 @@ pub fn add_member(
     row: &[u64],
     id: u64,
     weight: u64,
-) -> MemberAddedWords
+) -> AnsweredWords<u64>
     ensures { PromisedRow (call_of_row id weight row.now) (parts_of group)
         (tables members.old pending.now waiting.now history.now sources.now)
         row.now
         (showing (parts_of result.group)
         (tables members.new pending.now waiting.now history.now sources.now)
-        nothing_lent result.code no_answer 0) }
+        nothing_lent result.answer no_answer 0) }
 {
     let added = addition::add_member(
         group, members, pending, waiting, history, sources, row, id, weight,
     );
-    let code = outcome_number(added.answer) as u64;
-    MemberAddedWords {
+    AnsweredWords {
         group: added.record,
-        code,
+        answer: u64::from(outcome_number(added.answer)),
     }
 }
 
@@ -110,7 +93,7 @@ pub fn send(
     list: &mut [u64],
     time: Timestamp,
     payload: &[u8],
-) -> GroupSentWords
+) -> AnsweredWords<SendWords>
     ensures promised { Promised (call_send time.0 payload.now) (parts_of group)
         (tables members.old pending.now waiting.now history.old sources.old)
         (sending_into store.old list.old)
@@ -122,9 +105,8 @@ pub fn send(
     let sent = sends::send(
         group, members, pending, waiting, history, sources, store, list, time, payload,
     );
-    let answer = words_of_send(sent.answer, sent.rows);
-    GroupSentWords {
+    AnsweredWords {
         group: sent.record,
-        answer,
+        answer: words_of_send(sent.answer, sent.rows),
     }
 }

@@ -36,24 +36,15 @@ pub const NO_PACKET: Packet = Packet {
 };
 
 // The words of a poll that was accepted.
+#[tactic(auto, using(crate::specs::Laws::Words::says_given))]
 fn words_of_poll(poll: GroupDataPoll) -> DataWords
     ensures { Says (Ok poll) result }
 {
-    let packet = poll.packet;
-    let continuation = poll.continuation;
-    match packet {
-        None => DataWords {
-            code: 0,
-            given: 0,
-            packet: NO_PACKET,
-            continuation,
-        },
-        Some(given) => DataWords {
-            code: 0,
-            given: 1,
-            packet: given,
-            continuation,
-        },
+    DataWords {
+        code: 0,
+        given: u64::from(poll.packet.is_some()),
+        packet: poll.packet.unwrap_or(NO_PACKET),
+        continuation: poll.continuation,
     }
 }
 
@@ -97,13 +88,10 @@ pub fn words_of_send(answer: Result<usize, Error>, rows: usize) -> SendWords
             legs: legs as u64,
             rows,
         },
-        Err(error) => {
-            let number = u32::from(error) as u64;
-            SendWords {
-                code: number,
-                legs: 0,
-                rows,
-            }
-        }
+        Err(error) => SendWords {
+            code: u32::from(error) as u64,
+            legs: 0,
+            rows,
+        },
     }
 }

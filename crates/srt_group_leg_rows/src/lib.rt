@@ -1,5 +1,5 @@
 // The legs as rows of one lent slice of records, for reading states: what `members` (srt_group_looks) fills, read as structs.
-// Kept (1): a state is a word of the lent row: a C host may lend any number, and 6 has to read it to refuse it.
+// Kept (1): the row is the words that `members` fills and C lends on, word for word; a state is read out as the number that it is.
 
 #![tactic(auto)]
 

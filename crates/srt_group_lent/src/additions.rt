@@ -1,5 +1,5 @@
 // `add_member` over a record that is lent by reference.
-// Kept (5, 6): C lends each table by its name and length (docs/TABLES.md), so each is a parameter of its own.
+// Kept (2, 5, 6): C calls each by its name, and lends each table by its name and length (docs/TABLES.md), so each is a parameter of its own.
 ghost use Rattle.srt_group_model.specs.Guards.{no_answer};
 ghost use Rattle.srt_group_shown.specs.Tables.{tables};
 ghost use Rattle.srt_group.specs.Made.{parts_of};
@@ -33,5 +33,5 @@ pub extern "C" fn srt_group_lent_add_member(
         *group, members, pending, waiting, history, sources, row, id, weight,
     );
     *group = added.group;
-    added.code
+    added.answer
 }

@@ -1,5 +1,5 @@
 // `send` over a record that is lent by reference.
-// Kept (5, 6): C lends each table by its name and length (docs/TABLES.md), so each is a parameter of its own.
+// Kept (2, 5, 6): C calls each by its name, and lends each table by its name and length (docs/TABLES.md), so each is a parameter of its own.
 ghost use Rattle.srt_group_model.specs.Lent.{call_send};
 ghost use Rattle.srt_group_shown.specs.Tables.{tables};
 ghost use Rattle.srt_group_shown.specs.Ready.{sending_into};
@@ -14,7 +14,6 @@ use srt_protocol::time::Timestamp;
 
 // One payload through the group, on every active leg or on the carrier; each send that a leg takes fills a row of the list. The call is made
 // here, and not by its flat form, which would copy the record once more.
-#[tactic(auto, using(srt_group_flat::specs::Laws::Words::send_in_words))]
 #[unsafe(no_mangle)]
 pub extern "C" fn srt_group_lent_send(
     group: &mut Group,

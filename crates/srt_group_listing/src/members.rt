@@ -1,4 +1,6 @@
 // The verbs that add, remove or change a member, and those that queue an event or read a leg's field.
+// Kept (2): `read`, `mark_broken` and `queue`, and so `add` and `remove`, differ in the call that they make; a closure for it is no plainer, since it takes all
+// that the call takes.
 // Kept (5, 6): tables and store are lent anew to each verb, of any length that suffices; of a struct of `&mut`, no plainer, each clause names each field.
 ghost use Rattle.std.specs.Prelude.{◌≡◌, length};
 ghost use Rattle.srt_protocol.specs.Errors.{outcome_number};
@@ -44,6 +46,7 @@ pub fn outcome_line(verb: u64, outcome: Result<(), Error>) -> Printed
 }
 
 // The leg of verb 2. What the line does not say of it is 0, but for the receive window and the payload limit.
+// Kept (4): the one leg that is made from no row; a `Default` of its four parts, in the crate below, for this place alone is no plainer.
 fn leg_of_line(line: &Line) -> Leg
     ensures { result ≡ leg_of_line line.now }
 {
@@ -51,7 +54,7 @@ fn leg_of_line(line: &Line) -> Leg
         link: Link {
             state: line[3],
             peer: 0,
-            limit: 1456,
+            limit: Group::CELL as u64,
         },
         sender: Sender {
             started: 0,
@@ -119,7 +122,6 @@ pub fn add(
     }
 }
 
-// Kept (2): `read` and `queue` differ in the call that they make; a closure for it is no plainer, since it takes all that the call takes.
 // Verb 3: a number is read into a leg's field.
 pub fn read(
     group: Group,
@@ -210,7 +212,6 @@ pub fn mark_broken(
     }
 }
 
-// Kept (2): `read` and `queue` differ in the call that they make; a closure for it is no plainer, since it takes all that the call takes.
 // Verb 9: an event is queued at a leg.
 pub fn queue(
     group: Group,

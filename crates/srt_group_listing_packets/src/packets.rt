@@ -1,5 +1,6 @@
 // The verbs that queue a packet, poll for one and send one.
 // Kept (5, 6): tables and store are lent anew to each verb, of any length that suffices; of a struct of `&mut`, no plainer, each clause names each field.
+// Kept (1): the verb is the printed column, as in srt_group_listing.
 ghost use Rattle.std.specs.Prelude.{◌≡◌, length};
 ghost use Rattle.srt_protocol.specs.Cells.{output_size};
 ghost use Rattle.srt_group_model.specs.Sending.{list_size};
@@ -29,11 +30,8 @@ fn data_of_line(line: &Line) -> Data
     Data {
         sequence: line[2],
         count: line[3],
-        message: 0,
-        timestamp: 0,
         source: Timestamp(line[4]),
-        cell: 0,
-        length: 0,
+        ..Data::default()
     }
 }
 
@@ -57,13 +55,12 @@ pub fn queue(
         (tables members.new pending.now waiting.now history.now sources.now)
         used.new }
 {
-    if 255 < line[5] {
+    let Ok(byte) = u8::try_from(line[5]) else {
         return Told {
             group,
             line: outcome_line(4, Err(Error::OutOfRange)),
         };
-    }
-    let payload = [line[5] as u8];
+    };
     let outcome = queue_data(
         group,
         members,
@@ -75,7 +72,7 @@ pub fn queue(
         used,
         line[1],
         data_of_line(line),
-        &payload,
+        &[byte],
     );
     Told {
         group,
@@ -84,7 +81,7 @@ pub fn queue(
 }
 
 // The line of a poll: the packet that it gave, if any, and the skipped total.
-// Kept (2): `..Printed::default()` was tried here and in `sent_line`, and their proofs did not close.
+// Kept (4): `..Printed::default()` was tried here and in `sent_line`, and their proofs did not close.
 fn packet_line(gave: Option<Packet>, skipped: u64) -> Printed
     ensures { numbers_of result ≡ packet_line gave skipped }
 {
@@ -192,13 +189,12 @@ pub fn send(
         (tables members.new pending.now waiting.now history.new sources.new)
         used.new }
 {
-    if 255 < line[1] {
+    let Ok(byte) = u8::try_from(line[1]) else {
         return Told {
             group,
             line: outcome_line(6, Err(Error::OutOfRange)),
         };
-    }
-    let payload = [line[1] as u8];
+    };
     let sent = sending::send(
         group,
         members,
@@ -210,7 +206,7 @@ pub fn send(
         list,
         used,
         Timestamp(line[2]),
-        &payload,
+        &[byte],
     );
     Told {
         group: sent.record,

@@ -1,15 +1,16 @@
 // The looks at one member: 2 and 3 come behind 5 and 6, before any leg is read.
-ghost use Rattle.std.specs.Prelude.{◌≡◌, MatchResult};
+ghost use Rattle.std.specs.Prelude.{◌≡◌, Some, MatchResult};
 ghost use Rattle.srt_group_model.specs.Calls.{member_shown};
 ghost use Rattle.srt_group_model.specs.Lent.{look_member, look_backup_stability_timeout_micros};
 ghost use Rattle.srt_connection_queue.specs.Rows.{member_of};
+ghost use Rattle.srt_group_model.specs.Guards.{shown, optional, one_member};
 ghost use Rattle.srt_group.specs.Made.{parts_of};
 ghost use Rattle.srt_group_refusals.specs.LentGroup.{tables_of};
-ghost use Rattle.srt_group_looks.specs.Looks.{Looked, optional_code, optional_answer, member_code, member_answer, RowFound, LooksRefused};
+ghost use Rattle.srt_group_looks.specs.Looks.{LookGives, RowFound, LooksRefused};
 
 use srt_connection::legs::{LARGEST_32, has_sender};
-use srt_connection_members::{find, row, rows};
-use srt_connection_queue::rows::{Row, leg, link_state, membership};
+use srt_connection_members::rows;
+use srt_connection_queue::rows::{Row, leg, link_state, member_id, membership};
 use srt_group_backup::stale::stability_timeout;
 use srt_group_model::{Core, MemberShown};
 use srt_group_refusals::refusals::LentGroup;
@@ -33,18 +34,19 @@ fn member_row<'a>(lent: &LentGroup<'a>, id: u64) -> Result<&'a Row, Error>
         (λ e. LooksRefused id (parts_of lent.now.group) (tables_of lent.now) e) }
 {
     lent.begin()?;
+    // Kept (2): 2, then 3, in the order of the call's own definition; a function of the two lines is no plainer.
     if LARGEST_32 < id {
         return Err(Error::OutOfRange);
     }
     let rows = rows(lent.members, lent.group.core.counts.members);
-    let index = find(rows, id).ok_or(Error::UnknownMember)?;
-    Ok(row(lent.members, index))
+    rows.iter()
+        .find(|row| member_id(row) == id)
+        .ok_or(Error::UnknownMember)
 }
 
 // A member: its membership, with its label and its collision, and its leg's state.
 pub fn member(lent: &LentGroup, id: u64) -> Result<MemberShown, Error>
-    ensures { Looked (look_member id) (parts_of lent.now.group) (tables_of lent.now)
-        (member_code result) (member_answer result) }
+    ensures { LookGives (λ m. shown (one_member (Some m))) (look_member id) (parts_of lent.now.group) (tables_of lent.now) result }
 {
     let row = member_row(lent, id)?;
     Ok(shown(row))
@@ -52,13 +54,9 @@ pub fn member(lent: &LentGroup, id: u64) -> Result<MemberShown, Error>
 
 // How long the member may be silent as the carrier of a Backup group, in microseconds; nothing for a leg without a sender.
 pub fn backup_stability_timeout_micros(lent: &LentGroup, id: u64) -> Result<Option<u64>, Error>
-    ensures { Looked (look_backup_stability_timeout_micros id) (parts_of lent.now.group) (tables_of lent.now)
-        (optional_code result) (optional_answer result) }
+    ensures { LookGives (λ n. shown (optional n)) (look_backup_stability_timeout_micros id) (parts_of lent.now.group) (tables_of lent.now) result }
 {
     let carrier = member_row(lent, id)?;
     let leg = leg(carrier);
-    if !has_sender(leg) {
-        return Ok(None);
-    }
-    Ok(Some(stability_timeout(leg)))
+    Ok(has_sender(leg).then_some(stability_timeout(leg)))
 }

@@ -23,18 +23,22 @@ pub const MEMBER_WORDS: usize = 8;
 // The words of a list: a row for each member that there may be.
 pub const LIST_LENGTH: usize = MAX_MEMBERS * MEMBER_WORDS;
 
-fn write_row(row: &mut [u64], shown: MemberShown)
-    requires { length row.old ≡ member_row_size }
-    ensures { row.new ≡ member_values shown }
+// The words of a member that is shown.
+pub fn words_of(shown: MemberShown) -> [u64; MEMBER_WORDS]
+    ensures { result ≡ member_values shown }
 {
-    row[0] = shown.membership.id;
-    row[1] = shown.membership.weight;
-    row[2] = shown.membership.state;
-    row[3] = shown.connection;
-    row[4] = shown.membership.admitted;
-    row[5] = shown.membership.account.reserved;
-    row[6] = shown.membership.collision.expected;
-    row[7] = shown.membership.collision.actual;
+    let membership = shown.membership;
+    let collision = membership.collision;
+    [
+        membership.id,
+        membership.weight,
+        membership.state,
+        shown.connection,
+        membership.admitted,
+        membership.account.reserved,
+        collision.expected,
+        collision.actual,
+    ]
 }
 
 // The member in a row is written as the list's row at the index.
@@ -44,7 +48,7 @@ fn list_member(row: &Row, index: usize, list: &mut [u64])
         ≡ overwritten (index * member_row_size) (member_values (member_shown (member_of row.now))) list.old }
 {
     let start = index * MEMBER_WORDS;
-    write_row(&mut list[start..start + MEMBER_WORDS], shown(row));
+    list[start..start + MEMBER_WORDS].copy_from_slice(&words_of(shown(row)));
 }
 
 #[tactic(auto, using(crate::specs::Laws::Members::row_written, crate::specs::Laws::Members::all_written))]
@@ -52,6 +56,7 @@ fn list_members(rows: &[Row], list: &mut [u64])
     requires { length rows.now * member_row_size ≤ length list.old }
     ensures { list.new ≡ overwritten 0 (all_values (each member_shown (members_in rows.now))) list.old }
 {
+    // Kept (3): of the words that `as_chunks_mut` lends nothing is promised once they are back, so the rows go by the index.
     for (index, row) in rows.iter().enumerate() {
         list_member(row, index, list);
     }

@@ -23,6 +23,7 @@ pub fn turn_broken(core: Core, members: &mut [u64], id: u64) -> Result<(), Error
     requires { core.counts.members * row_size ≤ length members.old }
     ensures { StepsOver (call_mark_member_broken id) core members.old (outcome_number result) members.new }
 {
+    // Kept (2): 2, then 3, in the order of the call's own definition; a function of the two lines is no plainer.
     if LARGEST_32 < id {
         return Err(Error::OutOfRange);
     }

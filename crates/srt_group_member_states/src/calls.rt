@@ -69,10 +69,7 @@ pub fn refresh_member_states(
         sources,
     };
     if let Err(error) = lent.begin() {
-        return Answered {
-            record: group,
-            answer: Err(error),
-        };
+        return Answered::refused(group, error);
     }
     let core = refresh_states(group.core, group.sending, members);
     Answered {

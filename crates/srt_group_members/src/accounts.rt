@@ -2,7 +2,6 @@
 ghost use Rattle.std.specs.Prelude.{◌≡◌};
 ghost use Rattle.srt_group_model.specs.Accounts.{reserve, release, add_account, unlike, Fits};
 
-use srt_connection::legs::less;
 use srt_group_model::Account;
 
 // Of one that holds nothing.
@@ -22,8 +21,9 @@ pub fn reserve_packet(account: Account, count: u64) -> Account
 pub fn release_packet(account: Account, count: u64) -> Account
     ensures { result ≡ release count account }
 {
-    let reserved = less(account.reserved, count);
-    Account { reserved }
+    Account {
+        reserved: account.reserved.saturating_sub(count),
+    }
 }
 
 // What was held for a removed member is the group's own.
@@ -37,6 +37,7 @@ pub fn add_account(member: Account, own: Account) -> Account
 }
 
 // Whether a word of it is another.
+// Kept (4): the definitions' `unlike`, which the laws of its two callers name; a rule of the project keeps a public promise.
 pub fn is_unlike(a: Account, b: Account) -> bool
     ensures { result ≡ unlike a b }
 {

@@ -16,12 +16,14 @@ use srt_connection_queue::rows::{Row, admitted, leg, member_state, membership};
 use srt_group_model::{Collision, Leg, Membership};
 
 // The peer group that the group is bound to, 0 while it is not, and the base if the members that arrived gave one.
+// Kept (1): the peer is the record's word, which the definitions compare; it comes in and goes back as it is.
 #[derive(Clone, Copy)]
 pub struct Admission {
     pub peer: u64,
     pub base: Option<u64>,
 }
 
+// Kept (1): a flag of the row is asked as the word that it is, as the definitions ask it.
 // Not admitted yet, not Broken, and connected.
 #[tactic(auto, unfolding(srt_group_model::specs::Members::arrives))]
 pub fn arrives(row: &Row) -> bool

@@ -79,6 +79,7 @@ fn align_leg_at(members: &mut [u64], index: usize, sequence: u64) -> bool
 }
 
 // Whether the member at the index is aligned. One that has packets in flight at other numbers is not, and nothing is changed.
+// Kept (1): a member is aligned or it is not, as `Tried` says; a `Result` would name a refusal, which two of four callers do not give.
 pub fn align_member_sequence(
     members: &mut [u64],
     count: usize,

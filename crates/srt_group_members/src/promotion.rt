@@ -13,6 +13,7 @@ use crate::states::{ACTIVE, has_active_member, is_backup, is_standby, turn_at};
 use srt_connection_members::rows;
 use srt_connection_queue::rows::{Row, membership};
 
+// Kept (4): as pairs, `(second.weight, first.id) < (first.weight, second.id)`, it is no plainer: weights and ids go opposite ways.
 #[tactic(auto, unfolding(srt_group_model::specs::Members::outranks))]
 fn outranks(a: &Row, b: &Row) -> bool
     ensures { result ≡ outranks (member_of a.now) (member_of b.now) }
@@ -43,7 +44,8 @@ fn first_in_rank_with(rows: &[Row], index: usize, best: Option<usize>) -> Option
 }
 
 // The index of the member that is promoted.
-// Kept (3): from the last row to the first, so that of equals the first stays; a fold would carry each row with its index, and is no plainer.
+// Kept (3): from the last row to the first, so that of equals the first stays. A fold or `min_by_key` is no plainer: it carries each row with its index,
+// its key turns the weight round, and no lemma of the library says which of equals it picks from a list.
 #[tactic(auto, using(crate::specs::Laws::Rank::ranking_start, crate::specs::Laws::Rank::ranking_row, crate::specs::Laws::Rank::ranking_done))]
 pub fn promotion(rows: &[Row]) -> Option<usize>
     ensures { result ≡ promotion (members_in rows.now) }
@@ -61,11 +63,9 @@ pub fn promote_backup_member(members: &mut [u64], count: usize)
     ensures { Became count (promote_backup_member (members_of count members.old))
         members.old members.new }
 {
-    let found = promotion(rows(members, count));
-    let Some(index) = found else {
-        return;
-    };
-    turn_at(members, index, ACTIVE);
+    if let Some(index) = promotion(rows(members, count)) {
+        turn_at(members, index, ACTIVE);
+    }
 }
 
 // In Backup, if no member is active.
@@ -75,11 +75,7 @@ pub fn promote_if_none(members: &mut [u64], count: usize, mode: u64)
     ensures { Became count (promote_if_none mode (members_of count members.old))
         members.old members.new }
 {
-    if !is_backup(mode) {
-        return;
+    if is_backup(mode) && !has_active_member(rows(members, count)) {
+        promote_backup_member(members, count);
     }
-    if has_active_member(rows(members, count)) {
-        return;
-    }
-    promote_backup_member(members, count);
 }

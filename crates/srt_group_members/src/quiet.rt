@@ -13,6 +13,7 @@ use crate::states::{
 };
 use srt_connection_queue::rows::{Row, admitted, link_state, member_state};
 
+// Kept (1): a flag of the row is asked as the word that it is, as the definitions ask it.
 // Broken; or still handshaking; or connected, admitted, and Active or Standby. Three words of the row are read.
 #[tactic(auto, unfolding(crate::specs::Quiet::is_steady))]
 fn is_steady(row: &Row) -> bool
@@ -26,10 +27,13 @@ fn is_steady(row: &Row) -> bool
             | ((link == CONNECTED) & ((admitted != 0) & ((state == ACTIVE) | (state == STANDBY)))))
 }
 
+// Kept (3): by `all`, which ends at the first unsteady row, a row costs 23 instructions in place of 19 (as counted in the compiled loop), and a poll with
+// 64 legs 1.07 of what it cost with a loop by index (callgrind).
 fn all_steady(rows: &[Row]) -> bool
     ensures { result ≡ all is_steady (members_in rows.now) }
 {
-    rows.iter().all(is_steady)
+    rows.iter()
+        .fold(true, |steady, row| steady & is_steady(row))
 }
 
 // Every member is steady, and in Backup one is active.
@@ -37,8 +41,5 @@ fn all_steady(rows: &[Row]) -> bool
 pub fn is_quiet(rows: &[Row], mode: u64) -> bool
     ensures { result ≡ is_quiet mode (members_in rows.now) }
 {
-    if !all_steady(rows) {
-        return false;
-    }
-    !is_backup(mode) || has_active_member(rows)
+    all_steady(rows) && (!is_backup(mode) || has_active_member(rows))
 }

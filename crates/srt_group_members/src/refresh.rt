@@ -57,13 +57,11 @@ fn settle_at(members: &mut [u64], count: usize, refresh: Refresh, index: usize)
         (settle refresh.mode refresh.number index (members_of count members.old))
         members.old members.new }
 {
-    if !settles(row(members, index)) {
-        return;
+    if settles(row(members, index))
+        && align_member_sequence(members, count, refresh.number, index)
+    {
+        turn_at(members, index, settled_state(refresh.mode));
     }
-    if !align_member_sequence(members, count, refresh.number, index) {
-        return;
-    }
-    turn_at(members, index, settled_state(refresh.mode));
 }
 
 #[tactic(auto, using(crate::specs::Laws::Refresh::stepping_start, crate::specs::Laws::Refresh::stepping_on, crate::specs::Laws::Refresh::stepping_done))]
@@ -110,16 +108,15 @@ fn requalify_at(members: &mut [u64], count: usize, refresh: Refresh, index: usiz
         (requalify refresh.mode refresh.number index (members_of count members.old))
         members.old members.new }
 {
-    if !requalifies(row(members, index)) {
-        return;
+    if requalifies(row(members, index))
+        && align_member_sequence(members, count, refresh.number, index)
+    {
+        let state = requalified_state(rows(members, count), refresh.mode);
+        turn_at(members, index, state);
     }
-    if !align_member_sequence(members, count, refresh.number, index) {
-        return;
-    }
-    let state = requalified_state(rows(members, count), refresh.mode);
-    turn_at(members, index, state);
 }
 
+// Kept (2): as one with `settle_pending_members`, over a closure, a clause would say of the closure what `Became` says of each step: longer than the loop.
 #[tactic(auto, using(crate::specs::Laws::Refresh::stepping_start, crate::specs::Laws::Refresh::stepping_on, crate::specs::Laws::Refresh::stepping_done))]
 fn requalify_unstable_members(members: &mut [u64], count: usize, refresh: Refresh)
     requires { count * row_size ≤ length members.old }
@@ -140,13 +137,9 @@ fn break_disconnected_at(members: &mut [u64], index: usize)
     ensures { Changed index break_disconnected members.old members.new }
 {
     let row = row(members, index);
-    if member_state(row) == BROKEN {
-        return;
+    if member_state(row) != BROKEN && leg_disconnected(row) {
+        turn_at(members, index, BROKEN);
     }
-    if !leg_disconnected(row) {
-        return;
-    }
-    turn_at(members, index, BROKEN);
 }
 
 // Each member whose leg is disconnected turns Broken.

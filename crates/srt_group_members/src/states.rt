@@ -1,6 +1,6 @@
 // What state a member is in. A test reads the few words of a row that it needs.
 // Kept (1): the mode is the record's word, which a C host lends so that 6 can refuse it; an enum of two modes says what `is_backup` says, and is no plainer.
-// Kept (1): a state is a word of the lent row: a C host may lend any number, and 6 has to read it to refuse it. What is written goes into
+// Kept (1): a state or a flag is a word of the lent row: a C host may lend any number, and 6 has to read it to refuse it. What is written goes into
 // the row as it is, and the definitions compare words; an enum that is turned into its number at once is no plainer.
 ghost use Rattle.std.specs.Prelude.{◌≡◌, ◌&&◌, ◌*◌, ◌≤◌, length};
 ghost use Rattle.srt_connection_queue.specs.Rows.{member_of};
@@ -79,8 +79,7 @@ pub fn is_standby(row: &Row) -> bool
     is_connected_in(row, STANDBY)
 }
 
-// Kept (5): the membership is put whole, by the writer that srt_connection_members has of it; one of the state's word alone would be
-// faster, but a further way into a row, and is no plainer.
+// Kept (5): the table comes as words through the C interface, and that its row is there is said of this call's own index.
 pub fn turn_at(members: &mut [u64], index: usize, state: u64)
     requires { HasRow index members.old }
     ensures { Changed index (turned state) members.old members.new }

@@ -8,6 +8,7 @@
 
 ghost use Rattle.std.specs.Prelude.{◌≡◌};
 ghost use Rattle.srt_group_model.specs.Cells.{is_data};
+ghost use Rattle.srt_group_model.specs.Removal.{is_owned};
 ghost use Rattle.srt_group_model.specs.State.{based_at};
 ghost use Rattle.srt_group_model.specs.Tools.{is_set, flagged};
 
@@ -17,7 +18,7 @@ use srt_protocol::time::Timestamp;
 
 // What a leg's queue holds of a DATA packet: the fields of `ConnectionEvent::DataReceived`, its payload in a cell.
 #[repr(C)]
-#[derive(Clone, Copy)]
+#[derive(Clone, Copy, Default)]
 pub struct Data {
     // sequence_number
     pub sequence: u64,
@@ -60,6 +61,14 @@ pub struct Packet {
     // Kept (1): a flag is a word of the lent row: a C host may lend any number, and 6 has to read it to refuse it.
     pub owned: u64,
     pub content: Data,
+}
+
+impl Packet {
+    pub fn is_owned(&self) -> bool
+        ensures { result ≡ is_owned self.now }
+    {
+        self.owned == 1
+    }
 }
 
 // `GroupEvent` without its data case: member, kind 1 connected, 2 error, 3 disconnected, and the reason's number.
@@ -132,7 +141,7 @@ pub struct Collision {
     // expected_peer_group_id
     pub expected: u64,
     // actual_peer_group_id
-    // Kept (1): a word of the lent row, in which a C host writes 0 for no collision.
+    // Kept (1): a word of the row that a C host lends; whatever stands there has to be readable, so that 6 can refuse it.
     pub actual: u64,
 }
 
@@ -162,6 +171,7 @@ pub struct Membership {
 #[derive(Clone, Copy)]
 pub struct MemberShown {
     pub membership: Membership,
+    // Kept (1): the word of the row, which is shown to C as it is.
     pub connection: u64,
 }
 
@@ -177,6 +187,7 @@ pub struct Identity {
     // group_id
     pub id: u64,
     // the store's length given at the start, or 0
+    // Kept (1): a word of the record, in which a C host writes 0 for none.
     pub length: usize,
 }
 
@@ -248,7 +259,7 @@ impl Sending {
 #[derive(Clone, Copy, Default)]
 pub struct Visit {
     // receive_continuation
-    // Kept (1): a C host lends the record as words; a `bool` here cost 50 ns a poll (docs/DECISIONS.md).
+    // Kept (1): a C host lends the record as words, and whatever it lends has to be readable, so that 6 can refuse it.
     pub continuation: u64,
     // next_event_member
     pub round: usize,
@@ -271,7 +282,7 @@ pub struct Core {
     // Kept (1): the mode is the record's word, which a C host lends so that 6 can refuse it; an enum of two modes says what `is_backup` says, and is no plainer.
     pub mode: u64,
     // peer_group_id, 0 while the group is not bound
-    // Kept (1): the record's word, which a C host lends; a bound group's id has the mark of one, so 0 is none.
+    // Kept (1): a word of the record that a C host lends; whatever stands there has to be readable, so that 6 can refuse it.
     pub peer: u64,
     pub counts: Counts,
     pub receiving: Receiving,

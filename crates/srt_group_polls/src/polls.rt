@@ -1,13 +1,15 @@
 // The polls: what is collected is given in order, a waiting event first.
-// Kept (5, 6): a step that moves tables takes them one beside the other: a struct of `&mut` asks for loans that a call does not need, and for a clause to each field, that its slice is still the caller's (tried); what holds of them is one fact, `Usable`.
+// Kept (5, 6): the tables and the set that a poll moves go one beside the other: of a struct of `&mut` fields each clause names every field's ghost name, and one more says that its slice is still the caller's (docs/DECISIONS.md, "What only reads a table"); what holds of them is one fact, `Usable`.
 // Kept (5): what goes by value beside them is the group's record, which a step gives back, its sending, the time, and what this step alone asks; a struct of those would be made for a single call and is no plainer.
-ghost use Rattle.std.specs.Prelude.{◌≡◌, ℕ, ◌≤◌};
+ghost use Rattle.std.specs.Prelude.{◌≡◌, ℕ, ◌≤◌, ◌*◌, length};
 ghost use Rattle.srt_group_model.specs.Sound.{SendingFit};
 ghost use Rattle.srt_group_model.specs.Polls.{poll_event, poll_until_data, poll_data_bounded};
 ghost use Rattle.srt_group_shown.specs.Tables.{receive_tables};
 ghost use Rattle.srt_group_collecting.specs.Leaves.{sends, Usable};
 ghost use Rattle.srt_group_collecting.specs.Follows.{Follows};
-ghost use Rattle.srt_group_polls.specs.Refresh.{Known};
+ghost use Rattle.srt_group_polls.specs.Refresh.{Known, Refreshes};
+ghost use Rattle.srt_group_model.specs.Run.{refresh_states, refresh_pending_states};
+ghost use Rattle.srt_connection_queue.specs.Rows.{row_size};
 ghost use Rattle.srt_group_polls.specs.EventPoll.{give_next};
 ghost use Rattle.srt_group_polls.specs.DataPoll.{PollsData, Passes};
 ghost use Rattle.srt_group_skip.specs.Skip.{PollsFrom};
@@ -30,7 +32,7 @@ use srt_protocol::time::Timestamp;
 #[derive(Clone, Copy)]
 pub struct DataPoll {
     pub gave: Option<Packet>,
-    // Kept (1): the record's continuation, which a poll without a packet hands on here, and C's answer are words (the C interface); a bool would be made of the one word and made into the other.
+    // Kept (1): the record's word (the C interface), which a poll without a packet hands on as it stands.
     pub continuation: u64,
     pub core: Core,
 }
@@ -39,6 +41,32 @@ pub struct DataPoll {
 const DELIVERY_BUDGET: u64 = 32;
 
 // ---- the event poll
+
+// The states are refreshed, if `quiet` does not say that it would change nothing.
+fn refresh_unless_quiet(core: Core, sending: Sending, members: &mut [u64], quiet: bool) -> Core
+    requires long { core.counts.members * row_size ≤ length members.old }
+    requires known { Known quiet core members.old }
+    ensures { Refreshes (sends sending) refresh_states core
+        members.old result members.new }
+{
+    if quiet {
+        return core;
+    }
+    refresh_all_states(core, sending, members)
+}
+
+// The same of the part of a refresh that stands before the visits.
+fn settle_unless_quiet(core: Core, sending: Sending, members: &mut [u64], quiet: bool) -> Core
+    requires long { core.counts.members * row_size ≤ length members.old }
+    requires known { Known quiet core members.old }
+    ensures { Refreshes (sends sending) refresh_pending_states core
+        members.old result members.new }
+{
+    if quiet {
+        return core;
+    }
+    refresh_pending_states(core, sending, members)
+}
 
 // A waiting event; if none waits, the next packet. `quiet` says that then a refresh would change nothing.
 fn give_next(
@@ -64,10 +92,7 @@ fn give_next(
     if 0 < here.counts.waiting {
         return give_waiting(here, waiting);
     }
-    let mut refreshed = here;
-    if !quiet {
-        refreshed = refresh_all_states(here, sending, members);
-    }
+    let refreshed = refresh_unless_quiet(here, sending, members, quiet);
     deliver_next(
         refreshed,
         members,
@@ -101,10 +126,7 @@ fn poll_collecting(
         result.core members.new pending.new used.new }
 {
     core.visit.continuation = 0;
-    let mut begun = core;
-    if !quiet {
-        begun = refresh_pending_states(core, sending, members);
-    }
+    let begun = settle_unless_quiet(core, sending, members, quiet);
     let gathered = collect_until_held(begun, members, pending, waiting, used, DELIVERY_BUDGET);
     give_next(
         gathered, sending, members, pending, waiting, used, time, quiet,
@@ -146,16 +168,14 @@ fn pass_event(poll: Poll) -> Option<DataPoll>
     ensures { Passes poll result }
 {
     let core = poll.core;
-    let Some(given) = poll.gave else {
-        return Some(DataPoll {
+    match poll.gave {
+        None => Some(DataPoll {
             gave: None,
             continuation: core.visit.continuation,
             core,
-        });
-    };
-    match given {
-        GroupEvent::Event(_) => None,
-        GroupEvent::Packet(packet) => Some(DataPoll {
+        }),
+        Some(GroupEvent::Event(_)) => None,
+        Some(GroupEvent::Packet(packet)) => Some(DataPoll {
             gave: Some(packet),
             continuation: 0,
             core,

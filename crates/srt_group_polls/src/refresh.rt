@@ -2,7 +2,8 @@
 // members settle, and Unstable ones requalify. Where a refresh would change nothing none of this is gone through. From the Rust's
 // `admit_connected_peer_groups`, `refresh_pending_states`, `refresh_states`.
 // Kept (5): of core, sending and members a refresh changes the first and the last and gives the first back, so a struct of the three would be made and taken apart again in each poll.
-ghost use Rattle.std.specs.Prelude.{◌*◌, ◌≤◌, length};
+ghost use Rattle.std.specs.Prelude.{◌≡◌, ◌*◌, ◌≤◌, length};
+ghost use Rattle.srt_group_model.specs.Tools.{is_set, flagged};
 ghost use Rattle.srt_group_model.specs.Run.{admit_connected_peer_groups, refresh_pending_states, refresh_states};
 ghost use Rattle.srt_connection_queue.specs.Rows.{row_size};
 ghost use Rattle.srt_group_collecting.specs.Leaves.{every, sends};
@@ -27,6 +28,16 @@ fn admit_connected_peer_groups(core: Core, members: &mut [u64]) -> Core
     after
 }
 
+// What a refresh is told of the group: its mode, and the number of the next packet.
+fn told(core: Core, sending: Sending) -> Refresh
+    ensures { (result.mode ≡ core.mode) × (result.number ≡ flagged (is_set sending.numbered) sending.next) }
+{
+    Refresh {
+        mode: core.mode,
+        number: sending.next_send_sequence(),
+    }
+}
+
 // Members are admitted, and Pending ones that connected settle.
 pub fn refresh_pending_states(core: Core, sending: Sending, members: &mut [u64]) -> Core
     requires { core.counts.members * row_size ≤ length members.old }
@@ -35,11 +46,7 @@ pub fn refresh_pending_states(core: Core, sending: Sending, members: &mut [u64])
 {
     let after = admit_connected_peer_groups(core, members);
     let count = after.counts.members;
-    let told = Refresh {
-        mode: after.mode,
-        number: sending.next_send_sequence(),
-    };
-    refresh::settle_members(members, count, told);
+    refresh::settle_members(members, count, told(after, sending));
     after
 }
 
@@ -51,11 +58,7 @@ pub fn refresh_all_states(core: Core, sending: Sending, members: &mut [u64]) -> 
 {
     let after = refresh_pending_states(core, sending, members);
     let count = after.counts.members;
-    let told = Refresh {
-        mode: after.mode,
-        number: sending.next_send_sequence(),
-    };
-    refresh::requalify_members(members, count, told);
+    refresh::requalify_members(members, count, told(after, sending));
     after
 }
 

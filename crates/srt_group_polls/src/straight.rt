@@ -37,7 +37,6 @@ fn is_alone_at(event: Event, sequence: u64) -> bool
     event.is_data() & ((content.sequence == sequence) & (content.count == 1))
 }
 
-// Kept (1): with the base as an option here, and one match in `pass_event`, a packet in order costs 14 instructions more (callgrind).
 // The packet at the base, if it is next in turn, alone in its run and not held, no event waits, and `quiet` says that a refresh would change nothing.
 #[tactic(auto, using(crate::specs::Laws::StraightPolls::turn_has_row))]
 pub fn next_straight(core: Core, members: &[u64], pending: &[u64], quiet: bool) -> Option<Straight>
@@ -51,16 +50,14 @@ pub fn next_straight(core: Core, members: &[u64], pending: &[u64], quiet: bool) 
     if 0 < core.counts.waiting {
         return None;
     }
-    if core.receiving.based == 0 {
-        return None;
-    }
+    let base = core.receiving.base()?;
     let index = in_turn(rows(members, core.counts.members), core.visit.round)?;
     let row = row(members, index);
     let event = front(row)?;
-    if !is_alone_at(event, core.receiving.base) {
+    if !is_alone_at(event, base) {
         return None;
     }
-    if is_held(pending, core.counts.pending, core.receiving.base) {
+    if is_held(pending, core.counts.pending, base) {
         return None;
     }
     Some(Straight {

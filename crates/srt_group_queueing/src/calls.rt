@@ -1,5 +1,7 @@
 // The stand-in's calls with their refusals, over the record and the lent tables: 5 and 6, and then what follows them.
-// Kept (5, 6): which tables a call changes differs from call to call (queued data: members and the store; an event or a reading: the members), so a struct of those that it only reads would be another for each kind of call.
+// Kept (2): public names; each makes its own call behind 5 and 6.
+// Kept (5, 6): the calls and their forms are lent flat tables, as C lends them; of a struct of them, with the members that each call changes,
+// every clause would name each `&mut` field by a ghost name (docs/DECISIONS.md, "What only reads a table").
 // Kept (1): kind, field and number are words of the C call: any is a legal question, and 2 refuses what is none.
 ghost use Rattle.srt_protocol.specs.Errors.{outcome_number};
 ghost use Rattle.srt_group_model.specs.Guards.{no_answer};

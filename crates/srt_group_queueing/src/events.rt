@@ -1,6 +1,7 @@
 // `queue_event` of the stand-in leg: a lifecycle event into a leg's queue.
-// Kept (5, 6): which tables a call changes differs from call to call (queued data: members and the store; an event or a reading: the members), so a struct of those that it only reads would be another for each kind of call.
-// Kept (1): kind, field and number are words of the C call: any is a legal question, and 2 refuses what is none.
+// Kept (5, 6): the calls and their forms are lent flat tables, as C lends them; of a struct of them, with the members that each call changes,
+// every clause would name each `&mut` field by a ghost name (docs/DECISIONS.md, "What only reads a table").
+// Kept (1): a kind is a word of the C call: any is a legal question, and 2 refuses what is none.
 ghost use Rattle.std.specs.Prelude.{◌≡◌, ◌||◌, ◌*◌, ◌≤◌, eqb, length};
 ghost use Rattle.srt_protocol.specs.Errors.{outcome_number};
 ghost use Rattle.srt_group_model.specs.Legs.{largest_32};
@@ -20,9 +21,8 @@ use srt_connection_members::{find, push_at, rows};
 use srt_group::Group;
 use srt_group_model::{Core, Data, Event};
 use srt_protocol::error::{Error, outcome_number};
-use srt_protocol::time::Timestamp;
 
-// Kept (1): any word may be asked, and 2 answers one above 3; a kind that is none of those stands in the row as the word it is, so an enum would be made and undone at once.
+// Kept (1): a kind that is queued goes into the row as the word it is, so an enum of it would be made and undone at once.
 
 // 2: an id, a kind (0 is data, which is queued with its payload) or a reason out of range.
 fn event_unfit(id: u64, kind: u64, reason: u64) -> bool
@@ -32,22 +32,13 @@ fn event_unfit(id: u64, kind: u64, reason: u64) -> bool
 }
 
 // The event, without data.
-// Kept (4): `Data` derives no Default: a packet of zeros is no value to fall back on, and the zeros here are this event's own.
 fn lifecycle_event(kind: u64, reason: u64) -> Event
     ensures { result ≡ lifecycle_event kind reason }
 {
     Event {
         kind,
         reason,
-        content: Data {
-            sequence: 0,
-            count: 0,
-            message: 0,
-            timestamp: 0,
-            source: Timestamp(0),
-            cell: 0,
-            length: 0,
-        },
+        content: Data::default(),
     }
 }
 

@@ -1,5 +1,6 @@
 // `queue_data` of the stand-in leg: a packet into a leg's queue, its payload into the lowest free cell of the store.
-// Kept (5, 6): which tables a call changes differs from call to call (queued data: members and the store; an event or a reading: the members), so a struct of those that it only reads would be another for each kind of call.
+// Kept (5, 6): the calls and their forms are lent flat tables, as C lends them; of a struct of them, with the members that each call changes,
+// every clause would name each `&mut` field by a ghost name (docs/DECISIONS.md, "What only reads a table").
 ghost use Rattle.std.specs.Prelude.{◌≡◌, ◌+◌, ◌^◌, ◌<◌, length};
 ghost use Rattle.srt_protocol.specs.Errors.{outcome_number};
 ghost use Rattle.srt_group_model.specs.State.{on_leg};
@@ -77,7 +78,7 @@ fn enqueue(
     let event = data_event(content, cell, payload.len());
     push_at(members, index, event)?;
     reserve_leg_at(members, index, content.count);
-    let _ = put_payload(store, cell, payload);
+    let _ = put_payload(store, cell, payload); // the cell is one of the store's, and the payload fits it: never refused
     take(used, cell);
     Ok(())
 }

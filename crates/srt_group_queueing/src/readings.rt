@@ -1,6 +1,7 @@
 // `read_leg` of the stand-in leg: a number into a field of a leg.
-// Kept (5, 6): which tables a call changes differs from call to call (queued data: members and the store; an event or a reading: the members), so a struct of those that it only reads would be another for each kind of call.
-// Kept (1): kind, field and number are words of the C call: any is a legal question, and 2 refuses what is none.
+// Kept (5, 6): the calls and their forms are lent flat tables, as C lends them; of a struct of them, with the members that each call changes,
+// every clause would name each `&mut` field by a ghost name (docs/DECISIONS.md, "What only reads a table").
+// Kept (1): field and number are words of the C call: any is a legal question, and 2 refuses what is none.
 ghost use Rattle.std.specs.Prelude.{◌≡◌, ◌||◌, ◌*◌, ◌≤◌, length};
 ghost use Rattle.srt_protocol.specs.Errors.{outcome_number};
 ghost use Rattle.srt_group_model.specs.Legs.{largest_32};
@@ -22,7 +23,8 @@ use srt_group::Group;
 use srt_group_model::Core;
 use srt_protocol::error::{Error, outcome_number};
 
-// Kept (1): the field goes on as the word of the C call: what is promised of a reading, here and in srt_connection, is over any word, so a `Field` made of it here would need a second form of three functions there, and is no plainer.
+// Kept (1): the field goes on as the word of the C call: the definitions of a reading that the contracts cite are over any word. Over a `Field` made here each of
+// the three steps would go from its row of `readings` back to that word by a law of its own, and is no plainer.
 
 // 2: an id, a field or a number out of range.
 fn reading_unfit(id: u64, field: u64, number: u64) -> bool

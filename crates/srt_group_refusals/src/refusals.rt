@@ -20,6 +20,7 @@ use srt_protocol::error::Error;
 use srt_protocol::received_payload::{CELL, MAX_CELLS, OUTPUT, cells_of};
 
 // 5: the store's length differs from the one given at the start, if any was, or is below one cell.
+// Kept (1): the length given at the start is the record's word, 0 for none; it is asked here and in `cells_given` alone.
 fn store_unfit(store: usize, given: usize) -> bool
     ensures { result ≡ ((not (eqb given 0) && not (eqb store given)) || ltb store cell_size) }
 {

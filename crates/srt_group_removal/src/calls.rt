@@ -1,6 +1,6 @@
 // `remove_member_connection` and `remove_member` with their refusals, over the record and the lent tables: 5 and 6, and then what follows
 // them.
-// Kept (5, 6): members, pending packets and cells are changed, so they are in no struct of lent readings, and a call's promise names each table: a struct of the others alone would be no plainer.
+// Kept (5, 6): members and pending packets are lent to change, as flat words: a struct of `&mut` fields needs a clause for each field's ghost name (docs/DECISIONS.md).
 ghost use Rattle.srt_protocol.specs.Errors.{outcome_number};
 ghost use Rattle.srt_group_model.specs.Lent.{call_remove_member_connection};
 ghost use Rattle.srt_group_shown.specs.Tables.{tables};
@@ -35,10 +35,7 @@ pub fn remove_member_connection(
     ensures row_after { RowAfter result.answer row.old row.new }
 {
     if row.len() < ROW {
-        return Answered {
-            record: group,
-            answer: Err(Error::InsufficientBuffer),
-        };
+        return Answered::refused(group, Error::InsufficientBuffer);
     }
     let lent = LentGroup {
         group,
@@ -49,10 +46,7 @@ pub fn remove_member_connection(
         sources,
     };
     if let Err(error) = lent.begin() {
-        return Answered {
-            record: group,
-            answer: Err(error),
-        };
+        return Answered::refused(group, error);
     }
     let mut used = [0; WORDS];
     let removed = remove_named(group.core, members, pending, row, &mut used, id);

@@ -1,6 +1,6 @@
 // `remove_member_connection` and `remove_member` after 5 and 6, and their forms for a valid state. The leg is given back in a lent row
 // of the members' table.
-// Kept (5, 6): members, pending packets and cells are changed, so they are in no struct of lent readings, and a call's promise names each table: a struct of the others alone would be no plainer.
+// Kept (5, 6): members, pending packets, row and cells are lent to change: a struct of `&mut` fields needs a clause for each field's ghost name (docs/DECISIONS.md).
 ghost use Rattle.std.specs.Prelude.{length};
 ghost use Rattle.srt_protocol.specs.Errors.{outcome_number};
 ghost use Rattle.srt_group_model.specs.Lent.{call_remove_member_connection};
@@ -32,7 +32,7 @@ fn give_back(row: &mut [u64], leg: Leg)
 }
 
 // `remove_member_connection` after 5 and 6: 2 or 3, or the member is removed and its leg stands in the row.
-#[tactic(auto, using(crate::specs::Laws::Connection::unfit_removal, crate::specs::Laws::Connection::unknown_removal, crate::specs::Laws::Connection::named_removed, srt_connection_members::specs::Laws::Members::found_below))]
+#[tactic(auto, using(crate::specs::Laws::Connection::unfit_removal, crate::specs::Laws::Connection::named_removed, srt_connection_members::specs::Laws::Members::found_below))]
 pub fn remove_named(
     core: Core,
     members: &mut [u64],
@@ -49,18 +49,12 @@ pub fn remove_named(
     ensures follows { Follows core members.old pending.old used.old
         result.«record» members.new pending.new used.new }
 {
+    // Kept (2): 2, then 3, in the order of the call's own definition; a function of the two lines is no plainer.
     if LARGEST_32 < id {
-        return Answered {
-            record: core,
-            answer: Err(Error::OutOfRange),
-        };
+        return Answered::refused(core, Error::OutOfRange);
     }
-    let found = find(rows(members, core.counts.members), id);
-    let Some(index) = found else {
-        return Answered {
-            record: core,
-            answer: Err(Error::UnknownMember),
-        };
+    let Some(index) = find(rows(members, core.counts.members), id) else {
+        return Answered::refused(core, Error::UnknownMember);
     };
     let removed = remove_member_at(core, members, pending, used, index);
     give_back(row, removed.leg);

@@ -11,6 +11,7 @@ use srt_group_model::Event;
 use srt_group_state::cells::queued_event;
 
 // Frees the cell of a queued event: only data has one.
+#[tactic(auto, using(crate::specs::Laws::Queue::no_data_kept))]
 fn free_event(used: &mut CellSet, event: Event)
     ensures { Freed (event_cells event) used.old used.new }
 {

@@ -40,7 +40,7 @@ fn retire_at(mut core: Core, pending: &mut [u64], used: &mut CellSet, at: usize)
 fn is_reached(packet: Packet, base: u64, all: bool) -> bool
     ensures { result ≡ is_reached base all packet }
 {
-    (packet.owned == 1) & (all | (packet.content.sequence < base))
+    packet.is_owned() & (all | (packet.content.sequence < base))
 }
 
 // One walk from the highest held packet down: while the sum of the group's own exceeds the limit, each that is reached is retired. It is

@@ -2,7 +2,8 @@
 
 #![tactic(auto)]
 
-ghost use Rattle.std.specs.Prelude.{◌≡◌, None, Some};
+ghost use Rattle.std.specs.Prelude.{◌≡◌, List, [], ℕ, None, Option, Some};
+ghost use Rattle.srt_group_model.specs.State.{State};
 ghost use Rattle.srt_group_replay.specs.Lines.{tables_of, standing, Standing};
 ghost use Rattle.srt_group_replay.specs.Told.{TellsLine, TellsOver};
 
@@ -17,10 +18,12 @@ use srt_group_tables::waiting::WAITING_LENGTH;
 use srt_protocol::received_payload::OUTPUT;
 use std::marker::Model;
 
+mod lent; // lent.rt: a replay over tables that a caller lends
 pub mod telling; // telling.rt: a line, whatever its verb, over tables that a caller lends
 mod verb; // verb.rt: what a line asks for
 
-pub use verb::{UnknownVerb, Verb};
+pub use lent::LentReplay;
+pub use verb::{Call, UnknownVerb, Verb};
 
 // The bytes of the store: 40 cells.
 pub const STORE: usize = 40 * Group::CELL;
@@ -43,10 +46,25 @@ pub struct Memory {
 }
 
 // The group after a line, if one stands, and what the line prints.
+// Kept (2): `Told` with an `Option`; as one generic struct each verb's contract would name the parameter, for this one use: no plainer.
 #[derive(Clone, Copy)]
 pub struct Replayed {
     pub group: Option<Group>,
     pub line: Printed,
+}
+
+// What tells the lines of a listing, whatever holds its group and its tables.
+pub trait Teller {
+    // The state that its group shows, none before a line made one.
+    ghost shown: { Self → Option State };
+
+    // The names of what it is lent, which stay from line to line.
+    ghost lent: { Self → List ℕ };
+
+    // What a line does to the group that stands, if any, and what it prints.
+    fn tell(&mut self, line: &Line) -> Printed
+        ensures told { TellsLine line.now (shown self.old) result (shown self.new) }
+        ensures keeps { lent self.new ≡ lent self.old };
 }
 
 // The group that stands, none before a line made one, over the memory that it is lent. The replay is its only writer. In contracts it is the
@@ -91,7 +109,7 @@ impl Replay {
         }
     }
 
-    // A group that stands already goes on over its own memory. Over tables that a caller lends, also longer ones, `telling::tell` tells a line.
+    // A group that stands already goes on over its own memory. Over tables that a caller lends, also longer ones, `LentReplay` tells lines.
     pub fn of(group: Group, memory: Memory) -> Self
         requires { Standing (Some group) memory }
         ensures { result ≡ standing (Some group) memory }
@@ -110,11 +128,14 @@ impl Replay {
         let Replay { group, memory } = self;
         (group, memory)
     }
+}
 
-    // What a line does to the group that stands, if any, and what it prints.
-    pub fn tell(&mut self, line: &Line) -> Printed
-        ensures { TellsLine line.now self.old result self.new }
-    {
+impl Teller for Replay {
+    ghost shown = { λ s. s };
+
+    ghost lent = { λ _. [] };
+
+    fn tell(&mut self, line: &Line) -> Printed {
         let told = tell_in(&mut self.memory, self.group, line);
         self.group = told.group;
         told.line

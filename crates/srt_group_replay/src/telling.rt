@@ -1,6 +1,7 @@
 // A line of a replay listing: its verb, over the group that stands, if any, and tables of any length that suffices.
-// Kept (5, 6): tables and store are lent anew to each line; of a struct of `&mut`, no plainer, each clause names each field.
-ghost use Rattle.std.specs.Prelude.{◌≡◌, ◌≤◌, length};
+// Kept (5, 6): each verb is lent the tables that it needs, so a struct of `&mut`, as `LentReplay`, would be taken apart again here.
+// Kept (1): the verb is the printed column, as in srt_group_listing.
+ghost use Rattle.std.specs.Prelude.{◌≡◌, length};
 ghost use Rattle.srt_protocol.specs.Cells.{output_size};
 ghost use Rattle.srt_group_model.specs.Sending.{list_size};
 ghost use Rattle.srt_group_model.specs.Listing.{column, store_length};
@@ -8,11 +9,11 @@ ghost use Rattle.srt_group_shown.specs.Tables.{tables};
 ghost use Rattle.srt_group_shown.specs.Ready.{Ready};
 ghost use Rattle.srt_group.specs.Made.{parts_of};
 ghost use Rattle.srt_group_listing.specs.Verbs.{TellsVerb};
-ghost use Rattle.srt_group_replay.specs.Verb.{number_of};
+ghost use Rattle.srt_group_replay.specs.Verb.{call_number};
 ghost use Rattle.srt_group_replay.specs.Lines.{StandingOver};
 ghost use Rattle.srt_group_replay.specs.Told.{TellsOver, TellsNew};
 
-use crate::verb::{UnknownVerb, Verb};
+use crate::verb::{Call, UnknownVerb, Verb};
 use crate::{Replayed, STORE};
 use cell_set::{CellSet, clear};
 use srt_group::Group;
@@ -41,7 +42,7 @@ fn tell_new(before: Option<Group>, used: &mut CellSet, line: &Line) -> Replayed
     }
 }
 
-// Any verb but the first, over a group that was made.
+// A call of a group that was made.
 fn tell_made(
     group: Group,
     members: &mut [u64],
@@ -53,12 +54,12 @@ fn tell_made(
     output: &mut [u8],
     list: &mut [u64],
     used: &mut CellSet,
-    verb: Verb,
+    call: Call,
     line: &Line,
 ) -> Told
     requires ready { Ready (parts_of group)
         (tables members.old pending.old waiting.old history.old sources.old) (length store.old) used.old }
-    requires asks { (number_of verb ≡ column 0 line.now) × (2 ≤ number_of verb) }
+    requires asks { call_number call ≡ column 0 line.now }
     requires store_len { length store.old ≡ store_length }
     requires output_len { length output.old ≡ output_size }
     requires list_len { length list.old ≡ list_size }
@@ -68,31 +69,29 @@ fn tell_made(
         (tables members.new pending.new waiting.new history.new sources.new)
         used.new }
 {
-    match verb {
-        // Kept (7): a second enum without this verb is no plainer: it would be made of the first by a second choice of eight.
-        Verb::New => unreachable!(),
-        Verb::Add => members::add(
+    match call {
+        Call::Add => members::add(
             group, members, pending, waiting, history, sources, store, used, line,
         ),
-        Verb::Reading => members::read(
+        Call::Reading => members::read(
             group, members, pending, waiting, history, sources, store, used, line,
         ),
-        Verb::Data => packets::queue(
+        Call::Data => packets::queue(
             group, members, pending, waiting, history, sources, store, used, line,
         ),
-        Verb::Poll => packets::poll(
+        Call::Poll => packets::poll(
             group, members, pending, waiting, history, sources, store, output, used, line,
         ),
-        Verb::Send => packets::send(
+        Call::Send => packets::send(
             group, members, pending, waiting, history, sources, store, list, used, line,
         ),
-        Verb::Remove => members::remove(
+        Call::Remove => members::remove(
             group, members, pending, waiting, history, sources, store, used, line,
         ),
-        Verb::MarkBroken => members::mark_broken(
+        Call::MarkBroken => members::mark_broken(
             group, members, pending, waiting, history, sources, store, used, line,
         ),
-        Verb::Event => members::queue(
+        Call::Event => members::queue(
             group, members, pending, waiting, history, sources, store, used, line,
         ),
     }
@@ -125,7 +124,7 @@ pub fn tell(
 {
     match Verb::try_from(line[0]) {
         Ok(Verb::New) => tell_new(standing, used, line),
-        Ok(verb) => match standing {
+        Ok(Verb::Call(call)) => match standing {
             None => Replayed {
                 group: None,
                 line: outcome_line(line[0], Err(Error::InvalidState)),
@@ -133,7 +132,7 @@ pub fn tell(
             Some(group) => {
                 let told = tell_made(
                     group, members, pending, waiting, history, sources, store, output, list, used,
-                    verb, line,
+                    call, line,
                 );
                 Replayed {
                     group: Some(told.group),

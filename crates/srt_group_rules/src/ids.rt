@@ -16,6 +16,7 @@ use srt_connection_queue::rows::{Row, member_id};
 pub const PLACES: usize = 64;
 
 // What the table says of a place that no id has: no member has so high an index.
+// Kept (1): `find_by_place` asks no test of it, since `get` gives nothing there; an option would be tested besides.
 pub const NOBODY: u8 = 64;
 
 fn place_of(id: u64) -> usize

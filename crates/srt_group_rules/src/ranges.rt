@@ -1,12 +1,14 @@
 // Document 01's code 6, value by value: a sequence of 2^31 or more, and a field above its range. A word is never above 64 bits,
 // so a field that may take all of them has no test.
+// Kept (1): a kind, a state or a flag is tested here as the word that it is, against the largest that the rule allows.
 ghost use Rattle.std.specs.Prelude.{◌≡◌};
 ghost use Rattle.srt_group_model.specs.Validity.{is_too_large, leg_sequence_too_large, data_out_of_range, leg_out_of_range, membership_out_of_range, packet_out_of_range, entry_out_of_range, waiting_out_of_range};
 ghost use Rattle.srt_group_rules.specs.Rules.{flight_out_of_range};
 
 use srt_connection::legs::{
-    LARGEST_16, LARGEST_32, LARGEST_SEQUENCE, NO_SEQUENCE, has_sender, is_connected,
+    DISCONNECTED, LARGEST_16, LARGEST_32, LARGEST_SEQUENCE, NO_SEQUENCE, has_sender, is_connected,
 };
+use srt_group_members::states::BROKEN;
 use srt_group_model::{Data, Entry, Leg, Membership, Packet, Waiting};
 use srt_protocol::received_payload::CELL;
 
@@ -21,6 +23,7 @@ pub fn sequence_too_large(sequence: u64) -> bool
     LARGEST_SEQUENCE < sequence
 }
 
+// Kept (1): `peer_initial_sequence` and a closure would test the same two words, and are no plainer.
 #[tactic(auto, using(srt_group_model::specs::Laws::Reason::or_assoc, srt_group_model::specs::Laws::Reason::or_no), unfolding(srt_group_model::specs::Validity::leg_sequence_too_large))]
 pub fn leg_sequence_too_large(leg: Leg) -> bool
     ensures { result ≡ leg_sequence_too_large leg }
@@ -59,7 +62,7 @@ fn flight_out_of_range(leg: Leg) -> bool
 pub fn leg_out_of_range(leg: Leg) -> bool
     ensures { result ≡ leg_out_of_range leg }
 {
-    (2 < leg.link.state)
+    (DISCONNECTED < leg.link.state)
         | (LARGEST_32 < leg.link.peer)
         | (LARGEST_16 < leg.link.limit)
         | (1 < leg.sender.started)
@@ -78,7 +81,7 @@ pub fn membership_out_of_range(membership: Membership) -> bool
 {
     (LARGEST_32 < membership.id)
         | (LARGEST_16 < membership.weight)
-        | (4 < membership.state)
+        | (BROKEN < membership.state)
         | (1 < membership.admitted)
         | (LARGEST_32 < membership.collision.expected)
         | (LARGEST_32 < membership.collision.actual)

@@ -1,5 +1,6 @@
 // Document 01's code 6, row by row: a queued event, a leg, a held packet, an entry of the history by itself; and the waiting events, of
 // which no other rule asks anything.
+// Kept (1): a kind is tested here as the word that it is, against the largest that the rule allows: 3.
 ghost use Rattle.std.specs.Prelude.{◌≡◌, ◌+◌, ◌%◌, ◌≤◌, ◌<◌, length};
 ghost use Rattle.srt_group_model.specs.Tools.{any};
 ghost use Rattle.srt_group_model.specs.Validity.{max_waiting, max_queued, waiting_out_of_range};
@@ -12,7 +13,7 @@ use crate::ranges::{
     packet_out_of_range, sequence_too_large, waiting_out_of_range,
 };
 use srt_connection::legs::LARGEST_32;
-use srt_connection_queue::rows::{FIRST_EVENT, MAX_QUEUED, Ring, Row, event_part};
+use srt_connection_queue::rows::{Ring, Row, event_part};
 use srt_group_model::{Entry, Event, Leg, Packet};
 use srt_group_tables::waiting::waiting_event;
 
@@ -37,8 +38,7 @@ pub fn queue_event(row: &Row, ring: Ring, at: u64) -> Event
     requires { at < max_queued }
     ensures { result ≡ event_in row.now ((ring.start + at) % max_queued) }
 {
-    let slot = (FIRST_EVENT + (ring.start % MAX_QUEUED + at) % MAX_QUEUED) as usize;
-    event_part(row, slot)
+    event_part(row, ring.slot(at))
 }
 
 // ---- a leg
@@ -61,7 +61,7 @@ pub fn packet_breaks_rule(packet: Packet) -> bool
 
 // ---- waiting events
 
-// Kept (6): a C host lends the waiting events as words, with the count of rows in use; each is read at its place, as everywhere.
+// Kept (6): a C host lends the waiting events as words, with the count of rows in use. They are walked here alone: a function that lends the rows is no plainer.
 pub fn waiting_breaks_rule(waiting: &[u64], count: usize) -> bool
     requires { (waiting_size ≤ length waiting.now) × (count ≤ max_waiting) }
     ensures { result ≡ any waiting_out_of_range (waitings count waiting.now) }

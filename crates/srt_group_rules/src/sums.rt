@@ -33,7 +33,7 @@ pub fn account_place(rows: &[Row], table: &[u8; PLACES], packet: Packet) -> Opti
     requires { one_twice (each id_of (members_in rows.now)) ≡ false }
     ensures { result ≡ account_place (members_in rows.now) packet }
 {
-    if packet.owned == 1 {
+    if packet.is_owned() {
         return Some(OWN_PLACE);
     }
     find_by_place(rows, table, packet.member)

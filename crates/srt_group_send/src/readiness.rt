@@ -1,6 +1,6 @@
 // The readiness tests: `can_send` and `can_send_with_pacing` after 5 and 6. They refresh the members' states and, in Backup, trim the
 // history by what the carrier's peer has acknowledged, so that cells may get free.
-// Kept (5): which tables a function changes differs from one to the next, so a struct of `&mut` would be another for each (docs/DECISIONS.md).
+// Kept (5): a test changes members and cells and reads the history: of a struct with `&mut` fields each clause names every field's ghost name (docs/DECISIONS.md).
 ghost use Rattle.std.specs.Prelude.{◌≡◌, ◌*◌, ◌≤◌, length};
 ghost use Rattle.srt_group_model.specs.Backup.{max_history};
 ghost use Rattle.srt_group_model.specs.Lent.{call_can_send, call_can_send_with_pacing};
@@ -85,14 +85,14 @@ pub fn test(
             record: refreshed,
         };
     }
-    let Some(time) = pacing else {
-        return trim_and_test(refreshed, history, members, used, None);
-    };
-    ready_members(members, count, mode, time);
-    trim_and_test(refreshed, history, members, used, Some(time))
+    if let Some(time) = pacing {
+        ready_members(members, count, mode, time);
+    }
+    trim_and_test(refreshed, history, members, used, pacing)
 }
 
 // `can_send` after 5 and 6.
+// Kept (2): it and the next are public names, each with the promise of its call; of `test` alone a caller would say which call by an option.
 pub fn can_send(group: Group, history: &[u64], members: &mut [u64], used: &mut CellSet) -> Readiness
     requires { Testable group members.old history.now }
     ensures { Tests call_can_send group members.old history.now used.old result members.new used.new }

@@ -1,9 +1,10 @@
 // `send` for a valid state. The members' states are refreshed first; then the payload's size is tested once, against the first active
 // leg, since a payload that is too large for every leg says nothing of a leg's health; then the send is the mode's.
-// Kept (5, 6): which tables a function changes differs from one to the next, so a struct of `&mut` would be another for each (docs/DECISIONS.md).
-// Kept (5): the rules take a payload's time, size, cell and sequence one by one, so a struct of them would be taken apart in each clause, and is no plainer.
-// Kept (1): the mode is the record's word, which a C host lends so that 6 can refuse it; an enum of it would be `is_backup` again at each call.
-ghost use Rattle.std.specs.Prelude.{◌≡◌, true, ◌*◌, ◌≤◌, ◌<◌, length, is_ok, Ok};
+// Kept (5, 6): a send changes all tables but two, each lent by itself: of a struct of `&mut` fields each clause names every field's ghost name (docs/DECISIONS.md).
+// Kept (5): the rules take a payload's time, size and cell one by one, so a struct of the three would be taken apart in each clause, and is no plainer. The mode
+// goes in beside the cell, which says it too (`CellByMode`): the definitions turn on the mode's word.
+// Kept (1): the mode is handed on as the record's word, which the definitions below compare; code asks `is_backup` of it where it chooses.
+ghost use Rattle.std.specs.Prelude.{◌≡◌, true, ◌*◌, ◌≤◌, ◌<◌, length, is_ok, Err, Ok};
 ghost use Rattle.std.specs.Result.{result_and};
 ghost use Rattle.srt_protocol.specs.Cells.{cell_size, cells_of, overwritten};
 ghost use Rattle.srt_group_model.specs.Tools.{if_true◌then◌else◌};
@@ -23,12 +24,12 @@ ghost use Rattle.srt_group_send.specs.Sends.{by_mode, cell_or_none, CellByMode, 
 use cell_set::{CellSet, lowest_free};
 use srt_connection_members::rows;
 use srt_group::Group;
-use srt_group_backup::send::BackupSend;
 use srt_group_backup::trimming::SendHistory;
 use srt_group_backup_send::sends::send_backup;
 use srt_group_members::states::is_backup;
 use srt_group_polls::refresh::refresh_states;
 use srt_group_sending::broadcast::{above_limit, send_broadcast};
+use srt_group_sending::flown::Flown;
 use srt_protocol::error::Error;
 use srt_protocol::received_payload::{CELL, cells_of, put_payload};
 use srt_protocol::time::Timestamp;
@@ -42,7 +43,21 @@ pub struct GroupSent {
     pub rows: usize,
 }
 
+impl GroupSent {
+    // The send is refused before a leg was tried.
+    pub fn refused(record: Group, error: Error) -> Self
+        ensures { result ≡ record { «record» = «record»; answer = Err error; rows = 0 } }
+    {
+        GroupSent {
+            record,
+            answer: Err(error),
+            rows: 0,
+        }
+    }
+}
+
 // On how many legs a payload was sent that has filled so many rows: in Backup on one, behind the flight that was replayed.
+#[tactic(auto, using(srt_group_model::specs::Laws::Reason::when_true, srt_group_model::specs::Laws::Reason::when_false))]
 fn legs_sent(outcome: Result<(), Error>, mode: u64, rows: usize) -> Result<usize, Error>
     ensures { result ≡ result_and outcome (Ok (if_true is_backup mode then 1 else rows)) }
 {
@@ -66,7 +81,7 @@ fn send_mode(
     time: Timestamp,
     size: u64,
     cell: Option<usize>,
-) -> BackupSend
+) -> Flown<SendHistory>
     requires lendable { Lendable count send.ring (backup_tables members.old history.old sources.old list.old used.old) }
     requires numbers_fit { NumbersFit (send_of send.sending send.ring (arrays history.old sources.old)) (members_of count members.old) }
     requires count_le_max_members { (count ≤ max_members) × (CellByMode mode cell × (size < lengths_in_word)) }
@@ -76,10 +91,10 @@ fn send_mode(
 {
     let Some(taken) = cell else {
         let sent = send_broadcast(send.sending, members, count, list, time, size);
-        return BackupSend {
+        return Flown {
             outcome: sent.outcome,
-            send: SendHistory {
-                sending: sent.sending,
+            state: SendHistory {
+                sending: sent.state,
                 ..send
             },
             sent: sent.sent,
@@ -100,9 +115,9 @@ fn send_mode(
     )
 }
 
-// The refresh, 23, and the send of the mode.
+// The refresh, 23, and the send of the mode. The record is read where it stands: by value its 160 bytes would be copied once more.
 fn refresh_and_send(
-    group: Group,
+    group: &Group,
     history: &mut [u64],
     sources: &mut [u64],
     members: &mut [u64],
@@ -112,21 +127,17 @@ fn refresh_and_send(
     size: u64,
     cell: Option<usize>,
 ) -> GroupSent
-    requires lendable { Lendable group.core.counts.members group.ring (backup_tables members.old history.old sources.old list.old used.old) }
-    requires fit_shown { FitShown group (backup_tables members.old history.old sources.old list.old used.old) }
-    requires members_le_max_members { (group.core.counts.members ≤ max_members) × (CellByMode group.core.mode cell × (size < lengths_in_word)) }
-    ensures { FlowMade (cell_or_none cell) time.0 size group
+    requires lendable { Lendable group.now.core.counts.members group.now.ring (backup_tables members.old history.old sources.old list.old used.old) }
+    requires fit_shown { FitShown group.now (backup_tables members.old history.old sources.old list.old used.old) }
+    requires members_le_max_members { (group.now.core.counts.members ≤ max_members) × (CellByMode group.now.core.mode cell × (size < lengths_in_word)) }
+    ensures { FlowMade (cell_or_none cell) time.0 size group.now
         (backup_tables members.old history.old sources.old list.old used.old) result
         (backup_tables members.new history.new sources.new list.new used.new) }
 {
     let core = refresh_states(group.core, group.sending, members);
     let count = core.counts.members;
     if above_limit(rows(members, count), size) {
-        return GroupSent {
-            record: Group { core, ..group },
-            answer: Err(Error::PayloadAboveLimit),
-            rows: 0,
-        };
+        return GroupSent::refused(Group { core, ..*group }, Error::PayloadAboveLimit);
     }
     let mode = group.core.mode;
     let send = SendHistory {
@@ -140,15 +151,16 @@ fn refresh_and_send(
         record: Group {
             identity: group.identity,
             core,
-            sending: sent.send.sending,
-            ring: sent.send.ring,
+            sending: sent.state.sending,
+            ring: sent.state.ring,
         },
         answer: legs_sent(sent.outcome, mode, sent.sent),
         rows: sent.sent,
     }
 }
 
-// The payload of a send that succeeded goes into its cell.
+// The payload of a send that succeeded goes into its cell, which refuses none that is `Storable`.
+#[tactic(auto, using(crate::specs::Laws::Performed::not_stored))]
 fn store_sent(store: &mut [u8], cell: usize, payload: &[u8], answer: Result<usize, Error>)
     requires { Storable cell (length payload.now) (length store.old) }
     ensures { store.new
@@ -183,28 +195,20 @@ pub fn send(
         (sending_into store.new list.new) used.new }
 {
     if CELL < payload.len() {
-        return GroupSent {
-            record: group,
-            answer: Err(Error::PayloadTooLong),
-            rows: 0,
-        };
+        return GroupSent::refused(group, Error::PayloadTooLong);
     }
     let size = payload.len() as u64;
     if !is_backup(group.core.mode) {
         return refresh_and_send(
-            group, history, sources, members, list, used, time, size, None,
+            &group, history, sources, members, list, used, time, size, None,
         );
     }
     let lowest = lowest_free(used, cells_of(store.len()));
     let Some(cell) = lowest else {
-        return GroupSent {
-            record: group,
-            answer: Err(Error::NoFreeCell),
-            rows: 0,
-        };
+        return GroupSent::refused(group, Error::NoFreeCell);
     };
     let sent = refresh_and_send(
-        group,
+        &group,
         history,
         sources,
         members,
@@ -214,7 +218,6 @@ pub fn send(
         size,
         Some(cell),
     );
-    let answer = sent.answer;
-    store_sent(store, cell, payload, answer);
+    store_sent(store, cell, payload, sent.answer);
     sent
 }

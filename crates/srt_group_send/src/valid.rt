@@ -1,5 +1,5 @@
 // The readiness tests for a valid state. The store is lent for its length, over which the state is valid.
-// Kept (5, 6): each table is words that a C host lends by a name and a length; the promise speaks of them all, and the members alone change.
+// Kept (2, 5, 6): two public names; each table is words that a C host lends by a name and a length; the promise speaks of them all, and the members alone change.
 ghost use Rattle.std.specs.Prelude.{length};
 ghost use Rattle.srt_group_model.specs.Guards.{shown, truth};
 ghost use Rattle.srt_group_model.specs.Lent.{call_can_send, call_can_send_with_pacing};

@@ -1,5 +1,6 @@
 // `send` and the readiness tests with their refusals, over the record and the lent tables: 5 and 6, and then what follows them.
-// Kept (5, 6): which tables a function changes differs from one to the next, so a struct of `&mut` would be another for each (docs/DECISIONS.md).
+// Kept (5, 6): the calls are lent flat tables, as C lends them; of a struct of them each clause would name every `&mut` field by a ghost name (docs/DECISIONS.md, "What only reads a table").
+// Kept (2): public names, each with the promise of its call; each is one call of `send` or of `test`.
 ghost use Rattle.srt_group_model.specs.Lent.{call_send, call_can_send, call_can_send_with_pacing};
 ghost use Rattle.srt_group_looks.specs.Looks.{truth_code, truth_answer};
 ghost use Rattle.srt_group_shown.specs.Tables.{tables};
@@ -40,11 +41,7 @@ pub fn send(
         (sending_into store.new list.new) (send_number result.answer) (send_answer result.answer) result.rows) }
 {
     if list.len() < SENT_LENGTH {
-        return GroupSent {
-            record: group,
-            answer: Err(Error::InsufficientBuffer),
-            rows: 0,
-        };
+        return GroupSent::refused(group, Error::InsufficientBuffer);
     }
     let mut used = [0u64; WORDS];
     let lent = LentGroup {
@@ -55,13 +52,8 @@ pub fn send(
         history,
         sources,
     };
-    let begun = lent.begin_stored(store.len(), &mut used);
-    if let Err(refusal) = begun {
-        return GroupSent {
-            record: group,
-            answer: Err(refusal),
-            rows: 0,
-        };
+    if let Err(refusal) = lent.begin_stored(store.len(), &mut used) {
+        return GroupSent::refused(group, refusal);
     }
     sending::send(
         group, members, pending, waiting, history, sources, store, list, &mut used, time, payload,
@@ -122,12 +114,8 @@ fn test(
         history,
         sources,
     };
-    let begun = lent.begin();
-    if let Err(error) = begun {
-        return Answered {
-            record: group,
-            answer: Err(error),
-        };
+    if let Err(error) = lent.begin() {
+        return Answered::refused(group, error);
     }
     let mut used = [0u64; WORDS];
     let tested = readiness::test(group, history, members, &mut used, pacing);

@@ -7,7 +7,7 @@ use Rattle.srt_group_model.specs.Members.{is_active}
 use Rattle.srt_group_model.specs.Sending.{Sent, own_send, takes_send, attempt_send, send_broadcast}
 use Rattle.srt_group_model.specs.declared.Sending.{Sending}
 use Rattle.srt_connection_members.specs.Members.{member_at, members_of, Changed}
-use Rattle.srt_group_sending.specs.declared.broadcast.BroadcastSend.{BroadcastSend}
+use Rattle.srt_group_sending.specs.declared.flown.Flown.{Flown}
 use Rattle.srt_group_sending.specs.SentList.{sent_rows, SendTables, Wrote}
 
 -- ---- definitions
@@ -44,14 +44,14 @@ pub record Attempted (n time size sequence : ℕ) (before : SendTables) (answer 
 
 -- The send of the model, for every state that has these members and these numbers. The list's first rows are the sends, and no
 -- other word of it is written.
-pub record SentBroadcast (n time size : ℕ) (x : Sending) (before : SendTables) (answer : BroadcastSend) (after : SendTables) : Type 0 where
+pub record SentBroadcast (n time size : ℕ) (x : Sending) (before : SendTables) (answer : Flown Sending) (after : SendTables) : Type 0 where
   pub long : length after.members ≡ length before.members
   pub wrote : Wrote 0 (sent_rows answer.sent after.list) before.list answer.sent after.list
   pub few : answer.sent ≤ n
   pub is : (s : State) → s.members ≡ members_of n before.members → s.send.numbers ≡ x
       → send_broadcast time size s
       ≡ record {
-        state = left_by_send answer.sending (members_of n after.members) s;
+        state = left_by_send answer.state (members_of n after.members) s;
         sends = sent_rows answer.sent after.list;
         code = outcome_number answer.outcome;
       }

@@ -1,4 +1,5 @@
 pub mod SentList
+pub mod OwnSend
 pub mod Broadcast
 pub mod Readiness
 pub mod BackupReadiness

@@ -1,7 +1,7 @@
 -- Readiness to send, over the lent table of members.
 use Rattle.srt_protocol.specs.declared.time.Timestamp.{Timestamp}
-use Rattle.std.specs.Prelude.{Bool, ◌&&◌, ◌||◌, ℕ, min, eqb, None, Option, Some}
-use Rattle.srt_group_model.specs.Tools.{if_true◌then◌else◌, if_some◌give◌otherwise◌}
+use Rattle.std.specs.Prelude.{Bool, ◌&&◌, ◌||◌, ℕ, eqb, None, Option, Some}
+use Rattle.srt_group_model.specs.Tools.{if_true◌then◌else◌}
 use Rattle.srt_group_model.specs.State.{Member, active_state, standby_state}
 use Rattle.srt_group_model.specs.Legs.{time_until_send}
 use Rattle.srt_group_model.specs.Members.{in_state, is_active}
@@ -21,12 +21,6 @@ sends_now time m = is_active m && ready_to_send time m.leg
 unfoldable pub may_carry : ℕ → Bool
 may_carry state = eqb state active_state || eqb state standby_state
 
--- the model's `least_time` of a member and of those behind it
-unfoldable pub least_with : ℕ → Member → Option ℕ → Option ℕ
-least_with time m least =
-    if_true in_state active_state m || in_state standby_state m
-    then
-    (if_some least
-    give (λ n. Some (min (time_until_send time m.leg) n))
-    otherwise Some (time_until_send time m.leg))
-    else least
+-- how long until a send of a member that is Active or Standby: of these waits the model's `least_time` is the least
+unfoldable pub wait_of : ℕ → Member → Option ℕ
+wait_of time m = if_true in_state active_state m || in_state standby_state m then Some (time_until_send time m.leg) else None

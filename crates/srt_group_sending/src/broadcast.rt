@@ -1,6 +1,7 @@
 // A send in Broadcast: the same payload at the same sequence on every active leg. A leg that fails is marked, and the others are
 // tried all the same.
-// Kept (5, 6): which tables a function changes differs from one to the next, so a struct of `&mut` would be another for each (docs/DECISIONS.md).
+// Kept (3, 5, 6): a host lends each table as words; a struct of `&mut` fields wants a clause a field, in every function, that its slice is still the caller's, and a loop over rows that it changes an index (docs/DECISIONS.md).
+// Kept (5, 6): the list goes with its rows in use: `Wrote` says of the whole list which rows are written, a rest of it (`&mut list[..]`) would say so of the rest alone.
 ghost use Rattle.std.specs.Prelude.{◌≡◌, not, ◌&&◌, ◌*◌, ◌≤◌, ◌<◌, length};
 ghost use Rattle.srt_protocol.specs.Sequence.{sequence_further};
 ghost use Rattle.srt_group_model.specs.Tools.{such_that};
@@ -14,23 +15,16 @@ ghost use Rattle.srt_group_sending.specs.SentList.{send_tables};
 ghost use Rattle.srt_group_sending.specs.Broadcast.{number_for_send, is_mismatched, AttemptedAt, Attempted, SentBroadcast};
 ghost use Rattle.srt_group_model.specs.State.{with_number};
 
-use crate::list::{Sent, write_sent};
-use srt_connection::legs::{can_send, is_connected, send_shared_with_sequence};
-use srt_connection_members::{leg_at, membership_at, put_leg_at, row, rows};
+use crate::flown::Flown;
+use crate::own::send_on;
+use srt_connection::legs::{can_send, is_connected};
+use srt_connection_members::{leg_at, row, rows};
 use srt_connection_queue::rows::{Row, leg, sender};
 use srt_group_members::states::{BROKEN, UNSTABLE, first_active, is_active, turn_at};
 use srt_group_model::{Leg, Sending};
 use srt_protocol::error::Error;
 use srt_protocol::srt_packet::word_further;
 use srt_protocol::time::Timestamp;
-
-// What a send answers: the group's numbers after it, and how many rows of the list it has written.
-#[derive(Clone, Copy)]
-pub struct BroadcastSend {
-    pub outcome: Result<(), Error>,
-    pub sending: Sending,
-    pub sent: usize,
-}
 
 // ---- a leg that failed
 
@@ -47,11 +41,12 @@ pub fn mark_send_failure_at(members: &mut [u64], index: usize)
     requires { HasRow index members.old }
     ensures { Changed index mark_send_failure members.old members.new }
 {
-    if has_full_window(leg_at(members, index)) {
-        turn_at(members, index, UNSTABLE);
-        return;
-    }
-    turn_at(members, index, BROKEN);
+    let state = if has_full_window(leg_at(members, index)) {
+        UNSTABLE
+    } else {
+        BROKEN
+    };
+    turn_at(members, index, state);
 }
 
 // ---- before anything is sent
@@ -60,11 +55,9 @@ pub fn mark_send_failure_at(members: &mut [u64], index: usize)
 pub fn above_limit(rows: &[Row], size: u64) -> bool
     ensures { result ≡ above_limit size (members_in rows.now) }
 {
-    let first = first_active(rows);
-    let Some(index) = first else {
-        return false;
-    };
-    leg(&rows[index]).link.limit < size
+    rows.iter()
+        .find(|row| is_active(row))
+        .is_some_and(|row| leg(row).link.limit < size)
 }
 
 // The group's send number, else the next number of the member's leg.
@@ -112,14 +105,10 @@ fn attempt_send_at(
     if !is_active(row(members, index)) {
         return sent;
     }
-    let result = send_shared_with_sequence(leg_at(members, index), time, size, sequence);
-    let Some(after) = result else {
+    if !send_on(members, index, time, size, sequence, list, sent) {
         mark_send_failure_at(members, index);
         return sent;
-    };
-    let membership = membership_at(members, index);
-    put_leg_at(members, index, after);
-    write_sent(list, sent, Sent::own(membership.id, sequence, time));
+    }
     sent + 1
 }
 
@@ -150,6 +139,7 @@ fn attempt_sends(
 pub fn with_number_after(mut sending: Sending, sequence: u64) -> Sending
     ensures { result ≡ with_number (sequence_further sequence 1) sending }
 {
+    // Kept (1): the number and its flag are words of the lent record, set here alone: this function is the setter.
     sending.numbered = 1;
     sending.next = word_further(sequence, 1);
     sending
@@ -163,7 +153,7 @@ pub fn send_broadcast(
     list: &mut [u64],
     time: Timestamp,
     size: u64,
-) -> BroadcastSend
+) -> Flown<Sending>
     requires row_size_in_bounds { (count * row_size ≤ length members.old) × (count ≤ max_members) }
     requires list_size_in_bounds { list_size ≤ length list.old }
     ensures { SentBroadcast count time.0 size sending
@@ -172,32 +162,32 @@ pub fn send_broadcast(
 {
     let found = first_active(rows(members, count));
     let Some(first) = found else {
-        return BroadcastSend {
+        return Flown {
             outcome: Err(Error::NoActiveMember),
-            sending,
+            state: sending,
             sent: 0,
         };
     };
     let sequence = sequence_for_send(row(members, first), sending);
     if sequence_mismatch(rows(members, count), sequence) {
-        return BroadcastSend {
+        return Flown {
             outcome: Err(Error::SequenceMismatch),
-            sending,
+            state: sending,
             sent: 0,
         };
     }
     let sent = attempt_sends(members, count, list, time, size, sequence);
     if sent == 0 {
-        return BroadcastSend {
+        return Flown {
             outcome: Err(Error::AllBroadcastFailed),
-            sending,
+            state: sending,
             sent,
         };
     }
     let numbered = with_number_after(sending, sequence);
-    BroadcastSend {
+    Flown {
         outcome: Ok(()),
-        sending: numbered,
+        state: numbered,
         sent,
     }
 }

@@ -3,6 +3,8 @@
 
 #![tactic(auto)]
 
+pub mod flown; // flown.rt: what a part of a send leaves
 pub mod list; // list.rt: a send is noted in the lent list
+pub mod own; // own.rt: the call's own payload on one member
 pub mod broadcast; // broadcast.rt: an attempt on every active leg
 pub mod readiness; // readiness.rt: whether and when a send can go, and whether a leg fell silent

@@ -44,16 +44,18 @@ impl Sent {
     }
 }
 
-// Kept (6): an array of the five words and `copy_from_slice` were tried, and a lent Broadcast send to 4 legs took 24 % more time.
+#[tactic(auto, unfolding(crate::specs::SentList::sent_words))]
 fn write_row(row: &mut [u64], sent: Sent)
     requires { length row.old ≡ sent_row_size }
     ensures { row.new ≡ sent_words (sent_row sent.leg sent.sequence sent.cell sent.source.0 sent.time.0) }
 {
-    row[0] = sent.leg;
-    row[1] = sent.sequence;
-    row[2] = sent.cell;
-    row[3] = sent.source.0;
-    row[4] = sent.time.0;
+    *row.as_mut_array().unwrap() = [
+        sent.leg,
+        sent.sequence,
+        sent.cell,
+        sent.source.0,
+        sent.time.0,
+    ];
 }
 
 // A send behind the first `count`.

@@ -5,14 +5,14 @@ ghost use Rattle.srt_group_model.specs.Tools.{any};
 ghost use Rattle.srt_group_model.specs.Backup.{ready_to_send, group_time_until_send};
 ghost use Rattle.srt_connection_queue.specs.Rows.{member_of};
 ghost use Rattle.srt_connection_members.specs.Members.{members_in};
-ghost use Rattle.srt_group_sending.specs.Readiness.{pacing_in, sends_now, may_carry, least_with};
+ghost use Rattle.srt_group_sending.specs.Readiness.{pacing_in, sends_now, may_carry, wait_of};
 ghost use Rattle.srt_group_sending.specs.BackupReadiness.{is_other_carrier, send_number, front_sequence, replay_length, replay_sequence, gap_allows};
 ghost use Rattle.srt_group_sending.specs.BackupReadiness.{stands_at, could_take_over, MemberReady, BackupReady};
 
 use srt_connection::legs::{
-    can_send, can_send_with_pacing, remaining_window_packets, time_until_send,
+    can_send, can_send_with_pacing, has_sender, remaining_window_packets, time_until_send,
 };
-use srt_connection_queue::rows::{Row, leg, membership};
+use srt_connection_queue::rows::{Row, leg, member_id, member_state};
 use srt_group_members::promotion::promotion;
 use srt_group_members::states::{ACTIVE, STANDBY, first_active, is_active};
 use srt_group_model::{Leg, Sending};
@@ -55,46 +55,34 @@ fn may_carry(state: u64) -> bool
     state == ACTIVE || state == STANDBY
 }
 
-// The least of the wait of a member, if it is Active or Standby, and of the least of those behind it.
-#[tactic(auto, using(crate::specs::Laws::Readiness::least_without, crate::specs::Laws::Readiness::least_alone, crate::specs::Laws::Readiness::least_of_both))]
-fn least_wait_with(row: &Row, time: Timestamp, least: Option<u64>) -> Option<u64>
-    ensures { result ≡ least_with time.0 (member_of row.now) least }
+// The wait of a member that is Active or Standby.
+#[tactic(auto, using(crate::specs::Laws::Readiness::no_wait, crate::specs::Laws::Readiness::waits))]
+fn wait_of(row: &Row, time: Timestamp) -> Option<u64>
+    ensures { result ≡ wait_of time.0 (member_of row.now) }
 {
-    let membership = membership(row);
-    if !may_carry(membership.state) {
-        return least;
+    if !may_carry(member_state(row)) {
+        return None;
     }
-    let wait = time_until_send(leg(row), time);
-    let Some(other) = least else {
-        return Some(wait);
-    };
-    Some(wait.min(other))
+    Some(time_until_send(leg(row), time))
 }
 
 // The least time until a send of the Active and Standby members.
-#[tactic(auto, using(crate::specs::Laws::Readiness::least_start, crate::specs::Laws::Readiness::wait_or))]
 pub fn group_time_until_send(rows: &[Row], time: Timestamp) -> u64
     ensures { result ≡ group_time_until_send time.0 (members_in rows.now) }
 {
-    let mut least = None;
-    for index in (0..rows.len()).rev() {
-        least = least_wait_with(&rows[index], time, least);
-    }
-    least.unwrap_or(NO_MEMBER_WAIT)
+    rows.iter()
+        .filter_map(|row| wait_of(row, time))
+        .min()
+        .unwrap_or(NO_MEMBER_WAIT)
 }
 
 // ---- Backup: whether the next send could go, with the take-over that it would make
 
 // Another member carried the last send.
-// Kept (1): `is_some_and` was tried, and the proof did not close: what its closure promises is out of an answer's reach.
-#[tactic(auto, using(crate::specs::Laws::BackupReadiness::nobody_carries, crate::specs::Laws::BackupReadiness::some_carry))]
 pub fn takes_over(sending: Sending, id: u64) -> bool
     ensures { result ≡ is_other_carrier id sending }
 {
-    let Some(carrier) = sending.carrier() else {
-        return false;
-    };
-    carrier != id
+    sending.carrier().is_some_and(|carrier| carrier != id)
 }
 
 // The sequence of the oldest entry of the history.
@@ -117,6 +105,7 @@ fn replay_sequence(takes: bool, sending: Sending, history: &HistoryWords) -> Opt
 }
 
 // A history that lost entries cannot be replayed.
+// Kept (1): the gap is a word of the lent record, asked here and in a replay alone: a method for two places is no plainer.
 #[tactic(auto, using(crate::specs::Laws::BackupReadiness::allows_when))]
 fn gap_allows(takes: bool, replay: usize, gap: u64) -> bool
     ensures { result ≡ gap_allows takes replay gap }
@@ -125,15 +114,10 @@ fn gap_allows(takes: bool, replay: usize, gap: u64) -> bool
 }
 
 // Whether the leg stands at the sequence, or can be brought there because nothing of it is in flight.
-// Kept (1): `is_none_or` was tried, and the proof did not close, as in `takes_over`.
-#[tactic(auto, using(crate::specs::Laws::BackupReadiness::stands_anywhere, crate::specs::Laws::BackupReadiness::stands_if))]
 fn stands_at(leg: Leg, sequence: Option<u64>) -> bool
     ensures { result ≡ stands_at sequence leg }
 {
-    let Some(number) = sequence else {
-        return true;
-    };
-    (leg.sender.next == number) | (leg.sender.flight == 0)
+    sequence.is_none_or(|number| (leg.sender.next == number) | (leg.sender.flight == 0))
 }
 
 // How many entries a leg would replay.
@@ -151,14 +135,9 @@ fn could_take_over(leg: Leg, id: u64, sending: Sending, history: &HistoryWords) 
 {
     let takes = takes_over(sending, id);
     let replay = replay_length(takes, history.ring);
-    if !gap_allows(takes, replay, sending.gap) {
-        return false;
-    }
-    if remaining_window_packets(leg) <= replay as u64 {
-        return false;
-    }
-    let sequence = replay_sequence(takes, sending, history);
-    stands_at(leg, sequence)
+    gap_allows(takes, replay, sending.gap)
+        && (replay as u64) < remaining_window_packets(leg)
+        && stands_at(leg, replay_sequence(takes, sending, history))
 }
 
 // Whether a member could carry the next send.
@@ -173,14 +152,9 @@ pub fn backup_member_ready(
         (member_of row.now) result }
 {
     let leg = leg(row);
-    if !ready_to_send(leg, pacing) {
-        return false;
-    }
-    if leg.sender.started != 1 {
-        return false;
-    }
-    let membership = membership(row);
-    could_take_over(leg, membership.id, sending, history)
+    ready_to_send(leg, pacing)
+        && has_sender(leg)
+        && could_take_over(leg, member_id(row), sending, history)
 }
 
 // Whether the first active member could carry the next send or, if its window is full, the one that would be promoted.

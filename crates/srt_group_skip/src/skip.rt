@@ -1,6 +1,7 @@
 // The skip: when a missing packet is passed over for good. A gap is skipped once it is given up and every queue was found empty.
 // Kept (5, 6): a step that moves tables takes them one beside the other: a struct of `&mut` asks for loans that a call does not need, and for a clause to each field, that its slice is still the caller's (tried); what holds of them is one fact, `Usable` or `Deliverable`.
 // Kept (5): what goes by value beside them is the group's record, which a step gives back, and the one or two numbers that this step is about; a struct of those would be made for a single call and is no plainer.
+// Kept (1): the record's flag of the continuation is asked as the word that it is, as the definitions ask it.
 ghost use Rattle.std.specs.Prelude.{◌≡◌, List, ℕ, length};
 ghost use Rattle.srt_group_model.specs.State.{State};
 ghost use Rattle.srt_group_model.specs.Delivery.{skip_nearest, skip_after, base_stays, skip_given_up_gap};
@@ -83,13 +84,9 @@ fn base_stays(core: Core, members: &[u64], pending: &[u64], time: Timestamp, bas
     ensures { (others : Rest) (waiting : List ℕ)
         → result ≡ base_stays time.0 base (shown core others members.now pending.now waiting) }
 {
-    if is_held(pending, core.counts.pending, base) {
-        return true;
-    }
-    if core.visit.continuation != 0 {
-        return true;
-    }
-    !gap_given_up(core, members, pending, time)
+    is_held(pending, core.counts.pending, base)
+        || core.visit.continuation != 0
+        || !gap_given_up(core, members, pending, time)
 }
 
 // The give-up test is made once, before the queues are collected: what they bring does not take it back.

@@ -1,8 +1,10 @@
 // Document 01's code 6 in one pass over each lent table and one over the history: each row is read once, tested by itself and against the
 // rows before it, and the cell that it names is marked. The held packets go before the members: each is added to the account of its
 // member, or to that of the group, and then each member is compared with its own.
+// A rule's test and the mark of a cell stand apart, since the mark changes the set.
 // Kept (5, 6): the tables are words that a C host lends, with their counts of rows, and this is the test of them; of the set see cells.rt.
-// Kept (3): a pass changes the set at each step and ends at the first row that breaks a rule; a chain with a closure over the set is no plainer.
+// Kept (3): a pass changes the set at each step and ends at the first row that breaks a rule. In a chain a closure would hold the set, and what it ends as
+// would be said by an invariant of the closure's calls in place of the loop's: no plainer.
 ghost use Rattle.std.specs.Prelude.{◌≡◌, false, ◌++◌, ◌*◌, ◌≤◌, length};
 ghost use Rattle.srt_group_model.specs.Tools.{each};
 ghost use Rattle.srt_group_model.specs.Members.{id_of};

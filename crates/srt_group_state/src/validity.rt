@@ -1,7 +1,8 @@
 // Document 01's code 6, "the lent state breaks a rule". The history is read only where it has entries.
-// Kept (5): the struct of the lent tables, `LentGroup`, stands above this crate, in srt_group_refusals, which calls this test; a second one
-// below it, for that call alone, is no plainer.
+// Kept (5): what the test promised at the beginning is over the tables as they are lent; over `LentGroup`, moved down here, the public name would ask
+// for a struct where tables stood.
 // Kept (6): a C host lends the tables as words, with the counts of their rows in the record (docs/TABLES.md).
+// Kept (1): a mode or a flag is tested here as the word that it is, against the largest that the rule allows: 1.
 ghost use Rattle.std.specs.Prelude.{◌≡◌, not, ◌≤◌, length};
 ghost use Rattle.srt_group_model.specs.Validity.{any_above};
 ghost use Rattle.srt_protocol.specs.Handshake.{has_group_mask};

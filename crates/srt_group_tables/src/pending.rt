@@ -211,8 +211,7 @@ fn move_up(index: &mut [u64], start: usize, from: usize, end: usize, width: usiz
     requires from_le_end { (from ≤ end) × (end + width ≤ index_size) }
     ensures { MovedUp width start index.old from end index.new }
 {
-    for moved in 0..end - from {
-        let at = end - moved - 1;
+    for at in (from..end).rev() {
         index[(start + (at + width)) % INDEX_WORDS] = index[(start + at) % INDEX_WORDS];
     }
 }
@@ -344,9 +343,7 @@ pub fn remove_covered(pending: &mut [u64], count: usize, covered: Covered) -> us
     requires within { Within count covered }
     ensures { (result ≤ count) × Holds (length pending.old) pending.new result (packets_elsewhere count covered pending.old) }
 {
-    let from = covered.from;
-    let end = covered.end;
-    let low = covered.low;
+    let Covered { low, from, end } = covered;
     remove_range(pending, count, from, end);
     let rest = count - (end - from);
     remove_range(pending, rest, 0, low);

@@ -27,6 +27,7 @@ fn read_waiting(row: &[u64; WAITING_WORDS]) -> Waiting
     }
 }
 
+// Kept (6): tried as a lent array of three words: the proof of `push_back` did not close.
 #[tactic(auto, unfolding(crate::specs::Waitings::waiting_words))]
 fn write_waiting(row: &mut [u64], event: Waiting)
     requires { length row.old ≡ waiting_row_size }

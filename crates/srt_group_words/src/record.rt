@@ -17,6 +17,7 @@ use srt_protocol::error::{Error, outcome_number};
 pub const RECORD: usize = 20;
 
 // What a call answers that is lent too few words for its record, its answer or its list: the number of `Error::InsufficientBuffer`.
+// Kept (1): C reads the number, and a constant cannot be made by `From`.
 pub const SHORT: u32 = 5;
 
 // ---- what the words show, by the record's parts

@@ -4,7 +4,7 @@ ghost use Rattle.srt_protocol.specs.Time.{later, elapsed};
 
 // A moment in microseconds.
 #[repr(C)]
-#[derive(Clone, Copy, PartialEq, Eq, PartialOrd, Ord, Debug)]
+#[derive(Clone, Copy, Default, PartialEq, Eq, PartialOrd, Ord, Debug)]
 pub struct Timestamp(pub u64);
 
 impl Timestamp {

@@ -1,6 +1,7 @@
 // The tables' operations under plain names, for bench/tables to time beside Rust's BTreeMap and VecDeque. A measuring crate: no
 // product links it.
 // Kept (5, 6): each table is a parameter of its own, as the measuring program lends it over the C interface.
+// Kept (1): a place or cell that is none is answered as a number: the measuring program reads one word.
 
 #![tactic(auto)]
 

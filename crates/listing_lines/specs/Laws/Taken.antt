@@ -8,11 +8,11 @@ use Rattle.std.proofs.lemmas.List.{take-set, take_more_set}
 use denote.Ref.{Bor}
 use Rattle.listing.specs.Line.{well_formed, line_numbers}
 use Rattle.listing.specs.Stream.{first_line, after_feed, ended, open_line, last_line}
-use Rattle.listing.specs.Held.{Held, HeldRead, TakenFrom}
+use Rattle.listing.specs.Held.{Held, SameBuffer, HeldRead, TakenFrom}
 use Rattle.listing.specs.declared.MalformedLine.{MalformedLine}
 use Rattle.listing.specs.declared.stream.OpenLine.{OpenLine}
 use Rattle.listing.proofs.Cases.{by_cases}
-use Rattle.listing.proofs.StreamLaws.{ended_at_feed, ended_without_feed, first_line_all, held_nothing, held_is_nothing, held_some}
+use Rattle.listing.proofs.StreamLaws.{ended_at_feed, ended_without_feed, first_line_all, held_nothing, held_is_nothing, held_some, same_buffer_then}
 use Rattle.listing.proofs.WholeLaws.{feed_behind_first_line}
 use Rattle.listing_lines.specs.Taken.{LinesTakenFrom, LineTakenFrom, LastLineTaken}
 
@@ -25,70 +25,73 @@ long_malformed line h = let other : length line ≡ 8 * 11 → ⊥ = λ e. omega
 
 -- a line that is held with room for 88 bytes or more is read as its numbers
 pub held_numbers :
-    {n : ℕ} (held : OpenLine n) (line row row_after : List ℕ) (told : Result (Unit {0}) MalformedLine) → 88 ≤ n → length row ≡ 8
+    (held : OpenLine) (line row row_after : List ℕ) (told : Result (Unit {0}) MalformedLine) → 88 ≤ length held.bytes.now → length row ≡ 8
     → HeldRead 11 held row row_after told → Held line held → row_after ≡ line_numbers 8 11 line
-held_numbers {n} held line row row_after told room eight read holds = by_cases (leb (length line) n)
+held_numbers held line row row_after told room eight read holds = by_cases (leb (length line) (length held.bytes.now))
     (λ short. put ∙ rw short)
     (λ long.
-    let more = leb-false (length line) n long in
+    let more = leb-false (length line) (length held.bytes.now) long in
     put ∙ (rw long (sym (long_malformed line (omega arith)))))
   where
-    put : row_after ≡ cond (leb (length line) n) (line_numbers 8 11 line) (0 ∷ 0 ∷ 0 ∷ 0 ∷ 0 ∷ 0 ∷ 0 ∷ 0 ∷ [])
+    put : row_after ≡ cond (leb (length line) (length held.bytes.now)) (line_numbers 8 11 line) (0 ∷ 0 ∷ 0 ∷ 0 ∷ 0 ∷ 0 ∷ 0 ∷ 0 ∷ [])
     put = rw eight at (read.put line holds)
 
 -- a block without line feed is held
 pub none_ended :
-    {n : ℕ} (block : List ℕ) (held after : OpenLine n) (row : List ℕ) → TakenFrom block held after None → LineTakenFrom block held after row None
+    (block : List ℕ) (held after : OpenLine) (row : List ℕ) → TakenFrom block held after None → LineTakenFrom block held after row None
 none_ended block held after row took =
-    record { taken = (took.behind, λ line h. rw (first_line_all block took.behind).0 at (took.holds line h)) }
+    record { same = took.same; taken = (took.behind, λ line h. rw (first_line_all block took.behind).0 at (took.holds line h)) }
 
 -- a line that a line feed ended is read
 pub line_ended :
-    {n : ℕ} (block : List ℕ) (held between after : OpenLine n) (row row_after : List ℕ) (told : Result (Unit {0}) MalformedLine) (rest : Bor (List ℕ))
-    → TakenFrom block held between (Some rest) → HeldRead 11 between row row_after told → 88 ≤ n → length row ≡ 8
-    → after.size ≡ 0 → LineTakenFrom block held after row_after (Some rest)
-line_ended block held between after row row_after told rest took read room eight none =
+    (block : List ℕ) (held between after : OpenLine) (row row_after : List ℕ) (told : Result (Unit {0}) MalformedLine) (rest : Bor (List ℕ))
+    → TakenFrom block held between (Some rest) → HeldRead 11 between row row_after told → 88 ≤ length held.bytes.now → length row ≡ 8
+    → SameBuffer between after → after.size ≡ 0 → LineTakenFrom block held after row_after (Some rest)
+line_ended block held between after row row_after told rest took read room eight same none =
     record {
+      same = same_buffer_then took.same same;
       taken = (
         took.behind.0,
         took.behind.1,
         held_nothing after none,
-        λ line h. held_numbers between (line ++ first_line block) row row_after told room eight read (took.holds line h),
+        λ line h. held_numbers between (line ++ first_line block) row row_after told (omega (arith, took.same.room)) eight read (took.holds line h),
       );
     }
 
 -- ---- the lines of a block, one by one
 
 -- a line began before a block, and the rest is left of the block: what is held now, with which the rest ends and leaves open the same
-pub record Behind {n : ℕ} (start block rest : List ℕ) (after : OpenLine n) (rows : List (List ℕ)) : Type 0 where
+pub record Behind (start block rest : List ℕ) (after : OpenLine) (rows : List (List ℕ)) : Type 0 where
   pub now : List ℕ
   pub holds : Held now after
   pub filled : map (line_numbers 8 11) (ended start block) ≡ rows ++ map (line_numbers 8 11) (ended now rest)
   pub leaves : open_line start block ≡ open_line now rest
 
 -- the front of a block is taken, and the rest is left
-pub record TakenSoFar {n : ℕ} (block rest : List ℕ) (held after : OpenLine n) (rows : List (List ℕ)) (count : ℕ) : Type 0 where
+pub record TakenSoFar (block rest : List ℕ) (held after : OpenLine) (rows : List (List ℕ)) (count : ℕ) : Type 0 where
+  pub same : SameBuffer held after
   pub few : count + length rest ≤ length block
   pub behind : (start : List ℕ) → Held start held → Behind start block rest after (take count rows)
 
-pub none_so_far : {n : ℕ} (block : List ℕ) (held : OpenLine n) (rows : List (List ℕ)) → TakenSoFar block block held held rows 0
+pub none_so_far : (block : List ℕ) (held : OpenLine) (rows : List (List ℕ)) → TakenSoFar block block held held rows 0
 none_so_far block held rows =
-    record { few = omega arith; behind = λ start h. record { now = start; holds = h; filled = refl; leaves = refl } }
+    record { same = record { reference = refl; room = refl }; few = omega arith; behind = λ start h. record { now = start; holds = h; filled = refl; leaves = refl } }
 
 -- where nothing is left all is taken
 pub all_taken :
-    {n : ℕ} {block : List ℕ} {held after : OpenLine n} {rows : List (List ℕ)} {count : ℕ} (rest : List ℕ)
+    {block : List ℕ} {held after : OpenLine} {rows : List (List ℕ)} {count : ℕ} (rest : List ℕ)
     → TakenSoFar block rest held after rows count → length rest ≤ 0 → LinesTakenFrom block held after rows count
 unfolding ended open_line
 all_taken {block = block} {after = after} {rows = rows} {count = count} [] so none =
     record {
+      same = so.same;
       few = omega (arith, so.few);
       filled = λ line h. sym (append-nil (take count rows)) ∙ sym (so.behind line h).filled;
       open_held = λ line h. rw (so.behind line h).leaves (so.behind line h).holds;
     }
 all_taken (byte ∷ rest) so none = absurd (omega arith)
 
-module _ {n : ℕ} {block rest : List ℕ} {held between : OpenLine n} {rows : List (List ℕ)} {count : ℕ} (so : TakenSoFar block rest held between rows count) {after : OpenLine n} (row : List ℕ) where
+module _ {block rest : List ℕ} {held between : OpenLine} {rows : List (List ℕ)} {count : ℕ} (so : TakenSoFar block rest held between rows count) {after : OpenLine} (row : List ℕ) where
   -- a line more
   pub one_more :
       (left : Bor (List ℕ)) → count < length rows → LineTakenFrom rest between after row (Some left)
@@ -99,6 +102,7 @@ module _ {n : ℕ} {block rest : List ℕ} {held between : OpenLine n} {rows : L
       let split = ap length (feed_behind_first_line rest feed) ∙ length-append (first_line rest) (10 ∷ after_feed rest) in
       let shown = take_more_set rows count row inside in
       record {
+        same = same_buffer_then so.same step.same;
         few = rw is (omega (arith, so.few));
         behind = λ start h.
             let b = so.behind start h in
@@ -116,6 +120,7 @@ module _ {n : ℕ} {block rest : List ℕ} {held between : OpenLine n} {rows : L
   pub no_more : LineTakenFrom rest between after row None → LinesTakenFrom block held after (set rows count row) count
   no_more step =
       record {
+        same = same_buffer_then so.same step.same;
         few = omega (arith, so.few);
         filled = λ line h.
             let b = so.behind line h in
@@ -133,11 +138,11 @@ last_line_one [] some = absurd (omega arith)
 last_line_one (byte ∷ line) some = refl
 
 pub last_line_taken :
-    {n : ℕ} (held : OpenLine n) (row row_after : List ℕ) (told : Result (Unit {0}) MalformedLine) → (held.size ≡ 0 → ⊥) → 88 ≤ n → length row ≡ 8
+    (held : OpenLine) (row row_after : List ℕ) (told : Result (Unit {0}) MalformedLine) → (held.size ≡ 0 → ⊥) → 88 ≤ length held.bytes.now → length row ≡ 8
     → HeldRead 11 held row row_after told → LastLineTaken held (Some row_after)
 last_line_taken held row row_after told some room eight read =
     λ line h. rw (last_line_one line (held_some line held (omega arith) h), held_numbers held line row row_after told room eight read h)
 
-pub no_last_line : {n : ℕ} (held : OpenLine n) → held.size ≡ 0 → LastLineTaken held None
+pub no_last_line : (held : OpenLine) → held.size ≡ 0 → LastLineTaken held None
 unfolding last_line
 no_last_line held none = λ line h. rw (held_is_nothing line held none h)

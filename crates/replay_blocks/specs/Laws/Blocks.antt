@@ -24,6 +24,6 @@ blocks_replayed blocks =
 -- ---- the code
 
 -- where no line is left nothing is answered
-pub none_answered : {n most : ℕ} {held : OpenLine n} (s : Option State) (out : List ℕ) → LastLineTaken held None → LastAnswered most held s out 0
+pub none_answered : {held : OpenLine} (s : Option State) (out : List ℕ) → LastLineTaken held None → LastAnswered held s out 0
 unfolding texts answers_from
 none_answered s out takes = record { inside = omega arith; text = λ line h. rw (takes line h) }

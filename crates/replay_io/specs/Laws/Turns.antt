@@ -16,7 +16,8 @@ use Rattle.srt_group_model.specs.Listing.{replay}
 use Rattle.replay_rows.specs.Rows.{after_line, print_of, group_after, prints_from}
 use Rattle.replay_rows.specs.Laws.Rows.{prints_are_replay}
 use Rattle.replay_blocks.specs.Blocks.{replayed, numbers}
-use Rattle.replay_io.specs.declared.turns.State.{State}
+use Rattle.listing.specs.declared.stream.OpenLine.{OpenLine}
+use Rattle.srt_group_model.specs.State.{State}
 use Rattle.replay_io.specs.Turns.{BlockRead, BlockReplayed, LastReplayed, ListingReplayed}
 
 -- ---- known bytes, one text after another
@@ -44,36 +45,36 @@ consumes_then (Some xs) (Some ys) (Some zs) a b x y = x ∙ ap (λ (t : List ℕ
 -- ---- a turn
 
 -- where no byte was read nothing is answered
-pub none_replayed : {n : ℕ} (s : State n) (written : Option (List ℕ)) → BlockReplayed [] s s written written
+pub none_replayed : (held : OpenLine) (s : Option State) (written : Option (List ℕ)) → BlockReplayed [] held held s s written written
 unfolding ended open_line texts answers_from state_after
-none_replayed s written = record { text = λ line h. appends_nothing written; group = λ line h. refl; open_held = λ line h. h }
+none_replayed held s written = record { text = λ line h. appends_nothing written; group = λ line h. refl; open_held = λ line h. h }
 
 -- ---- all turns
 
 -- the beginning of a listing is read, and the lines that end in it are answered
-pub record ReplayedSoFar {n : ℕ} (s : State n) (left₀ left written₀ written : Option (List ℕ)) : Type 0 where
+pub record ReplayedSoFar (held : OpenLine) (s : Option State) (left₀ left written₀ written : Option (List ℕ)) : Type 0 where
   pub beginning : List ℕ
   pub read : Consumes left₀ left beginning
   pub text : Appends written₀ written (texts (prints_from None (numbers (ended [] beginning))))
-  pub group : s.replay ≡ group_after None (numbers (ended [] beginning))
-  pub open_held : Held (open_line [] beginning) s.line
+  pub group : s ≡ group_after None (numbers (ended [] beginning))
+  pub open_held : Held (open_line [] beginning) held
 
-pub none_so_far : {n : ℕ} (s : State n) (left written : Option (List ℕ)) → s.replay ≡ None → s.line.size ≡ 0 → ReplayedSoFar s left left written written
+pub none_so_far : (held : OpenLine) {s : Option State} (left written : Option (List ℕ)) → s ≡ None → held.size ≡ 0 → ReplayedSoFar held s left left written written
 unfolding ended open_line texts answers_from state_after
-none_so_far s left written none empty =
+none_so_far held left written none empty =
     record {
       beginning = [];
       read = consumes_nothing left;
       text = appends_nothing written;
       group = none;
-      open_held = held_nothing s.line empty;
+      open_held = held_nothing held empty;
     }
 
-module _ {n : ℕ} {s : State n} {left₀ left written₀ written : Option (List ℕ)} where
+module _ {held : OpenLine} {s : Option State} {left₀ left written₀ written : Option (List ℕ)} where
   -- a block more
-  pub further : {s' : State n} {block : List ℕ} {left' written' : Option (List ℕ)} {count : ℕ}
-      → ReplayedSoFar s left₀ left written₀ written → BlockRead left left' count block → BlockReplayed (take count block) s s' written written'
-      → ReplayedSoFar s' left₀ left' written₀ written'
+  pub further : {held' : OpenLine} {s' : Option State} {block : List ℕ} {left' written' : Option (List ℕ)} {count : ℕ}
+      → ReplayedSoFar held s left₀ left written₀ written → BlockRead left left' count block → BlockReplayed (take count block) held held' s s' written written'
+      → ReplayedSoFar held' s' left₀ left' written₀ written'
   further {block = block} {left' = left'} {written' = written'} {count = count} so read done =
       let a = so.beginning in
       let b = take count block in
@@ -95,8 +96,8 @@ module _ {n : ℕ} {s : State n} {left₀ left written₀ written : Option (List
       }
 
   -- the listing's end
-  pub whole : {written' : Option (List ℕ)} → ReplayedSoFar s left₀ left written₀ written → IsAtEnd left
-      → LastReplayed s written written' → ListingReplayed left₀ left written₀ written'
+  pub whole : {written' : Option (List ℕ)} → ReplayedSoFar held s left₀ left written₀ written → IsAtEnd left
+      → LastReplayed held s written written' → ListingReplayed left₀ left written₀ written'
   unfolding replayed replay lines_of_blocks joined
   whole {written' = written'} so end done =
       let a = so.beginning in
@@ -118,7 +119,7 @@ module _ {n : ℕ} {s : State n} {left₀ left written₀ written : Option (List
       }
 
   -- the same where only the outcome says whether the last line was written
-  pub whole_if : {T E : Type 0} (outcome : Result T E) (written' : Option (List ℕ)) → ReplayedSoFar s left₀ left written₀ written
-      → IsAtEnd left → OnOk outcome (LastReplayed s written written') → OnOk outcome (ListingReplayed left₀ left written₀ written')
+  pub whole_if : {T E : Type 0} (outcome : Result T E) (written' : Option (List ℕ)) → ReplayedSoFar held s left₀ left written₀ written
+      → IsAtEnd left → OnOk outcome (LastReplayed held s written written') → OnOk outcome (ListingReplayed left₀ left written₀ written')
   whole_if (Ok x) written' so end done = whole so end done
   whole_if (Err e) written' so end done = tt

@@ -45,21 +45,6 @@ unknown_has_no_turn field n l none =
     let no_acknowledgement : eqb field 5 ≡ false = ne_eqb field 5 (λ is. some_is_not_none _ (rw is at none)) in
     rw (no_state, no_acknowledgement)
 
-pub no_turn : (f : Field) (field n : ℕ) (l : Leg) → IsField f field → (f ≡ State → ⊥) → (f ≡ Acknowledged → ⊥) → goes_back field n l ≡ false
-unfolding goes_back field_number
-no_turn State field n l is state acknowledged = absurd (state refl)
-no_turn Window field n l is state acknowledged = rw is
-no_turn ReceiveWindow field n l is state acknowledged = rw is
-no_turn Latency field n l is state acknowledged = rw is
-no_turn Acknowledged field n l is state acknowledged = absurd (acknowledged refl)
-no_turn Srtt field n l is state acknowledged = rw is
-no_turn Rttvar field n l is state acknowledged = rw is
-no_turn LastHeard field n l is state acknowledged = rw is
-no_turn PaceTime field n l is state acknowledged = rw is
-no_turn PeerGroup field n l is state acknowledged = rw is
-no_turn PayloadLimit field n l is state acknowledged = rw is
-no_turn OldestSendTime field n l is state acknowledged = rw is
-
 -- ---- what a field's row of `readings` tells
 
 -- the row of a field is the row of its number

@@ -8,4 +8,4 @@ pub returns : goal.returns
 returns c =
     let count = c.args.count in
     reservation_changed (λ n. n - count) c.put_reservation_at.ensures
-    (c.less-reserved.ensures ∙ ap (λ (n : ℕ). n - count) c.reservation_at.ensures)
+    (c.saturating_sub-reserved.ensures ∙ ap (λ (n : ℕ). n - count) c.reservation_at.ensures)

@@ -21,12 +21,12 @@ use Rattle.word_rows.specs.Tab.{tab}
 use Rattle.word_rows.specs.Laws.Tab.{tab_length, tab_push}
 use Rattle.srt_connection_queue.specs.Laws.Tab.{tab_place, tab_change, tab_without, tab_each, place_below, tab_passes}
 use Rattle.word_rows.specs.Rows.{row_at, Closed}
-use Rattle.word_rows.specs.Laws.Rows.{chunk_there, row_same, row_part, chunks_read}
+use Rattle.word_rows.specs.Laws.Rows.{row_same, row_part, chunks_read}
 use Rattle.srt_connection_queue.specs.Row.{put_row}
 use Rattle.srt_connection_queue.specs.Laws.Row.{row_put, row_put_other, put_length}
 use Rattle.srt_connection_queue.specs.Rows.{row_size, member_of, Kept, with_membership}
-use Rattle.srt_connection_queue.specs.Queue.{cleared, Pushed, queue_after, Polled}
-use Rattle.srt_connection_members.specs.Members.{member_at, members_of, members_in, member_in, HasRow, new_member, RowLent, Changed, PushedAt, PolledAt, ChangedAll, Appended, Removed}
+use Rattle.srt_connection_queue.specs.Queue.{Pushed, queue_after, Polled}
+use Rattle.srt_connection_members.specs.Members.{member_at, members_of, members_in, member_in, HasRow, RowLent, Changed, PushedAt, PolledAt, ChangedAll, Appended, Removed}
 
 -- ---- laws
 
@@ -42,11 +42,6 @@ members_place n t i h = tab_place n (member_at t) i h
 pub lent_member : (t : List ℕ) (i : ℕ) → member_of (take (i * row_size + row_size - i * row_size) (drop (i * row_size) t)) ≡ member_at t i
 unfolding member_at
 lent_member t i = ap member_of (row_part row_size t i)
-
--- a row that `as_chunks` lends shows the member at that index
-pub row_shows : (i k : ℕ) (t : List ℕ) → i < k → member_of (get_or (first_chunks row_size k t) i []) ≡ member_at t i
-unfolding member_at
-row_shows i k t below = ap member_of (chunk_there row_size k i t below)
 
 -- the rows that `as_chunks` lends show the members
 pub rows_show : (n k : ℕ) (t : List ℕ) → n ≤ k → members_in (take n (first_chunks row_size k t)) ≡ members_of n t
@@ -215,14 +210,6 @@ changing_done i n f t u l h c =
       others = λ j k. c.left j (omega arith);
       members = tab_each n (member_at t) (member_at u) f (λ j k. c.done j (omega arith));
     }
-
--- ---- rows that are made and moved
-
--- a new member's row: its membership, its leg, and no event
-pub new_put : (r₀ r₁ r₂ r₃ : List ℕ) (x : Membership) (l : Leg) → Kept r₁ (with_membership x (member_of r₀))
-    → Kept r₂ (with_leg l (member_of r₁)) → Kept r₃ (cleared (member_of r₂)) → Kept r₃ (new_member x l)
-new_put r₀ r₁ r₂ r₃ x l a b c =
-    record { long = c.long; is = c.is ∙ ap cleared (b.is ∙ ap (with_leg l) a.is) }
 
 -- ---- the row of an id
 

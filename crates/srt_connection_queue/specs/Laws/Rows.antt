@@ -43,17 +43,6 @@ of_nine : (P : List ℕ → Type 0) (w : List ℕ) → length w ≡ part_size �
 of_nine P w n p =
     subst P (sym (nine_words w n)) (p (word w 0) (word w 1) (word w 2) (word w 3) (word w 4) (word w 5) (word w 6) (word w 7) (word w 8))
 
--- nine stores
-pub nine : (w : List ℕ) (a b c d e f g h i : ℕ) → length w ≡ part_size
-    → set (set (set (set (set (set (set (set (set w 0 a) 1 b) 2 c) 3 d) 4 e) 5 f) 6 g) 7 h) 8 i
-    ≡ a ∷ b ∷ c ∷ d ∷ e ∷ f ∷ g ∷ h ∷ i ∷ []
-nine w a b c d e f g h i n =
-    of_nine
-    (λ (v : List ℕ).
-    set (set (set (set (set (set (set (set (set v 0 a) 1 b) 2 c) 3 d) 4 e) 5 f) 6 g) 7 h) 8 i
-    ≡ a ∷ b ∷ c ∷ d ∷ e ∷ f ∷ g ∷ h ∷ i ∷ [])
-    w n (λ a b c d e f g h i. refl)
-
 -- a receiver put into its part leaves the ring, and a ring leaves the receiver
 module _ (w : List ℕ) (n : length w ≡ part_size) where
   receiver_in_long : (x : Receiver) → length (receiver_in x w) ≡ part_size

@@ -17,6 +17,7 @@ use Rattle.srt_group_model.specs.Calls.{state_at_addition, new_member, add_body}
 use Rattle.srt_group_model.specs.declared.Core.{Core}
 use Rattle.srt_group_model.specs.declared.Leg.{Leg}
 use Rattle.srt_group_model.specs.declared.Membership.{Membership}
+use Rattle.srt_group.specs.declared.Answered.{Answered}
 use Rattle.srt_group_model.specs.declared.Sending.{Sending}
 use Rattle.word_rows.specs.Tab.{tab}
 use Rattle.word_rows.specs.Laws.Tab.{tab_push}
@@ -112,7 +113,7 @@ module _ (id weight : ℕ) (l : Leg) (core : Core) (ms : List ℕ) {state : ℕ}
 
 module _ (id weight : ℕ) (l : Leg) (core : Core) (sending : Sending) (ms : List ℕ) (after : Core) (u : List ℕ) {given : Leg}
     (handed_over : given ≡ handed l) (joins_given : Joins id weight given core ms after u)
-    {x : Membership} (is : x ≡ (member_at u core.counts.members).membership) where
+    {x : ℕ} (is : x ≡ (member_at u core.counts.members).membership.admitted) where
   abbrev count : ℕ
   count = core.counts.members
 
@@ -150,12 +151,12 @@ module _ (id weight : ℕ) (l : Leg) (core : Core) (sending : Sending) (ms : Lis
     unfolding add_body joined_by
     body_is = refl
 
-    admitted_is : x.admitted ≡ (admit_peer_group (peer_after core.peer (member ∷ [])) member).membership.admitted
-    admitted_is = ap (λ (y : Membership). y.admitted) is ∙ ap (λ (y : Member). y.membership.admitted) (joining.here others ps ws)
+    admitted_is : x ≡ (admit_peer_group (peer_after core.peer (member ∷ [])) member).membership.admitted
+    admitted_is = is ∙ ap (λ (y : Member). y.membership.admitted) (joining.here others ps ws)
 
-    not_aligned : (x.admitted ≡ 1 → ⊥) → Left (add_body id weight l before) 0 no_answer (shown after others u ps ws)
+    not_aligned : (x ≡ 1 → ⊥) → Left (add_body id weight l before) 0 no_answer (shown after others u ps ws)
     not_aligned other =
-        left_by (ended added 0) (body_is ∙ when_false _ _ _ (ap (λ (k : ℕ). eqb k 1) (sym admitted_is) ∙ ne_eqb x.admitted 1 other))
+        left_by (ended added 0) (body_is ∙ when_false _ _ _ (ap (λ (k : ℕ). eqb k 1) (sym admitted_is) ∙ ne_eqb x 1 other))
         record { code = refl; answer = refl; state = joining.state others ps ws; put = refl; sends = refl }
 
     rows_are : added.members ≡ members_of (count + 1) u
@@ -169,8 +170,8 @@ module _ (id weight : ℕ) (l : Leg) (core : Core) (sending : Sending) (ms : Lis
         ∙ ap (λ (k : ℕ). align_member_sequence (flagged (is_set sending.numbered) sending.next) k added.members) (members_length count ms)
         ∙ ap (align_member_sequence (flagged (is_set sending.numbered) sending.next) count) rows_are)
 
-    starts_aligning : x.admitted ≡ 1 → add_body id weight l before ≡ aligned aligning
-    starts_aligning one = body_is ∙ when_true _ _ _ (ap (λ (k : ℕ). eqb k 1) (sym admitted_is) ∙ eq-eqb x.admitted 1 one)
+    starts_aligning : x ≡ 1 → add_body id weight l before ≡ aligned aligning
+    starts_aligning one = body_is ∙ when_true _ _ _ (ap (λ (k : ℕ). eqb k 1) (sym admitted_is) ∙ eq-eqb x 1 one)
 
     -- the members after it, as they are shown
     shows_rows : (v : List ℕ) (ns : List Member) → members_of (count + 1) v ≡ ns → with_members ns added ≡ shown after others v ps ws
@@ -179,7 +180,7 @@ module _ (id weight : ℕ) (l : Leg) (core : Core) (sending : Sending) (ms : Lis
         ∙ members_shown after others u v ps ws ns (ap (λ (k : ℕ). members_of k v) joining.one_more ∙ are)
 
     tried : (v : List ℕ) (o : Option (List Member)) → aligning ≡ o → (answer : Bool) → answer ≡ is_some o
-        → members_of (count + 1) v ≡ (if_some o give (λ ns. ns) otherwise members_of (count + 1) u) → x.admitted ≡ 1
+        → members_of (count + 1) v ≡ (if_some o give (λ ns. ns) otherwise members_of (count + 1) u) → x ≡ 1
         → Left (add_body id weight l before) (if_true answer then 0 else 22) no_answer (shown after others v ps ws)
     unfolding if_some◌give◌otherwise◌ if_true◌then◌else◌
     tried v None e answer succeeded are one =
@@ -197,11 +198,11 @@ module _ (id weight : ℕ) (l : Leg) (core : Core) (sending : Sending) (ms : Lis
         (left_by (ended (with_members ns added) 0) (starts_aligning one ∙ ap aligned e)
         record { code = refl; answer = refl; state = shows_rows v ns are; put = refl; sends = refl })
 
-  pub adds_unaligned : (x.admitted ≡ 1 → ⊥) → Adds id weight l core sending ms record { «record» = after; answer = Ok tt } u
+  pub adds_unaligned : (x ≡ 1 → ⊥) → Adds id weight l core sending ms record { «record» = after; answer = Ok tt } u
   adds_unaligned other =
       record { long = joining.long; step = λ others same ps ws. not_aligned others same ps ws other }
 
-  module _ (one : x.admitted ≡ 1) (v : List ℕ) {answer : Bool}
+  module _ (one : x ≡ 1) (v : List ℕ) {answer : Bool}
       (attempt : Tried (count + 1)
       (align_member_sequence (flagged (is_set sending.numbered) sending.next) count (members_of (count + 1) u)) u answer v) where
     attempted : (others : Rest) → sends sending others → (ps ws : List ℕ)
@@ -221,9 +222,11 @@ module _ (id weight : ℕ) (l : Leg) (core : Core) (sending : Sending) (ms : Lis
         }
 
     -- 22: it stays added
-    pub adds_22 : answer ≡ false → Adds id weight l core sending ms record { «record» = after; answer = Err AlignmentFailed } v
+    pub adds_22 : answer ≡ false → {r : Answered Core (Unit {0})} → r.«record» ≡ after → r.answer ≡ Err AlignmentFailed
+        → Adds id weight l core sending ms r v
     unfolding if_true◌then◌else◌
-    adds_22 fails =
+    adds_22 fails kept refused =
+        subst (λ (r : Answered Core (Unit {0})). Adds id weight l core sending ms r v) (λ i. record { «record» = sym kept i; answer = sym refused i })
         record {
           long = attempt.long ∙ joining.long;
           step =

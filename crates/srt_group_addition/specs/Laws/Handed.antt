@@ -164,8 +164,11 @@ module _ (id weight : ℕ) (m : Member) (core : Core) (sending : Sending) (ms : 
   of_member : r ≡ addition_refused id weight m.leg m.queue (members_of core.counts.members ms)
   of_member = tested ∙ ap (λ (l : Leg). addition_refused id weight l m.queue (members_of core.counts.members ms)) is_leg
 
-  pub leg_refused : (e : Error) → r ≡ Err e → StepsAdding (call_of_member id weight m) core sending ms record { «record» = core; answer = Err e } ms
-  leg_refused e is =
+  pub leg_refused : (e : Error) → r ≡ Err e → {answer : Answered Core (Unit {0})} → answer.«record» ≡ core → answer.answer ≡ Err e
+      → StepsAdding (call_of_member id weight m) core sending ms answer ms
+  leg_refused e is kept refused =
+      subst (λ (a : Answered Core (Unit {0})). StepsAdding (call_of_member id weight m) core sending ms a ms)
+      (λ i. record { «record» = sym kept i; answer = sym refused i })
       record {
         over =
             λ identity ring pending waiting history sources unbroken.

@@ -1,71 +1,35 @@
 -- What is proved of the definitions in specs/OwnSend.antt, with what the proofs need.
-use Rattle.std.specs.Prelude.{◌≡◌, true, false, ℕ, ◌+◌, ◌≤◌, ◌<◌, None, Option, Some, is_some}
+use Rattle.std.specs.Prelude.{◌≡◌, true, ℕ, ◌≤◌, ◌<◌, None, Some}
 use Rattle.std.proofs.Math.Path.{refl, ap, sym}
 use Rattle.std.proofs.Common.{◌∙◌, arith}
 use mathlib.Core.List.{List, [], ◌∷◌}
 use Rattle.srt_protocol.specs.Sequence.{sequence_further}
-use Rattle.srt_group_model.specs.Tools.{if_true◌then◌else◌, if_some◌give◌otherwise◌, at_place, change}
+use Rattle.srt_group_model.specs.Tools.{if_some◌give◌otherwise◌, at_place, change}
 use Rattle.srt_group_model.specs.State.{Member, Send, State, with_send, with_members, with_leg, send_side, with_sending, with_number, with_carrier, entry_of}
 use Rattle.srt_group_model.specs.Legs.{send_shared_with_sequence}
 use Rattle.srt_group_model.specs.Members.{id_of}
-use Rattle.srt_group_model.specs.Sending.{Flow, own_payload, own_send}
+use Rattle.srt_group_model.specs.Sending.{Flow, own_send}
 use Rattle.srt_group_model.specs.Backup.{max_history, trim_backup_history, append_history, record_backup_send, send_own}
 use Rattle.srt_group_model.specs.declared.Entry.{Entry}
 use Rattle.srt_group_model.specs.declared.Leg.{Leg}
-use Rattle.srt_group_model.specs.declared.Membership.{Membership}
 use Rattle.srt_group_model.specs.declared.Sending.{Sending}
-use Rattle.srt_connection.specs.Laws.Answers.{result_ok, result_err}
 use Rattle.srt_connection_members.specs.Members.{member_at, members_of, Changed}
-use Rattle.srt_connection_members.specs.Laws.Members.{members_place, changed_by, unchanged}
+use Rattle.srt_connection_members.specs.Laws.Members.{members_place, changed_by}
 use Rattle.srt_group_tables.specs.Ring.{Arrays, Long, Packs, with_entry, next_place, after_push, send_of}
 use Rattle.srt_group_tables.specs.Laws.Ring.{with_newest, pushed, push_fits}
 use Rattle.srt_group_tables.specs.declared.history.HistoryRing.{HistoryRing}
-use Rattle.srt_group_sending.specs.SentList.{SendTables, send_tables, sent_row, Wrote}
-use Rattle.srt_group_sending.specs.Laws.SentList.{wrote_nothing}
+use Rattle.srt_group_sending.specs.SentList.{SendTables}
 use Rattle.srt_group_backup.specs.declared.trimming.SendHistory.{SendHistory}
 use Rattle.srt_group_backup.specs.Trimming.{SendTrimmed}
-use Rattle.srt_group_backup.specs.OwnSend.{after_own_send, SentOn, SendRecorded}
+use Rattle.srt_group_sending.specs.OwnSend.{SentOn}
+use Rattle.srt_group_sending.specs.Laws.OwnSend.{with_some}
+use Rattle.srt_group_backup.specs.OwnSend.{SendRecorded}
 
 -- ---- definitions
 
 -- the numbers of sending once a send at a sequence was the last, and who carried it
 abbrev pub carried_by : (carrier sequence : ℕ) → Sending → Sending
 carried_by carrier sequence x = with_carrier carrier (with_number (sequence_further sequence 1) x)
-
--- ---- the send
-
-module _ (time size sequence i sent : ℕ) (t list : List ℕ) {l : Leg} {result : Option Leg} (leg : l ≡ (member_at t i).leg)
-    (is : result ≡ send_shared_with_sequence time size sequence l) where
-  its_send : (o : Option Leg) → send_shared_with_sequence time size sequence l ≡ o
-      → send_shared_with_sequence time size sequence (member_at t i).leg ≡ o
-  its_send o same = ap (send_shared_with_sequence time size sequence) (sym leg) ∙ same
-
-  pub own_not_sent : result ≡ None → SentOn time size sequence i sent (send_tables t list) false (send_tables t list)
-  unfolding if_true◌then◌else◌ if_some◌give◌otherwise◌
-  own_not_sent err =
-      record {
-        succeeded = sym (rw failed);
-        changed = changed_by i t t (after_own_send time size sequence) (unchanged i t) (sym (rw failed));
-        written = wrote_nothing sent list;
-      }
-    where
-      failed : send_shared_with_sequence time size sequence (member_at t i).leg ≡ None
-      failed = its_send None (result_err (send_shared_with_sequence time size sequence l) (sym err ∙ is))
-
-  pub own_sent : {x : Membership} {u list_after : List ℕ} (k : Leg) → result ≡ Some k
-      → x ≡ (member_at t i).membership → Changed i (with_leg k) t u
-      → Wrote sent (sent_row x.id sequence own_payload time time ∷ []) list (sent + 1) list_after
-      → SentOn time size sequence i sent (send_tables t list) true (send_tables u list_after)
-  unfolding if_true◌then◌else◌ if_some◌give◌otherwise◌
-  own_sent {x} {u} {list_after} k ok member c wrote =
-      record {
-        succeeded = sym (rw succeeds);
-        changed = changed_by i t u (after_own_send time size sequence) c (sym (rw succeeds));
-        written = rw member at wrote;
-      }
-    where
-      succeeds : send_shared_with_sequence time size sequence (member_at t i).leg ≡ Some k
-      succeeds = its_send (Some k) (result_ok (send_shared_with_sequence time size sequence l) k (sym ok ∙ is))
 
 -- ---- what is recorded
 
@@ -129,10 +93,6 @@ module _ (time size cell sequence i n : ℕ) (t : List ℕ) (below : i < n) (fai
     where
       flow : Send → List Member → Flow
       flow z ns = record { state = with_send z (with_members ns s); sends = own_send time sequence (member_at t i) ∷ []; code = 0 }
-
-with_some : {B : Type 0} (o : Option Leg) → true ≡ is_some o → ((l : Leg) → o ≡ Some l → B) → B
-with_some None is go = let different : ◌≡◌ {A = ℕ} 0 1 = cc is in absurd (omega arith)
-with_some (Some l) is go = go l refl
 
 -- a `send_on` that succeeded and `record_backup_send` make the model's `send_own`
 module _ (time size cell sequence i n : ℕ) (before after : SendTables) (below : i < n) (failed : Member → State → Flow) (s : State)

@@ -63,7 +63,7 @@ no_more sends l whole = ap (λ (ss : List Sent). with_sends ss record { leg = l;
 replay_as : (time id : ℕ) (es : List Entry) (l : Leg) (sent : ℕ) (before : List ℕ) (here : Leg) (whole : Bool) (sends : List Sent)
     (n : ℕ) (after : List ℕ) (outcome : Outcome) → outcome_number outcome ≡ (if_true whole then 0 else 28)
     → replay_entries time id es l ≡ record { leg = here; sends = sends; whole = whole } → Wrote sent sends before n after → n ≤ sent + max_history
-    → EntriesReplayed time id es l sent before record { outcome = outcome; leg = here; sent = n } after
+    → EntriesReplayed time id es l sent before record { outcome = outcome; state = here; sent = n } after
 replay_as time id es l sent before here whole sends n after outcome code same written few =
     record {
       outcome = code ∙ sym (ap (λ (x : backup.Replayed). if_true x.whole then 0 else 28) same);
@@ -128,7 +128,7 @@ module _ (time id : ℕ) (r : HistoryRing) (a : Arrays) (l : Leg) (sent : ℕ) (
             (replay_entries time id (drop (index + 1) (entries_of r a)) k).sends))
 
     pub replay_stopped : index < r.length → r.length ≤ max_history → result ≡ None
-        → EntriesReplayed time id (entries_of r a) l sent before record { outcome = Err ReplayRefused; leg = here; sent = sent + index } after
+        → EntriesReplayed time id (entries_of r a) l sent before record { outcome = Err ReplayRefused; state = here; sent = sent + index } after
     unfolding if_some◌give◌otherwise◌ if_true◌then◌else◌
     replay_stopped more fits err =
         rw same_list
@@ -150,7 +150,7 @@ module _ (time id : ℕ) (r : HistoryRing) (a : Arrays) (l : Leg) (sent : ℕ) (
             ∙ no_more so_far.sends here false
 
   pub replay_done : r.length ≤ index → index ≤ max_history
-      → EntriesReplayed time id (entries_of r a) l sent before record { outcome = Ok tt; leg = here; sent = sent + index } list
+      → EntriesReplayed time id (entries_of r a) l sent before record { outcome = Ok tt; state = here; sent = sent + index } list
   unfolding if_true◌then◌else◌
   replay_done all fits =
       replay_as time id (entries_of r a) l sent before here true so_far.sends (sent + index) list (Ok tt) refl whole_same so_far.written (omega arith)

@@ -1,10 +1,16 @@
 -- What is proved of the definitions in specs/Stale.antt, with what the proofs need.
-use Rattle.std.specs.Prelude.{◌≡◌, Bool, ◌&&◌, List, ℕ, ◌<◌, max, ltb, None, Some}
+use Rattle.std.specs.Prelude.{◌≡◌, Bool, ◌&&◌, List, ℕ, ◌≤◌, ◌<◌, max, ltb, None, Some}
+use Rattle.std.specs.Ordering.{is_lt, nat_cmp, ord_max}
+use Rattle.std.specs.declared.cmp.Ordering.{Ordering}
 use Rattle.std.proofs.Math.Path.{refl, ap, sym}
 use Rattle.std.proofs.Common.{◌∙◌, arith}
+use Rattle.std.proofs.lemmas.Bool.Decides.{nat_tests}
+use Rattle.std.specs.Prelude.{cond}
+use Rattle.std.proofs.lemmas.Map.Keys.{ge_from_not_lt}
 use Rattle.std.proofs.Math.Bool.{true, false}
 use borrow.Author.Tests.{lt-ltb, le-ltb}
 use Rattle.srt_protocol.specs.Time.{elapsed}
+use Rattle.srt_protocol.specs.declared.time.Timestamp.{Timestamp}
 use Rattle.srt_group_model.specs.Tools.{if_true◌then◌else◌, if_some◌give◌otherwise◌, any}
 use Rattle.srt_group_model.specs.State.{Member, turned, unstable_state}
 use Rattle.srt_group_model.specs.Legs.{has_sender}
@@ -25,6 +31,18 @@ trip_fits {l} n i t below fit is =
     rw is record { srtt = fits.leg.srtt; rttvar = fits.leg.rttvar }
 
 -- ---- is it stale?
+
+-- of two moments the later one, compared by their numbers
+pub later_moment : (cmp : Timestamp → Timestamp → Ordering) {later : Timestamp} (a b : Timestamp) → later ≡ ord_max cmp a b
+    → ((x y : Timestamp) → cmp x y ≡ nat_cmp x.0 y.0) → later.0 ≡ max a.0 b.0
+later_moment cmp {later} a b is by_number =
+    ap (λ (t : Timestamp). t.0) is
+    ∙ ap (λ (o : Ordering). (cond (is_lt o) a b).0) (by_number b a)
+    ∙ by (is_lt (nat_cmp b.0 a.0)) refl
+  where
+    by : (t : Bool) → is_lt (nat_cmp b.0 a.0) ≡ t → (cond t a b).0 ≡ max a.0 b.0
+    by true e = let before : b.0 < a.0 = grind (arith, nat_tests) in omega arith
+    by false e = let not_before : a.0 ≤ b.0 = ge_from_not_lt b.0 a.0 e in omega arith
 
 module _ (time : ℕ) (l : Leg) where
   pub no_sender_not_stale : {answer : Bool} → answer ≡ has_sender l → answer ≡ false → false ≡ is_stale time l

@@ -1,16 +1,16 @@
 -- What is proved of the definitions in specs/TakeOver.antt, with what the proofs need.
 use Rattle.srt_protocol.specs.Errors.{Outcome}
-use Rattle.std.specs.Prelude.{◌≡◌, Bool, ◌&&◌, ℕ, ◌≤◌, ◌<◌, eqb, length, Err, None, Ok, Option, Some, is_some}
-use Rattle.std.proofs.Math.Path.{refl, ap, sym}
+use Rattle.std.specs.Prelude.{◌≡◌, Bool, ◌&&◌, zero, suc, ℕ, ◌≤◌, ◌<◌, eqb, length, Err, None, Ok, Option, Some, is_some}
+use Rattle.std.proofs.Math.Path.{refl, ap, sym, subst}
 use Rattle.std.proofs.Common.{◌∙◌, arith, le-leb}
-use Rattle.std.proofs.Math.Bool.{true, false}
+use Rattle.std.proofs.Math.Bool.{true, false, not}
 use mathlib.Core.List.{List, []}
 use Rattle.std.proofs.lemmas.Bool.{lt-leb}
 use Rattle.word_rows.specs.Laws.Tab.{tab_length, tab_none}
 use Rattle.srt_protocol.specs.Errors.{outcome_number}
 use Rattle.srt_protocol.specs.declared.error.Error.TheVariants.{AlignmentFailed, ReplayRefused}
 use Rattle.srt_group_model.specs.Tools.{if_true◌then◌else◌, if_some◌give◌otherwise◌, is_set, flagged, at_place, change}
-use Rattle.srt_group_model.specs.Laws.Flag.{zero_unset, other_set}
+use Rattle.srt_group_model.specs.Laws.Flag.{zero_unset, other_set, unset_none, set_some}
 use Rattle.srt_group_model.specs.State.{Member, Send, State, with_send, with_members, with_leg}
 use Rattle.srt_group_model.specs.Legs.{has_sender, remaining_window_packets, synchronize_send_sequence}
 use Rattle.srt_group_model.specs.Members.{id_of, align_leg, align_member_sequence}
@@ -19,7 +19,6 @@ use Rattle.srt_group_model.specs.Backup.{max_history, takes_over, trim_by_carrie
 use Rattle.srt_group_model.specs.Backup as backup
 use Rattle.srt_group_model.specs.declared.Entry.{Entry}
 use Rattle.srt_group_model.specs.declared.Leg.{Leg}
-use Rattle.srt_group_model.specs.declared.Membership.{Membership}
 use Rattle.srt_group_model.specs.declared.Sending.{Sending}
 use Rattle.srt_connection.specs.Laws.Answers.{result_ok, result_err}
 use Rattle.srt_connection_queue.specs.Laws.Tab.{tab_place}
@@ -28,12 +27,11 @@ use Rattle.srt_connection_members.specs.Laws.Members.{members_place}
 use Rattle.srt_group_members.specs.Scan.{Tried}
 use Rattle.srt_group_tables.specs.Ring.{Arrays, entry_at, entries_of, send_of}
 use Rattle.srt_group_tables.specs.declared.history.HistoryRing.{HistoryRing}
+use Rattle.srt_group_sending.specs.declared.flown.Flown.{Flown}
 use Rattle.srt_group_sending.specs.SentList.{send_tables}
 use Rattle.srt_group_sending.specs.Laws.SentList.{wrote_nothing}
 use Rattle.srt_group_sending.specs.BackupReadiness.{is_other_carrier}
 use Rattle.srt_group_sending.specs.Laws.BackupReadiness.{takes_over_is}
-use Rattle.srt_group_backup.specs.declared.replay.Replayed.{Replayed}
-use Rattle.srt_group_backup.specs.declared.takeover.Flight.{Flight}
 use Rattle.srt_group_backup.specs.declared.trimming.SendHistory.{SendHistory}
 use Rattle.srt_group_backup.specs.Trimming.{TrimmedByCarrier}
 use Rattle.srt_group_backup.specs.Replay.{EntriesReplayed}
@@ -56,7 +54,7 @@ module _ (time i : ℕ) (r : HistoryRing) (a : Arrays) (l : Leg) (t : List ℕ) 
 
   pub no_room_to_replay : {u : List ℕ} {room : ℕ} → room ≡ remaining_window_packets l → room ≤ r.length → Changed i (with_leg l) t u
       → FlightReplayed (replay_on time i (member_at t i) l) (HistoryIs (entries_of r a)) sent (send_tables t list)
-      record { outcome = Err ReplayRefused; sent = sent } (send_tables u list)
+      record { outcome = Err ReplayRefused; state = tt; sent = sent } (send_tables u list)
   unfolding replay_on if_true◌then◌else◌
   no_room_to_replay {u} {room} is full c =
       record {
@@ -70,14 +68,14 @@ module _ (time i : ℕ) (r : HistoryRing) (a : Arrays) (l : Leg) (t : List ℕ) 
             (ap (λ (l : List Member). flow_of (with_members l s) [] 28) (ap (change i (with_leg l)) ms ∙ sym (c.members n)));
       }
 
-  pub replayed_with_room : {u list_after : List ℕ} {room : ℕ} {x : Membership} {played : Replayed}
-      → room ≡ remaining_window_packets l → r.length < room → x ≡ (member_at t i).membership
-      → EntriesReplayed time x.id (entries_of r a) l sent list played list_after
-      → Changed i (with_leg played.leg) t u
+  pub replayed_with_room : {u list_after : List ℕ} {room id : ℕ} {played : Flown Leg}
+      → room ≡ remaining_window_packets l → r.length < room → id ≡ id_of (member_at t i)
+      → EntriesReplayed time id (entries_of r a) l sent list played list_after
+      → Changed i (with_leg played.state) t u
       → FlightReplayed (replay_on time i (member_at t i) l) (HistoryIs (entries_of r a)) sent (send_tables t list)
-      record { outcome = played.outcome; sent = played.sent } (send_tables u list_after)
+      record { outcome = played.outcome; state = tt; sent = played.sent } (send_tables u list_after)
   unfolding replay_on if_true◌then◌else◌
-  replayed_with_room {u} {list_after} {room} {x} {played} is enough member replayed c =
+  replayed_with_room {u} {list_after} {room} {id} {played} is enough member replayed c =
       record {
         long = c.long;
         few = replayed.few;
@@ -95,13 +93,13 @@ module _ (time i : ℕ) (r : HistoryRing) (a : Arrays) (l : Leg) (t : List ℕ) 
       }
     where
       whole : backup.Replayed
-      whole = replay_entries time x.id (entries_of r a) l
+      whole = replay_entries time id (entries_of r a) l
 
       same_replay : (y : Send) → y.history ≡ entries_of r a
           → replay_entries time (id_of (member_at t i)) y.history l ≡ whole
       same_replay y known =
           ap (λ (es : List Entry). replay_entries time (id_of (member_at t i)) es l) known
-          ∙ ap (λ (m : Membership). replay_entries time m.id (entries_of r a) l) (sym member)
+          ∙ ap (λ (k : ℕ). replay_entries time k (entries_of r a) l) (sym member)
 
       changed : (n : ℕ) (s : State) → s.members ≡ members_of n t → change i (with_leg whole.leg) s.members ≡ members_of n u
       changed n s ms =
@@ -150,7 +148,7 @@ module _ (time i : ℕ) (x : Sending) (r : HistoryRing) (a : Arrays) (t : List �
 
   pub gap_not_replayed : (x.gap ≡ 0 → ⊥)
       → FlightReplayed whole_flight (SendIs (send_of x r a)) sent (send_tables t list)
-      record { outcome = Err ReplayRefused; sent = sent } (send_tables t list)
+      record { outcome = Err ReplayRefused; state = tt; sent = sent } (send_tables t list)
   gap_not_replayed gap =
       record {
         long = refl;
@@ -175,7 +173,7 @@ module _ (time i : ℕ) (x : Sending) (r : HistoryRing) (a : Arrays) (t : List �
 
     pub unaligned_not_replayed : result ≡ None
         → FlightReplayed whole_flight (SendIs (send_of x r a)) sent (send_tables t list)
-        record { outcome = Err ReplayRefused; sent = sent } (send_tables t list)
+        record { outcome = Err ReplayRefused; state = tt; sent = sent } (send_tables t list)
     unfolding if_some◌give◌otherwise◌
     unaligned_not_replayed err =
         record {
@@ -190,7 +188,7 @@ module _ (time i : ℕ) (x : Sending) (r : HistoryRing) (a : Arrays) (t : List �
               (ap (λ (z : State). flow_of z [] 28) (members_again s (members_of n t) ms));
         }
 
-    pub aligned_replayed : {u list_after : List ℕ} {answer : Flight} (k : Leg) → result ≡ Some k
+    pub aligned_replayed : {u list_after : List ℕ} {answer : Flown (Unit {0})} (k : Leg) → result ≡ Some k
         → FlightReplayed (replay_on time i (member_at t i) k) (HistoryIs (entries_of r a)) sent (send_tables t list) answer
         (send_tables u list_after)
         → FlightReplayed whole_flight (SendIs (send_of x r a)) sent (send_tables t list) answer (send_tables u list_after)
@@ -256,7 +254,26 @@ module _ (i n : ℕ) (x : Sending) (t : List ℕ) where
       (other_set x.numbered there)
       ∙ ap (λ (l : List Member). alignment_flow s (align_member_sequence (flagged (is_set x.numbered) x.next) i l)) ms
 
-  module _ {answer : Bool} {u : List ℕ} (numbered : x.numbered ≡ 0 → ⊥) (tried : Tried n numbered_alignment t answer u) where
+  pub without_number : {number : Option ℕ} {none_there : Bool} → number ≡ flagged (is_set x.numbered) x.next → is_some number ≡ not none_there
+      → none_there ≡ true → CarrierAligned i n x t (Ok tt) t
+  without_number is shown none_there = not_numbered_not_aligned (go x.numbered (ap is_some (sym is) ∙ shown ∙ ap not none_there))
+    where
+      go : (k : ℕ) → is_some (flagged (is_set k) x.next) ≡ false → k ≡ 0
+      go zero e = refl
+      go (suc k) e = let there : is_some (flagged (is_set (suc k)) x.next) ≡ true = ap is_some (set_some (suc k) x.next (λ q. omega arith)) in cc
+
+  module _ {number : Option ℕ} {none_there answer : Bool} {u : List ℕ} (is : number ≡ flagged (is_set x.numbered) x.next)
+      (shown : is_some number ≡ not none_there) (there : none_there ≡ false)
+      (of_number : Tried n (align_member_sequence number i (members_of n t)) t answer u) where
+    numbered : x.numbered ≡ 0 → ⊥
+    numbered unset =
+        let gone : is_some number ≡ false = ap is_some (is ∙ unset_none x.numbered x.next unset) in
+        let is_there : is_some number ≡ true = shown ∙ ap not there in
+        cc
+
+    tried : Tried n numbered_alignment t answer u
+    tried = subst (λ (o : Option ℕ). Tried n (align_member_sequence o i (members_of n t)) t answer u) is of_number
+
     pub carrier_not_aligned : answer ≡ false → CarrierAligned i n x t (Err AlignmentFailed) u
     unfolding if_some◌give◌otherwise◌
     carrier_not_aligned failed =
@@ -316,17 +333,17 @@ module _ (time i n : ℕ) (t : List ℕ) (below : i < n) where
       unfolding take_over_backup_flight if_true◌then◌else◌ if_some◌give◌otherwise◌
       flight_to_replay first there = rw (its_place, other, there)
 
-  module _ (x : Sending) (r : HistoryRing) (a : Arrays) (sent : ℕ) (list : List ℕ) {m : Membership} {answer : Bool}
-      (member : m ≡ (member_at t i).membership) (takes : answer ≡ is_other_carrier m.id x) where
+  module _ (x : Sending) (r : HistoryRing) (a : Arrays) (sent : ℕ) (list : List ℕ) {id : ℕ} {answer : Bool}
+      (member : id ≡ id_of (member_at t i)) (takes : answer ≡ is_other_carrier id x) where
     takes_now : (b : Bool) → answer ≡ b → (s : State) → s.send ≡ send_of x r a → takes_over (id_of (member_at t i)) s.send ≡ b
     takes_now b is s sends =
         ap (takes_over (id_of (member_at t i))) sends
-        ∙ ap (λ (k : Membership). takes_over k.id (send_of x r a)) (sym member)
-        ∙ sym (takes ∙ takes_over_is m.id x (entries_of r a)) ∙ is
+        ∙ ap (λ (k : ℕ). takes_over k (send_of x r a)) (sym member)
+        ∙ sym (takes ∙ takes_over_is id x (entries_of r a)) ∙ is
 
     pub no_take_over : {u : List ℕ} {outcome : Outcome} → r.length ≤ max_history → answer ≡ false → CarrierAligned i n x t outcome u
         → TookOver (take_over_backup_flight time i) n x r a sent (send_tables t list)
-        record { outcome = outcome; send = record { sending = x; ring = r }; sent = sent } (send_tables u list)
+        record { outcome = outcome; state = record { sending = x; ring = r }; sent = sent } (send_tables u list)
     no_take_over {u} {outcome} fits no_other aligned =
         record {
           long = aligned.long;
@@ -347,7 +364,7 @@ module _ (time i n : ℕ) (t : List ℕ) (below : i < n) where
 
       pub took_over_nothing : {u : List ℕ} {outcome : Outcome} → trimmed.ring.length ≡ 0 → CarrierAligned i n trimmed.sending t outcome u
           → TookOver (take_over_backup_flight time i) n x r a sent (send_tables t list)
-          record { outcome = outcome; send = trimmed; sent = sent } (send_tables u list)
+          record { outcome = outcome; state = trimmed; sent = sent } (send_tables u list)
       unfolding at_place
       took_over_nothing {u} {outcome} empty aligned =
           record {
@@ -365,11 +382,11 @@ module _ (time i n : ℕ) (t : List ℕ) (below : i < n) where
                 ∙ aligned.flow (with_send trimmed_send s) ms refl;
           }
 
-      pub took_over_flight : {u list_after : List ℕ} {flight : Flight} → (trimmed.ring.length ≡ 0 → ⊥)
+      pub took_over_flight : {u list_after : List ℕ} {flight : Flown (Unit {0})} → (trimmed.ring.length ≡ 0 → ⊥)
           → FlightReplayed (replay_flight time i (member_at t i) (entry_at trimmed.ring a 0)) (SendIs trimmed_send) sent
           (send_tables t list) flight (send_tables u list_after)
           → TookOver (take_over_backup_flight time i) n x r a sent (send_tables t list)
-          record { outcome = flight.outcome; send = trimmed; sent = flight.sent }
+          record { outcome = flight.outcome; state = trimmed; sent = flight.sent }
           (send_tables u list_after)
       took_over_flight {u} {list_after} {flight} some_there replayed =
           record {

@@ -23,7 +23,8 @@ use Rattle.srt_group_tables.specs.Ring.{entries_of, send_of}
 use Rattle.srt_group_sending.specs.Laws.SentList.{wrote_nothing}
 use Rattle.srt_group_sending.specs.Broadcast.{number_for_send}
 use Rattle.srt_group_sending.specs.Laws.Broadcast.{number_of_first}
-use Rattle.srt_group_backup.specs.declared.send.BackupSend.{BackupSend}
+use Rattle.srt_group_sending.specs.declared.flown.Flown.{Flown}
+use Rattle.srt_group_backup.specs.declared.trimming.SendHistory.{SendHistory}
 use Rattle.srt_group_carrier.specs.Lendable.{BackupTables, backup_tables, arrays_in, Lendable, NumbersFit}
 use Rattle.srt_group_carrier.specs.Laws.Freeing.{trim_same, trim_sends}
 use Rattle.srt_group_carrier.specs.Flows.{every, InMode, BackupFlows}
@@ -71,7 +72,7 @@ module _ (time size cell i n : ℕ) (x : Sending) (r : HistoryRing) (sent : ℕ)
 
   pub place_mismatched : (sender.next ≡ sequence → ⊥) → Lendable n r before → sent ≤ max_sent
       → BackupFlows every (send_at_place time size cell i) cell n x r sent before
-      record { outcome = Err SequenceMismatch; send = record { sending = x; ring = r }; sent = sent } before
+      record { outcome = Err SequenceMismatch; state = record { sending = x; ring = r }; sent = sent } before
   place_mismatched other lent few =
       record {
         members_long = refl;
@@ -87,7 +88,7 @@ module _ (time size cell i n : ℕ) (x : Sending) (r : HistoryRing) (sent : ℕ)
             ∙ ap₂ (λ (l : List Member) (y : Send). ends_with 25 (with_send y (with_members l s))) ms sends;
       }
 
-  pub place_flows : {answer : BackupSend} {after : BackupTables} → sender.next ≡ sequence
+  pub place_flows : {answer : Flown SendHistory} {after : BackupTables} → sender.next ≡ sequence
       → BackupFlows every (send_own time size cell sequence i (send_after_promotion time size cell sequence i)) cell n x r sent before answer after
       → BackupFlows every (send_at_place time size cell i) cell n x r sent before answer after
   place_flows same flows =
@@ -125,12 +126,12 @@ module _ (mode time size cell n : ℕ) (x : Sending) (r : HistoryRing) (sent : �
 
   pub none_readied : None ≡ first_active (members_of n members) → Lendable n r before → sent ≤ max_sent
       → BackupFlows (InMode mode) (send_backup time size cell) cell n x r sent before
-      record { outcome = Err NoActiveMember; send = record { sending = x; ring = r }; sent = sent } after_readying
+      record { outcome = Err NoActiveMember; state = record { sending = x; ring = r }; sent = sent } after_readying
   none_readied =
       none_active (InMode mode) (send_backup time size cell) _ (on_carrier time size cell) NoActiveMember (backup_shape time size cell) cell n x r sent before
       members ready_in_mode readied.long
 
-  pub readied_flows : (j : ℕ) {answer : BackupSend} {after : BackupTables} → Some j ≡ first_active (members_of n members)
+  pub readied_flows : (j : ℕ) {answer : Flown SendHistory} {after : BackupTables} → Some j ≡ first_active (members_of n members)
       → BackupFlows every (on_carrier time size cell j) cell n x r sent after_readying answer after
       → BackupFlows (InMode mode) (send_backup time size cell) cell n x r sent before answer after
   readied_flows =

@@ -15,11 +15,10 @@ use Rattle.srt_group.specs.Made.{parts_of}
 use Rattle.srt_group.specs.declared.Group.{Group}
 use Rattle.srt_group_refusals.specs.Begins.{are_short}
 use Rattle.srt_group_refusals.specs.Promised.{nothing_lent, asking, showing}
-use Rattle.srt_group_looks.specs.Looks.{member_row_size, members_list_size, members_code, rows_filled, ListsBy, ListsMembers}
+use Rattle.srt_group_looks.specs.Looks.{given_code, given_answer, member_row_size, members_list_size, rows_filled, ListsBy, ListsMembers}
 use Rattle.srt_group_words.specs.Record.{record_size, group_of}
 use Rattle.srt_group_words.specs.Words.{zeros, in_words, words, Gives, Said}
 use Rattle.srt_group_words.specs.Laws.Words.{record_gives, answer_gives, kept_gives}
-use Rattle.srt_group_c_looks.specs.Look.{given_code, given_answer}
 use Rattle.srt_group_c_looks.specs.Listed.{listed_words, ListsWords}
 
 nothing_listed : (list : List ℕ) → list ≡ overwritten 0 (values_of no_answer) list
@@ -30,13 +29,13 @@ one_word : length (listed_words no_answer 0) ≡ 1
 unfolding listed_words
 one_word = refl
 
-none_filled : (r : Result ℕ Error) → members_code r ≡ 5 → rows_filled r ≡ 0
+none_filled : (r : Result ℕ Error) → given_code r ≡ 5 → rows_filled r ≡ 0
 none_filled (Ok n) h = absurd (omega (arith, h))
 none_filled (Err e) h = refl
 
 -- the word of how many rows were filled
 pub listed_said : (r : Result ℕ Error) {code : ℕ} {a a' : List ℕ}
-    → Said (given_code r) (in_words 1 (given_answer (λ n. shown (number n)) r) 0) code a a' → Said (members_code r) (rows_filled r ∷ []) code a a'
+    → Said (given_code r) (in_words 1 (given_answer (λ n. shown (number n)) r) 0) code a a' → Said (given_code r) (rows_filled r ∷ []) code a a'
 unfolding in_words values_of shown_values zeros
 listed_said (Ok n) said = said
 listed_said (Err e) said = said
@@ -63,7 +62,7 @@ module _ (w : List ℕ) (t : Tables) (answer list : List ℕ) where
   listed_no_room short = by_gives (answer_gives (omega (arith, one_word))) (nothing_listed list)
 
   module _ (long : record_size ≤ length w) (room : 1 ≤ length answer) {g : Group} (read : g ≡ group_of w) (r : Result ℕ Error) {list' : List ℕ} {code : ℕ}
-      {answer' : List ℕ} (said : Said (members_code r) (rows_filled r ∷ []) code answer answer') where
+      {answer' : List ℕ} (said : Said (given_code r) (rows_filled r ∷ []) code answer answer') where
     lists_by : (b : Bool) → ltb (length list) members_list_size ≡ b → ListsBy b (parts_of g) t list r list' → Lists code answer' list'
     unfolding showing listed_words values_of
     lists_by true short too_short =
@@ -80,7 +79,7 @@ module _ (w : List ℕ) (t : Tables) (answer list : List ℕ) where
         (kept_gives (call_look look_members) listed_words (ltb (length list) members_list_size) w t nothing_lent answer long (omega (arith, one_word)) read
         listed.answer 0
         (subst (λ (b : Bool). Promise (b || are_short t) (asking (call_look look_members) nothing_lent) (state_of (parts_of g) t)
-        (showing (parts_of g) t nothing_lent (members_code r) listed.answer 0)) (sym fits) listed.looked.holds)
+        (showing (parts_of g) t nothing_lent (given_code r) listed.answer 0)) (sym fits) listed.looked.holds)
         said.same
         (said.said ∙ ap (λ (n : ℕ). overwritten 0 (n ∷ []) answer) (filled (length (values_of listed.answer)) (rows_filled r) listed.rows)))
         listed.is

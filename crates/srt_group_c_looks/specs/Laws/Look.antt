@@ -7,8 +7,7 @@ use denote.Bor.{Bor}
 use Rattle.srt_protocol.specs.declared.error.Error.{Error}
 use Rattle.srt_protocol.specs.Errors.{error_number}
 use Rattle.srt_protocol.specs.Cells.{overwritten}
-use Rattle.srt_group_model.specs.declared.MemberShown.{MemberShown}
-use Rattle.srt_group_model.specs.Guards.{Answer, no_answer, shown, number, optional, truth, one_member}
+use Rattle.srt_group_model.specs.Guards.{Answer, no_answer, shown, optional, truth}
 use Rattle.srt_group_model.specs.Lent.{Look, call_look}
 use Rattle.srt_group_model.specs.Answers.{shown_values, values_of}
 use Rattle.srt_group_shown.specs.Tables.{Parts, Tables}
@@ -17,11 +16,11 @@ use Rattle.srt_group.specs.declared.Group.{Group}
 use Rattle.srt_group_refusals.specs.declared.refusals.LentGroup.{LentGroup}
 use Rattle.srt_group_refusals.specs.LentGroup.{tables_of}
 use Rattle.srt_group_refusals.specs.Promised.{nothing_lent}
-use Rattle.srt_group_looks.specs.Looks.{Looked, number_code, number_answer, optional_code, optional_answer, truth_code, truth_answer, member_code, member_answer}
+use Rattle.srt_group_looks.specs.Looks.{given_code, given_answer, Looked, LookGives, truth_code, truth_answer}
 use Rattle.srt_group_words.specs.Record.{record_size, group_of}
 use Rattle.srt_group_words.specs.Words.{zeros, in_words, words, PromisedWords, Said}
 use Rattle.srt_group_words.specs.Laws.Words.{record_refused, answer_refused, said_kept}
-use Rattle.srt_group_c_looks.specs.Look.{given_code, given_answer, Shows, SaysNothing}
+use Rattle.srt_group_c_looks.specs.Look.{Shows, SaysNothing}
 
 pub optional_word : (o : Option ℕ) → unwrap_or o 0 ∷ [] ≡ in_words 1 (shown (optional o)) 0
 unfolding in_words zeros values_of shown_values
@@ -68,7 +67,7 @@ module _ {A : Type 0} (size : ℕ) (says : A → Answer) (gives : LentGroup → 
   pub look_promised : {code : ℕ} {answer' : List ℕ} → (length w < record_size → SaysNothing answer code answer') → (length answer < size → SaysNothing answer code answer')
       → (record_size ≤ length w → size ≤ length answer → Shows size says gives w t answer code answer')
       → ((lent : LentGroup) (r : Result A Error) → gives lent r
-      → Looked look (parts_of lent.group) (tables_of lent) (given_code r) (given_answer says r))
+      → LookGives says look (parts_of lent.group) (tables_of lent) r)
       → Promises code answer'
   look_promised {code} {answer'} few no_room shows keeps =
       elim (cases_lt (length w) record_size) [
@@ -79,7 +78,7 @@ module _ {A : Type 0} (size : ℕ) (says : A → Answer) (gives : LentGroup → 
               | inr room ↦
                   let x : Shows size says gives w t answer code answer' = shows long room in
                   said_kept (call_look look) w t nothing_lent long x.group size answer room t nothing_lent (given_answer says x.given)
-                  (subst (λ (u : Tables). Looked look (parts_of x.lent.group) u (given_code x.given) (given_answer says x.given)) x.tables
+                  (subst (λ (u : Tables). LookGives says look (parts_of x.lent.group) u x.given) x.tables
                   (keeps x.lent x.given x.gave))
                   x.said
             ]
@@ -94,31 +93,8 @@ pub looked_at : (look : Look) (code : ℕ) (answer : Answer) {lent : LentGroup}
 looked_at look code answer {lent} (x, looked, is) =
     subst (λ (l : LentGroup). Looked look (parts_of l.group) (tables_of l) code answer) is looked
 
-module _ {look : Look} {p : Parts} {t : Tables} where
-  pub gives_number : (r : Result ℕ Error) → Looked look p t (number_code r) (number_answer r)
-      → Looked look p t (given_code r) (given_answer (λ n. shown (number n)) r)
-  gives_number (Ok n) looked = looked
-  gives_number (Err e) looked = looked
-
-  pub gives_optional : (r : Result (Option ℕ) Error) → Looked look p t (optional_code r) (optional_answer r)
-      → Looked look p t (given_code r) (given_answer (λ o. shown (optional o)) r)
-  gives_optional (Ok (Some n)) looked = looked
-  gives_optional (Ok None) looked = looked
-  gives_optional (Err e) looked = looked
-
-  pub gives_truth : (r : Result Bool Error) → Looked look p t (truth_code r) (truth_answer r)
-      → Looked look p t (given_code r) (given_answer (λ b. shown (truth b)) r)
-  gives_truth (Ok b) looked = looked
-  gives_truth (Err e) looked = looked
-
-  pub gives_member : (r : Result MemberShown Error) → Looked look p t (member_code r) (member_answer r)
-      → Looked look p t (given_code r) (given_answer (λ m. shown (one_member (Some m))) r)
-  gives_member (Ok m) looked = looked
-  gives_member (Err e) looked = looked
-
 -- a flag, as a readiness test answers too
 pub said_truth : (r : Result Bool Error) {code : ℕ} {a a' : List ℕ}
     → Said (given_code r) (in_words 1 (given_answer (λ b. shown (truth b)) r) 0) code a a'
     → Said (truth_code r) (in_words 1 (truth_answer r) 0) code a a'
-said_truth (Ok b) said = said
-said_truth (Err e) said = said
+said_truth r said = said

@@ -1,6 +1,6 @@
 -- What a part of a Backup send leaves is the flow of the model.
 use Rattle.srt_protocol.specs.Errors.{Outcome}
-use Rattle.std.specs.Prelude.{◌≡◌, Bool, true, false, length, Err, None, Ok, Option, Some, is_some}
+use Rattle.std.specs.Prelude.{◌≡◌, Bool, true, false, length, Err, None, Ok, Option, Some}
 use Rattle.std.specs.Result.{is_err}
 use Rattle.std.proofs.Math.Path.{refl, ap, ap₂, sym, subst}
 use Rattle.std.proofs.Common.{◌∙◌, arith}
@@ -20,7 +20,6 @@ use Rattle.srt_group_model.specs.Sending.{max_sent, list_size, Sent, own_send, F
 use Rattle.srt_group_model.specs.Backup.{max_history, send_own, send_after_promotion}
 use Rattle.srt_group_model.specs.Laws.Reason.{if_some_elim}
 use Rattle.srt_group_model.specs.Laws.Places.{change_nothing}
-use Rattle.srt_group_model.specs.declared.Leg.{Leg}
 use Rattle.srt_group_model.specs.declared.Sending.{Sending}
 use Rattle.srt_connection_members.specs.Members.{member_at, members_of}
 use Rattle.srt_connection_members.specs.Laws.Members.{found_some, found_none, changed_by}
@@ -29,9 +28,11 @@ use Rattle.srt_group_tables.specs.declared.history.HistoryRing.{HistoryRing}
 use Rattle.srt_group_tables.specs.Ring.{arrays, Long, entries_of, send_of}
 use Rattle.srt_group_sending.specs.SentList.{SendTables, send_tables, Wrote}
 use Rattle.srt_group_sending.specs.Laws.SentList.{wrote_nothing, wrote_length, wrote_then}
-use Rattle.srt_group_backup.specs.declared.send.BackupSend.{BackupSend}
+use Rattle.srt_group_sending.specs.declared.flown.Flown.{Flown}
+use Rattle.srt_group_backup.specs.declared.trimming.SendHistory.{SendHistory}
 use Rattle.srt_group_backup.specs.TakeOver.{TookOver}
-use Rattle.srt_group_backup.specs.OwnSend.{SentOn}
+use Rattle.srt_group_sending.specs.OwnSend.{SentOn}
+use Rattle.srt_group_sending.specs.Laws.OwnSend.{not_some}
 use Rattle.srt_group_backup.specs.Laws.OwnSend.{send_own_failed, send_own_met}
 use Rattle.srt_group_carrier.specs.Freeing.{TrimFollows}
 use Rattle.srt_group_carrier.specs.Lendable.{BackupTables, backup_tables, arrays_in, Lendable}
@@ -67,14 +68,14 @@ accepted (Err e) is = cc is
 -- ---- a flow after a take-over
 
 module _ (f : State → Flow) (cell n : ℕ) (x : Sending) (r : HistoryRing) (sent : ℕ) (before : BackupTables) (members list used : List ℕ)
-    {taken : BackupSend} (few : sent ≤ max_sent - max_history) (arrays_long : Long (arrays_in before))
+    {taken : Flown SendHistory} (few : sent ≤ max_sent - max_history) (arrays_long : Long (arrays_in before))
     (took : TookOver f n x r (arrays_in before) sent (send_tables before.members before.list) taken (send_tables members list))
-    (follows : TrimFollows (entries_of r (arrays_in before)) before.used (entries_of taken.send.ring (arrays_in before)) used) where
+    (follows : TrimFollows (entries_of r (arrays_in before)) before.used (entries_of taken.state.ring (arrays_in before)) used) where
   abbrev mid : BackupTables
   mid = backup_tables members before.history before.sources list used
 
   left_taken : State → State
-  left_taken s = with_send (send_of taken.send.sending taken.send.ring (arrays_in before)) (with_members (members_of n members) s)
+  left_taken s = with_send (send_of taken.state.sending taken.state.ring (arrays_in before)) (with_members (members_of n members) s)
 
   pub flows_stopped : (g : State → Flow) → is_err taken.outcome ≡ true
       → BackupFlows every (λ s. f s and_then g) cell n x r sent before taken mid
@@ -94,8 +95,8 @@ module _ (f : State → Flow) (cell n : ℕ) (x : Sending) (r : HistoryRing) (se
             ∙ and_stops (flow_of (left_taken s) took.sends (outcome_number taken.outcome)) g (refused_code taken.outcome is);
       }
 
-  pub flows_then : (g : State → Flow) {answer : BackupSend} {after : BackupTables} → taken.outcome ≡ Ok tt → list_size ≤ length before.list
-      → BackupFlows every g cell n taken.send.sending taken.send.ring taken.sent mid answer after
+  pub flows_then : (g : State → Flow) {answer : Flown SendHistory} {after : BackupTables} → taken.outcome ≡ Ok tt → list_size ≤ length before.list
+      → BackupFlows every g cell n taken.state.sending taken.state.ring taken.sent mid answer after
       → BackupFlows every (λ s. f s and_then g) cell n x r sent before answer after
   unfolding flow_of left_taken
   flows_then g {answer} {after} is list_long second =
@@ -128,7 +129,7 @@ module _ (among : State → Type 0) (f : State → Flow) (ready : State → List
   with_ready = backup_tables members before.history before.sources before.list before.used
 
   pub none_active : None ≡ first_active (members_of n members) → Lendable n r before → sent ≤ max_sent
-      → BackupFlows among f cell n x r sent before record { outcome = Err error; send = record { sending = x; ring = r }; sent = sent } with_ready
+      → BackupFlows among f cell n x r sent before record { outcome = Err error; state = record { sending = x; ring = r }; sent = sent } with_ready
   unfolding if_some◌give◌otherwise◌
   none_active nowhere lent few =
       record {
@@ -153,7 +154,7 @@ module _ (among : State → Type 0) (f : State → Flow) (ready : State → List
             ∙ ap (λ (y : Send). ends_with (error_number error) (with_send y (with_members (members_of n members) s))) sends;
       }
 
-  pub first_flows : (j : ℕ) {answer : BackupSend} {after : BackupTables} → Some j ≡ first_active (members_of n members)
+  pub first_flows : (j : ℕ) {answer : Flown SendHistory} {after : BackupTables} → Some j ≡ first_active (members_of n members)
       → BackupFlows every (g j) cell n x r sent with_ready answer after → BackupFlows among f cell n x r sent before answer after
   unfolding if_some◌give◌otherwise◌
   first_flows j {answer} {after} found flows =
@@ -186,10 +187,6 @@ pub sent_as : {time size sequence i sent : ℕ} {before after : SendTables} {ans
     → SentOn time size sequence i sent before answer after → SentOn time size sequence i sent before b after
 sent_as {time} {size} {sequence} {i} {sent} {before} {after} is on = subst (λ (c : Bool). SentOn time size sequence i sent before c after) is on
 
-not_some : (o : Option Leg) → false ≡ is_some o → o ≡ None
-not_some None is = refl
-not_some (Some l) is = cc is
-
 module _ (time size cell sequence i n : ℕ) (x : Sending) (r : HistoryRing) (sent : ℕ) (before : BackupTables) (members list : List ℕ)
     (below : i < n) where
   abbrev m : Member
@@ -207,7 +204,7 @@ module _ (time size cell sequence i n : ℕ) (x : Sending) (r : HistoryRing) (se
         (ap id_of on.changed.here
         ∙ if_some_elim (λ (k : Member). id_of k ≡ id_of m) (send_shared_with_sequence time size sequence m.leg) _ _ (λ l e. refl) (λ e. refl))
 
-    pub own_sent : {history sources used : List ℕ} {answer : BackupSend} (failed : Member → State → Flow) → Long (arrays_in before) → sent < max_sent
+    pub own_sent : {history sources used : List ℕ} {answer : Flown SendHistory} (failed : Member → State → Flow) → Long (arrays_in before) → sent < max_sent
         → Kept time size cell sequence (member_at members i) x r sent (arrays_in before) before.used answer (arrays history sources) used
         → BackupFlows every (own failed) cell n x r sent before answer (backup_tables members history sources list used)
     unfolding if_true◌then◌else◌
@@ -227,7 +224,7 @@ module _ (time size cell sequence i n : ℕ) (x : Sending) (r : HistoryRing) (se
               x r (arrays_in before) (arrays history sources) sent sends on refl same_id kept.recorded
               ∙ ap
               (λ (o : Outcome).
-              flow_made (send_of answer.send.sending answer.send.ring (arrays history sources)) s (outcome_number o))
+              flow_made (send_of answer.state.sending answer.state.ring (arrays history sources)) s (outcome_number o))
               (sym kept.outcome);
         }
       where
@@ -251,7 +248,7 @@ module _ (time size cell sequence i n : ℕ) (x : Sending) (r : HistoryRing) (se
 
     pub own_refused : (error : Error) → Lendable n r before → sent < max_sent
         → BackupFlows every (own (λ k. ends_with (error_number error))) cell n x r sent before
-        record { outcome = Err error; send = record { sending = x; ring = r }; sent = sent } unsent
+        record { outcome = Err error; state = record { sending = x; ring = r }; sent = sent } unsent
     unfolding if_true◌then◌else◌
     own_refused error lent few =
         record {
@@ -268,7 +265,7 @@ module _ (time size cell sequence i n : ℕ) (x : Sending) (r : HistoryRing) (se
               ∙ ap₂ (λ (l : List Member) (y : Send). ends_with (error_number error) (with_send y (with_members l s))) (ms ∙ sym members_same) sends;
         }
 
-    pub own_failed : {answer : BackupSend} {after : BackupTables} (failed : Member → State → Flow) → list_size ≤ length before.list → sent < max_sent
+    pub own_failed : {answer : Flown SendHistory} {after : BackupTables} (failed : Member → State → Flow) → list_size ≤ length before.list → sent < max_sent
         → BackupFlows every (failed m) cell n x r sent unsent answer after
         → BackupFlows every (own failed) cell n x r sent before answer after
     unfolding if_true◌then◌else◌
@@ -301,10 +298,10 @@ lendable_with members lent long =
     }
 
 pub lendable_taken : {f : State → Flow} {n : ℕ} {x : Sending} {r : HistoryRing} {sent : ℕ} {before : BackupTables} {members list used : List ℕ}
-    {taken : BackupSend} → sent ≤ max_sent - max_history → Lendable n r before
+    {taken : Flown SendHistory} → sent ≤ max_sent - max_history → Lendable n r before
     → TookOver f n x r (arrays_in before) sent (send_tables before.members before.list) taken (send_tables members list)
-    → TrimFollows (entries_of r (arrays_in before)) before.used (entries_of taken.send.ring (arrays_in before)) used
-    → Lendable n taken.send.ring (backup_tables members before.history before.sources list used)
+    → TrimFollows (entries_of r (arrays_in before)) before.used (entries_of taken.state.ring (arrays_in before)) used
+    → Lendable n taken.state.ring (backup_tables members before.history before.sources list used)
 lendable_taken {before = before} few lent took follows =
     record {
       rows = omega (arith, lent.rows, took.long);
@@ -341,7 +338,7 @@ module _ (time size cell sequence i n : ℕ) (failed : Member) where
   promotion_shape s = refl
 
   -- it is the place that failed, not the member
-  pub promoted_whoever : (other : Member) {x : Sending} {r : HistoryRing} {sent : ℕ} {before after : BackupTables} {answer : BackupSend}
+  pub promoted_whoever : (other : Member) {x : Sending} {r : HistoryRing} {sent : ℕ} {before after : BackupTables} {answer : Flown SendHistory}
       → BackupFlows every (send_after_promotion time size cell sequence i failed) cell n x r sent before answer after
       → BackupFlows every (send_after_promotion time size cell sequence i other) cell n x r sent before answer after
   unfolding send_after_promotion
@@ -358,12 +355,12 @@ module _ (time size cell sequence i n : ℕ) (failed : Member) (x : Sending) (r 
 
   pub none_promoted : None ≡ first_active (members_of n members) → Lendable n r before → sent ≤ max_sent
       → BackupFlows every (send_after_promotion time size cell sequence i failed) cell n x r sent before
-      record { outcome = Err AllBackupFailed; send = record { sending = x; ring = r }; sent = sent } after_promotion
+      record { outcome = Err AllBackupFailed; state = record { sending = x; ring = r }; sent = sent } after_promotion
   none_promoted =
       none_active every (send_after_promotion time size cell sequence i failed) _ (on_promoted time size cell sequence) AllBackupFailed
       (promotion_shape time size cell sequence i n failed) cell n x r sent before members ready_promoted promoted.long
 
-  pub promoted_flows : (j : ℕ) {answer : BackupSend} {after : BackupTables} → Some j ≡ first_active (members_of n members)
+  pub promoted_flows : (j : ℕ) {answer : Flown SendHistory} {after : BackupTables} → Some j ≡ first_active (members_of n members)
       → BackupFlows every (on_promoted time size cell sequence j) cell n x r sent after_promotion answer after
       → BackupFlows every (send_after_promotion time size cell sequence i failed) cell n x r sent before answer after
   promoted_flows =

@@ -22,7 +22,8 @@ use Rattle.srt_group_members.specs.Scan.{Became}
 use Rattle.srt_group_tables.specs.declared.history.HistoryRing.{HistoryRing}
 use Rattle.srt_group_tables.specs.Ring.{Arrays, entries_of, send_of}
 use Rattle.srt_group_sending.specs.SentList.{SendTables}
-use Rattle.srt_group_backup.specs.declared.send.BackupSend.{BackupSend}
+use Rattle.srt_group_sending.specs.declared.flown.Flown.{Flown}
+use Rattle.srt_group_backup.specs.declared.trimming.SendHistory.{SendHistory}
 use Rattle.srt_group_backup.specs.TakeOver.{TookOver}
 use Rattle.srt_group_carrier.specs.Freeing.{TrimFollows, FrontFreed}
 use Rattle.srt_group_carrier.specs.Lendable.{NumbersFit}
@@ -223,26 +224,26 @@ module _ (time : ℕ) where
 unfoldable pub showing : List Member → Send → State
 showing ms x = with_send x (with_members ms (new record { id = 0; mode = 0; length = 0 }))
 
-module _ (time i : ℕ) {n : ℕ} {x : Sending} {r : HistoryRing} {a : Arrays} {sent : ℕ} {before after : SendTables} {taken : BackupSend}
+module _ (time i : ℕ) {n : ℕ} {x : Sending} {r : HistoryRing} {a : Arrays} {sent : ℕ} {before after : SendTables} {taken : Flown SendHistory}
     (took : TookOver (take_over_backup_flight time i) n x r a sent before taken after) where
   prepared : Prepared time (showing (members_of n before.members) (send_of x r a))
-      (showing (members_of n after.members) (send_of taken.send.sending taken.send.ring a))
+      (showing (members_of n after.members) (send_of taken.state.sending taken.state.ring a))
   unfolding showing
   prepared =
       subst (λ (f : Flow). Prepared time (showing (members_of n before.members) (send_of x r a)) f.state)
       (took.flow (showing (members_of n before.members) (send_of x r a)) refl refl)
       (take_over_prepared time i (showing (members_of n before.members) (send_of x r a)))
 
-  pub taken_suffix : drop (r.length - taken.send.ring.length) (entries_of r a) ≡ entries_of taken.send.ring a
+  pub taken_suffix : drop (r.length - taken.state.ring.length) (entries_of r a) ≡ entries_of taken.state.ring a
   unfolding showing
-  taken_suffix = ring_suffix r taken.send.ring a prepared.trimmed.suffix
+  taken_suffix = ring_suffix r taken.state.ring a prepared.trimmed.suffix
 
-  pub taken_follows : {used used' : List ℕ} → FrontFreed r taken.send.ring.length a.history used used'
-      → TrimFollows (entries_of r a) used (entries_of taken.send.ring a) used'
+  pub taken_follows : {used used' : List ℕ} → FrontFreed r taken.state.ring.length a.history used used'
+      → TrimFollows (entries_of r a) used (entries_of taken.state.ring a) used'
   taken_follows freed = trim_as taken_suffix (freed.follows a refl)
 
   pub taken_fit : time ≤ largest_64 → NumbersFit (send_of x r a) (members_of n before.members)
-      → NumbersFit (send_of taken.send.sending taken.send.ring a) (members_of n after.members)
+      → NumbersFit (send_of taken.state.sending taken.state.ring a) (members_of n after.members)
   unfolding showing
   taken_fit small h = prepared.fit small h
 

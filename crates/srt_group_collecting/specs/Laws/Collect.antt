@@ -1,5 +1,5 @@
 -- What is proved of the definitions in specs/Collect.antt, with what the proofs need.
-use Rattle.std.specs.Prelude.{◌≡◌, refl, Bool, true, false, ◌||◌, List, [], ◌∷◌, ◌++◌, ℕ, ◌+◌, ◌≤◌, ◌<◌, length}
+use Rattle.std.specs.Prelude.{◌≡◌, refl, Bool, true, false, ◌||◌, List, [], ◌∷◌, ◌++◌, ℕ, ◌+◌, ◌≤◌, ◌<◌, length, None, Option, Some, MatchOption}
 use Rattle.std.proofs.Common.{ap, ap₂, ◌∙◌, le-leb}
 use Rattle.std.proofs.Math.Path.{sym}
 use Rattle.std.proofs.lemmas.Bool.{lt-leb}
@@ -95,6 +95,17 @@ module _ (based base sequence : ℕ) where
       → answer ≡ (if_some flagged (is_set based) base give (λ base. sequence_before sequence base) otherwise false)
   unfolding flagged if_some◌give◌otherwise◌
   late_based with_base is = rw (other_set based with_base) is
+
+  -- the answer by the base that is shown, if there is one
+  pub late_after : {o : Option ℕ} {answer : Bool} → o ≡ flagged (is_set based) base → MatchOption o (answer ≡ false) (λ b. answer ≡ sequence_before sequence b)
+      → answer ≡ (if_some flagged (is_set based) base give (λ b. sequence_before sequence b) otherwise false)
+  unfolding if_some◌give◌otherwise◌
+  late_after {o} {answer} is given = rw (← is) (go o given)
+    where
+      go : (o : Option ℕ) → MatchOption o (answer ≡ false) (λ b. answer ≡ sequence_before sequence b)
+          → answer ≡ (if_some o give (λ b. sequence_before sequence b) otherwise false)
+      go None g = g
+      go (Some b) g = g
 
   pub late_unbased : based ≡ 0 → false ≡ (if_some flagged (is_set based) base give (λ base. sequence_before sequence base) otherwise false)
   unfolding flagged if_some◌give◌otherwise◌

@@ -7,7 +7,7 @@ use Prim.Native.Nat.{ℕ, zero, suc, ◌+◌, ◌-◌, ◌≤◌, ◌<◌}
 use Rattle.word_rows.specs.Tab.{tab}
 use Rattle.srt_group_model.specs.declared.Core.{Core}
 use Rattle.srt_group_model.specs.Tools.{if_true◌then◌else◌, is_set, bit, is_empty}
-use Rattle.srt_group_model.specs.Laws.Flag.{other_set, set_is_not_zero, bit_set, set_bit}
+use Rattle.srt_group_model.specs.Laws.Flag.{other_set, set_is_not_zero, set_bit}
 use Rattle.srt_group_model.specs.Laws.Reason.{or_yes_left, or_yes_right, when_true, when_false}
 use Rattle.srt_group_model.specs.State.{State}
 use Rattle.srt_group_model.specs.Core.{continued}
@@ -192,8 +192,7 @@ module _ (visits : ℕ) (before : Visited) (ms ps ws : List ℕ) (usable : Usabl
         run_is (visited_run others log) (shown v.core others ms' ps' ws') v.budget (one.visits.state others log)
         (one.visits.left others log)
 
-    pub held_none : v.more ≡ false → HeldVisit visits before (receive_tables ms ps ws) record { more = false; core = v.core; budget = v.budget } (receive_tables ms' ps' ws')
-    unfolding if_true◌then◌else◌
+    pub held_none : v.more ≡ false → HeldVisit visits before (receive_tables ms ps ws) v (receive_tables ms' ps' ws')
     held_none stays =
         record {
           members_long = one.visits.members_long;
@@ -206,7 +205,8 @@ module _ (visits : ℕ) (before : Visited) (ms ps ws : List ℕ) (usable : Usabl
               λ others log.
               no_event_left visits (run_of before others (receive_tables ms ps ws) log) (tab_spent before.core.counts.waiting (waiting_at ws) none_waits)
               (one.visits.more others log ∙ stays)
-              ∙ run_after others log;
+              ∙ run_after others log
+              ∙ sym (when_false v.more _ _ stays);
         }
 
     pub held_one : (asked pends : Bool) (after : Core) (more : Bool) → v.more ≡ true

@@ -3,7 +3,6 @@ use Rattle.std.specs.Prelude.{◌≡◌, refl, Bool, true, false, List, [], ◌�
 use Rattle.std.proofs.Common.{sym, ap, subst, ◌∙◌}
 use Rattle.srt_group_model.specs.declared.Core.{Core}
 use Rattle.srt_group_model.specs.declared.Event.{Event}
-use Rattle.srt_group_model.specs.declared.Membership.{Membership}
 use Rattle.srt_group_model.specs.declared.Packet.{Packet}
 use Rattle.srt_group_model.specs.Tools.{if_true◌then◌else◌, at_place}
 use Rattle.srt_group_model.specs.Laws.Reason.{by_test}
@@ -105,14 +104,14 @@ module _ (core : Core) (budget : ℕ) (ms ps used : List ℕ) (i : ℕ) (ms₁ :
       (sym named)
       (event_moves (shown (with_next k core) others ms ps ws) i (member_at ms i) e (members_place core.counts.members ms i inside) g.front))))
 
-  pub follows_event : {r : LegPoll} {m : Membership} (turned : Core) (e : Event) (left : ℕ) (after : Core) (ws ms' ps' ws' used' : List ℕ) → i < core.counts.members
+  pub follows_event : {r : LegPoll} {id : ℕ} (turned : Core) (e : Event) (left : ℕ) (after : Core) (ws ms' ps' ws' used' : List ℕ) → i < core.counts.members
       → turned ≡ with_next ((i + 1) % core.counts.members) core → r ≡ PolledEvent e left → r ≡ leg_poll budget (member_at ms i).queue
-      → m ≡ (member_at ms i).membership → Collected i m.id e turned (receive_tables ms₁ ps ws) after (receive_tables ms' ps' ws')
-      → Freed (freed_by_event m.id e (receive_of turned ps)) used used' → Follows core ms ps used after ms' ps' used'
-  follows_event {m = m} turned e left after ws ms' ps' ws' used' inside t gave is named h freed =
-      follows_event_at ((i + 1) % core.counts.members) e left m.id after ws ms' ps' ws' used' inside (sym gave ∙ is)
-      (ap (λ (x : Membership). x.id) named) (subst (λ (x : Core). Collected i m.id e x (receive_tables ms₁ ps ws) after (receive_tables ms' ps' ws')) t h)
-      (subst (λ (x : Core). Freed (freed_by_event m.id e (receive_of x ps)) used used') t freed)
+      → id ≡ (member_at ms i).membership.id → Collected i id e turned (receive_tables ms₁ ps ws) after (receive_tables ms' ps' ws')
+      → Freed (freed_by_event id e (receive_of turned ps)) used used' → Follows core ms ps used after ms' ps' used'
+  follows_event {id = id} turned e left after ws ms' ps' ws' used' inside t gave is named h freed =
+      follows_event_at ((i + 1) % core.counts.members) e left id after ws ms' ps' ws' used' inside (sym gave ∙ is)
+      named (subst (λ (x : Core). Collected i id e x (receive_tables ms₁ ps ws) after (receive_tables ms' ps' ws')) t h)
+      (subst (λ (x : Core). Freed (freed_by_event id e (receive_of x ps)) used used') t freed)
 
 pub follows_continued : (n : ℕ) (core here after : Core) (ms ps used ms' ps' used' : List ℕ) → Follows core ms ps used here ms' ps' used'
     → after ≡ continued n here → Follows core ms ps used after ms' ps' used'

@@ -7,7 +7,6 @@ use mathlib.Core.List.{List, [], ◌∷◌}
 use Rattle.word_rows.specs.Laws.Tab.{tab_length}
 use Rattle.srt_group_model.specs.declared.Core.{Core}
 use Rattle.srt_group_model.specs.declared.Event.{Event}
-use Rattle.srt_group_model.specs.declared.Membership.{Membership}
 use Rattle.srt_group_model.specs.Tools.{if_true◌then◌else◌, if_some◌give◌otherwise◌, bit, at_place, change}
 use Rattle.srt_group_model.specs.Accounts.{reserve, Fits}
 use Rattle.srt_group_model.specs.Cells.{is_data}
@@ -283,14 +282,14 @@ module _ (core : Core) (budget : ℕ) (ms ps ws : List ℕ) (i : ℕ) (ms₁ : L
             ∙ member_budget i (member_at ms i).membership.id e _ ∙ sym g.lowered;
       }
 
-  pub visits_event : {r : LegPoll} {m : Membership} (turned : Core) (e : Event) (left : ℕ) (after : Core) (ms' ps' ws' : List ℕ)
+  pub visits_event : {r : LegPoll} {id : ℕ} (turned : Core) (e : Event) (left : ℕ) (after : Core) (ms' ps' ws' : List ℕ)
       → turned ≡ with_next ((i + 1) % core.counts.members) core → r ≡ PolledEvent e left → r ≡ leg_poll budget (member_at ms i).queue
-      → m ≡ (member_at ms i).membership → Collected i m.id e turned (receive_tables ms₁ ps ws) after (receive_tables ms' ps' ws')
+      → id ≡ (member_at ms i).membership.id → Collected i id e turned (receive_tables ms₁ ps ws) after (receive_tables ms' ps' ws')
       → Visits (core.counts.waiting + 1) (take_front i (member_at ms i)) core budget (receive_tables ms ps ws)
       record { more = true; core = after; budget = left } (receive_tables ms' ps' ws')
-  visits_event {m = m} turned e left after ms' ps' ws' t gave is named h =
-      visits_event_at e left m.id after ms' ps' ws' (sym gave ∙ is) (ap (λ (x : Membership). x.id) named)
-      (subst (λ (x : Core). Collected i m.id e x (receive_tables ms₁ ps ws) after (receive_tables ms' ps' ws')) t h)
+  visits_event {id = id} turned e left after ms' ps' ws' t gave is named h =
+      visits_event_at e left id after ms' ps' ws' (sym gave ∙ is) named
+      (subst (λ (x : Core). Collected i id e x (receive_tables ms₁ ps ws) after (receive_tables ms' ps' ws')) t h)
 
 -- ---- the event in front can be collected
 

@@ -1,5 +1,8 @@
 -- What is proved of the definitions in specs/Delivery.antt, with what the proofs need.
-use Rattle.std.specs.Prelude.{◌≡◌, refl, Bool, true, false, ℕ, zero, suc, unwrap_or, slice_index_or, ◌+◌, ◌≤◌, ◌<◌, ◌*◌, leb, length, None, Option, Some, MatchOption}
+use Rattle.std.specs.Prelude.{◌≡◌, refl, Bool, true, false, ℕ, zero, suc, ◌+◌, ◌≤◌, ◌<◌, ◌*◌, leb, length, None, Option, Some, MatchOption}
+use Rattle.std.specs.Option.{option_map, option_copied, option_or}
+use Rattle.std.specs.List.{slice_get}
+use denote.Ref.{Bor}
 use Rattle.std.proofs.Math.Path.{ap, ap₂, sym}
 use Rattle.std.proofs.Common.{subst, ◌∙◌, eq-eqb, ne_eqb, arith, is_le, nat_cmp}
 use Rattle.std.proofs.lemmas.Bool.Decides.{nat_tests}
@@ -17,6 +20,7 @@ use Rattle.srt_group_model.specs.Accounts.{release}
 use Rattle.srt_group_model.specs.Core.{with_receiving, with_own_account, with_held}
 use Rattle.srt_group_model.specs.Legs.{is_disconnected, gives_up_at, release_data_reservation, advance_receive_sequence}
 use Rattle.srt_group_model.specs.Members.{has_id, find}
+use Rattle.srt_group_model.specs.Removal.{is_owned}
 use Rattle.srt_group_model.specs.Nearest.{nearest, covered, not_covered}
 use Rattle.srt_group_model.specs.Delivery.{leg_gives_up, gap_given_up, release_pending_reservation, release_all, advance_legs, pass_run, deliver_packet}
 use Rattle.srt_connection_members.specs.Members.{member_at, members_in, members_of, Changed, ChangedAll, HasRow}
@@ -65,12 +69,6 @@ le_is_leb : (a b : ℕ) → is_le (nat_cmp a b) ≡ leb a b
 le_is_leb a b = grind (arith, nat_tests)
 
 module _ (time source : ℕ) (l : Leg) where
-  pub given_up_from : {r : Option Timestamp} {reached : Bool} (moment : Timestamp) → r ≡ Some moment → r ≡ deadline_of (gives_up_at source l)
-      → reached ≡ is_le (nat_cmp moment.0 time) → reached ≡ leg_given_up time source l
-  unfolding if_some◌give◌otherwise◌
-  given_up_from moment at_moment is compared =
-      rw (deadline_some (gives_up_at source l) moment (sym at_moment ∙ is)) (compared ∙ le_is_leb moment.0 time)
-
   -- the answer by the deadline, if there is one
   pub given_up_after : {r : Option Timestamp} {answer : Bool} → r ≡ deadline_of (gives_up_at source l)
       → MatchOption r (answer ≡ false) (λ moment. answer ≡ is_le (nat_cmp moment.0 time)) → answer ≡ leg_given_up time source l
@@ -81,10 +79,6 @@ module _ (time source : ℕ) (l : Leg) where
           → answer ≡ leg_given_up time source l
       go None none_is g = rw (deadline_none (gives_up_at source l) none_is) g
       go (Some moment) some_is g = rw (deadline_some (gives_up_at source l) moment some_is) (g ∙ le_is_leb moment.0 time)
-
-  pub never_given_up : {r : Option Timestamp} → r ≡ None → r ≡ deadline_of (gives_up_at source l) → false ≡ leg_given_up time source l
-  unfolding if_some◌give◌otherwise◌
-  never_given_up never is = rw (deadline_none (gives_up_at source l) (sym never ∙ is))
 
 -- the first that passes a test, by its place
 pub first_place : {A : Type 0} (test : A → Bool) (l : List A)
@@ -104,51 +98,44 @@ pub found_has_row : {r : Option ℕ} (n id i : ℕ) (t : List ℕ) → r ≡ Som
     → n * row_size ≤ length t → HasRow i t
 found_has_row n id i t there found long = omega (arith, found_below n id i t (sym there ∙ found))
 
-row_there : (rows : List (List ℕ)) (i : ℕ) (row : List ℕ) → i < length rows → row ≡ slice_index_or rows i row → at_place i (members_in rows) ≡ Some (member_of row)
+-- the first row shows the first member
+first_row : (rows : List (List ℕ)) (o : Option (Bor (List ℕ))) → option_copied o ≡ slice_get rows 0
+    → option_map (λ row. member_of row.now) o ≡ at_place 0 (members_in rows)
 unfolding at_place
-row_there [] i row below is = absurd (omega arith)
-row_there (first ∷ rows) zero row below is = ap (λ (r : List ℕ). Some (member_of r)) (sym is)
-row_there (first ∷ rows) (suc i) row below is = row_there rows i row (omega arith) is
+first_row [] None is = refl
+first_row [] (Some row) is = cc is
+first_row (first ∷ rows) None is = cc is
+first_row (first ∷ rows) (Some row) is = ap (option_map member_of) is
 
-no_row : (rows : List (List ℕ)) (i : ℕ) → length rows ≤ i → at_place i (members_in rows) ≡ None
-unfolding at_place
-no_row [] i past = refl
-no_row (first ∷ rows) zero past = absurd (omega arith)
-no_row (first ∷ rows) (suc i) past = no_row rows i (omega arith)
-
--- a place inside a list gives what stands there
-place_inside : {A : Type 0} (l : List A) (i : ℕ) (b : Option A) → i < length l → or_else (at_place i l) b ≡ at_place i l
-unfolding at_place or_else
-place_inside [] i b below = absurd (omega arith)
-place_inside (x ∷ xs) zero b below = refl
-place_inside (x ∷ xs) (suc i) b below = place_inside xs i b (omega arith)
+either_row : (found first : Option (Bor (List ℕ))) → option_map (λ row. member_of row.now) (option_or found first)
+    ≡ or_else (option_map (λ row. member_of row.now) found) (option_map (λ row. member_of row.now) first)
+unfolding or_else
+either_row None first = refl
+either_row (Some row) first = refl
 
 module _ (time : ℕ) (p : Packet) (rows : List (List ℕ)) where
   abbrev members : List Member
   members = members_in rows
 
-  -- the member with the packet's id, or else the first, by its place
-  member_asked : {found : Option ℕ} → found ≡ find p.member members
-      → or_else (first_such (has_id p.member) members) (at_place 0 members) ≡ at_place (unwrap_or found 0) members
-  unfolding or_else if_some◌give◌otherwise◌
-  member_asked {found} is =
-      rw (first_place (has_id p.member) members, ← is) (go found (λ i e. place_below (has_id p.member) members i (sym is ∙ e)))
-    where
-      go : (o : Option ℕ) → ((i : ℕ) → o ≡ Some i → i < length members)
-          → or_else (if_some o give (λ i. at_place i members) otherwise None) (at_place 0 members) ≡ at_place (unwrap_or o 0) members
-      go None inside = refl
-      go (Some i) inside = place_inside members i (at_place 0 members) (inside i refl)
+  given_up_by : Option Member → Bool
+  given_up_by asked = if_some asked give (λ m. leg_given_up time p.content.source.0 m.leg) otherwise false
 
-  pub leg_asked : {found : Option ℕ} {i : ℕ} {row : List ℕ} {l : Leg} {b : Bool} → found ≡ find p.member members → i ≡ unwrap_or found 0
-      → i < length rows → row ≡ slice_index_or rows i row → l ≡ (member_of row).leg
-      → b ≡ leg_given_up time p.content.source.0 l → b ≡ leg_gives_up time p members
-  unfolding leg_gives_up if_some◌give◌otherwise◌
-  leg_asked {row = row} found at below here is asked = rw (member_asked found, ← at, row_there rows _ row below here, ← is) asked
+  by_row : (asked : Option (Bor (List ℕ))) {b : Bool}
+      → MatchOption asked (b ≡ false) (λ row. b ≡ leg_given_up time p.content.source.0 (member_of row.now).leg)
+      → b ≡ given_up_by (option_map (λ row. member_of row.now) asked)
+  unfolding if_some◌give◌otherwise◌ given_up_by
+  by_row None is = is
+  by_row (Some row) is = is
 
-  pub no_leg_asked : {found : Option ℕ} {i : ℕ} → found ≡ find p.member members → i ≡ unwrap_or found 0
-      → length rows ≤ i → false ≡ leg_gives_up time p members
-  unfolding leg_gives_up if_some◌give◌otherwise◌
-  no_leg_asked found at past = rw (member_asked found, ← at, no_row rows _ past)
+  -- the row with the packet's member's id, or else the first, is asked
+  pub leg_asked : (found first : Option (Bor (List ℕ))) {asked : Option (Bor (List ℕ))} {b : Bool}
+      → option_map (λ row. member_of row.now) found ≡ first_such (has_id p.member) members
+      → option_copied first ≡ slice_get rows 0 → asked ≡ option_or found first
+      → MatchOption asked (b ≡ false) (λ row. b ≡ leg_given_up time p.content.source.0 (member_of row.now).leg) → b ≡ leg_gives_up time p members
+  unfolding leg_gives_up given_up_by
+  leg_asked found first {asked} is at either answers =
+      by_row asked answers
+      ∙ ap given_up_by (ap (option_map (λ row. member_of row.now)) either ∙ either_row found first ∙ ap₂ or_else is (first_row rows first at))
 
 pub nearest_in_table : {r : Option ℕ} {o : Option Packet} (n i : ℕ) (ps : List ℕ) → FoundPacket ps n r o → r ≡ Some i → n ≤ max_pending → i < max_pending
 nearest_in_table {r} n i ps near there few = omega (arith, at_in_use n r i near.within there)
@@ -178,32 +165,32 @@ unfolding release_all
 released_none core ms = record { rest = refl; long = refl; state = λ others ps ws. refl }
 
 module _ (core : Core) (ms : List ℕ) (p : Packet) where
-  pub released_own : {own : Account} → p.owned ≡ 1 → own ≡ release p.content.count core.own
+  pub released_own : {own : Account} {b : Bool} → b ≡ is_owned p → b ≡ true → own ≡ release p.content.count core.own
       → Released (p ∷ []) core ms (with_own_account own core) ms
   unfolding release_all release_pending_reservation if_true◌then◌else◌
-  released_own mine is = record { rest = refl; long = refl; state = λ others ps ws. rw (eq-eqb p.owned 1 mine, is) }
+  released_own tested mine is = record { rest = refl; long = refl; state = λ others ps ws. rw (sym tested ∙ mine, is) }
 
-  pub released_nowhere : {r : Option ℕ} → (p.owned ≡ 1 → ⊥) → r ≡ None → r ≡ find p.member (members_of core.counts.members ms)
+  pub released_nowhere : {r : Option ℕ} {b : Bool} → b ≡ is_owned p → b ≡ false → r ≡ None → r ≡ find p.member (members_of core.counts.members ms)
       → Released (p ∷ []) core ms core ms
   unfolding release_all release_pending_reservation if_true◌then◌else◌ if_some◌give◌otherwise◌
-  released_nowhere own nowhere found =
+  released_nowhere tested own nowhere found =
       record {
         rest = refl;
         long = refl;
-        state = λ others ps ws. rw (ne_eqb p.owned 1 own, found_none (find p.member (members_of core.counts.members ms)) (sym nowhere ∙ found));
+        state = λ others ps ws. rw (sym tested ∙ own, found_none (find p.member (members_of core.counts.members ms)) (sym nowhere ∙ found));
       }
 
-  pub released_member : {r : Option ℕ} (i : ℕ) (ms' : List ℕ) → (p.owned ≡ 1 → ⊥) → r ≡ Some i
+  pub released_member : {r : Option ℕ} {b : Bool} (i : ℕ) (ms' : List ℕ) → b ≡ is_owned p → b ≡ false → r ≡ Some i
       → r ≡ find p.member (members_of core.counts.members ms) → Changed i (release_member p.content.count) ms ms'
       → Released (p ∷ []) core ms core ms'
   unfolding release_all release_pending_reservation if_true◌then◌else◌ if_some◌give◌otherwise◌
-  released_member i ms' own there found changed =
+  released_member i ms' tested own there found changed =
       record {
         rest = refl;
         long = changed.long;
         state =
             λ others ps ws.
-            rw (ne_eqb p.owned 1 own, found_some (find p.member (members_of core.counts.members ms)) i (sym there ∙ found))
+            rw (sym tested ∙ own, found_some (find p.member (members_of core.counts.members ms)) i (sym there ∙ found))
             (ap (λ (x : List Member). with_members x (shown core others ms ps ws)) (sym (changed.members core.counts.members)));
       }
 
@@ -232,10 +219,6 @@ released_then {l} {m} {core} {here} {after} {ms} first second =
           release_append l m (shown core others ms ps ws) ∙ ap (release_all m) (first.state others ps ws) ∙ second.state others ps ws;
     }
 
-pub that_released : {p q : Packet} {core after : Core} {ms ms' : List ℕ} → q ≡ p → Released (q ∷ []) core ms after ms' → Released (p ∷ []) core ms after ms'
-that_released {core = core} {after = after} {ms = ms} {ms' = ms'} same released =
-    subst (λ (x : Packet). Released (x ∷ []) core ms after ms') same released
-
 -- those from `from` up to `at` are released, and then the one there
 pub released_start : (words : List ℕ) (from : ℕ) (core : Core) (ms : List ℕ) → Released (packets_between from from words) core ms core ms
 released_start words from core ms =
@@ -246,15 +229,6 @@ pub released_on : (words : List ℕ) (from at : ℕ) {core here next : Core} {ms
     → Released (packets_between from (at + 1) words) core ms next ms₂
 released_on words from at {core} {here} {next} {ms} {ms₁} {ms₂} ordered so_far one =
     subst (λ (l : List Packet). Released l core ms next ms₂) (sym (between_push (packet_at words) from at ordered)) (released_then so_far one)
-
--- the members' table is as long as before, and has a row for each member
-pub rows_still : (core after : Core) (ms ms' : List ℕ) → core.counts.members * row_size ≤ length ms → after ≡ with_own_account after.own core
-    → length ms' ≡ length ms → after.counts.members * row_size ≤ length ms'
-rows_still core after ms ms' enough rest long = omega (arith, ap (λ (x : Core). x.counts.members) rest)
-
-pub rows_kept : (core after : Core) (ms ps ms' : List ℕ) → Deliverable core ms ps → after ≡ with_own_account after.own core
-    → length ms' ≡ length ms → after.counts.members * row_size ≤ length ms'
-rows_kept core after ms ps ms' h rest long = omega (arith, h.members_long, h.members_few, ap (λ (x : Core). x.counts.members) rest)
 
 -- ---- a packet is delivered
 

@@ -1,5 +1,7 @@
 -- What is proved of the definitions in specs/Words.antt, and that a promise is the same over an answer in words.
-use Rattle.std.specs.Prelude.{◌≡◌, Bool, false, List, ℕ, Err, None, Ok, Option, Result, Some}
+use Rattle.std.specs.Prelude.{◌≡◌, Bool, false, List, ℕ, Err, None, Ok, Option, Result, Some, is_some}
+use mir.Val.{bool_byte}
+use Rattle.std.specs.Option.{unwrap_or}
 use Rattle.std.proofs.Math.Path.{refl, ap, subst}
 use Rattle.std.proofs.Common.{sym, ◌∙◌, true≢false, arith}
 use Rattle.srt_protocol.specs.declared.error.Error.{Error}
@@ -46,7 +48,7 @@ abbrev answer_with : (continuation : ℕ) → Option Packet → Answer
 answer_with continuation packet = data_polled packet (is_set continuation)
 
 module _ {poll : GroupDataPoll} where
-  pub says_none : poll.packet ≡ None → Says (Ok poll) (in_words 0 0 no_packet poll.continuation)
+  says_none : poll.packet ≡ None → Says (Ok poll) (in_words 0 0 no_packet poll.continuation)
   unfolding words_answer if_true◌then◌else◌
   says_none is =
       record {
@@ -60,7 +62,7 @@ module _ {poll : GroupDataPoll} where
             };
       }
 
-  pub says_some : (p : Packet) → poll.packet ≡ Some p → Says (Ok poll) (in_words 0 1 p poll.continuation)
+  says_some : (p : Packet) → poll.packet ≡ Some p → Says (Ok poll) (in_words 0 1 p poll.continuation)
   unfolding words_answer if_true◌then◌else◌
   says_some p is =
       record {
@@ -73,6 +75,16 @@ module _ {poll : GroupDataPoll} where
               continuation = λ refused. absurd (true≢false (sym refused));
             };
       }
+
+-- with a packet or without
+says_of : (packet : Option Packet) {continuation : ℕ}
+    → Says (Ok record { packet = packet; continuation = continuation }) (in_words 0 (bool_byte (is_some packet)) (unwrap_or packet no_packet) continuation)
+says_of None = says_none refl
+says_of (Some p) = says_some p refl
+
+pub says_given : {poll : GroupDataPoll} {given : ℕ} {p : Packet} → given ≡ bool_byte (is_some poll.packet) → p ≡ unwrap_or poll.packet no_packet
+    → Says (Ok poll) (in_words 0 given p poll.continuation)
+says_given {poll} flag same = rw (flag, same) (says_of poll.packet)
 
 -- ---- the words of a send's answer
 

@@ -23,7 +23,7 @@ use Rattle.srt_group_traces.specs.Port.{Shown, Promise}
 use Rattle.srt_group_shown.specs.Tables.{Parts, Tables, state_of}
 use Rattle.srt_group_refusals.specs.Begins.{are_short}
 use Rattle.srt_group_refusals.specs.Promised.{nothing_lent, asking, showing}
-use Rattle.srt_group_looks.specs.Looks.{member_row_size, members_code, rows_filled, Listed}
+use Rattle.srt_group_looks.specs.Looks.{member_row_size, given_code, rows_filled, Listed}
 use Rattle.srt_group_looks.specs.Laws.Members.{eight_words}
 use Rattle.srt_group_leg_rows.specs.declared.LegRow.{LegRow}
 use Rattle.srt_group_leg_rows.specs.Legs.{unknown_leg, state_among, leg_state, front_row, rows_in}
@@ -94,7 +94,7 @@ module _ (p : Parts) (t : Tables) where
   answered false does accepted = does.answer ∙ call_answers (call_look look_members) nothing_lent (state_of p t) (sym does.code ∙ accepted)
 
   -- over the rows that an accepted `members` filled the state is the model's
-  pub state_in_list : {list list' : List ℕ} {r : Result ℕ Error} → Listed p t list r list' → members_code r ≡ 0
+  pub state_in_list : {list list' : List ℕ} {r : Result ℕ Error} → Listed p t list r list' → given_code r ≡ 0
       → (id : ℕ) → state_among id (rows_in (rows_filled r) list') ≡ leg_state id (state_of p t)
   unfolding leg_state overwritten values_of shown_values
   state_in_list {list} {list'} {r} listed accepted id =

@@ -1,6 +1,7 @@
 -- What is proved of the looks: how each is refused, by what it is about, and what it shows.
 use Rattle.srt_protocol.specs.Errors.{Outcome}
-use Rattle.std.specs.Prelude.{◌≡◌, Bool, not, ℕ, ◌≤◌, eqb, Err, None, Ok, Some}
+use Rattle.std.specs.Prelude.{◌≡◌, Bool, not, ℕ, ◌≤◌, eqb, Err, None, Ok, Option, Result, Some, IsErrAnd}
+use Rattle.std.specs.Bool.{then_some}
 use Rattle.std.proofs.Math.Path.{refl, ap, subst}
 use Rattle.std.proofs.Common.{sym, ◌∙◌, le-ltb}
 use Rattle.std.proofs.Math.Bool.{true, false}
@@ -13,7 +14,7 @@ use Rattle.srt_group_model.specs.Legs.{largest_32, largest_64}
 use Rattle.srt_group_model.specs.Collecting.{has_pending_data}
 use Rattle.srt_group_model.specs.Backup.{group_time_until_send}
 use Rattle.srt_group_model.specs.Validity.{above}
-use Rattle.srt_group_model.specs.Guards.{no_answer, shown, number, optional, truth, Step, refuse, accept, Check, ◌when◌, guard, About, about_group, about_time, about_member}
+use Rattle.srt_group_model.specs.Guards.{Answer, no_answer, shown, number, optional, truth, Step, refuse, accept, Check, ◌when◌, guard, About, about_group, about_time, about_member}
 use Rattle.srt_group_model.specs.Laws.Flag.{set_is_not_zero}
 use Rattle.srt_group_model.specs.Laws.Refusals.{guard_stops, guard_goes_on}
 use Rattle.srt_group_model.specs.Calls.{breaks_rule, is_unknown, look_checks, group_id, mode, peer_group_id, skipped_receive_packets, has_pending_data_call, has_receive_continuation, time_until_send}
@@ -24,7 +25,7 @@ use Rattle.srt_group_refusals.specs.Begins.{begun}
 use Rattle.srt_group_refusals.specs.Promised.{nothing_lent, showing}
 use Rattle.srt_group_refusals.specs.Laws.Begins.{begun_long, begun_valid, begun_unbroken}
 use Rattle.srt_group_refusals.specs.Laws.Promised.{does_refused, promised_does, promised_refused_6, promised_steps}
-use Rattle.srt_group_looks.specs.Looks.{Looked}
+use Rattle.srt_group_looks.specs.Looks.{Looked, LookGives}
 
 -- the codes of a look after 6, by what it is about
 unfoldable after_6 : About → State → List Check
@@ -106,6 +107,12 @@ module _ (look : Look) (p : Parts) (t : Tables) {r : Outcome} (begins : r ≡ be
         member_look known =
             shown_after (about_member id) is (past_2 ∙ guard_goes_on (3 when is_unknown id s) [] s body known)
 
+-- a refusal goes up with `?`
+pub gives_refusal : {A : Type 0} (says : A → Answer) (look : Look) (p : Parts) (t : Tables) {r : Outcome} → r ≡ begun p t → (e : Error) → r ≡ Err e
+    → (given : Result A Error) → IsErrAnd given (λ y. y ≡ e) → LookGives says look p t given
+gives_refusal says look p t begins e refused (Ok x) up = absurd up
+gives_refusal says look p t begins e refused (Err y) up = rw up (look_refused look p t begins e refused)
+
 -- ---- the looks at the group
 
 module _ (p : Parts) (t : Tables) {r : Outcome} (begins : r ≡ begun p t) (accepted : r ≡ Ok tt) where
@@ -121,20 +128,16 @@ module _ (p : Parts) (t : Tables) {r : Outcome} (begins : r ≡ begun p t) (acce
   unfolding looking skipped_receive_packets
   skipped_shown = group_look look_skipped_receive_packets p t begins accepted refl
 
-  peer_shown : (b : Bool) → eqb p.core.peer 0 ≡ b
-      → Looked look_peer_group_id p t 0 (shown (optional (if_true b then None else Some p.core.peer)))
-  unfolding looking peer_group_id
-  peer_shown b is =
-      subst (λ (c : Bool). Looked look_peer_group_id p t 0 (shown (optional (if_true c then None else Some p.core.peer)))) is
+  pub peer_shown : (o : Option ℕ) → o ≡ then_some (not (eqb p.core.peer 0)) p.core.peer
+      → Looked look_peer_group_id p t 0 (shown (optional o))
+  unfolding looking peer_group_id if_true◌then◌else◌
+  peer_shown o is =
+      subst (λ (x : Option ℕ). Looked look_peer_group_id p t 0 (shown (optional x))) (by_test (eqb p.core.peer 0) ∙ sym is)
       (group_look look_peer_group_id p t begins accepted refl)
-
-  pub no_peer_shown : eqb p.core.peer 0 ≡ true → Looked look_peer_group_id p t 0 (shown (optional None))
-  unfolding if_true◌then◌else◌
-  no_peer_shown is = peer_shown true is
-
-  pub a_peer_shown : eqb p.core.peer 0 ≡ false → Looked look_peer_group_id p t 0 (shown (optional (Some p.core.peer)))
-  unfolding if_true◌then◌else◌
-  a_peer_shown is = peer_shown false is
+    where
+      by_test : (b : Bool) → (if_true b then None else Some p.core.peer) ≡ then_some (not b) p.core.peer
+      by_test true = refl
+      by_test false = refl
 
   pub pending_data_shown : (b : Bool) → b ≡ has_pending_data (state_of p t) → Looked look_has_pending_data p t 0 (shown (truth b))
   unfolding looking has_pending_data_call

@@ -5,7 +5,7 @@ use Rattle.std.proofs.Math.Path.{refl, ap, subst}
 use Rattle.std.proofs.Common.{sym, ◌∙◌, arith, le-ltb}
 use mathlib.Core.List.{List, [], ◌∷◌}
 use Rattle.srt_protocol.specs.declared.error.Error.{Error}
-use Rattle.srt_protocol.specs.Errors.{error_number}
+use Rattle.srt_protocol.specs.Errors.{error_number, outcome_number}
 use Rattle.srt_group_model.specs.Tools.{each}
 use Rattle.srt_group_model.specs.declared.Core.{Core}
 use Rattle.srt_group_model.specs.State.{Member, State, with_members, on_leg}
@@ -41,10 +41,11 @@ module _ (p : Parts) (t : Tables) where
   abbrev before : State
   before = state_of p t
 
-  pub refresh_refused : {r : Outcome} (begins : r ≡ begun p t) (e : Error) → r ≡ Err e
-      → Promised call_refresh_member_states p t nothing_lent (showing p t nothing_lent (error_number e) no_answer 0)
+  pub refresh_refused : {r : Outcome} (begins : r ≡ begun p t) (e : Error) → r ≡ Err e → {p' : Parts} → p' ≡ p → {answer : Outcome} → answer ≡ Err e
+      → Promised call_refresh_member_states p t nothing_lent (showing p' t nothing_lent (outcome_number answer) no_answer 0)
   unfolding step_of refresh_member_states
-  refresh_refused begins e refused = promised_refused_6 call_refresh_member_states p t nothing_lent begins _ _ refl e refused
+  refresh_refused begins e refused kept told =
+      rw (kept, told) (promised_refused_6 call_refresh_member_states p t nothing_lent begins _ _ refl e refused)
 
   module _ (unbroken : Unbroken p t) where
     pub refreshed : (after : Core) (members' : List ℕ) → Refreshes (sends p.sending) refresh_states p.core t.members after members'

@@ -36,14 +36,6 @@ unset None is = refl
 unset (Some s) is = cc is
 
 module _ (ms : List Member) (id : ℕ) (number : Option ℕ) where
-  pub source_numbered : is_some number ≡ true → number ≡ alignment_source number id ms
-  unfolding alignment_source or_else
-  source_numbered = go number
-    where
-      go : (o : Option ℕ) → is_some o ≡ true → o ≡ alignment_source o id ms
-      go (Some s) is = refl
-      go None is = cc is
-
   module _ (is : is_some number ≡ false) where
     pub source_none : None ≡ first_such (is_other_sender id) ms → None ≡ alignment_source number id ms
     unfolding alignment_source is_other_sender or_else if_some◌give◌otherwise◌

@@ -1,5 +1,5 @@
 -- What is proved of the definitions in specs/Quiet.antt: a refresh of a quiet group changes nothing.
-use Rattle.std.specs.Prelude.{◌≡◌, Bool, ◌&&◌, ◌||◌, ◌⊎◌, ℕ, zero, suc, eqb, length, None, Option, Some}
+use Rattle.std.specs.Prelude.{◌≡◌, Bool, ◌&&◌, ◌||◌, ◌⊎◌, ℕ, fold, zero, suc, eqb, length, None, Option, Some}
 use Rattle.std.proofs.Math.Path.{refl, ap, ap₂, sym}
 use Rattle.std.proofs.Common.{subst, ◌∙◌, arith, eqb-true, ne_eqb}
 use Rattle.std.proofs.Math.Bool.{true, false, not}
@@ -14,7 +14,23 @@ use Rattle.srt_group_model.specs.Run.{Run, on_state, on_members, set_base, admit
 use Rattle.srt_group_model.specs.Laws.Arrivals.{peer_after_none}
 use Rattle.srt_group_model.specs.Laws.Reason.{and_left, and_right, or_cases}
 use Rattle.srt_group_members.specs.Laws.Admission.{admitted_does_not_arrive, broken_does_not_arrive}
+use Rattle.srt_connection_queue.specs.Rows.{member_of}
+use Rattle.srt_connection_members.specs.Members.{members_in}
 use Rattle.srt_group_members.specs.Quiet.{is_steady, is_quiet}
+
+-- ---- all members are steady
+
+both_first : (a b c : Bool) → ((a && b) && c) ≡ (a && (b && c))
+both_first true b c = refl
+both_first false b c = refl
+
+pub steady_folded : (steady : Bool) (rows : List (List ℕ))
+    → fold (λ so_far row. so_far && is_steady (member_of row)) steady rows ≡ (steady && all is_steady (members_in rows))
+unfolding all
+steady_folded true [] = refl
+steady_folded false [] = refl
+steady_folded steady (row ∷ rows) =
+    steady_folded (steady && is_steady (member_of row)) rows ∙ both_first steady (is_steady (member_of row)) (all is_steady (members_in rows))
 
 -- ---- a steady member
 

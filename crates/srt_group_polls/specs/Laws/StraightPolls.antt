@@ -26,7 +26,6 @@ use Rattle.srt_group_model.specs.Laws.Steps.{poll_event_has}
 use Rattle.srt_group_model.specs.Laws.Sound.{sound_law}
 use Rattle.srt_group_model.specs.Core.{with_receiving, with_visit}
 use Rattle.srt_group_model.specs.Members.{id_of}
-use Rattle.srt_group_model.specs.Laws.Flag.{set_some}
 use Rattle.srt_connection_members.specs.Members.{member_at, members_of, HasRow, Changed, ChangedAll}
 use Rattle.srt_connection_members.specs.Laws.Members.{members_place, members_length, found_some, changed_twice}
 use Rattle.srt_connection_queue.specs.Queue.{popped as queue_popped}
@@ -115,17 +114,17 @@ module _ {found : Option ℕ} (core : Core) (ms ps : List ℕ) (i : ℕ) (there 
   turn_has_row d = omega (arith, inside, d.members_long, d.members_few)
 
   -- each test of it was passed
-  pub all_passed : {quiet alone held : Bool} {first : Option Event} {id : ℕ} (e : Event) → Known quiet core ms → quiet ≡ true → core.counts.waiting ≤ 0
-      → (core.receiving.based ≡ 0 → ⊥) → first ≡ Some e → first ≡ at_place 0 (member_at ms i).queue → alone ≡ true
-      → alone ≡ (eqb e.kind 0 && (eqb e.content.sequence core.receiving.base && eqb e.content.count 1)) → held ≡ false
-      → held ≡ is_held core.receiving.base (packets core.counts.pending ps) → id ≡ id_of (member_at ms i)
+  pub all_passed : {quiet alone held : Bool} {first : Option Event} {id : ℕ} {o : Option ℕ} (base : ℕ) (e : Event) → Known quiet core ms → quiet ≡ true
+      → core.counts.waiting ≤ 0 → o ≡ Some base → o ≡ flagged (is_set core.receiving.based) core.receiving.base → first ≡ Some e → first ≡ at_place 0 (member_at ms i).queue → alone ≡ true
+      → alone ≡ (eqb e.kind 0 && (eqb e.content.sequence base && eqb e.content.count 1)) → held ≡ false
+      → held ≡ is_held base (packets core.counts.pending ps) → id ≡ id_of (member_at ms i)
       → Goes i record { member = id; owned = 0; content = e.content } core ms ps
-  all_passed e known quiet none_waits based some_first is_first yes_alone is_alone not_held is_held' named =
+  all_passed base e known quiet none_waits some_base is_base some_first is_first yes_alone is_alone not_held is_held' named =
       let tests = sym is_alone ∙ yes_alone in
-      let at = eqb e.content.sequence core.receiving.base in
+      let at = eqb e.content.sequence base in
       let one = eqb e.content.count 1 in
       let later = and_right (eqb e.kind 0) (at && one) tests in
-      let sequence : e.content.sequence ≡ core.receiving.base = eqb-true _ _ (and_left at one later) in
+      let sequence : e.content.sequence ≡ base = eqb-true _ _ (and_left at one later) in
       record {
         inside = inside;
         straight =
@@ -133,7 +132,7 @@ module _ {found : Option ℕ} (core : Core) (ms ps : List ℕ) (i : ℕ) (there 
             record {
               quiet = known quiet;
               none_waits = not-false _ (tab_spent core.counts.waiting (waiting_at ws) none_waits);
-              based = set_some core.receiving.based core.receiving.base based ∙ ap (λ (n : ℕ). Some n) (sym sequence);
+              based = sym is_base ∙ some_base ∙ ap (λ (n : ℕ). Some n) (sym sequence);
               turn = found_some (in_turn core.visit.round (members_of core.counts.members ms)) i (sym there ∙ turn);
               member = member_at ms i;
               there = members_place core.counts.members ms i inside;

@@ -39,6 +39,11 @@ module _ {A : Type 0} {r : Result A Error} where
   which_error None e is refused = cc (sym is ∙ refused)
   which_error (Some y) e is refused = cc (sym is ∙ refused)
 
+-- the index that a search over the rows gives, where a member has the id
+pub index_found : (id : ℕ) {r : Result ℕ Error} (o : Option ℕ) (e : Error) {i : ℕ} {ms ns : List Member} → r ≡ ok_or o e → r ≡ Ok i → o ≡ find id ms → ms ≡ ns
+    → Some i ≡ find id ns
+index_found id o e is accepted searched shows = was_there o e is accepted ∙ searched ∙ ap (find id) shows
+
 -- its checks after 6: 2, 3, and a code of the member's own
 abbrev pub member_checks : (unfit : Bool) (id : ℕ) → Error → (Member → Bool) → State → List Check
 member_checks unfit id error refuses s =

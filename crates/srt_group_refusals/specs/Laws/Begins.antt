@@ -163,15 +163,6 @@ module _ {p : Parts} {t : Tables} {store : ℕ} {r : Outcome} {used : List ℕ} 
 
 -- ---- a poll
 
-module _ (p : Parts) (t : Tables) (store output : ℕ) (used : List ℕ) where
-  pub begins_no_room : output_unfit output ≡ true → BeginsPoll p t store output (Err InsufficientBuffer) used
-  begins_no_room unfit =
-      record { is = refused_is _ _ unfit; ready = λ never. never_accepted never; room = λ never. never_accepted never }
-
-  pub begins_with_room : output_unfit output ≡ false → {r : Outcome} → BeginsStored p t store r used → BeginsPoll p t store output r used
-  begins_with_room room begins =
-      record { is = begins.is ∙ passed_is _ _ room; ready = begins.ready; room = λ accepted. ltb-false _ _ room }
-
 module _ {p : Parts} {t : Tables} {store output : ℕ} {r : Outcome} {used : List ℕ} (begins : BeginsPoll p t store output r used) where
   -- with room for a payload it begins as a call that is lent a store
   pub begins_as_stored : output_unfit output ≡ false → BeginsStored p t store r used

@@ -23,12 +23,13 @@ use Rattle.srt_group_removal.specs.Connection.{given_back, StepsRemoval, answer_
 use Rattle.srt_group_removal.specs.Laws.Connection.{none_delivered}
 
 module _ (id : ℕ) (p : Parts) (t : Tables) (row : List ℕ) (long : row_size ≤ length row) {r : Outcome} (begins : r ≡ begun p t) where
-  pub removal_refused : (e : Error) → r ≡ Err e
-      → PromisedRow (call_remove_member_connection id) p t row (showing p t nothing_lent (error_number e) no_answer 0)
+  pub removal_refused : (e : Error) → r ≡ Err e → {p' : Parts} → p' ≡ p → {answer : Outcome} → answer ≡ Err e
+      → PromisedRow (call_remove_member_connection id) p t row (showing p' t nothing_lent (outcome_number answer) (given_back answer row) 0)
   unfolding step_of remove_member_connection
-  removal_refused e refused =
-      over_row (call_remove_member_connection id) p t row long
-      (promised_refused_6 (call_remove_member_connection id) p t nothing_lent begins _ (remove_body id (state_of p t)) refl e refused)
+  removal_refused e refused kept told =
+      rw (kept, told)
+      (over_row (call_remove_member_connection id) p t row long
+      (promised_refused_6 (call_remove_member_connection id) p t nothing_lent begins _ (remove_body id (state_of p t)) refl e refused))
 
   pub removal_promised : r ≡ Ok tt → (answer : Answered Core (Unit {0})) (ms' ps' row' : List ℕ)
       → StepsRemoval id p.core t.members t.pending answer ms' ps' row'

@@ -110,9 +110,10 @@ module _ (id : ℕ) (core : Core) (ms ps : List ℕ) where
   unfolding step_of remove_member_connection
   starts store output list s valid = guard_goes_on (6 when breaks_rule s) (2_on s) s (remove_body id s) valid
 
-  pub unfit_removal : (row : List ℕ) → largest_32 < id
-      → StepsRemoval id core ms ps record { «record» = core; answer = Err OutOfRange } ms ps row
-  unfit_removal row large =
+  pub unfit_removal : (row : List ℕ) → largest_32 < id → {answer : Answered Core (Unit {0})} → answer.«record» ≡ core → answer.answer ≡ Err OutOfRange
+      → StepsRemoval id core ms ps answer ms ps row
+  unfit_removal row large kept refused =
+      subst (λ (a : Answered Core (Unit {0})). StepsRemoval id core ms ps a ms ps row) (λ i. record { «record» = sym kept i; answer = sym refused i })
       record {
         over =
             λ identity sending ring ws hs ss unbroken.
@@ -135,9 +136,10 @@ module _ (id : ℕ) (core : Core) (ms ps : List ℕ) where
         starts store output list s valid
         ∙ guard_goes_on (2 when above largest_32 id) (3_on s) s (remove_body id s) (le-ltb largest_32 id fit)
 
-    pub unknown_removal : (row : List ℕ) → None ≡ find id (members_of core.counts.members ms)
-        → StepsRemoval id core ms ps record { «record» = core; answer = Err UnknownMember } ms ps row
-    unknown_removal row nowhere =
+    pub unknown_removal : (row : List ℕ) → None ≡ find id (members_of core.counts.members ms) → {answer : Answered Core (Unit {0})}
+        → answer.«record» ≡ core → answer.answer ≡ Err UnknownMember → StepsRemoval id core ms ps answer ms ps row
+    unknown_removal row nowhere kept refused =
+        subst (λ (a : Answered Core (Unit {0})). StepsRemoval id core ms ps a ms ps row) (λ i. record { «record» = sym kept i; answer = sym refused i })
         record {
           over =
               λ identity sending ring ws hs ss unbroken.

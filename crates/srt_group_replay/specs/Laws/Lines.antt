@@ -23,9 +23,9 @@ use Rattle.srt_protocol.specs.declared.error.Error.{Error}
 use Rattle.srt_group_replay.specs.declared.Memory.{Memory}
 use Rattle.srt_group_listing.specs.declared.Printed.{Printed}
 use Rattle.srt_group_listing.specs.Telling.{numbers_of}
-use Rattle.srt_group_replay.specs.declared.verb.Verb.{Verb}
-use Rattle.srt_group_replay.specs.declared.verb.Verb.TheVariants.{New, Add, Reading, Data, Poll, Send, Remove, MarkBroken, Event}
-use Rattle.srt_group_replay.specs.Verb.{number_of}
+use Rattle.srt_group_replay.specs.declared.verb.Call.{Call}
+use Rattle.srt_group_replay.specs.declared.verb.Call.TheVariants.{Add, Reading, Data, Poll, Send, Remove, MarkBroken, Event}
+use Rattle.srt_group_replay.specs.Verb.{call_number}
 use Rattle.srt_group_replay.specs.Lines.{state_over, StandingOver, standing}
 use Rattle.srt_group_replay.specs.Told.{TellsLine, TellsOver, TellsNew}
 
@@ -57,17 +57,16 @@ without_group line (suc (suc (suc (suc (suc (suc zero)))))) few = refl
 without_group line (suc (suc (suc (suc (suc (suc (suc zero))))))) few = refl
 without_group line (suc (suc (suc (suc (suc (suc (suc (suc k)))))))) few = absurd (omega arith)
 
--- no verb has a larger number
-pub most_number : (verb : Verb) → number_of verb ≤ 9
-most_number New = omega arith
-most_number Add = omega arith
-most_number Reading = omega arith
-most_number Data = omega arith
-most_number Poll = omega arith
-most_number Send = omega arith
-most_number Remove = omega arith
-most_number MarkBroken = omega arith
-most_number Event = omega arith
+-- a call's number is none of the others
+pub calls_numbers : (call : Call) → (2 ≤ call_number call) × (call_number call ≤ 9)
+calls_numbers Add = (omega arith, omega arith)
+calls_numbers Reading = (omega arith, omega arith)
+calls_numbers Data = (omega arith, omega arith)
+calls_numbers Poll = (omega arith, omega arith)
+calls_numbers Send = (omega arith, omega arith)
+calls_numbers Remove = (omega arith, omega arith)
+calls_numbers MarkBroken = (omega arith, omega arith)
+calls_numbers Event = (omega arith, omega arith)
 
 -- ---- verb 1
 

@@ -30,12 +30,12 @@ use Rattle.srt_group_tables.specs.Ring.{entries_of, send_of}
 use Rattle.srt_group_sending.specs.SentList.{send_tables, sent_rows}
 use Rattle.srt_group_sending.specs.Laws.SentList.{wrote_nothing}
 use Rattle.srt_group_sending.specs.Broadcast.{SentBroadcast}
-use Rattle.srt_group_sending.specs.declared.broadcast.BroadcastSend.{BroadcastSend}
+use Rattle.srt_group_sending.specs.declared.flown.Flown.{Flown}
 use Rattle.srt_group.specs.declared.Group.{Group}
 use Rattle.srt_group_collecting.specs.Leaves.{sends}
 use Rattle.srt_group_polls.specs.Refresh.{Refreshes}
 use Rattle.srt_group_shown.specs.Shown.{rest}
-use Rattle.srt_group_backup.specs.declared.send.BackupSend.{BackupSend}
+use Rattle.srt_group_backup.specs.declared.trimming.SendHistory.{SendHistory}
 use Rattle.srt_group_carrier.specs.Lendable.{BackupTables, backup_tables, arrays_in, Lendable, NumbersFit}
 use Rattle.srt_group_carrier.specs.Flows.{InMode, BackupFlows}
 use Rattle.srt_group_carrier.specs.Laws.Freeing.{trim_same, trim_sends}
@@ -45,7 +45,7 @@ use Rattle.srt_group_send.specs.Sends.{by_mode, sending_state, FitShown, FlowMad
 -- ---- the send of the mode
 
 module _ (mode time size cell n : ℕ) (x : Sending) (r : HistoryRing) (before : BackupTables) where
-  pub backup_by_mode : {answer : BackupSend} {after : BackupTables} {b : Bool} → b ≡ is_backup mode → b ≡ true
+  pub backup_by_mode : {answer : Flown SendHistory} {after : BackupTables} {b : Bool} → b ≡ is_backup mode → b ≡ true
       → BackupFlows (InMode mode) (send_backup time size cell) cell n x r 0 before answer after
       → BackupFlows (InMode mode) (by_mode mode time size cell) cell n x r 0 before answer after
   backup_by_mode tested in_backup flows =
@@ -63,10 +63,10 @@ module _ (mode time size cell n : ℕ) (x : Sending) (r : HistoryRing) (before :
             ∙ flows.flow s is ms sends;
       }
 
-  pub broadcast_by_mode : {sent : BroadcastSend} {members list : List ℕ} {b : Bool} → b ≡ is_backup mode → b ≡ false → n ≤ max_members → Lendable n r before
+  pub broadcast_by_mode : {sent : Flown Sending} {members list : List ℕ} {b : Bool} → b ≡ is_backup mode → b ≡ false → n ≤ max_members → Lendable n r before
       → SentBroadcast n time size x (send_tables before.members before.list) sent (send_tables members list)
       → BackupFlows (InMode mode) (by_mode mode time size cell) cell n x r 0 before
-      record { outcome = sent.outcome; send = record { sending = sent.sending; ring = r }; sent = sent.sent }
+      record { outcome = sent.outcome; state = record { sending = sent.state; ring = r }; sent = sent.sent }
       (backup_tables members before.history before.sources list before.used)
   broadcast_by_mode {sent} {members} {list} tested in_broadcast few lent cast =
       record {
@@ -81,7 +81,7 @@ module _ (mode time size cell n : ℕ) (x : Sending) (r : HistoryRing) (before :
             λ s is ms sends.
             when_false (is_backup mode) (send_backup time size cell s) (send_broadcast time size s) (sym tested ∙ in_broadcast)
             ∙ cast.is s ms (ap (λ (y : Send). y.numbers) sends)
-            ∙ ap (λ (y : Send). made (with_sending sent.sending y) s) sends;
+            ∙ ap (λ (y : Send). made (with_sending sent.state y) s) sends;
       }
     where
       made : Send → State → Flow
@@ -159,12 +159,12 @@ module _ (g : Group) (before : BackupTables) (after : Core) (members : List ℕ)
               when_true _ _ _ (above true is pending waiting payload long) ∙ ap (ends_with 23) (refreshed pending waiting);
         }
 
-    pub mode_made : {sent : BackupSend} {end : BackupTables} {answer : Result ℕ Error} → b ≡ false
+    pub mode_made : {sent : Flown SendHistory} {end : BackupTables} {answer : Result ℕ Error} → b ≡ false
         → BackupFlows (InMode g.core.mode) (by_mode g.core.mode time size cell) cell after.counts.members g.sending g.ring 0 mid sent end
         → answer ≡ result_and sent.outcome (Ok (if_true is_backup g.core.mode then 1 else sent.sent))
         → FlowMade cell time size g before
         record {
-          «record» = record { identity = g.identity; core = after; sending = sent.send.sending; ring = sent.send.ring };
+          «record» = record { identity = g.identity; core = after; sending = sent.state.sending; ring = sent.state.ring };
           answer = answer;
           rows = sent.sent;
         } end
@@ -196,7 +196,7 @@ module _ (g : Group) (before : BackupTables) (after : Core) (members : List ℕ)
         made : ℕ → State → Flow
         made k s =
             record {
-              state = with_send (send_of sent.send.sending sent.send.ring (arrays_in end)) (with_members (members_of after.counts.members end.members) s);
+              state = with_send (send_of sent.state.sending sent.state.ring (arrays_in end)) (with_members (members_of after.counts.members end.members) s);
               sends = flows.sends;
               code = k;
             }

@@ -6,8 +6,8 @@ use Rattle.std.proofs.Math.Bool.{true, false, not}
 use Rattle.std.proofs.Math.Decide.{dec_lt}
 use borrow.Author.Tests.{eq-eqb, ne_eqb, lt-ltb, le-ltb}
 use Rattle.word_rows.specs.Laws.Tab.{tab_length}
-use Rattle.std.specs.Bool.{then_some}
-use Rattle.std.specs.Option.{option_or}
+use Rattle.std.specs.Bool.{IsTrue, then_some}
+use Rattle.std.specs.Option.{MatchOption, option_or}
 use Rattle.srt_group_model.specs.Tools.{if_true◌then◌else◌, if_some◌give◌otherwise◌, is_set, flagged, or_else, place_of, at_place}
 use Rattle.srt_group_model.specs.State.{Member, send_side}
 use Rattle.srt_group_model.specs.Laws.Flag.{set_is_not_zero, unset_none, set_some}
@@ -16,14 +16,13 @@ use Rattle.srt_group_model.specs.Members.{id_of, is_active, first_active, promot
 use Rattle.srt_group_model.specs.Backup.{max_history, takes_over, ready_to_send, backup_member_ready, backup_send_ready}
 use Rattle.srt_group_model.specs.declared.Entry.{Entry}
 use Rattle.srt_group_model.specs.declared.Leg.{Leg}
-use Rattle.srt_group_model.specs.declared.Membership.{Membership}
 use Rattle.srt_group_model.specs.declared.Sending.{Sending}
 use Rattle.srt_connection_queue.specs.Laws.Tab.{tab_place, tab_past}
 use Rattle.srt_connection_members.specs.Members.{members_in}
 use Rattle.srt_connection_members.specs.Laws.Members.{found_some, found_none}
 use Rattle.srt_group_members.specs.Laws.Scan.{sequence_some, sequence_none}
 use Rattle.srt_group_members.specs.Rank.{shown}
-use Rattle.srt_group_sending.specs.Laws.Rows.{row_there, row_found, row_promoted}
+use Rattle.srt_group_sending.specs.Laws.Rows.{some_and, row_there, row_found, row_promoted}
 use Rattle.srt_group_tables.specs.Ring.{Arrays, word_sequence, entry_at, entries_of, send_of}
 use Rattle.srt_group_tables.specs.declared.history.HistoryRing.{HistoryRing}
 use Rattle.srt_group_sending.specs.BackupReadiness.{is_other_carrier, send_number, front_sequence, replay_length, replay_sequence, gap_allows, stands_at, could_take_over, MemberReady, BackupReady}
@@ -47,6 +46,12 @@ module _ (id : ℕ) (x : Sending) {carrier : Option ℕ} (is : carrier ≡ flagg
   pub some_carry : (k : ℕ) → carrier ≡ Some k → not (eqb k id) ≡ is_other_carrier id x
   unfolding is_other_carrier if_some◌give◌otherwise◌
   some_carry k e = ap (λ (o : Option ℕ). if_some o give (λ k. not (eqb k id)) otherwise false) (sym e ∙ is)
+
+  pub carried_by_other : {answer : Bool} → MatchOption carrier (answer ≡ false) (λ k. answer ≡ not (eqb k id)) → answer ≡ is_other_carrier id x
+  unfolding is_other_carrier
+  carried_by_other given =
+      some_and (λ k. not (eqb k id)) carrier given
+      ∙ ap (λ (o : Option ℕ). if_some o give (λ k. not (eqb k id)) otherwise false) is
 
 -- whether a member takes over, whatever the history is
 pub takes_over_is : (id : ℕ) (x : Sending) (h : List Entry) → is_other_carrier id x ≡ takes_over id (send_side x h)
@@ -146,6 +151,16 @@ module _ (l : Leg) (sequence : Option ℕ) where
   unfolding stands_at if_some◌give◌otherwise◌
   stands_elsewhere n e h = sym (rw (e, ne_eqb l.sender.next n h))
 
+  pub stands_if_some : (answer : Bool) → MatchOption sequence (IsTrue answer) (λ n. answer ≡ (eqb l.sender.next n || eqb l.sender.flight 0))
+      → answer ≡ stands_at sequence l
+  unfolding stands_at if_some◌give◌otherwise◌
+  stands_if_some answer = go sequence answer
+    where
+      go : (o : Option ℕ) (b : Bool) → MatchOption o (IsTrue b) (λ n. b ≡ (eqb l.sender.next n || eqb l.sender.flight 0))
+          → b ≡ (if_some o give (λ n. eqb l.sender.next n || eqb l.sender.flight 0) otherwise true)
+      go None b given = given
+      go (Some n) b given = given
+
   pub stands_if : (n : ℕ) → sequence ≡ Some n → (eqb l.sender.next n || eqb l.sender.flight 0) ≡ stands_at sequence l
   unfolding stands_at if_some◌give◌otherwise◌
   stands_if n e = sym (rw e)
@@ -205,7 +220,7 @@ module _ (time : Option ℕ) (x : Sending) (r : HistoryRing) (history : List ℕ
     (is_leg : leg ≡ m.leg) (is_can : can ≡ ready_to_send time leg) where
   member_parts : (a : Arrays) → a.history ≡ history
       → backup_member_ready time (send_of x r a) m
-      ≡ (can && (eqb leg.sender.started 1 && could_take_over (id_of m) x r history leg))
+      ≡ (can && (has_sender leg && could_take_over (id_of m) x r history leg))
   member_parts a e =
       by_parts time x r a m
       ∙ ap (λ (l : List ℕ). ready_to_send time m.leg && (has_sender m.leg && could_take_over (id_of m) x r l m.leg)) e
@@ -215,17 +230,17 @@ module _ (time : Option ℕ) (x : Sending) (r : HistoryRing) (history : List ℕ
   pub cannot_send_yet : can ≡ false → MemberReady time x r history m false
   cannot_send_yet e = record { is = λ a q. sym (member_parts a q ∙ rw e) }
 
-  pub has_no_sender : can ≡ true → (leg.sender.started ≡ 1 → ⊥) → MemberReady time x r history m false
-  has_no_sender e h = record { is = λ a q. sym (member_parts a q ∙ rw (e, ne_eqb leg.sender.started 1 h)) }
+  pub has_no_sender : {has : Bool} → can ≡ true → has ≡ has_sender leg → has ≡ false → MemberReady time x r history m false
+  has_no_sender e is_has h = record { is = λ a q. sym (member_parts a q ∙ rw (e, ← is_has, h)) }
 
-  pub ready_if_takes_over : {y : Membership} {answer : Bool} → can ≡ true → leg.sender.started ≡ 1 → y ≡ m.membership
-      → answer ≡ could_take_over y.id x r history leg → MemberReady time x r history m answer
-  ready_if_takes_over {y} {answer} e h is_membership is_answer =
+  pub ready_if_takes_over : {id : ℕ} {has answer : Bool} → can ≡ true → has ≡ has_sender leg → has ≡ true → id ≡ id_of m
+      → answer ≡ could_take_over id x r history leg → MemberReady time x r history m answer
+  ready_if_takes_over {id} {has} {answer} e is_has h is_id is_answer =
       record {
         is =
             λ a q.
-            is_answer ∙ ap (λ (z : Membership). could_take_over z.id x r history leg) is_membership
-            ∙ sym (member_parts a q ∙ rw (e, eq-eqb leg.sender.started 1 h));
+            is_answer ∙ ap (λ (k : ℕ). could_take_over k x r history leg) is_id
+            ∙ sym (member_parts a q ∙ rw (e, ← is_has, h));
       }
 
 -- ---- the group

@@ -13,24 +13,24 @@ use Rattle.word_rows.specs.Laws.Tab.{tab_push}
 use Rattle.srt_protocol.specs.Sequence.{sequence_further}
 use Rattle.srt_protocol.specs.declared.error.Error.TheVariants.{NoActiveMember, SequenceMismatch, AllBroadcastFailed}
 use Rattle.srt_group_tables.specs.Laws.PacketLaws.{each_append}
-use Rattle.std.specs.Option.{unwrap_or}
-use Rattle.srt_group_model.specs.Tools.{if_true◌then◌else◌, if_some◌give◌otherwise◌, is_set, flagged, is_empty, any, such_that, place_of, at_place, each}
+use Rattle.std.specs.Option.{MatchOption, option_map, unwrap_or}
+use Rattle.srt_group_model.specs.Tools.{if_true◌then◌else◌, if_some◌give◌otherwise◌, is_set, flagged, is_empty, any, first_such, such_that, place_of, at_place, each}
 use Rattle.srt_group_model.specs.State.{Member, Send, State, with_leg, turned, unstable_state, broken_state, with_number}
 use Rattle.srt_group_model.specs.Laws.Flag.{zero_unset, other_set}
 use Rattle.srt_group_model.specs.Legs.{is_connected, can_send, send_shared_with_sequence}
 use Rattle.srt_group_model.specs.Members.{is_active, first_active}
-use Rattle.srt_group_model.specs.Sending.{sent_row_size, list_size, Sent, own_payload, own_send, Flow, mark_send_failure, sequence_for_send, sequence_mismatch, above_limit, takes_send, attempt_send, send_broadcast}
+use Rattle.srt_group_model.specs.Sending.{sent_row_size, list_size, Sent, own_send, Flow, mark_send_failure, sequence_for_send, sequence_mismatch, above_limit, takes_send, attempt_send, send_broadcast}
 use Rattle.srt_group_model.specs.Validity.{max_members}
 use Rattle.srt_group_model.specs.declared.Leg.{Leg}
-use Rattle.srt_group_model.specs.declared.Membership.{Membership}
 use Rattle.srt_group_model.specs.declared.Sender.{Sender}
 use Rattle.srt_group_model.specs.declared.Sending.{Sending}
-use Rattle.srt_connection.specs.Laws.Answers.{result_ok, result_err}
 use Rattle.srt_connection_members.specs.Members.{member_at, members_in, members_of, Changed}
-use Rattle.srt_connection_members.specs.Laws.Members.{members_place, found_some, found_none, changed_by, unchanged, Changing, changing_start, changing_on, changing_done}
+use Rattle.srt_connection_members.specs.Laws.Members.{members_place, found_some, found_none, changed_by, changed_twice, unchanged, Changing, changing_start, changing_on, changing_done}
 use Rattle.srt_group_members.specs.Laws.Scan.{found_row}
 use Rattle.srt_group_members.specs.Rank.{shown}
-use Rattle.srt_group_sending.specs.SentList.{sent_row, sent_rows, send_tables, Wrote}
+use Rattle.srt_group_sending.specs.SentList.{sent_rows, send_tables, Wrote}
+use Rattle.srt_group_sending.specs.OwnSend.{SentOn}
+use Rattle.srt_group_sending.specs.Laws.OwnSend.{not_some, with_some}
 use Rattle.srt_group_sending.specs.Laws.Rows.{row_there, row_found}
 use Rattle.srt_group_sending.specs.Laws.SentList.{wrote_nothing, wrote_length, wrote_then, wrote_rows}
 use Rattle.srt_group_sending.specs.Broadcast.{number_for_send, is_mismatched, sends_of, left_by_send, AttemptedAt, Attempted, SentBroadcast}
@@ -143,6 +143,30 @@ module _ (rows : List (List ℕ)) (size : ℕ) where
       let first = such_that_first is_active (members_in rows) i (found_some (place_of is_active (members_in rows)) i e) in
       let there = row_there i rows (row_found is_active rows i e) in
       ap (λ (l : Leg). ltb l.link.limit size) is_leg ∙ sym (rw (first, there))
+
+  first_passing : (test : Member → Bool) (ms : List Member) → first_such test ms ≡ at_place 0 (such_that test ms)
+  unfolding first_such such_that at_place if_true◌then◌else◌
+  first_passing test [] = refl
+  first_passing test (m ∷ ms) = go (test m) (first_passing test ms)
+    where
+      go : (b : Bool) → first_such test ms ≡ at_place 0 (such_that test ms)
+          → (if_true b then Some m else first_such test ms) ≡ at_place 0 (if_true b then m ∷ such_that test ms else such_that test ms)
+      go true behind = refl
+      go false behind = behind
+
+  pub limit_by_first : {A : Type 0} (seen : A → Member) (found : Option A) {answer : Bool}
+      → option_map seen found ≡ first_such is_active (members_in rows)
+      → MatchOption found (answer ≡ false) (λ x. answer ≡ ltb (seen x).leg.link.limit size) → answer ≡ above_limit size (members_in rows)
+  unfolding above_limit if_some◌give◌otherwise◌
+  limit_by_first {A = A} seen found {answer} first given =
+      by found given
+      ∙ ap (λ (o : Option Member). if_some o give (λ m. ltb m.leg.link.limit size) otherwise false)
+      (first ∙ first_passing is_active (members_in rows))
+    where
+      by : (o : Option A) → MatchOption o (answer ≡ false) (λ x. answer ≡ ltb (seen x).leg.link.limit size)
+          → answer ≡ (if_some option_map seen o give (λ m. ltb m.leg.link.limit size) otherwise false)
+      by None g = g
+      by (Some x) g = g
 
 module _ (x : Sending) (m : Member) where
   pub numbered_number : (x.numbered ≡ 0 → ⊥) → x.next ≡ number_for_send x m
@@ -259,43 +283,39 @@ module _ (i time size sequence sent : ℕ) (t a : List ℕ) {active : Bool} (is 
         wrote = wrote_none (takes_inactive time size sequence (member_at t i) (sym is ∙ e));
       }
 
-  module _ {leg : Leg} (e : active ≡ true) (is_leg : leg ≡ (member_at t i).leg) where
-    pub attempt_marked : {u : List ℕ} → None ≡ send_shared_with_sequence time size sequence leg
-        → Changed i mark_send_failure t u → AttemptedAt i time size sequence sent (send_tables t a) sent (send_tables u a)
+  module _ {went : Bool} {v b : List ℕ} (e : active ≡ true)
+      (on : SentOn time size sequence i sent (send_tables t a) went (send_tables v b)) where
+    pub attempt_marked : {u : List ℕ} → went ≡ false → Changed i mark_send_failure v u
+        → AttemptedAt i time size sequence sent (send_tables t a) sent (send_tables u b)
+    unfolding if_true◌then◌else◌ if_some◌give◌otherwise◌
     attempt_marked {u} failed c =
         record {
           changed =
-              changed_by i t u (attempt_send time size sequence) c
-              (sym (attempt_failed time size sequence (member_at t i) (sym is ∙ e) fails));
-          wrote = wrote_none (takes_failed time size sequence (member_at t i) (sym is ∙ e) fails);
+              changed_by i t u (attempt_send time size sequence) (changed_twice i t v u on.changed c)
+              (ap mark_send_failure (rw fails) ∙ sym (attempt_failed time size sequence (member_at t i) (sym is ∙ e) fails));
+          wrote =
+              subst (λ (xs : List Sent). Wrote sent xs a sent b)
+              (sym (sends_none time size sequence (member_at t i) (takes_failed time size sequence (member_at t i) (sym is ∙ e) fails)))
+              (rw failed at on.written);
         }
       where
         fails : send_shared_with_sequence time size sequence (member_at t i).leg ≡ None
-        fails =
-            ap (send_shared_with_sequence time size sequence) (sym is_leg)
-            ∙ result_err (send_shared_with_sequence time size sequence leg) failed
+        fails = not_some (send_shared_with_sequence time size sequence (member_at t i).leg) (sym failed ∙ on.succeeded)
 
-    pub attempt_noted : {u b : List ℕ} {x : Membership} (l : Leg) → Some l ≡ send_shared_with_sequence time size sequence leg
-        → x ≡ (member_at t i).membership → Changed i (with_leg l) t u
-        → Wrote sent (sent_row x.id sequence own_payload time time ∷ []) a (sent + 1) b
-        → AttemptedAt i time size sequence sent (send_tables t a) (sent + 1) (send_tables u b)
-    attempt_noted {u} {b} {x} l succeeded is_membership c w =
+    pub attempt_noted : went ≡ true → AttemptedAt i time size sequence sent (send_tables t a) (sent + 1) (send_tables v b)
+    unfolding if_true◌then◌else◌ if_some◌give◌otherwise◌
+    attempt_noted succeeded =
+        with_some (send_shared_with_sequence time size sequence (member_at t i).leg) (sym succeeded ∙ on.succeeded)
+        (λ l goes.
         record {
           changed =
-              changed_by i t u (attempt_send time size sequence) c
-              (sym (attempt_sent time size sequence (member_at t i) l (sym is ∙ e) goes));
-          wrote = subst (λ (xs : List Sent). Wrote sent xs a (sent + 1) b) rows w;
-        }
-      where
-        goes : send_shared_with_sequence time size sequence (member_at t i).leg ≡ Some l
-        goes =
-            ap (send_shared_with_sequence time size sequence) (sym is_leg)
-            ∙ result_ok (send_shared_with_sequence time size sequence leg) l succeeded
-
-        rows : sent_row x.id sequence own_payload time time ∷ [] ≡ sends_of time size sequence (member_at t i ∷ [])
-        rows =
-            ap (λ (y : Membership). sent_row y.id sequence own_payload time time ∷ []) is_membership
-            ∙ sym (sends_one time size sequence (member_at t i) (takes_sent time size sequence (member_at t i) l (sym is ∙ e) goes))
+              changed_by i t v (attempt_send time size sequence) on.changed
+              (rw goes (sym (attempt_sent time size sequence (member_at t i) l (sym is ∙ e) goes)));
+          wrote =
+              subst (λ (xs : List Sent). Wrote sent xs a (sent + 1) b)
+              (sym (sends_one time size sequence (member_at t i) (takes_sent time size sequence (member_at t i) l (sym is ∙ e) goes)))
+              (rw succeeded at on.written);
+        })
 
 -- ---- the attempts, one after the other
 
@@ -425,7 +445,7 @@ answered s xs code = record { state = s; sends = xs; code = code }
 
 module _ (n time size : ℕ) (x : Sending) (t a : List ℕ) where
   pub none_active_left : None ≡ first_active (members_of n t)
-      → SentBroadcast n time size x (send_tables t a) record { outcome = Err NoActiveMember; sending = x; sent = 0 } (send_tables t a)
+      → SentBroadcast n time size x (send_tables t a) record { outcome = Err NoActiveMember; state = x; sent = 0 } (send_tables t a)
   unfolding send_broadcast is_empty if_true◌then◌else◌ tab
   none_active_left e =
       record {
@@ -442,7 +462,7 @@ module _ (n time size : ℕ) (x : Sending) (t a : List ℕ) where
       (is_sequence : sequence ≡ number_for_send x (member_at t i))
       (is_mismatch : mismatch ≡ sequence_mismatch sequence (such_that is_active (members_of n t))) where
     pub mismatch_left : mismatch ≡ true
-        → SentBroadcast n time size x (send_tables t a) record { outcome = Err SequenceMismatch; sending = x; sent = 0 } (send_tables t a)
+        → SentBroadcast n time size x (send_tables t a) record { outcome = Err SequenceMismatch; state = x; sent = 0 } (send_tables t a)
     unfolding send_broadcast if_true◌then◌else◌ tab
     mismatch_left e =
         record {
@@ -473,7 +493,7 @@ module _ (n time size : ℕ) (x : Sending) (t a : List ℕ) where
       members_are s members = ap (each (attempt_send time size sequence)) members ∙ sym tried.members
 
       pub all_failed : sent ≡ 0
-          → SentBroadcast n time size x (send_tables t a) record { outcome = Err AllBroadcastFailed; sending = x; sent = sent } (send_tables u b)
+          → SentBroadcast n time size x (send_tables t a) record { outcome = Err AllBroadcastFailed; state = x; sent = sent } (send_tables u b)
       unfolding send_broadcast if_true◌then◌else◌
       all_failed zero_sent =
           record {
@@ -501,7 +521,7 @@ module _ (n time size : ℕ) (x : Sending) (t a : List ℕ) where
           no_rows = sym (nothing_shown b) ∙ ap (λ (k : ℕ). sent_rows k b) (sym zero_sent)
 
       pub sent_by_some : {y : Sending} → (sent ≡ 0 → ⊥) → y ≡ with_number (sequence_further sequence 1) x
-          → SentBroadcast n time size x (send_tables t a) record { outcome = (Ok tt); sending = y; sent = sent } (send_tables u b)
+          → SentBroadcast n time size x (send_tables t a) record { outcome = (Ok tt); state = y; sent = sent } (send_tables u b)
       unfolding send_broadcast if_true◌then◌else◌
       sent_by_some {y} some_sent is_number =
           record {

@@ -1,22 +1,21 @@
 -- What is proved of the definitions in specs/Readiness.antt, with what the proofs need.
-use Rattle.std.specs.Prelude.{◌≡◌, Bool, true, false, ◌||◌, List, ◌∷◌, length, drop, None, Option, Some}
+use Rattle.std.specs.Prelude.{◌≡◌, Bool, true, false, ◌||◌, List, [], ◌∷◌, None, Option, Some}
 use Rattle.std.proofs.Math.Path.{refl, ap, sym}
 use Rattle.std.proofs.Common.{◌∙◌, eq-eqb, ne_eqb}
-use Prim.Native.Nat.{ℕ, ◌+◌, ◌-◌, ◌≤◌, ◌<◌, min}
+use Prim.Native.Nat.{ℕ, min}
 use native.Mathlib.Omega.{arith}
 use Rattle.std.proofs.Math.Dec.{eqb}
-use Rattle.std.specs.Option.{unwrap_or}
+use Rattle.std.specs.List.{fold, reduce, filter_map, cons_option}
+use Rattle.std.specs.Option.{option_map, unwrap_or}
 use Rattle.srt_group_model.specs.Tools.{if_true◌then◌else◌, if_some◌give◌otherwise◌}
 use Rattle.srt_group_model.specs.State.{Member, active_state, standby_state}
 use Rattle.srt_group_model.specs.Legs.{time_until_send}
 use Rattle.srt_group_model.specs.Members.{in_state}
 use Rattle.srt_group_model.specs.Backup.{least_time, group_time_until_send}
 use Rattle.srt_group_model.specs.declared.Leg.{Leg}
-use Rattle.srt_group_model.specs.declared.Membership.{Membership}
+use Rattle.srt_connection_queue.specs.Rows.{member_of}
 use Rattle.srt_connection_members.specs.Members.{members_in}
-use Rattle.srt_group_members.specs.Rank.{shown}
-use Rattle.srt_group_sending.specs.Laws.Rows.{left_next, left_none}
-use Rattle.srt_group_sending.specs.Readiness.{may_carry, least_with}
+use Rattle.srt_group_sending.specs.Readiness.{may_carry, wait_of}
 
 -- ---- the least wait
 
@@ -28,91 +27,64 @@ pub standby_carries : (state : ℕ) → (state ≡ active_state → ⊥) → eqb
 unfolding may_carry
 standby_carries state h = sym (rw (ne_eqb state active_state h))
 
-module _ (time : ℕ) (m : Member) (least : Option ℕ) {x : Membership} {carries : Bool} (is : x ≡ m.membership)
-    (is_carries : carries ≡ may_carry x.state) where
+module _ (time : ℕ) (m : Member) {state : ℕ} {carries : Bool} (is : state ≡ m.membership.state) (is_carries : carries ≡ may_carry state) where
   carrying : (in_state active_state m || in_state standby_state m) ≡ carries
   unfolding may_carry
-  carrying = sym (is_carries ∙ ap (λ (y : Membership). eqb y.state active_state || eqb y.state standby_state) is)
+  carrying = sym (is_carries ∙ ap (λ (k : ℕ). eqb k active_state || eqb k standby_state) is)
 
-  pub least_without : carries ≡ false → least ≡ least_with time m least
-  unfolding least_with if_true◌then◌else◌
-  least_without e = sym (rw (carrying, e) refl)
+  pub no_wait : carries ≡ false → None ≡ wait_of time m
+  unfolding wait_of if_true◌then◌else◌
+  no_wait e = sym (rw (carrying, e) refl)
 
-  module _ {leg : Leg} {wait : ℕ} (e : carries ≡ true) (is_leg : leg ≡ m.leg) (is_wait : wait ≡ time_until_send time leg) where
-    wait_is : time_until_send time m.leg ≡ wait
-    wait_is = sym (is_wait ∙ ap (λ (l : Leg). time_until_send time l) is_leg)
+  pub waits : {leg : Leg} {wait : ℕ} → carries ≡ true → leg ≡ m.leg → wait ≡ time_until_send time leg → Some wait ≡ wait_of time m
+  unfolding wait_of if_true◌then◌else◌
+  waits e is_leg is_wait =
+      sym (rw (carrying, e) (ap (λ (n : ℕ). Some n) (sym (is_wait ∙ ap (λ (l : Leg). time_until_send time l) is_leg))))
 
-    pub least_alone : least ≡ None → Some wait ≡ least_with time m least
-    unfolding least_with if_true◌then◌else◌ if_some◌give◌otherwise◌
-    least_alone none_yet = sym (rw (none_yet, carrying, e, wait_is))
+-- the least from the first on, and that of all
+fold_min : (a : ℕ) (ns : List ℕ) → fold min a ns ≡ (if_some reduce min ns give (λ n. min a n) otherwise a)
+unfolding if_some◌give◌otherwise◌
+fold_min a [] = refl
+fold_min a (n ∷ ns) = fold_min (min a n) ns ∙ go (reduce min ns) ∙ ap (min a) (sym (fold_min n ns))
+  where
+    go : (o : Option ℕ) → (if_some o give (λ k. min (min a n) k) otherwise min a n) ≡ min a (if_some o give (λ k. min n k) otherwise n)
+    go None = refl
+    go (Some k) = omega arith
 
-    pub least_of_both : (other : ℕ) → least ≡ Some other → Some (min wait other) ≡ least_with time m least
-    unfolding least_with if_true◌then◌else◌ if_some◌give◌otherwise◌
-    least_of_both other so_far = sym (rw (so_far, carrying, e, wait_is))
+-- the waits of the members that rows show
+abbrev pub waits_in : ℕ → List (List ℕ) → List ℕ
+waits_in time rows = filter_map (λ row. wait_of time (member_of row)) rows
 
-    pub least_now : (other : ℕ) → least ≡ Some other → wait < other → Some wait ≡ least_with time m least
-    unfolding least_with if_true◌then◌else◌ if_some◌give◌otherwise◌
-    least_now other so_far less =
-        let smaller : min wait other ≡ wait = omega arith in
-        sym (rw (so_far, carrying, e, wait_is, smaller))
+pub least_of_waits : (time : ℕ) (rows : List (List ℕ)) → reduce min (waits_in time rows) ≡ least_time time (members_in rows)
+unfolding least_time wait_of if_true◌then◌else◌ if_some◌give◌otherwise◌
+least_of_waits time [] = refl
+least_of_waits time (row ∷ rows) =
+    go (in_state active_state (member_of row) || in_state standby_state (member_of row)) (least_of_waits time rows)
+  where
+    wait : ℕ
+    wait = time_until_send time (member_of row).leg
 
-    pub least_before : (other : ℕ) → least ≡ Some other → other ≤ wait → Some other ≡ least_with time m least
-    unfolding least_with if_true◌then◌else◌ if_some◌give◌otherwise◌
-    least_before other so_far less =
-        let smaller : min wait other ≡ other = omega arith in
-        sym (rw (so_far, carrying, e, wait_is, smaller))
+    inside : (o : Option ℕ) → Some (if_some o give (λ n. min wait n) otherwise wait) ≡ (if_some o give (λ n. Some (min wait n)) otherwise Some wait)
+    inside None = refl
+    inside (Some n) = refl
 
--- the least wait of the members from `left` on
-pub record LeastFrom (time : ℕ) (rows : List (List ℕ)) (left : ℕ) (least : Option ℕ) : Type 0 where
-  pub within : left ≤ length rows
-  pub is : least ≡ least_time time (drop left (members_in rows))
+    go : (b : Bool) → reduce min (waits_in time rows) ≡ least_time time (members_in rows)
+        → reduce min (cons_option (if_true b then Some wait else None) (waits_in time rows))
+        ≡ (if_true b
+        then (if_some least_time time (members_in rows) give (λ n. Some (min wait n)) otherwise Some wait)
+        else least_time time (members_in rows))
+    go true behind =
+        ap (λ (n : ℕ). Some n) (fold_min wait (waits_in time rows))
+        ∙ inside (reduce min (waits_in time rows))
+        ∙ ap (λ (o : Option ℕ). if_some o give (λ n. Some (min wait n)) otherwise Some wait) behind
+    go false behind = behind
 
-module _ (time : ℕ) (rows : List (List ℕ)) where
-  pub least_start : LeastFrom time rows (length rows) None
-  unfolding least_time
-  least_start = record { within = omega arith; is = sym (rw (left_none (length rows) rows (omega arith))) }
-
-  one_more_wait : (m : Member) (ms : List Member) → least_time time (m ∷ ms) ≡ least_with time m (least_time time ms)
-  unfolding least_time least_with
-  one_more_wait m ms = refl
-
-  pub least_on : {next : Option ℕ} (left : ℕ) (least : Option ℕ) → 0 < left → LeastFrom time rows left least
-      → next ≡ least_with time (shown rows (left - 1)) least → LeastFrom time rows (left - 1) next
-  least_on {next} left least some_left so_far is_next =
-      let back : left - 1 + 1 ≡ left = omega arith in
-      record {
-        within = omega (arith, so_far.within);
-        is =
-            is_next
-            ∙ ap (least_with time (shown rows (left - 1))) so_far.is
-            ∙ (sym
-            (ap (least_time time)
-            (left_next (left - 1) rows (omega (arith, so_far.within))
-            ∙ ap (λ (k : ℕ). shown rows (left - 1) ∷ drop k (members_in rows)) back)
-            ∙ one_more_wait (shown rows (left - 1)) (drop left (members_in rows))));
-      }
-
-  least_at_end : (left : ℕ) (least : Option ℕ) → left ≤ 0 → LeastFrom time rows left least
-      → least ≡ least_time time (members_in rows)
-  least_at_end left least h so_far =
-      let end : left ≡ 0 = omega arith in
-      so_far.is ∙ ap (λ (k : ℕ). least_time time (drop k (members_in rows))) end
-
-  pub wait_or : (left : ℕ) (least : Option ℕ) → left ≤ 0 → LeastFrom time rows left least
-      → unwrap_or least 100000 ≡ group_time_until_send time (members_in rows)
-  unfolding group_time_until_send if_some◌give◌otherwise◌
-  wait_or left least h so_far = by least ∙ ap (λ (o : Option ℕ). if_some o give (λ n. n) otherwise 100000) (least_at_end left least h so_far)
-    where
-      by : (o : Option ℕ) → unwrap_or o 100000 ≡ (if_some o give (λ n. n) otherwise 100000)
-      by None = refl
-      by (Some n) = refl
-
-  pub wait_none : (left : ℕ) (least : Option ℕ) → left ≤ 0 → LeastFrom time rows left least → least ≡ None
-      → 100000 ≡ group_time_until_send time (members_in rows)
-  unfolding group_time_until_send if_some◌give◌otherwise◌
-  wait_none left least h so_far e = sym (rw (← least_at_end left least h so_far, e))
-
-  pub wait_least : (left wait : ℕ) (least : Option ℕ) → left ≤ 0 → LeastFrom time rows left least → least ≡ Some wait
-      → wait ≡ group_time_until_send time (members_in rows)
-  unfolding group_time_until_send if_some◌give◌otherwise◌
-  wait_least left wait least h so_far e = sym (rw (← least_at_end left least h so_far, e))
+pub least_wait : (time : ℕ) (rows : List (List ℕ)) (least : Option ℕ) → option_map (λ n. n) least ≡ reduce min (waits_in time rows)
+    → unwrap_or least 100000 ≡ group_time_until_send time (members_in rows)
+unfolding group_time_until_send if_some◌give◌otherwise◌
+least_wait time rows least is =
+    by least ∙ ap (λ (o : Option ℕ). if_some o give (λ n. n) otherwise 100000) (is ∙ least_of_waits time rows)
+  where
+    by : (o : Option ℕ) → unwrap_or o 100000 ≡ (if_some option_map (λ n. n) o give (λ n. n) otherwise 100000)
+    by None = refl
+    by (Some n) = refl

@@ -1,9 +1,10 @@
 -- The members that rows show, by their places.
-use Rattle.std.specs.Prelude.{◌≡◌, Bool, List, [], ◌∷◌, length, drop, Some}
+use Rattle.std.specs.Prelude.{◌≡◌, Bool, false, List, [], ◌∷◌, length, drop, None, Option, Some}
+use Rattle.std.specs.Option.{MatchOption}
 use Rattle.std.proofs.Math.Path.{refl, ap}
 use Rattle.std.proofs.Common.{◌∙◌, arith}
 use Prim.Native.Nat.{ℕ, zero, suc, ◌+◌, ◌≤◌, ◌<◌}
-use Rattle.srt_group_model.specs.Tools.{place_of, at_place}
+use Rattle.srt_group_model.specs.Tools.{if_some◌give◌otherwise◌, place_of, at_place}
 use Rattle.srt_group_model.specs.State.{Member}
 use Rattle.srt_group_model.specs.Members.{promotion}
 use Rattle.srt_connection_queue.specs.Laws.Tab.{place_below}
@@ -11,6 +12,13 @@ use Rattle.srt_connection_members.specs.Members.{members_in}
 use Rattle.srt_connection_members.specs.Laws.Members.{found_some}
 use Rattle.srt_group_members.specs.Rank.{shown}
 use Rattle.srt_group_members.specs.Laws.Rank.{promotion_inside}
+
+-- a test of what an option has, if it has anything
+pub some_and : {A : Type 0} (test : A → Bool) (o : Option A) {answer : Bool} → MatchOption o (answer ≡ false) (λ x. answer ≡ test x)
+    → answer ≡ (if_some o give test otherwise false)
+unfolding if_some◌give◌otherwise◌
+some_and test None given = given
+some_and test (Some x) given = given
 
 members_long : (rows : List (List ℕ)) → length (members_in rows) ≡ length rows
 members_long [] = refl

@@ -3,7 +3,7 @@ use Rattle.std.specs.Prelude.{◌≡◌, refl, Bool, ◌&&◌, ℕ, ◌*◌, ◌
 use Rattle.std.proofs.Math.Path.{ap, subst}
 use Rattle.std.proofs.Common.{sym, ◌∙◌, arith}
 use Rattle.std.proofs.Math.Bool.{true, false, not}
-use mathlib.Core.List.{List, []}
+use mathlib.Core.List.{List}
 use borrow.Author.Tests.{eqb-true, not-false}
 use Rattle.std.proofs.Math.Dec.{eqb}
 use Rattle.srt_protocol.specs.Cells.{cell_size, cells_of, max_cells, overwritten}
@@ -15,13 +15,12 @@ use Rattle.srt_group_model.specs.Guards.{Answer, no_answer, Put, Step, refuse, a
 use Rattle.srt_group_model.specs.Calls.{store_unfit, cells_given, breaks_rule}
 use Rattle.srt_group_model.specs.Lent.{Lent, Call, stored, delivered_by, written_out, list_rows, with_bytes, step_of}
 use Rattle.srt_group_model.specs.Laws.Valid.{valid_of, counted_of, valid_wider}
-use Rattle.srt_group_model.specs.Laws.CellsMoved.{Keeps}
 use Rattle.srt_connection_queue.specs.Rows.{row_size}
 use Rattle.srt_connection_members.specs.Laws.Members.{members_length}
 use Rattle.srt_group_model.specs.declared.Packet.{Packet}
 use Rattle.cell_set.specs.Shows.{Shows}
 use Rattle.cell_set.specs.Laws.Shows.{shows_kept}
-use Rattle.srt_group_shown.specs.Tables.{Parts, Tables, state_of, Long}
+use Rattle.srt_group_shown.specs.Tables.{Parts, Tables, state_of}
 use Rattle.srt_group_shown.specs.Ready.{Ready, storing, Performs}
 use Rattle.srt_group_shown.specs.Laws.Ready.{performs_accepted}
 use Rattle.srt_group_shown.specs.Steps.{Unbroken, Left, Steps, StepsKeeping}

@@ -1,9 +1,10 @@
 -- What is proved of the definitions in specs/Ring.antt, with what the proofs need.
-use Rattle.std.specs.Prelude.{◌≡◌, Bool, true, false, ◌⊎◌, leb, length, get_or, drop}
+use Rattle.std.specs.Option.{MatchOption, unwrap_or}
+use Rattle.std.specs.Prelude.{None, Option, Some, ◌≡◌, Bool, true, false, ◌⊎◌, leb, length, get_or, drop}
 use Rattle.std.proofs.Math.Path.{ap, sym}
 use Rattle.std.proofs.Common.{◌∙◌, inl, inr, add-one, le-leb, le-ltb, lt-ltb, get_or-set_same, get_or-set_other}
 use mathlib.Core.List.{List, [], ◌∷◌, ◌++◌}
-use Prim.Native.Nat.{ℕ, suc, ◌+◌, ◌-◌, ◌%◌, ◌≤◌, ◌<◌}
+use Prim.Native.Nat.{ℕ, zero, suc, ◌+◌, ◌-◌, ◌%◌, ◌≤◌, ◌<◌}
 use Rattle.std.proofs.Math.Decide.{dec_lt}
 use native.Mathlib.Omega.{arith}
 use Rattle.std.proofs.lemmas.Bool.{lt-leb}
@@ -13,7 +14,7 @@ use Rattle.srt_group_model.specs.Tools.{if_true◌then◌else◌}
 use Rattle.srt_group_model.specs.Backup.{max_history, drop_before}
 use Rattle.srt_group_tables.specs.declared.history.HistoryRing.{HistoryRing}
 use Rattle.word_rows.specs.Tab.{tab}
-use Rattle.word_rows.specs.Laws.Tab.{tab_length, tab_front, tab_none, tab_pop, tab_push}
+use Rattle.word_rows.specs.Laws.Tab.{tab_length, tab_front, tab_none, tab_pop, tab_push, tab_same}
 use Rattle.srt_group_tables.specs.Ring.{entry_word, word_sequence, word_cell, word_length, Packs, Arrays, Long, entry_in, entry_at, entries_of, with_entry, next_place, after_push, Trimmed}
 use Rattle.srt_group_model.specs.State.{entry_of}
 
@@ -31,15 +32,6 @@ module _ (sequence cell length : ℕ) (packs : Packs sequence cell length) where
   shows_length = omega arith
 
 -- ---- the arrays
-
--- the entry whose parts were read at a place of the arrays
-pub entry_shown : (r : HistoryRing) (a : Arrays) (i at : ℕ) {sequence cell size : ℕ} → at ≡ (r.start + i) % 512
-    → sequence ≡ word_sequence (get_or a.history at 0) → cell ≡ word_cell (get_or a.history at 0)
-    → size ≡ word_length (get_or a.history at 0)
-    → entry_of sequence cell size (get_or a.sources at 0) ≡ entry_at r a i
-entry_shown r a i at is sequence cell size =
-    (λ j. entry_of (sequence j) (cell j) (size j) (get_or a.sources at 0))
-    ∙ ap (entry_in a) is
 
 -- the model's history after a send: the entry is the newest, and a full history loses its oldest
 unfoldable pub with_newest : Entry → List Entry → List Entry
@@ -193,7 +185,7 @@ module _ (r : HistoryRing) (sequence : ℕ) (history : List ℕ) (a : Arrays) (i
   none_dropped none =
       tab_none r.length (entry_at r a) none ∙ sym (ap (drop_before sequence) (tab_none r.length (entry_at r a) none))
 
--- where the loop of `drop_before` stands: what is left to drop gives what all of it gives
+-- where the walk of `drop_before` stands: what is left to drop gives what all of it gives
 pub record Trimming (sequence : ℕ) (history : List ℕ) (before : HistoryRing) (start left : ℕ) : Type 0 where
   pub fits : left ≤ before.length
   pub same : (a : Arrays) → a.history ≡ history
@@ -219,3 +211,50 @@ module _ (sequence : ℕ) (history : List ℕ) (before : HistoryRing) (start lef
   pub trimmed_all : left ≡ 0 → Trimmed sequence history before ring
   trimmed_all none =
       record { fits = here.fits; is = λ a is. none_dropped ring sequence history a is none ∙ here.same a is }
+
+-- the walk ends at the first entry that stays, or behind the last
+module _ (sequence : ℕ) (history : List ℕ) (before : HistoryRing) where
+  abbrev goes : ℕ → Bool
+  goes k = sequence_before (word_sequence (get_or history ((before.start + k) % max_history) 0)) sequence
+
+  trimming_at : (i : ℕ) → i ≤ before.length → ((k : ℕ) → k < i → goes k ≡ true)
+      → Trimming sequence history before ((before.start + i) % max_history) (before.length - i)
+  trimming_at zero below all =
+      let none : before.length - 0 ≡ before.length = omega arith in
+      rw none
+      record {
+        fits = omega arith;
+        same =
+            λ a is.
+            ap (drop_before sequence)
+            (tab_same before.length (entry_at before a) (entry_at record { start = (before.start + 0) % max_history; length = before.length } a)
+            (λ k h. ap (entry_in a) (omega arith)));
+      }
+  trimming_at (suc i) below all =
+      let at : (before.start + suc i) % max_history ≡ ((before.start + i) % max_history % max_history + 1) % max_history = omega arith in
+      let left : before.length - suc i ≡ before.length - i - 1 = omega arith in
+      rw (at, left)
+      (trimmed_one sequence history before ((before.start + i) % max_history) (before.length - i) (trimming_at i (omega arith) (λ k h. all k (omega arith)))
+      (omega arith)
+      (ap (λ (k : ℕ). sequence_before (word_sequence (get_or history k 0)) sequence) (omega arith) ∙ all i (omega arith)))
+
+  -- what `find` tells of the walk
+  abbrev pub Ends : Option ℕ → Type 0
+  Ends found =
+      MatchOption found ((k : ℕ) → 0 ≤ k → k < before.length → goes k ≡ true)
+      (λ i. (0 ≤ i) × (i < before.length) × (goes i ≡ false) × ((k : ℕ) → 0 ≤ k → k < i → goes k ≡ true))
+
+  pub ends_within : (found : Option ℕ) → Ends found → unwrap_or found before.length ≤ before.length
+  ends_within None all = omega arith
+  ends_within (Some i) there = omega (arith, there.1)
+
+  pub trimmed_found : (found : Option ℕ) → Ends found
+      → Trimmed sequence history before
+      record { start = (before.start + unwrap_or found before.length) % max_history; length = before.length - unwrap_or found before.length }
+  trimmed_found None all =
+      trimmed_all sequence history before ((before.start + before.length) % max_history) (before.length - before.length)
+      (trimming_at before.length (omega arith) (λ k h. all k (omega arith) h)) (omega arith)
+  trimmed_found (Some i) there =
+      trimmed_there sequence history before ((before.start + i) % max_history) (before.length - i)
+      (trimming_at i (omega (arith, there.1)) (λ k h. there.3 k (omega arith) h)) (omega (arith, there.1))
+      (ap (λ (k : ℕ). sequence_before (word_sequence (get_or history k 0)) sequence) (omega arith) ∙ there.2)

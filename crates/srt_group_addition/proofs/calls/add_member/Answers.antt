@@ -11,13 +11,15 @@ use Rattle.srt_group_addition.proofs.calls.add_member.Goals as goal
 pub returns-then-row-lt-ROW : goal.returns-then-row-lt-ROW
 returns-then-row-lt-ROW c =
     let a = c.args in
-    row_refused (call_of_row a.id a.weight a.row.now) (parts_of a.group) (tables a.members.now a.pending.now a.waiting.now a.history.now a.sources.now) a.row.now c.if-row-lt-ROW.true
+    rw (c.refused.ensures.0, c.refused.ensures.1)
+    (row_refused (call_of_row a.id a.weight a.row.now) (parts_of a.group) (tables a.members.now a.pending.now a.waiting.now a.history.now a.sources.now) a.row.now c.if-row-lt-ROW.true)
 
 pub returns-in-Err : goal.returns-in-Err
 returns-in-Err c =
     let a = c.args in
-    addition_refused_6 a.id a.weight a.row.now (parts_of a.group) (tables a.members.now a.pending.now a.waiting.now a.history.now a.sources.now)
-    c.if-row-lt-ROW.false c.begin.ensures _ c.in-Err.is
+    rw (c.refused-in-Err.ensures.0, c.refused-in-Err.ensures.1)
+    (addition_refused_6 a.id a.weight a.row.now (parts_of a.group) (tables a.members.now a.pending.now a.waiting.now a.history.now a.sources.now)
+    c.if-row-lt-ROW.false c.begin.ensures _ c.in-Err.is)
 
 pub add_leg-added-requires : goal.add_leg-added-requires
 add_leg-added-requires c =

@@ -1,5 +1,7 @@
 -- `take_over_backup_flight` meets its contract: each return is one of the three cases of a take-over.
 use Rattle.srt_group_backup.specs.Laws.TakeOver.{took_over_nothing, took_over_flight}
+use Rattle.std.proofs.Common.{◌∙◌, ap}
+use Rattle.srt_group_model.specs.Members.{id_of}
 use Rattle.srt_group_tables.specs.Ring.{arrays}
 use Rattle.srt_group_backup.proofs.takeover.take_over_backup_flight.Goals as goal
 
@@ -11,7 +13,7 @@ returns-then-trimmed-eq0 c =
     args.sending args.history.now.words.ring
     (arrays args.history.now.words.history.now args.history.now.sources.now)
     _ _
-    c.membership_at-membership.ensures
+    (c.member_id-id.ensures ∙ ap id_of c.row.ensures)
     c.takes_over.ensures
     c.args.history.now.ring_fits
     c.if-not-takes_over.false
@@ -26,7 +28,7 @@ returns c =
     args.sending args.history.now.words.ring
     (arrays args.history.now.words.history.now args.history.now.sources.now)
     _ _
-    c.membership_at-membership.ensures
+    (c.member_id-id.ensures ∙ ap id_of c.row.ensures)
     c.takes_over.ensures
     c.args.history.now.ring_fits
     c.if-not-takes_over.false

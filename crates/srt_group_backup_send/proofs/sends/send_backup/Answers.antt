@@ -10,7 +10,7 @@ use Rattle.srt_group_backup_send.proofs.sends.send_backup.Goals as goal
 
 pub returns-in_default : goal.returns-in_default
 returns-in_default c =
-    none_readied _ _ _ _ _ _ _ _ _ c.ready_members.ensures (sym c.in_default.is ∙ (c.first_active-found.ensures ∙ ap first_active c.rows.ensures.shows)) c.requires.lendable (omega arith)
+    none_readied _ _ _ _ _ _ _ _ _ c.ready_members.ensures (cc) c.requires.lendable (omega arith)
 
 pub send_on_carrier-requires-clause-sendable : goal.send_on_carrier-requires-clause-sendable
 send_on_carrier-requires-clause-sendable c =
@@ -18,7 +18,7 @@ send_on_carrier-requires-clause-sendable c =
     record { below = found_row is_active _ _ _ found; lent = lendable_with _ c.requires.lendable c.ready_members.ensures.long }
 
 pub send_on_carrier-requires-clause-numbers_fit : goal.send_on_carrier-requires-clause-numbers_fit
-send_on_carrier-requires-clause-numbers_fit c = numbers_readied _ _ _ _ c.ready_members.ensures c.requires.numbers_fit
+send_on_carrier-requires-clause-numbers_fit c = search numbers_readied
 
 pub returns : goal.returns
 returns c =

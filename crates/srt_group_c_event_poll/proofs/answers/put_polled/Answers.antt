@@ -3,11 +3,11 @@ use Rattle.std.proofs.Common.{◌∙◌, ap, Some}
 use Rattle.srt_group_c_event_poll.specs.Laws.Answers.{says_nothing, says_event, says_packet}
 use Rattle.srt_group_c_event_poll.proofs.answers.put_polled.Goals as goal
 
-pub returns-in_default : goal.returns-in_default
-returns-in_default c = says_nothing _ _ c.in_default.is c.put.ensures
+pub returns-in-None : goal.returns-in-None
+returns-in-None c = says_nothing _ _ c.in-None.is c.put.ensures
 
-pub returns-in-Event : goal.returns-in-Event
-returns-in-Event c = says_event _ _ _ (c.in-Some.is ∙ ap Some c.in-Event.is) c.put-in-Event.ensures
+pub returns-in-Some-Event : goal.returns-in-Some-Event
+returns-in-Some-Event c = says_event _ _ _ (c.in-Some-Event.is ∙ ap Some (rw c.in-Some-Event.is at c.in-Some-Event.field-0-is)) c.put-in-Some-Event.ensures
 
-pub returns-in-Packet : goal.returns-in-Packet
-returns-in-Packet c = says_packet _ _ _ (c.in-Some.is ∙ ap Some c.in-Packet.is) c.put_packet.ensures
+pub returns-in-Some-Packet : goal.returns-in-Some-Packet
+returns-in-Some-Packet c = says_packet _ _ _ (c.in-Some-Packet.is ∙ ap Some (rw c.in-Some-Packet.is at c.in-Some-Packet.field-0-is)) c.put_packet.ensures

@@ -1,8 +1,8 @@
 -- `srt_group_raw_group_id` meets its contract: that of the look by value.
-use Rattle.srt_group_c_looks.specs.Laws.Look.{look_promised, looked_at, gives_number}
+use Rattle.srt_group_c_looks.specs.Laws.Look.{look_promised, looked_at}
 use Rattle.srt_group_c_looks_c.proofs.looks.srt_group_raw_group_id.Goals as goal
 
 pub returns : goal.returns
 returns c =
     look_promised _ _ _ _ _ _ _ c.look.ensures.few_words c.look.ensures.no_room c.look.ensures.shows
-    (λ lent r gave. gives_number r (looked_at _ _ _ gave))
+    (λ lent r gave. looked_at _ _ _ gave)

@@ -1,9 +1,9 @@
 -- `srt_group_raw_member` meets its contract: that of the look by value.
 use Rattle.std.proofs.Common.{rules}
-use Rattle.srt_group_c_looks.specs.Laws.Look.{look_promised, looked_at, gives_member}
+use Rattle.srt_group_c_looks.specs.Laws.Look.{look_promised, looked_at}
 use Rattle.srt_group_c_looks_c.proofs.members.srt_group_raw_member.Goals as goal
 
 pub returns : goal.returns
 returns c =
     look_promised _ _ _ _ _ _ _ c.look.ensures.few_words c.look.ensures.no_room c.look.ensures.shows
-    (λ lent r gave. gives_member r (search (rules, looked_at)))
+    (λ lent r gave. search (rules, looked_at))

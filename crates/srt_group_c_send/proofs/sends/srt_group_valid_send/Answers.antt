@@ -2,6 +2,7 @@
 use Rattle.std.proofs.Common.{◌≡◌, rules}
 use Rattle.srt_group_words.specs.Laws.Words.{group_ready, performs_sent}
 use Rattle.srt_group_words.specs.Words.{sent_words}
+use Rattle.srt_group_c_send.specs.Laws.Sends.{sent_whole}
 use Rattle.srt_group_c_send.proofs.sends.srt_group_valid_send.Goals as goal
 
 pub read_group-requires : goal.read_group-requires
@@ -19,4 +20,4 @@ pub put_send-requires : goal.put_send-requires
 put_send-requires c = (c.requires.ready_words.long, c.requires.list_size_in_bounds.1)
 
 pub returns : goal.returns
-returns c = performs_sent _ c.read_group.ensures _ _ _ c.requires.ready_words.long _ _ _ sent_words _ _ _ _ c.send-sent.ensures.rows c.send-sent.ensures.performs c.put_send.ensures
+returns c = performs_sent _ c.read_group.ensures _ _ _ c.requires.ready_words.long _ _ _ sent_words _ _ _ _ c.send-sent.ensures.rows c.send-sent.ensures.performs (sent_whole c.read_group.ensures c.send-sent.ensures.performs c.put_send.ensures)

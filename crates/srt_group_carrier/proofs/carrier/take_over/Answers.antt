@@ -3,4 +3,4 @@ use Rattle.srt_group_carrier.specs.Laws.Prepared.{taken_follows}
 use Rattle.srt_group_carrier.proofs.carrier.take_over.Goals as goal
 
 pub returns-clause-trim_follows : goal.returns-clause-trim_follows
-returns-clause-trim_follows c = let took = c.take_over_backup_flight-taken.ensures in taken_follows _ _ took c.free_dropped.ensures
+returns-clause-trim_follows c = search taken_follows

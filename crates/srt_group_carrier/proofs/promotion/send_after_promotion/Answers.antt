@@ -8,7 +8,7 @@ use Rattle.srt_group_carrier.proofs.promotion.send_after_promotion.Goals as goal
 
 pub returns-in_default : goal.returns-in_default
 returns-in_default c =
-    none_promoted _ _ _ _ _ _ _ _ _ _ _ c.promote_after_failure.ensures (sym c.in_default.is ∙ (c.first_active-found.ensures ∙ ap first_active c.rows.ensures.shows)) c.requires.sendable.lent (omega (arith, c.requires.sent_bound.0))
+    none_promoted _ _ _ _ _ _ _ _ _ _ _ c.promote_after_failure.ensures (cc) c.requires.sendable.lent (omega (arith, c.requires.sent_bound.0))
 
 pub send_on_promoted-requires-clause-sendable : goal.send_on_promoted-requires-clause-sendable
 send_on_promoted-requires-clause-sendable c = let found = sym c.in-Some.is ∙ (c.first_active-found.ensures ∙ ap first_active c.rows.ensures.shows) in record { below = found_row is_active _ _ _ found; lent = lendable_with _ c.requires.sendable.lent c.promote_after_failure.ensures.long }

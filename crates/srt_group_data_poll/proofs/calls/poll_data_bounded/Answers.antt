@@ -7,9 +7,11 @@ use Rattle.srt_group_data_poll.proofs.calls.poll_data_bounded.Goals as goal
 pub returns-in-Err : goal.returns-in-Err
 returns-in-Err c =
     let a = c.args in
-    data_poll_refused a.time.0 a.max_events (parts_of a.group)
+    let refused = c.refused.ensures in
+    rw (refused.0, refused.1)
+    (data_poll_refused a.time.0 a.max_events (parts_of a.group)
     (tables a.members.now a.pending.now a.waiting.now a.history.now a.sources.now) a.store.now a.output.now
-    c.begin_poll-begun.ensures _ c.in-Err.is
+    c.begin_poll-begun.ensures _ c.in-Err.is)
 
 pub poll_data_bounded-poll-requires : goal.poll_data_bounded-poll-requires
 poll_data_bounded-poll-requires c =

@@ -7,9 +7,11 @@ use Rattle.srt_group_event_poll.proofs.calls.poll_event.Goals as goal
 pub returns-in-Err : goal.returns-in-Err
 returns-in-Err c =
     let a = c.args in
-    event_poll_refused a.time.0 (parts_of a.group)
+    let refused = c.refused.ensures in
+    rw (refused.0, refused.1)
+    (event_poll_refused a.time.0 (parts_of a.group)
     (tables a.members.now a.pending.now a.waiting.now a.history.now a.sources.now) a.store.now a.output.now
-    c.begin_poll-begun.ensures _ c.in-Err.is
+    c.begin_poll-begun.ensures _ c.in-Err.is)
 
 pub poll_event-poll-requires : goal.poll_event-poll-requires
 poll_event-poll-requires c =

@@ -1,12 +1,9 @@
 -- `mode` meets its contract: 5, 6, or the number.
-use Rattle.std.proofs.lemmas.Result.{err_from_is_err_and}
-use Rattle.srt_group_looks.specs.Laws.Looks.{look_refused, mode_shown}
+use Rattle.srt_group_looks.specs.Laws.Looks.{gives_refusal, mode_shown}
 use Rattle.srt_group_looks.proofs.looks.mode.Goals as goal
 
 pub returns-in_err-begin : goal.returns-in_err-begin
-returns-in_err-begin c =
-    let p = err_from_is_err_and c.from_residual.result c.from_residual.ensures.1 in
-    rw (p.1, p.2) (look_refused _ _ _ c.begin.ensures _ c.in_err-begin.was)
+returns-in_err-begin c = gives_refusal _ _ _ _ c.begin.ensures _ c.in_err-begin.was _ c.from_residual.ensures.1
 
 pub returns : goal.returns
 returns c = mode_shown _ _ c.begin.ensures c.in_ok-begin.was

@@ -1,17 +1,14 @@
 -- `time_until_send` meets its contract: 5, 6, or the least wait.
 use Rattle.std.proofs.Common.{◌∙◌, ap}
 use Rattle.srt_group_model.specs.Backup.{group_time_until_send}
-use Rattle.std.proofs.lemmas.Result.{err_from_is_err_and}
 use native.Mathlib.Omega.{arith}
 use Rattle.srt_group_shown.specs.Laws.Steps.{rows_unbroken}
 use Rattle.srt_group_refusals.specs.Laws.Begins.{begun_unbroken}
-use Rattle.srt_group_looks.specs.Laws.Looks.{look_refused, time_shown}
+use Rattle.srt_group_looks.specs.Laws.Looks.{gives_refusal, time_shown}
 use Rattle.srt_group_looks.proofs.looks.time_until_send.Goals as goal
 
 pub returns-in_err-begin : goal.returns-in_err-begin
-returns-in_err-begin c =
-    let p = err_from_is_err_and c.from_residual.result c.from_residual.ensures.1 in
-    rw (p.1, p.2) (look_refused _ _ _ c.begin.ensures _ c.in_err-begin.was)
+returns-in_err-begin c = gives_refusal _ _ _ _ c.begin.ensures _ c.in_err-begin.was _ c.from_residual.ensures.1
 
 pub rows-rows-requires : goal.rows-rows-requires
 rows-rows-requires c = rows_unbroken (begun_unbroken _ _ c.begin.ensures c.in_ok-begin.was)

@@ -1,14 +1,14 @@
 -- `member_row` meets its contract: 5, 6, 2, 3, or the row.
 use Rattle.std.proofs.lemmas.Result.{err_from_is_err_and}
-use Rattle.std.proofs.Common.{ap}
-use mathlib.Core.Path.{sym, ◌∙◌}
-use Rattle.std.specs.Result.{result_ok}
+use Rattle.std.proofs.lemmas.Iterator.{YieldsList-from_slice}
+use Rattle.std.proofs.Common.{rules, ap, ◌∙◌}
 use borrow.Author.Tests.{le-ltb}
-use Rattle.srt_group_model.specs.Members.{find}
+use Rattle.srt_group_model.specs.Tools.{first_such}
+use Rattle.srt_group_model.specs.Members.{has_id}
+use Rattle.srt_group_members.specs.Laws.Scan.{found_in}
 use Rattle.srt_group_shown.specs.Laws.Steps.{rows_unbroken}
-use Rattle.srt_group_shown.specs.Laws.Found.{row_there}
 use Rattle.srt_group_refusals.specs.Laws.Begins.{begun_unbroken}
-use Rattle.srt_group_looks.specs.Laws.Member.{begin_refuses, unknown_else, row_is_found}
+use Rattle.srt_group_looks.specs.Laws.Member.{begin_refuses, row_or_refused}
 use Rattle.srt_group_looks.proofs.member.member_row.Goals as goal
 
 pub returns-in_err-begin : goal.returns-in_err-begin
@@ -19,20 +19,9 @@ returns-in_err-begin c =
 pub rows-rows-requires : goal.rows-rows-requires
 rows-rows-requires c = rows_unbroken (begun_unbroken _ _ c.begin.ensures c.in_ok-begin.was)
 
-pub returns-in_err-index : goal.returns-in_err-index
-returns-in_err-index c =
-    let p = err_from_is_err_and c.from_residual-in_err-index.result c.from_residual-in_err-index.ensures.1 in
-    rw (p.1, p.2)
-    (unknown_else _ _ _ c.begin.ensures c.in_ok-begin.was (le-ltb _ _ c.if-id-gt-LARGEST_32.false) _ c.ok_or.ensures.value c.in_err-index.was
-    (c.find.ensures ∙ ap (find _) c.rows-rows.ensures.shows))
-
-pub row-requires : goal.row-requires
-row-requires c =
-    let a = c.args in
-    row_there a.lent.now.group.core.counts.members a.id _ a.lent.now.members.now
-    (rows_unbroken (begun_unbroken _ _ c.begin.ensures c.in_ok-begin.was)) (sym (c.ok_or.ensures.ok_part ∙ ap result_ok c.in_ok-index.was) ∙ c.find.ensures ∙ ap (find _) c.rows-rows.ensures.shows)
-
 pub returns : goal.returns
 returns c =
-    row_is_found _ _ _ c.begin.ensures c.in_ok-begin.was (le-ltb _ _ c.if-id-gt-LARGEST_32.false) _
-    (sym (c.ok_or.ensures.ok_part ∙ ap result_ok c.in_ok-index.was) ∙ c.find.ensures ∙ ap (find _) c.rows-rows.ensures.shows) c.row.ensures
+    let found =
+    found_in (has_id c.args.id) _ _ _ c.find.ensures.ran (YieldsList-from_slice c.rows-rows.result.now cc) (λ x b q h. search rules)
+    ∙ ap (first_such (has_id c.args.id)) c.rows-rows.ensures.shows in
+    row_or_refused _ _ _ c.begin.ensures c.in_ok-begin.was (le-ltb _ _ c.if-id-gt-LARGEST_32.false) _ found c.ok_or.ensures.value

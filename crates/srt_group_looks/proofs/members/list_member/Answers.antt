@@ -11,4 +11,4 @@ pub returns : goal.returns
 returns c =
     let a = c.args in
     let m = member_shown (member_of a.row.now) in
-    rw (c.write_row.ensures, c.shown.ensures) (row_back member_row_size a.list.now (member_values m) a.index (eight_words m))
+    rw (c.copy_from_slice.ensures.after, c.words_of.ensures, c.shown.ensures) (row_back member_row_size a.list.now (member_values m) a.index (eight_words m))

@@ -1,4 +1,5 @@
 -- `refresh_member_states` meets its contract: 5, 6, and then what follows them.
+use mathlib.Core.Path.{ap}
 use Rattle.srt_group_model.specs.Lent.{call_refresh_member_states}
 use Rattle.srt_group_shown.specs.Tables.{tables}
 use Rattle.srt_group.specs.Made.{parts_of}
@@ -13,6 +14,7 @@ pub returns-in-Err : goal.returns-in-Err
 returns-in-Err c =
     let a = c.args in
     refresh_refused (parts_of a.group) (tables a.members.now a.pending.now a.waiting.now a.history.now a.sources.now) c.begin.ensures _ c.in-Err.is
+    (ap parts_of c.refused.ensures.0) c.refused.ensures.1
 
 pub refresh_states-core-requires : goal.refresh_states-core-requires
 refresh_states-core-requires c =

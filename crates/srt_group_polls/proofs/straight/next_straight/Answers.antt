@@ -11,7 +11,7 @@ use Rattle.srt_group_polls.proofs.straight.next_straight.Goals as goal
 pub returns : goal.returns
 returns c =
     let here = c.row-row.ensures in
-    all_passed c.args.core _ _ _ c.in_ok-index.was (c.in_turn.ensures ∙ ap (in_turn c.args.core.visit.round) c.rows.ensures.shows) _ c.requires.known
-    c.if-not-quiet.false (omega (arith, c.if-core-gt0.false)) c.if-core-eq0.false
+    all_passed c.args.core _ _ _ c.in_ok-index.was (c.in_turn.ensures ∙ ap (in_turn c.args.core.visit.round) c.rows.ensures.shows) _ _ c.requires.known
+    c.if-not-quiet.false (omega (arith, c.if-core-gt0.false)) c.in_ok-base.was c.base.ensures
     c.in_ok-event.was (c.front.ensures ∙ ap (λ (m : Member). at_place 0 m.queue) here) c.if-not-is_alone_at.false c.is_alone_at.ensures
     c.if-is_held.false c.is_held.ensures (c.member_id.ensures ∙ ap id_of here)

@@ -4,7 +4,7 @@ use Rattle.std.proofs.lemmas.Result.{err_from_is_err_and}
 use Rattle.srt_group_model.specs.Members.{find}
 use Rattle.srt_group_shown.specs.Tables.{parts, tables}
 use Rattle.srt_group_shown.specs.Laws.Found.{row_there}
-use Rattle.srt_group_queueing.specs.Laws.OneMember.{was_there, unfit_refused, unknown_refused}
+use Rattle.srt_group_queueing.specs.Laws.OneMember.{index_found, unfit_refused, unknown_refused}
 use Rattle.srt_group_queueing.specs.Laws.Events.{event_call, event_pushed}
 use Rattle.srt_group_queueing.proofs.events.push_event.Goals as goal
 
@@ -32,7 +32,7 @@ returns-in_err-index c =
 
 pub push_at-requires : goal.push_at-requires
 push_at-requires c =
-    row_there c.args.core.counts.members c.args.id _ c.args.members.now c.requires (was_there _ _ c.ok_or.ensures.value c.in_ok-index.was ∙ c.find.ensures ∙ ap (find c.args.id) c.rows.ensures.shows)
+    row_there c.args.core.counts.members c.args.id _ c.args.members.now c.requires (index_found c.args.id _ _ c.ok_or.ensures.value c.in_ok-index.was c.find.ensures c.rows.ensures.shows)
 
 pub returns : goal.returns
 returns c =
@@ -41,6 +41,6 @@ returns c =
       over =
           λ identity sending ring pending waiting history sources unbroken.
           event_pushed a.id a.kind a.reason (parts identity a.core sending ring) (tables a.members.now pending waiting history sources) unbroken
-          (sym c.event_unfit.ensures ∙ c.if-event_unfit.false) _ (was_there _ _ c.ok_or.ensures.value c.in_ok-index.was ∙ c.find.ensures ∙ ap (find c.args.id) c.rows.ensures.shows)
+          (sym c.event_unfit.ensures ∙ c.if-event_unfit.false) _ (index_found c.args.id _ _ c.ok_or.ensures.value c.in_ok-index.was c.find.ensures c.rows.ensures.shows)
           _ _ _ c.lifecycle_event.ensures c.push_at.ensures;
     }

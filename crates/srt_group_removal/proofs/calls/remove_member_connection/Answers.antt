@@ -1,4 +1,5 @@
 -- `remove_member_connection` meets its contract: 5 for the row, 5, 6, and then what follows them.
+use mathlib.Core.Path.{ap}
 use Rattle.srt_group_model.specs.Lent.{call_remove_member_connection}
 use Rattle.srt_group_shown.specs.Tables.{tables}
 use Rattle.srt_group.specs.Made.{parts_of}
@@ -11,15 +12,16 @@ use Rattle.srt_group_removal.proofs.calls.remove_member_connection.Goals as goal
 pub returns-then-row-lt-ROW-clause-promised_row : goal.returns-then-row-lt-ROW-clause-promised_row
 returns-then-row-lt-ROW-clause-promised_row c =
     let a = c.args in
-    row_refused (call_remove_member_connection a.id) (parts_of a.group)
-    (tables a.members.now a.pending.now a.waiting.now a.history.now a.sources.now) a.row.now c.if-row-lt-ROW.true
+    rw (c.refused.ensures.0, c.refused.ensures.1)
+    (row_refused (call_remove_member_connection a.id) (parts_of a.group)
+    (tables a.members.now a.pending.now a.waiting.now a.history.now a.sources.now) a.row.now c.if-row-lt-ROW.true)
 
 pub returns-in-Err-clause-promised_row : goal.returns-in-Err-clause-promised_row
 returns-in-Err-clause-promised_row c =
     let a = c.args in
     removal_refused a.id (parts_of a.group)
     (tables a.members.now a.pending.now a.waiting.now a.history.now a.sources.now) a.row.now c.if-row-lt-ROW.false
-    c.begin.ensures _ c.in-Err.is
+    c.begin.ensures _ c.in-Err.is (ap parts_of c.refused-in-Err.ensures.0) c.refused-in-Err.ensures.1
 
 pub remove_named-removed-requires-clause-any_removable : goal.remove_named-removed-requires-clause-any_removable
 remove_named-removed-requires-clause-any_removable c =

@@ -8,7 +8,7 @@ use Rattle.srt_group_send.proofs.sending.send.Goals as goal
 
 pub returns-then-payload-gt-CELL : goal.returns-then-payload-gt-CELL
 returns-then-payload-gt-CELL c =
-    long_refused _ _ _ _ _ _ _ c.requires.ready c.requires.list_size_in_bounds (omega (arith, c.well_formed)) c.if-payload-gt-CELL.true
+    rw c.refused.ensures (long_refused _ _ _ _ _ _ _ c.requires.ready c.requires.list_size_in_bounds (omega (arith, c.well_formed)) c.if-payload-gt-CELL.true)
 
 pub refresh_and_send-requires : goal.refresh_and_send-requires
 refresh_and_send-requires c =
@@ -20,8 +20,9 @@ returns-then-not-is_backup c =
 
 pub returns-in_default : goal.returns-in_default
 returns-in_default c =
-    full_refused _ _ _ _ _ _ _ c.requires.ready c.requires.list_size_in_bounds (omega (arith, c.well_formed)) c.if-payload-gt-CELL.false (sym c.is_backup.ensures ∙ c.if-not-is_backup.false)
-    (subst (λ (n : ℕ). LowestFree c.args.used.now n c.lowest_free-lowest.result) c.cells_of.ensures c.lowest_free-lowest.ensures) c.in_default.is
+    rw c.refused-in_default.ensures
+    (full_refused _ _ _ _ _ _ _ c.requires.ready c.requires.list_size_in_bounds (omega (arith, c.well_formed)) c.if-payload-gt-CELL.false (sym c.is_backup.ensures ∙ c.if-not-is_backup.false)
+    (subst (λ (n : ℕ). LowestFree c.args.used.now n c.lowest_free-lowest.result) c.cells_of.ensures c.lowest_free-lowest.ensures) c.in_default.is)
 
 pub refresh_and_send-sent-requires : goal.refresh_and_send-sent-requires
 refresh_and_send-sent-requires c =

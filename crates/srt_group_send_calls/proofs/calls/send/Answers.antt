@@ -10,24 +10,26 @@ use Rattle.srt_group_send_calls.proofs.calls.send.Goals as goal
 pub returns-then-list-lt-SENT_LENGTH : goal.returns-then-list-lt-SENT_LENGTH
 returns-then-list-lt-SENT_LENGTH c =
     let a = c.args in
-    list_refused a.time.0 a.payload.now (parts_of a.group)
+    rw c.refused.ensures
+    (list_refused a.time.0 a.payload.now (parts_of a.group)
     (tables a.members.now a.pending.now a.waiting.now a.history.now a.sources.now) a.store.now a.list.now
-    (lt-ltb (length a.list.now) list_size c.if-list-lt-SENT_LENGTH.true)
+    (lt-ltb (length a.list.now) list_size c.if-list-lt-SENT_LENGTH.true))
 
 pub returns-in-Err : goal.returns-in-Err
 returns-in-Err c =
     let a = c.args in
-    send_refused a.time.0 a.payload.now (parts_of a.group)
+    rw c.refused-in-Err.ensures
+    (send_refused a.time.0 a.payload.now (parts_of a.group)
     (tables a.members.now a.pending.now a.waiting.now a.history.now a.sources.now) a.store.now a.list.now
-    c.begin_stored-begun.ensures (le-ltb (length a.list.now) list_size c.if-list-lt-SENT_LENGTH.false) _ c.in-Err.is
+    c.begin_stored.ensures (le-ltb (length a.list.now) list_size c.if-list-lt-SENT_LENGTH.false) _ c.in-Err.is)
 
 pub send-requires : goal.send-requires
 send-requires c =
-    let accepted = c.in_default.is in record { ready = c.begin_stored-begun.ensures.ready accepted; list_size_in_bounds = c.if-list-lt-SENT_LENGTH.false }
+    let accepted = c.in_default.is in record { ready = c.begin_stored.ensures.ready accepted; list_size_in_bounds = c.if-list-lt-SENT_LENGTH.false }
 
 pub returns : goal.returns
 returns c =
     let a = c.args in
     send_performed a.time.0 a.payload.now (parts_of a.group)
     (tables a.members.now a.pending.now a.waiting.now a.history.now a.sources.now) a.store.now a.list.now
-    c.begin_stored-begun.ensures c.in_default.is c.send.ensures
+    c.begin_stored.ensures c.in_default.is c.send.ensures

@@ -6,14 +6,15 @@ use Rattle.srt_group_send_calls.proofs.calls.test.Goals as goal
 pub returns-in-Err : goal.returns-in-Err
 returns-in-Err c =
     let a = c.args in
-    test_refused a.group a.members.now a.pending.now a.waiting.now a.history.now a.sources.now
-    c.begin-begun.ensures (pacing_in a.pacing) _ c.in-Err.is
+    rw (c.refused.ensures.0, c.refused.ensures.1)
+    (test_refused a.group a.members.now a.pending.now a.waiting.now a.history.now a.sources.now
+    c.begin.ensures (pacing_in a.pacing) _ c.in-Err.is)
 
 pub test-tested-requires : goal.test-tested-requires
 test-tested-requires c =
     let a = c.args in
     record {
-      testable = can_test a.group a.members.now a.pending.now a.waiting.now a.history.now a.sources.now c.begin-begun.ensures c.in_default.is;
+      testable = can_test a.group a.members.now a.pending.now a.waiting.now a.history.now a.sources.now c.begin.ensures c.in_default.is;
       in_word = c.requires;
     }
 
@@ -21,4 +22,4 @@ pub returns : goal.returns
 returns c =
     let a = c.args in
     tested a.group a.members.now a.pending.now a.waiting.now a.history.now a.sources.now
-    c.begin-begun.ensures c.in_default.is (pacing_in a.pacing) c.test-tested.ensures
+    c.begin.ensures c.in_default.is (pacing_in a.pacing) c.test-tested.ensures

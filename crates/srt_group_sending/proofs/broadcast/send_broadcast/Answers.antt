@@ -13,7 +13,7 @@ use Rattle.srt_group_sending.proofs.broadcast.send_broadcast.Goals as goal
 
 pub returns-in_default : goal.returns-in_default
 returns-in_default c =
-    none_active_left _ _ _ _ _ _ (sym c.in_default.is ∙ (c.first_active-found.ensures ∙ ap first_active c.rows.ensures.shows))
+    none_active_left _ _ _ _ _ _ (cc)
 
 pub row-requires : goal.row-requires
 row-requires c =

@@ -3,5 +3,5 @@ use Rattle.std.proofs.Common.{◌-◌}
 use Rattle.srt_group_tables.specs.Laws.PacketLaws.{MovingUp}
 use Rattle.srt_group_tables.proofs.pending.move_up.Given as goal
 
-abbrev pub invariant-loop-moved : goal.invariant-loop-moved
-invariant-loop-moved l = MovingUp l.width l.start l.initial.index l.from l.end l.index (l.end - l.moved)
+abbrev pub invariant-loop-at : goal.invariant-loop-at
+invariant-loop-at l = MovingUp l.width l.start l.initial.index l.from l.end l.index l.at

@@ -1,0 +1,5 @@
+-- `srt_group_lent_add_member` meets its contract: that of the flat form.
+use Rattle.srt_group_lent.proofs.additions.srt_group_lent_add_member.Goals as goal
+
+pub returns : goal.returns
+returns c = c.add_member-added.ensures
