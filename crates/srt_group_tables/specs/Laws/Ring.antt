@@ -258,3 +258,15 @@ module _ (sequence : ℕ) (history : List ℕ) (before : HistoryRing) where
       trimmed_there sequence history before ((before.start + i) % max_history) (before.length - i)
       (trimming_at i (omega (arith, there.1)) (λ k h. there.3 k (omega arith) h)) (omega (arith, there.1))
       (ap (λ (k : ℕ). sequence_before (word_sequence (get_or history k 0)) sequence) (omega arith) ∙ there.2)
+
+  -- the first entry stays, or there is none
+  pub trimmed_nothing : (found : Option ℕ) → Ends found → unwrap_or found before.length ≡ 0 → Trimmed sequence history before before
+  trimmed_nothing found ends none = by found ends none where
+    whole : Trimming sequence history before before.start before.length
+    whole = record { fits = omega arith; same = λ a is i. drop_before sequence (entries_of before a) }
+
+    by : (f : Option ℕ) → Ends f → unwrap_or f before.length ≡ 0 → Trimmed sequence history before before
+    by None all none = trimmed_all sequence history before before.start before.length whole none
+    by (Some i) stays none =
+        trimmed_there sequence history before before.start before.length whole (omega (arith, stays.1, none))
+        (ap (λ (k : ℕ). sequence_before (word_sequence (get_or history k 0)) sequence) (omega (arith, none)) ∙ stays.2)
