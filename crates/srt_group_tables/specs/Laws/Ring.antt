@@ -33,6 +33,15 @@ module _ (sequence cell length : ℕ) (packs : Packs sequence cell length) where
 
 -- ---- the arrays
 
+-- the entry whose parts were read at a place of the arrays; cited by no proof, it stands for who reads `entry_at`
+pub entry_shown : (r : HistoryRing) (a : Arrays) (i at : ℕ) {sequence cell size : ℕ} → at ≡ (r.start + i) % 512
+    → sequence ≡ word_sequence (get_or a.history at 0) → cell ≡ word_cell (get_or a.history at 0)
+    → size ≡ word_length (get_or a.history at 0)
+    → entry_of sequence cell size (get_or a.sources at 0) ≡ entry_at r a i
+entry_shown r a i at is sequence cell size =
+    (λ j. entry_of (sequence j) (cell j) (size j) (get_or a.sources at 0))
+    ∙ ap (entry_in a) is
+
 -- the model's history after a send: the entry is the newest, and a full history loses its oldest
 unfoldable pub with_newest : Entry → List Entry → List Entry
 with_newest e entries = (if_true leb max_history (length entries) then drop 1 entries else entries) ++ (e ∷ [])
