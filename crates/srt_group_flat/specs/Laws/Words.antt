@@ -48,7 +48,7 @@ abbrev answer_with : (continuation : ℕ) → Option Packet → Answer
 answer_with continuation packet = data_polled packet (is_set continuation)
 
 module _ {poll : GroupDataPoll} where
-  says_none : poll.packet ≡ None → Says (Ok poll) (in_words 0 0 no_packet poll.continuation)
+  pub says_none : poll.packet ≡ None → Says (Ok poll) (in_words 0 0 no_packet poll.continuation)
   unfolding words_answer if_true◌then◌else◌
   says_none is =
       record {
@@ -62,7 +62,7 @@ module _ {poll : GroupDataPoll} where
             };
       }
 
-  says_some : (p : Packet) → poll.packet ≡ Some p → Says (Ok poll) (in_words 0 1 p poll.continuation)
+  pub says_some : (p : Packet) → poll.packet ≡ Some p → Says (Ok poll) (in_words 0 1 p poll.continuation)
   unfolding words_answer if_true◌then◌else◌
   says_some p is =
       record {
