@@ -8,11 +8,6 @@ use Rattle.srt_group_send.specs.Laws.Readiness.{members_refreshed, backup_can_se
 use Rattle.srt_group_send.proofs.readiness.test.Goals as goal
 use Rattle.srt_group_send.proofs.readiness.test.Goals.{in-Some, in_default}
 
-pub rows-requires : goal.rows-requires
-rows-requires c =
-    let refreshes = c.refresh_states-core.ensures in
-    omega (arith, c.requires.testable.rows, refreshes.members_long, ap (λ (k : Counts). k.members) refreshes.counts_same)
-
 pub returns-then-not-is_backup : goal.returns-then-not-is_backup
 returns-then-not-is_backup c =
     broadcast_tested _ _ _ _ _ _ c.refresh_states-core.ensures (pacing_in c.args.pacing) c.requires.in_word c.is_backup.ensures c.if-not-is_backup.true
