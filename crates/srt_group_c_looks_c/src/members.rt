@@ -101,8 +101,9 @@ pub extern "C" fn srt_group_raw_members(
     if record.len() < RECORD || answer.len() < SHOWN {
         return SHORT;
     }
+    let group = read_group(record);
     let lent = LentGroup {
-        group: read_group(record),
+        group: &group,
         members,
         pending,
         waiting,

@@ -45,7 +45,7 @@ pub fn send(
     }
     let mut used = [0u64; WORDS];
     let lent = LentGroup {
-        group,
+        group: &group,
         members,
         pending,
         waiting,
@@ -56,7 +56,7 @@ pub fn send(
         return GroupSent::refused(group, refusal);
     }
     sending::send(
-        group, members, pending, waiting, history, sources, store, list, &mut used, time, payload,
+        &group, members, pending, waiting, history, sources, store, list, &mut used, time, payload,
     )
 }
 
@@ -107,7 +107,7 @@ fn test(
         nothing_lent (truth_code result.answer) (truth_answer result.answer) 0) }
 {
     let lent = LentGroup {
-        group,
+        group: &group,
         members,
         pending,
         waiting,

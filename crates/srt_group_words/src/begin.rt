@@ -28,8 +28,9 @@ pub fn begin_stored(
         (tables members.now pending.now waiting.now history.now sources.now)
         store result used.new }
 {
+    let group = read_group(record);
     let lent = LentGroup {
-        group: read_group(record),
+        group: &group,
         members,
         pending,
         waiting,
@@ -57,8 +58,9 @@ pub fn begin_poll(
         (tables members.now pending.now waiting.now history.now sources.now)
         store output result used.new }
 {
+    let group = read_group(record);
     let lent = LentGroup {
-        group: read_group(record),
+        group: &group,
         members,
         pending,
         waiting,
