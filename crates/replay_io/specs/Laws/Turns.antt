@@ -118,8 +118,14 @@ module _ {held : OpenLine} {s : Option State} {left₀ left written₀ written :
             (appends_then written₀ written written' _ _ so.text (done.text line so.open_held));
       }
 
-  -- the same where only the outcome says whether the last line was written
-  pub whole_if : {T E : Type 0} (outcome : Result T E) (written' : Option (List ℕ)) → ReplayedSoFar held s left₀ left written₀ written
-      → IsAtEnd left → OnOk outcome (LastReplayed held.bytes.now held.size s written written') → OnOk outcome (ListingReplayed left₀ left written₀ written')
-  whole_if (Ok x) written' so end done = whole so end done
+  -- the same where it is known only of some listings that they ended, and only the outcome says whether the last line was written
+  pub whole_if : {T E A : Type 0} (outcome : Result T E) (written' : Option (List ℕ)) → ReplayedSoFar held s left₀ left written₀ written
+      → (A → IsAtEnd left) → OnOk outcome (LastReplayed held.bytes.now held.size s written written') → OnOk outcome (A → ListingReplayed left₀ left written₀ written')
+  whole_if (Ok x) written' so end done = λ a. whole so (end a) done
   whole_if (Err e) written' so end done = tt
+
+  -- the same of a listing that ended
+  pub whole_ended : {T E : Type 0} (outcome : Result T E) (written' : Option (List ℕ)) → ReplayedSoFar held s left₀ left written₀ written
+      → IsAtEnd left → OnOk outcome (LastReplayed held.bytes.now held.size s written written') → OnOk outcome (ListingReplayed left₀ left written₀ written')
+  whole_ended (Ok x) written' so end done = whole so end done
+  whole_ended (Err e) written' so end done = tt
