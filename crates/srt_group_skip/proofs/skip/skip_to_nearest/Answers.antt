@@ -13,6 +13,7 @@ pub returns : goal.returns
 returns c = record {
   by_index = λ ws tested time.
       let here = c.deliver.ensures.by_index ws in
-      search skipped_to;
+      skipped_to c.args.core _ _ ws c.nearest-nearest.ensures _ c.in-Some.is c.sequence_at-next.ensures _ _ _ _ tested time c.args.base
+      c.skip_to-skipped.ensures here;
   follows = search follows_skipped;
 }
