@@ -11,5 +11,6 @@ is_used-requires c = omega (arith, c.if-cells-cell.false, c.requires.store)
 pub returns-then-cells-cell : goal.returns-then-cells-cell
 returns-then-cells-cell c =
     elim c.then-cells-cell.branch [
-      then-cells-cell-via-then-cells-cell w ↦ beyond_refused c.args.cells c.args.cell c.args.used.now w.if-cells-cell.true
-    | then-cells-cell-via-else-cells-cell+then-is_used w ↦ again_refused c.args.cells c.args.cell c.args.used.now w.is_used.ensures w.if-is_used.true ]
+      | then-cells-cell-via-then-cells-cell w ↦ beyond_refused c.args.cells c.args.cell c.args.used.now w.if-cells-cell.true
+      | then-cells-cell-via-else-cells-cell+then-is_used w ↦ again_refused c.args.cells c.args.cell c.args.used.now w.is_used.ensures w.if-is_used.true
+    ]
