@@ -9,6 +9,7 @@ returns-in_default-clause-by_index c = search none_to_skip_to
 pub deliver-requires : goal.deliver-requires
 deliver-requires c = deliverable_skipped _ _ _ _ _ _ c.skip_to-skipped.ensures c.requires
 
+-- `skipped_to` is written out so that an invented count is refused by the base that differs, not by a search that ends
 pub returns : goal.returns
 returns c = record {
   by_index = λ ws tested time.
