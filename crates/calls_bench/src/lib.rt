@@ -51,7 +51,7 @@ pub extern "C" fn calls_run_valid(
     let group = read_group(record);
     let mut used = [0; WORDS];
     let lent = LentGroup {
-        group: &group,
+        group,
         members,
         pending,
         waiting,

@@ -52,7 +52,7 @@ pub extern "C" fn calls_sends_valid(
     let group = read_group(record);
     let mut used = [0; WORDS];
     let lent = LentGroup {
-        group: &group,
+        group,
         members,
         pending,
         waiting,

@@ -36,7 +36,7 @@ pub fn add_member(
         return Answered::refused(group, Error::InsufficientBuffer);
     }
     let lent = LentGroup {
-        group: &group,
+        group,
         members,
         pending,
         waiting,

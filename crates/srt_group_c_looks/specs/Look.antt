@@ -13,7 +13,7 @@ use Rattle.srt_group_words.specs.Words.{in_words, Said}
 pub record Shows {A : Type 0} (size : ℕ) (says : A → Answer) (gives : LentGroup → Result A Error → Type 0) (w : List ℕ) (t : Tables)
     (answer : List ℕ) (code : ℕ) (answer' : List ℕ) : Type 0 where
   pub lent : LentGroup
-  pub group : lent.group.now ≡ group_of w
+  pub group : lent.group ≡ group_of w
   pub tables : tables_of lent ≡ t
   pub given : Result A Error
   pub gave : gives lent given

@@ -32,9 +32,8 @@ pub fn look<const N: usize, T: InWords<N>, F: FnOnce(&LentGroup) -> Result<T, Er
     if record.len() < RECORD || answer.len() < N {
         return SHORT;
     }
-    let group = read_group(record);
     let lent = LentGroup {
-        group: &group,
+        group: read_group(record),
         members,
         pending,
         waiting,

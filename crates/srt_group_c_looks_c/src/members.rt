@@ -101,9 +101,8 @@ pub extern "C" fn srt_group_raw_members(
     if record.len() < RECORD || answer.len() < SHOWN {
         return SHORT;
     }
-    let group = read_group(record);
     let lent = LentGroup {
-        group: &group,
+        group: read_group(record),
         members,
         pending,
         waiting,

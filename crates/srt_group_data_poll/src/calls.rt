@@ -45,7 +45,7 @@ pub fn poll_data_bounded(
 {
     let mut used: CellSet = [0; WORDS];
     let lent = LentGroup {
-        group: &group,
+        group,
         members,
         pending,
         waiting,

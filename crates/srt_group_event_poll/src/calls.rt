@@ -35,7 +35,7 @@ pub fn poll_event(
 {
     let mut used: CellSet = [0; WORDS];
     let lent = LentGroup {
-        group: &group,
+        group,
         members,
         pending,
         waiting,

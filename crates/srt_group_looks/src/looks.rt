@@ -16,7 +16,7 @@ use srt_protocol::time::Timestamp;
 
 // The group's id.
 pub fn group_id(lent: &LentGroup) -> Result<u64, Error>
-    ensures { LookGives (λ n. shown (number n)) look_group_id (parts_of lent.now.group.now) (tables_of lent.now) result }
+    ensures { LookGives (λ n. shown (number n)) look_group_id (parts_of lent.now.group) (tables_of lent.now) result }
 {
     lent.begin()?;
     Ok(lent.group.identity.id)
@@ -25,7 +25,7 @@ pub fn group_id(lent: &LentGroup) -> Result<u64, Error>
 // 0 for Broadcast, 1 for Backup.
 // Kept (1): the record's word, which is shown to C as it is.
 pub fn mode(lent: &LentGroup) -> Result<u64, Error>
-    ensures { LookGives (λ n. shown (number n)) look_mode (parts_of lent.now.group.now) (tables_of lent.now) result }
+    ensures { LookGives (λ n. shown (number n)) look_mode (parts_of lent.now.group) (tables_of lent.now) result }
 {
     lent.begin()?;
     Ok(lent.group.core.mode)
@@ -33,7 +33,7 @@ pub fn mode(lent: &LentGroup) -> Result<u64, Error>
 
 // The peer group that the group is bound to, if it is.
 pub fn peer_group_id(lent: &LentGroup) -> Result<Option<u64>, Error>
-    ensures { LookGives (λ n. shown (optional n)) look_peer_group_id (parts_of lent.now.group.now) (tables_of lent.now) result }
+    ensures { LookGives (λ n. shown (optional n)) look_peer_group_id (parts_of lent.now.group) (tables_of lent.now) result }
 {
     lent.begin()?;
     let peer = lent.group.core.peer;
@@ -42,7 +42,7 @@ pub fn peer_group_id(lent: &LentGroup) -> Result<Option<u64>, Error>
 
 // How many packets were skipped for good.
 pub fn skipped_receive_packets(lent: &LentGroup) -> Result<u64, Error>
-    ensures { LookGives (λ n. shown (number n)) look_skipped_receive_packets (parts_of lent.now.group.now) (tables_of lent.now) result }
+    ensures { LookGives (λ n. shown (number n)) look_skipped_receive_packets (parts_of lent.now.group) (tables_of lent.now) result }
 {
     lent.begin()?;
     Ok(lent.group.core.receiving.skipped)
@@ -50,7 +50,7 @@ pub fn skipped_receive_packets(lent: &LentGroup) -> Result<u64, Error>
 
 // Whether a packet is held, an event waits, or the continuation is asked for.
 pub fn has_pending_data(lent: &LentGroup) -> Result<bool, Error>
-    ensures { LookGives (λ b. shown (truth b)) look_has_pending_data (parts_of lent.now.group.now) (tables_of lent.now) result }
+    ensures { LookGives (λ b. shown (truth b)) look_has_pending_data (parts_of lent.now.group) (tables_of lent.now) result }
 {
     lent.begin()?;
     Ok(collecting::has_pending_data(lent.group.core))
@@ -58,7 +58,7 @@ pub fn has_pending_data(lent: &LentGroup) -> Result<bool, Error>
 
 // Whether the last poll stopped with work left.
 pub fn has_receive_continuation(lent: &LentGroup) -> Result<bool, Error>
-    ensures { LookGives (λ b. shown (truth b)) look_has_receive_continuation (parts_of lent.now.group.now) (tables_of lent.now) result }
+    ensures { LookGives (λ b. shown (truth b)) look_has_receive_continuation (parts_of lent.now.group) (tables_of lent.now) result }
 {
     lent.begin()?;
     // Kept (1): the record's flag is asked as the word that it is, as the definitions ask it.
@@ -67,7 +67,7 @@ pub fn has_receive_continuation(lent: &LentGroup) -> Result<bool, Error>
 
 // How long until pacing lets a member send, in microseconds.
 pub fn time_until_send(lent: &LentGroup, time: Timestamp) -> Result<u64, Error>
-    ensures { LookGives (λ n. shown (number n)) (look_time_until_send time.0) (parts_of lent.now.group.now) (tables_of lent.now) result }
+    ensures { LookGives (λ n. shown (number n)) (look_time_until_send time.0) (parts_of lent.now.group) (tables_of lent.now) result }
 {
     lent.begin()?;
     let rows = rows(lent.members, lent.group.core.counts.members);

@@ -30,8 +30,8 @@ pub fn shown(row: &Row) -> MemberShown
 #[tactic(auto, using(crate::specs::Laws::Member::unfit_refuses))]
 fn member_row<'a>(lent: &LentGroup<'a>, id: u64) -> Result<&'a Row, Error>
     ensures { MatchResult result
-        (λ row. RowFound id (parts_of lent.now.group.now) (tables_of lent.now) row.now)
-        (λ e. LooksRefused id (parts_of lent.now.group.now) (tables_of lent.now) e) }
+        (λ row. RowFound id (parts_of lent.now.group) (tables_of lent.now) row.now)
+        (λ e. LooksRefused id (parts_of lent.now.group) (tables_of lent.now) e) }
 {
     lent.begin()?;
     // Kept (2): 2, then 3, in the order of the call's own definition; a function of the two lines is no plainer.
@@ -46,7 +46,7 @@ fn member_row<'a>(lent: &LentGroup<'a>, id: u64) -> Result<&'a Row, Error>
 
 // A member: its membership, with its label and its collision, and its leg's state.
 pub fn member(lent: &LentGroup, id: u64) -> Result<MemberShown, Error>
-    ensures { LookGives (λ m. shown (one_member (Some m))) (look_member id) (parts_of lent.now.group.now) (tables_of lent.now) result }
+    ensures { LookGives (λ m. shown (one_member (Some m))) (look_member id) (parts_of lent.now.group) (tables_of lent.now) result }
 {
     let row = member_row(lent, id)?;
     Ok(shown(row))
@@ -54,7 +54,7 @@ pub fn member(lent: &LentGroup, id: u64) -> Result<MemberShown, Error>
 
 // How long the member may be silent as the carrier of a Backup group, in microseconds; nothing for a leg without a sender.
 pub fn backup_stability_timeout_micros(lent: &LentGroup, id: u64) -> Result<Option<u64>, Error>
-    ensures { LookGives (λ n. shown (optional n)) (look_backup_stability_timeout_micros id) (parts_of lent.now.group.now) (tables_of lent.now) result }
+    ensures { LookGives (λ n. shown (optional n)) (look_backup_stability_timeout_micros id) (parts_of lent.now.group) (tables_of lent.now) result }
 {
     let carrier = member_row(lent, id)?;
     let leg = leg(carrier);

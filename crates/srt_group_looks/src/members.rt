@@ -64,7 +64,7 @@ fn list_members(rows: &[Row], list: &mut [u64])
 // All members. A list shorter than 64 rows is 5.
 #[tactic(auto, using(crate::specs::Laws::Members::list_too_short))]
 pub fn members(lent: &LentGroup, list: &mut [u64]) -> Result<usize, Error>
-    ensures { ListsMembers (parts_of lent.now.group.now) (tables_of lent.now)
+    ensures { ListsMembers (parts_of lent.now.group) (tables_of lent.now)
         list.old result list.new }
 {
     if list.len() < LIST_LENGTH {

@@ -34,7 +34,7 @@ pub fn mark_member_broken(
         nothing_lent (outcome_number result) no_answer 0) }
 {
     let lent = LentGroup {
-        group: &group,
+        group,
         members,
         pending,
         waiting,
@@ -62,7 +62,7 @@ pub fn refresh_member_states(
         nothing_lent (outcome_number result.answer) no_answer 0) }
 {
     let lent = LentGroup {
-        group: &group,
+        group,
         members,
         pending,
         waiting,
@@ -97,7 +97,7 @@ pub fn disconnect(
         nothing_lent (outcome_number result) no_answer 0) }
 {
     let lent = LentGroup {
-        group: &group,
+        group,
         members,
         pending,
         waiting,

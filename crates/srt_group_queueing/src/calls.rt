@@ -42,7 +42,7 @@ pub fn queue_data(
 {
     let mut used = [0; WORDS];
     let lent = LentGroup {
-        group: &group,
+        group,
         members,
         pending,
         waiting,
@@ -75,7 +75,7 @@ pub fn queue_event(
         nothing_lent (outcome_number result) no_answer 0) }
 {
     let lent = LentGroup {
-        group: &group,
+        group,
         members,
         pending,
         waiting,
@@ -106,7 +106,7 @@ pub fn read_leg(
         nothing_lent (outcome_number result) no_answer 0) }
 {
     let lent = LentGroup {
-        group: &group,
+        group,
         members,
         pending,
         waiting,

@@ -42,7 +42,7 @@ fn cells_given(given: usize) -> usize
 // A group's record with its tables, lent to look at.
 #[derive(Clone, Copy)]
 pub struct LentGroup<'a> {
-    pub group: &'a Group,
+    pub group: Group,
     pub members: &'a [u64],
     pub pending: &'a [u64],
     pub waiting: &'a [u64],
@@ -68,10 +68,10 @@ impl LentGroup<'_> {
     fn is_broken(&self, cells: usize, used: &mut CellSet) -> bool
         requires long { Long (tables_of self.now) }
         requires cells { cells ≤ max_cells }
-        ensures { Tested cells (state_of (parts_of self.now.group.now) (tables_of self.now)) result used.new }
+        ensures { Tested cells (state_of (parts_of self.now.group) (tables_of self.now)) result used.new }
     {
         is_invalid(
-            *self.group,
+            self.group,
             self.members,
             self.pending,
             self.waiting,
@@ -85,7 +85,7 @@ impl LentGroup<'_> {
     // 5 or 6 of a call that is lent no store; or it goes on.
     #[tactic(auto, unfolding(srt_group_model::specs::Calls::cells_given))]
     pub fn begin(&self) -> Result<(), Error>
-        ensures { result ≡ begun (parts_of self.now.group.now) (tables_of self.now) }
+        ensures { result ≡ begun (parts_of self.now.group) (tables_of self.now) }
     {
         if self.is_short() {
             return Err(Error::InsufficientBuffer);
@@ -101,7 +101,7 @@ impl LentGroup<'_> {
     // 5 or 6 of a call that is lent a store of so many bytes; or it goes on, and the set shows which cells are in use, whatever it held.
     #[tactic(auto, using(crate::specs::Laws::Begins::begins_unfit, crate::specs::Laws::Begins::begins_invalid), unfolding(srt_group_model::specs::Calls::store_unfit))]
     pub fn begin_stored(&self, store: usize, used: &mut CellSet) -> Result<(), Error>
-        ensures { BeginsStored (parts_of self.now.group.now) (tables_of self.now) store result used.new }
+        ensures { BeginsStored (parts_of self.now.group) (tables_of self.now) store result used.new }
     {
         if self.is_short() {
             return Err(Error::InsufficientBuffer);
@@ -118,7 +118,7 @@ impl LentGroup<'_> {
 
     // The same of a poll, which is lent an output of so many bytes too: 5 first if it has no room for a head and a payload.
     pub fn begin_poll(&self, store: usize, output: usize, used: &mut CellSet) -> Result<(), Error>
-        ensures { BeginsPoll (parts_of self.now.group.now) (tables_of self.now) store output result used.new }
+        ensures { BeginsPoll (parts_of self.now.group) (tables_of self.now) store output result used.new }
     {
         if output < OUTPUT {
             return Err(Error::InsufficientBuffer);

@@ -38,7 +38,7 @@ pub fn remove_member_connection(
         return Answered::refused(group, Error::InsufficientBuffer);
     }
     let lent = LentGroup {
-        group: &group,
+        group,
         members,
         pending,
         waiting,

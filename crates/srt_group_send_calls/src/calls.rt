@@ -45,7 +45,7 @@ pub fn send(
     }
     let mut used = [0u64; WORDS];
     let lent = LentGroup {
-        group: &group,
+        group,
         members,
         pending,
         waiting,
@@ -107,7 +107,7 @@ fn test(
         nothing_lent (truth_code result.answer) (truth_answer result.answer) 0) }
 {
     let lent = LentGroup {
-        group: &group,
+        group,
         members,
         pending,
         waiting,

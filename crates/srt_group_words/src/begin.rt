@@ -28,9 +28,8 @@ pub fn begin_stored(
         (tables members.now pending.now waiting.now history.now sources.now)
         store result used.new }
 {
-    let group = read_group(record);
     let lent = LentGroup {
-        group: &group,
+        group: read_group(record),
         members,
         pending,
         waiting,
@@ -58,9 +57,8 @@ pub fn begin_poll(
         (tables members.now pending.now waiting.now history.now sources.now)
         store output result used.new }
 {
-    let group = read_group(record);
     let lent = LentGroup {
-        group: &group,
+        group: read_group(record),
         members,
         pending,
         waiting,

@@ -67,7 +67,7 @@ module _ {A : Type 0} (size : ℕ) (says : A → Answer) (gives : LentGroup → 
   pub look_promised : {code : ℕ} {answer' : List ℕ} → (length w < record_size → SaysNothing answer code answer') → (length answer < size → SaysNothing answer code answer')
       → (record_size ≤ length w → size ≤ length answer → Shows size says gives w t answer code answer')
       → ((lent : LentGroup) (r : Result A Error) → gives lent r
-      → LookGives says look (parts_of lent.group.now) (tables_of lent) r)
+      → LookGives says look (parts_of lent.group) (tables_of lent) r)
       → Promises code answer'
   look_promised {code} {answer'} few no_room shows keeps =
       elim (cases_lt (length w) record_size) [
@@ -78,7 +78,7 @@ module _ {A : Type 0} (size : ℕ) (says : A → Answer) (gives : LentGroup → 
               | inr room ↦
                   let x : Shows size says gives w t answer code answer' = shows long room in
                   said_kept (call_look look) w t nothing_lent long x.group size answer room t nothing_lent (given_answer says x.given)
-                  (subst (λ (u : Tables). LookGives says look (parts_of x.lent.group.now) u x.given) x.tables
+                  (subst (λ (u : Tables). LookGives says look (parts_of x.lent.group) u x.given) x.tables
                   (keeps x.lent x.given x.gave))
                   x.said
             ]
@@ -88,10 +88,10 @@ module _ {A : Type 0} (size : ℕ) (says : A → Answer) (gives : LentGroup → 
 
 -- what a look promises of the group that it was lent
 pub looked_at : (look : Look) (code : ℕ) (answer : Answer) {lent : LentGroup}
-    → (x : Bor LentGroup) × (Looked look (parts_of x.now.group.now) (tables_of x.now) code answer) × (x.now ≡ lent)
-    → Looked look (parts_of lent.group.now) (tables_of lent) code answer
+    → (x : Bor LentGroup) × (Looked look (parts_of x.now.group) (tables_of x.now) code answer) × (x.now ≡ lent)
+    → Looked look (parts_of lent.group) (tables_of lent) code answer
 looked_at look code answer {lent} (x, looked, is) =
-    subst (λ (l : LentGroup). Looked look (parts_of l.group.now) (tables_of l) code answer) is looked
+    subst (λ (l : LentGroup). Looked look (parts_of l.group) (tables_of l) code answer) is looked
 
 -- a flag, as a readiness test answers too
 pub said_truth : (r : Result Bool Error) {code : ℕ} {a a' : List ℕ}

@@ -1,15 +1,23 @@
--- `look` meets its contract: what is given stands in the answer's row. The group that was lent is the one that the look returned for.
-use Rattle.std.proofs.Common.{refl}
+-- `look` meets its contract: what is given stands in the answer's row.
+use Rattle.std.proofs.Common.{refl, rules}
 use Rattle.srt_group_c_looks.proofs.look.look.Goals as goal
 
 pub returns-clause-shows : goal.returns-clause-shows
 returns-clause-shows g c =
     λ _ _.
     record {
-      lent = _;
-      group = c.read_group-group.ensures;
+      lent =
+          record {
+            group = c.read_group.result;
+            members = c.args.members;
+            pending = c.args.pending;
+            waiting = c.args.waiting;
+            history = c.args.history;
+            sources = c.args.sources;
+          };
+      group = c.read_group.ensures;
       tables = refl;
       given = c.given.result;
-      gave = (_, c.given.ensures, refl);
+      gave = search rules;
       said = c.put_given.ensures;
     }

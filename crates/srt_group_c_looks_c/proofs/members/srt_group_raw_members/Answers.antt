@@ -3,4 +3,4 @@ use Rattle.srt_group_c_looks.specs.Laws.Listed.{listed_said, lists_words}
 use Rattle.srt_group_c_looks_c.proofs.members.srt_group_raw_members.Goals as goal
 
 pub returns : goal.returns
-returns c = lists_words _ _ _ _ c.if-record-lt-RECORD.false c.if-answer-lt-SHOWN.false c.read_group-group.ensures c.members.result (listed_said _ c.put_given.ensures) c.members.ensures
+returns c = lists_words _ _ _ _ c.if-record-lt-RECORD.false c.if-answer-lt-SHOWN.false c.read_group.ensures c.members.result (listed_said _ c.put_given.ensures) c.members.ensures

@@ -12,4 +12,4 @@ pub returns : goal.returns
 returns c =
     let l = c.args.lent.now in
     pending_data_shown _ _ c.begin.ensures c.in_ok-begin.was _
-    (c.has_pending_data.ensures.is (rest_of (parts_of l.group.now) (tables_of l)) (receive_tables l.members.now l.pending.now l.waiting.now))
+    (c.has_pending_data.ensures.is (rest_of (parts_of l.group) (tables_of l)) (receive_tables l.members.now l.pending.now l.waiting.now))
