@@ -85,7 +85,7 @@ impl<'a> OpenLine<'a> {
 }
 
 // Reads the line that a buffer holds, of which so many bytes stand at the start. One that is longer than the buffer is malformed.
-// Kept (6): a size above the buffer's length says that the line is longer, so no slice stands for both.
+// Kept (6): a size above the buffer's length says that the line is longer, so no slice stands for both, and an `Option` of one is no plainer.
 pub fn read_held_line(
     bytes: &[u8],
     size: usize,

@@ -57,7 +57,7 @@ pub fn take_lines(block: &[u8], line: &mut OpenLine, rows: &mut [Row]) -> usize
 }
 
 // The row of the line that the end of the stream ends, if a byte of it came: of a buffer, and of how many bytes of the line stand at its start.
-// Kept (6): a size above the buffer's length says that the line is longer, so no slice stands for both.
+// Kept (6): a size above the buffer's length says that the line is longer, so no slice stands for both, and an `Option` of one is no plainer.
 #[tactic(auto, using(crate::specs::Laws::Taken::no_last_line))]
 pub fn last_row(bytes: &[u8], size: usize) -> Option<Row>
     requires { 88 ≤ length bytes.now }

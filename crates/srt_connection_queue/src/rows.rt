@@ -69,7 +69,7 @@ pub struct LinkPart {
 }
 
 // Where a queue's events stand in the ring: the front's place, read modulo MAX_QUEUED, and how many there are.
-// Kept (2): these are words of a row, of 64 bits; `HistoryRing` is a part of the record, in `usize`. Over both types each arm would convert, and is no plainer.
+// Kept (2): these are words of a row, of 64 bits; `HistoryRing` is a part of the record, in `usize`. A type over both would convert the number in each method, and is no plainer.
 #[derive(Clone, Copy)]
 pub struct Ring {
     pub start: u64,

@@ -56,7 +56,7 @@ pub struct SendWords {
 }
 
 // The words of a send's answer, and of the rows that it filled.
-// Kept (4): of two numbers that stand beside a record; a conversion of the whole, `From`, would take the record too, by value.
+// Kept (4): a public name. `From` would be of a pair, the answer and the rows, or of a `GroupSent`, whose record would be copied for it: no plainer.
 pub fn words_of_send(answer: Result<usize, Error>, rows: usize) -> SendWords
     ensures { SaysSent answer rows result }
 {

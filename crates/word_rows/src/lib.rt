@@ -17,7 +17,7 @@ pub fn put_row<const N: usize>(words: &mut [u64], index: usize, row: [u64; N])
     *place.as_mut_array().unwrap() = row;
 }
 
-// Kept (5, 6): a place, an end and a width of three tables; a struct of them would be made at each call and read here alone; of words cut at
+// Kept (5, 6): a place, an end and a width of two tables; a struct of them would be made at each call and read here alone; of words cut at
 // the end the promise would speak of their front, and each caller of the whole table.
 // The words from `from + width` up to `end` move down by `width`.
 pub fn close_gap(words: &mut [u64], from: usize, end: usize, width: usize)
