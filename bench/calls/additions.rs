@@ -1,10 +1,10 @@
 //! The additions: the legs of a group that has none, 4 or 64, one after the other. The group, and what it is handed, is made before the clock
-//! starts. The public column is the library's public call; the Rust crate turns a leg into a row first.
+//! starts. Their two rows are asked for by the word `additions`. The public column is the library's public call; the Rust crate turns a leg into a row first.
 use std::time::{Duration, Instant};
 
 use srt_protocol::{GroupMemberState, GroupMode};
 
-use super::{GROUP, Lent, Linked, Port, RUNS, Rust, port, print_head, print_row};
+use super::{GROUP, Lent, Linked, Port, RUNS, Rust, is_wanted, port, print_head, print_row};
 use crate::port::{raw, row};
 
 /// Additions of one timed run.
@@ -65,6 +65,9 @@ fn timed(legs: u64) -> [f64; 4] {
 }
 
 pub fn main() {
+    if !is_wanted("additions") {
+        return;
+    }
     println!("ns an addition, the legs of a group that has none, the best of {RUNS} runs of {ADDITIONS}, with the clock's own cost");
     print_head("legs", &["Rust", "public", "lent", "Rust crate"]);
     for legs in [4, 64] {

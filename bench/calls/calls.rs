@@ -2,7 +2,8 @@
 //! process; the same calls by the Rust crate rust/srt-group, over the library; and the thin call that is lent its record by reference (lent.rs),
 //! linked as libsrt_group_lent.a. All run the same list of steps on states made alike, and their answers are compared step by step. A payload is
 //! copied twice on each side: into a cell or into new bytes when it is queued, and to the output when it is given. Then the sends (sends.rs),
-//! linked as libsends_bench.a, and the additions (additions.rs).
+//! linked as libsends_bench.a, and the additions (additions.rs). With words behind its name it runs only the rows whose names begin with one of
+//! them, as bench/calls/instructions asks.
 mod additions;
 mod lent;
 #[allow(dead_code)]
@@ -263,6 +264,12 @@ fn print_row(name: &str, times: &[f64]) {
     println!("{name:<34} {:>10.0}{others}", times[0]);
 }
 
+/// Whether the row is to be run.
+fn is_wanted(name: &str) -> bool {
+    let mut words = std::env::args().skip(1).peekable();
+    words.peek().is_none() || words.any(|word| name.starts_with(&word))
+}
+
 const COLUMNS: [&str; 5] = ["Rust", "valid", "public", "lent", "Rust crate"];
 
 /// The best of the runs of each column, in nanoseconds a queued packet.
@@ -314,9 +321,12 @@ fn main() {
     for (order, name) in [(Order::InOrder, "in order"), (Order::Behind, "behind"), (Order::Duplicated, "duplicated")] {
         for legs in [4, 64] {
             for held in [0, 20, 200, 2_000] {
-                let times = timed(order, legs, held);
-                print_row(&format!("{legs:>4} {held:>5}  {name}"), &times);
-                ratios.push(times[1] / times[0]);
+                let row = format!("{legs:>4} {held:>5}  {name}");
+                if is_wanted(row.trim_start()) {
+                    let times = timed(order, legs, held);
+                    print_row(&row, &times);
+                    ratios.push(times[1] / times[0]);
+                }
             }
         }
     }

@@ -4,7 +4,7 @@ use std::hint::black_box;
 
 use srt_protocol::{GroupMode, Timestamp};
 
-use super::{COLUMNS, Lent, Linked, NOW, PAYLOAD, Port, RUNS, Rust, nanoseconds, port, print_head, print_row};
+use super::{COLUMNS, Lent, Linked, NOW, PAYLOAD, Port, RUNS, Rust, is_wanted, nanoseconds, port, print_head, print_row};
 
 /// The record, the five tables, the store, the list of sends, the steps and the payload, each slice with its length.
 type Run = unsafe extern "C" fn(
@@ -261,5 +261,5 @@ pub fn main() -> Vec<f64> {
         print_row(name, &times);
         times[1] / times[0]
     };
-    rows.map(timed_row).to_vec()
+    rows.into_iter().filter(|(name, _)| is_wanted(name)).map(timed_row).collect()
 }

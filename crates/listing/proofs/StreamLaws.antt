@@ -161,8 +161,8 @@ ended_without_feed before (byte ∷ block) h = by_cases (eqb byte 10)
     (rw f more.0, rw f (more.1 ∙ append_snoc before byte block)))
 
 -- an empty line is held at size 0, and nothing else is
-pub held_nothing : (held : OpenLine) → held.size ≡ 0 → Held [] held
-held_nothing held none = record { within = λ h. rw none; beyond = λ h. absurd (omega arith) }
+pub held_nothing : (buffer : List ℕ) {size : ℕ} → size ≡ 0 → Held [] buffer size
+held_nothing buffer none = record { within = λ h. rw none; beyond = λ h. absurd (omega arith) }
 
 -- one change of an open line behind another keeps the buffer
 pub same_buffer_then : {held between after : OpenLine} → SameBuffer held between → SameBuffer between after → SameBuffer held after
@@ -184,13 +184,13 @@ unfolding has_feed first_line
 none_taken_behind block from held behind =
     rw (drop_of_length-le block {i = from} (omega arith)) (record { same = record { reference = refl; room = refl }; holds = λ line h. rw (append-nil line) h; behind = refl })
 
-pub held_is_nothing : (line : List ℕ) (held : OpenLine) → held.size ≡ 0 → Held line held → line ≡ []
-held_is_nothing line held none h = sym (h.within (omega arith)) ∙ rw none
+pub held_is_nothing : (line buffer : List ℕ) (size : ℕ) → size ≡ 0 → Held line buffer size → line ≡ []
+held_is_nothing line buffer size none h = sym (h.within (omega arith)) ∙ rw none
 
 -- a line that is held at a larger size has a byte
-pub held_some : (line : List ℕ) (held : OpenLine) → 0 < held.size → Held line held → 0 < length line
-held_some line held some h = by_cases (leb held.size (length held.bytes.now))
+pub held_some : (line buffer : List ℕ) (size : ℕ) → 0 < size → Held line buffer size → 0 < length line
+held_some line buffer size some h = by_cases (leb size (length buffer))
     (λ t.
-    let inside = leb-true held.size (length held.bytes.now) t in
-    omega (arith, ap length (h.within inside), length-take-le held.size held.bytes.now inside))
-    (λ f. let long = h.beyond (leb-false held.size (length held.bytes.now) f) in omega arith)
+    let inside = leb-true size (length buffer) t in
+    omega (arith, ap length (h.within inside), length-take-le size buffer inside))
+    (λ f. let long = h.beyond (leb-false size (length buffer) f) in omega arith)

@@ -1,6 +1,6 @@
 // Lines from blocks.
 ghost use Rattle.std.specs.Prelude.{◌≡◌, drop, eqb};
-ghost use Rattle.listing.specs.Held.{SameBuffer, Appended, TakenFrom, HeldRead, BytesRead, WholeRead};
+ghost use Rattle.listing.specs.Held.{SameBuffer, Appended, TakenFrom, HeldRead, WholeRead};
 
 use crate::MalformedLine;
 use crate::reading::{read_columns, read_line};
@@ -78,20 +78,21 @@ impl<'a> OpenLine<'a> {
 
     // Reads the line.
     pub fn read(&self, width: usize, numbers: &mut [u64]) -> Result<(), MalformedLine>
-        ensures { HeldRead width self.now numbers.old numbers.new result }
+        ensures { HeldRead width self.now.bytes.now self.now.size numbers.old numbers.new result }
     {
         read_held_line(self.bytes, self.size, width, numbers)
     }
 }
 
 // Reads the line that a buffer holds, of which so many bytes stand at the start. One that is longer than the buffer is malformed.
+// Kept (6): a size above the buffer's length says that the line is longer, so no slice stands for both, and an `Option` of one is no plainer.
 pub fn read_held_line(
     bytes: &[u8],
     size: usize,
     width: usize,
     numbers: &mut [u64],
 ) -> Result<(), MalformedLine>
-    ensures { BytesRead width bytes.now size numbers.old numbers.new result }
+    ensures { HeldRead width bytes.now size numbers.old numbers.new result }
 {
     if bytes.len() < size {
         numbers.fill(0);

@@ -25,7 +25,7 @@ fn put_digits(out: &mut [u8], end: usize, number: u64)
     ensures { out.new ≡ placed out.old (end - length (digits number)) (digits number) }
 {
     let mut rest = number;
-    // Kept (3): from the last place to the first; `out[..end].iter_mut().rev()` goes the same way, and is no plainer.
+    // Kept (3): `out[..end].iter_mut().rev()` was tried: its proof did not close, since of what such a loop wrote the check knows no more than the length.
     for at in (0..end).rev() {
         out[at] = (rest % 10) as u8 + b'0';
         rest /= 10;
@@ -84,7 +84,6 @@ pub fn write_line(out: &mut [u8], at: usize, width: usize, numbers: &[u64]) -> O
     ensures { PlacedOrRefused out.old at (line_text width numbers.now) out.new result }
 {
     let room = out.len().checked_sub(at)?;
-    // Kept (4): `then`, by a closure that borrows `out`, was tried, and its proof did not close.
     if !has_room_for_line(width, numbers, room) {
         return None;
     }

@@ -7,5 +7,5 @@
 mod taking;
 mod writing;
 
-pub use taking::{LINE, Row, last_row, last_row_held, take_lines};
+pub use taking::{LINE, Row, last_row, take_lines};
 pub use writing::{Answer, write_lines};

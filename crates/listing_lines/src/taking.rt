@@ -2,7 +2,7 @@
 // Kept (5): that the buffer has room for a line (88 bytes) is asked of each call; a struct with that fact would stand between a caller's open line and
 // these functions, and be made anew at each.
 ghost use Rattle.std.specs.Prelude.{◌≤◌, length};
-ghost use Rattle.listing_lines.specs.Taken.{LinesTakenFrom, LineTakenFrom, LastLineTaken, LastBytesTaken};
+ghost use Rattle.listing_lines.specs.Taken.{LinesTakenFrom, LineTakenFrom, LastLineTaken};
 
 use listing::OpenLine;
 
@@ -56,19 +56,12 @@ pub fn take_lines(block: &[u8], line: &mut OpenLine, rows: &mut [Row]) -> usize
     rows.len()
 }
 
-// The row of the line that the end of the stream ends, if a byte of it came.
-pub fn last_row(line: &OpenLine) -> Option<Row>
-    requires { 88 ≤ length line.now.bytes.now }
-    ensures { LastLineTaken line.now result }
-{
-    last_row_held(line.bytes, line.size)
-}
-
-// The same of a buffer and of how many bytes of the line stand at its start.
+// The row of the line that the end of the stream ends, if a byte of it came: of a buffer, and of how many bytes of the line stand at its start.
+// Kept (6): a size above the buffer's length says that the line is longer, so no slice stands for both, and an `Option` of one is no plainer.
 #[tactic(auto, using(crate::specs::Laws::Taken::no_last_line))]
-pub fn last_row_held(bytes: &[u8], size: usize) -> Option<Row>
+pub fn last_row(bytes: &[u8], size: usize) -> Option<Row>
     requires { 88 ≤ length bytes.now }
-    ensures { LastBytesTaken bytes.now size result }
+    ensures { LastLineTaken bytes.now size result }
 {
     if size == 0 {
         return None;

@@ -44,7 +44,16 @@ fn run<R: Read, W: Write>(input: &mut R, to: &mut W) -> Result<(), Stopped>
             &mut room.text,
         )?;
         if count == 0 {
-            return finish(to, &mut state, &mut room.answers, &mut room.text);
+            let State { mut replay, line } = state;
+            let OpenLine { bytes, size } = line;
+            return finish(
+                to,
+                &mut replay,
+                bytes,
+                size,
+                &mut room.answers,
+                &mut room.text,
+            );
         }
     }
     Err(Stopped::Reading(ErrorKind::TimedOut.into()))

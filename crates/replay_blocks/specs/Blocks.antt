@@ -3,7 +3,7 @@
 use Rattle.std.specs.Prelude.{◌≡◌, List, map, ℕ, ◌≤◌, length, ◌*◌, take, Option}
 use Rattle.listing.specs.Line.{line_numbers}
 use Rattle.listing.specs.Stream.{lines, ended, open_line, last_line}
-use Rattle.listing.specs.Held.{Held, SameBuffer}
+use Rattle.listing.specs.Held.{Held, HeldBy, SameBuffer}
 use Rattle.listing.specs.declared.stream.OpenLine.{OpenLine}
 use Rattle.listing_lines.specs.Text.{texts}
 use Rattle.srt_group_model.specs.State.{State}
@@ -38,11 +38,11 @@ numbers ls = map (line_numbers 8 11) ls
 pub record BlockAnswered (block : List ℕ) (held held' : OpenLine) (s s' : Option State) (out : List ℕ) (end : ℕ) : Type 0 where
   pub same : SameBuffer held held'
   pub inside : end ≤ length out
-  pub text : (line : List ℕ) → Held line held → take end out ≡ texts (prints_from s (numbers (ended line block)))
-  pub group : (line : List ℕ) → Held line held → s' ≡ group_after s (numbers (ended line block))
-  pub open_held : (line : List ℕ) → Held line held → Held (open_line line block) held'
+  pub text : (line : List ℕ) → HeldBy line held → take end out ≡ texts (prints_from s (numbers (ended line block)))
+  pub group : (line : List ℕ) → HeldBy line held → s' ≡ group_after s (numbers (ended line block))
+  pub open_held : (line : List ℕ) → HeldBy line held → HeldBy (open_line line block) held'
 
 -- the line that the end of the listing ends is answered
-pub record LastAnswered (held : OpenLine) (s : Option State) (out : List ℕ) (end : ℕ) : Type 0 where
+pub record LastAnswered (buffer : List ℕ) (size : ℕ) (s : Option State) (out : List ℕ) (end : ℕ) : Type 0 where
   pub inside : end ≤ length out
-  pub text : (line : List ℕ) → Held line held → take end out ≡ texts (prints_from s (numbers (last_line line)))
+  pub text : (line : List ℕ) → Held line buffer size → take end out ≡ texts (prints_from s (numbers (last_line line)))

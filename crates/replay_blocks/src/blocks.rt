@@ -1,6 +1,6 @@
 // The blocks of a listing: the lines that a block ends are taken, told and written as text. `main` only reads blocks and writes texts.
-// Kept (5): rows, answers and text are lent one by one, of any length that suffices: of a struct of `&mut` fields each clause names each field. Of a line's
-// 88 bytes see listing_lines.
+// Kept (5, 6): rows, answers and text are lent one by one, of any length that suffices: of a struct of `&mut` fields each clause names each field. The
+// answers go on to be written, as rows of their own. Of a line's 88 bytes, and of a buffer and a size, see listing_lines.
 ghost use Rattle.std.specs.Prelude.{◌≡◌, ◌*◌, ◌≤◌, length, replicate};
 ghost use Rattle.replay_blocks.specs.Blocks.{Roomy, RowsAnswered, BlockAnswered, LastAnswered};
 
@@ -66,19 +66,20 @@ pub fn answer_block<T: Teller>(
     answer_rows(replay, &rows[..count], answers, text)
 }
 
-// The line that the end of the listing ends, where there is one.
+// The line that the end of the listing ends, where there is one: so many bytes of it stand at the buffer's start.
 pub fn answer_last_line<T: Teller>(
     replay: &mut T,
-    line: &OpenLine,
+    bytes: &[u8],
+    size: usize,
     answers: &mut [[u64; 6]],
     text: &mut [u8],
 ) -> usize
-    requires whole_line { 88 ≤ length line.now.bytes.now }
+    requires whole_line { 88 ≤ length bytes.now }
     requires roomy { (1 ≤ length answers.old) × (121 ≤ length text.old) }
-    ensures answered { LastAnswered line.now (T.shown replay.old) text.new result }
+    ensures answered { LastAnswered bytes.now size (T.shown replay.old) text.new result }
     ensures keeps { T.lent replay.new ≡ T.lent replay.old }
 {
-    match last_row(line) {
+    match last_row(bytes, size) {
         Some(row) => answer_rows(replay, &[row], answers, text),
         None => 0,
     }

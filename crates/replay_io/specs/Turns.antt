@@ -3,7 +3,7 @@
 use Rattle.std.specs.Prelude.{◌≡◌, ℕ, Option, List, ◌<◌, ◌≤◌, length, take}
 use Rattle.std.specs.Io.KnownBytes.{Consumes, Appends, IsAtEnd}
 use Rattle.listing.specs.Stream.{ended, open_line, last_line}
-use Rattle.listing.specs.Held.{Held}
+use Rattle.listing.specs.Held.{Held, HeldBy}
 use Rattle.listing_lines.specs.Text.{texts}
 use Rattle.replay_rows.specs.Rows.{group_after, prints_from}
 use Rattle.replay_blocks.specs.Blocks.{replayed, numbers}
@@ -19,13 +19,13 @@ pub record BlockRead (left left' : Option (List ℕ)) (count : ℕ) (block : Lis
 -- it is answered and written: the text of the answers to the lines that it ends, whatever line began before it; the group after them, and the
 -- line that it leaves open
 pub record BlockReplayed (block : List ℕ) (held held' : OpenLine) (s s' : Option State) (written written' : Option (List ℕ)) : Type 0 where
-  pub text : (line : List ℕ) → Held line held → Appends written written' (texts (prints_from s (numbers (ended line block))))
-  pub group : (line : List ℕ) → Held line held → s' ≡ group_after s (numbers (ended line block))
-  pub open_held : (line : List ℕ) → Held line held → Held (open_line line block) held'
+  pub text : (line : List ℕ) → HeldBy line held → Appends written written' (texts (prints_from s (numbers (ended line block))))
+  pub group : (line : List ℕ) → HeldBy line held → s' ≡ group_after s (numbers (ended line block))
+  pub open_held : (line : List ℕ) → HeldBy line held → HeldBy (open_line line block) held'
 
 -- so is the line that the listing's end ends
-pub record LastReplayed (held : OpenLine) (s : Option State) (written written' : Option (List ℕ)) : Type 0 where
-  pub text : (line : List ℕ) → Held line held → Appends written written' (texts (prints_from s (numbers (last_line line))))
+pub record LastReplayed (buffer : List ℕ) (size : ℕ) (s : Option State) (written written' : Option (List ℕ)) : Type 0 where
+  pub text : (line : List ℕ) → Held line buffer size → Appends written written' (texts (prints_from s (numbers (last_line line))))
 
 -- THE PROMISE of a replay: a listing is read to its end, and what is written is its replay
 pub record ListingReplayed (left left' written written' : Option (List ℕ)) : Type 0 where

@@ -1,7 +1,7 @@
 // A block is read, answered and written. What a file gives or takes no contract can say; over any reader and writer it says that the bytes which
 // were read are answered (`answer_block`, `answer_last_line`), that nothing else is written, and that the group stands from block to block.
-// Kept (5): rows, answers and text are lent one by one, of any length that suffices: of a struct of `&mut` fields each clause names each field. Of a line's
-// 88 bytes see listing_lines.
+// Kept (5, 6): rows, answers and text are lent one by one, of any length that suffices: of a struct of `&mut` fields each clause names each field. The
+// answers go on to be written, as rows of their own. Of a line's 88 bytes, and of a buffer and a size, see listing_lines.
 ghost use Rattle.std.specs.Prelude.{◌≡◌, ◌≤◌, length, take, IfOk, OnOk};
 ghost use Rattle.std.specs.Io.KnownBytes.{Appends};
 ghost use Rattle.listing.specs.Held.{SameBuffer};
@@ -58,19 +58,20 @@ pub fn turn<R: Read, W: Write, T: Teller>(
     Ok(count)
 }
 
-// The line that the end of the listing ends, where there is one.
+// The line that the end of the listing ends, where there is one: so many bytes of it stand at the buffer's start.
 pub fn finish<W: Write, T: Teller>(
     to: &mut W,
-    state: &mut State<T>,
+    replay: &mut T,
+    bytes: &[u8],
+    size: usize,
     answers: &mut [[u64; 6]],
     text: &mut [u8],
 ) -> Result<(), Stopped>
-    requires whole_line { 88 ≤ length state.old.line.bytes.now }
+    requires whole_line { 88 ≤ length bytes.now }
     requires roomy { (1 ≤ length answers.old) × (121 ≤ length text.old) }
-    ensures keeps { T.lent state.new.replay ≡ T.lent state.old.replay }
-    ensures same_buffer { state.new.line.bytes.ghost_name ≡ state.old.line.bytes.ghost_name }
-    ensures replayed { OnOk result (LastReplayed state.old.line (T.shown state.old.replay) (W.contents to.old) (W.contents to.new)) }
+    ensures keeps { T.lent replay.new ≡ T.lent replay.old }
+    ensures replayed { OnOk result (LastReplayed bytes.now size (T.shown replay.old) (W.contents to.old) (W.contents to.new)) }
 {
-    let end = answer_last_line(&mut state.replay, &state.line, answers, text);
+    let end = answer_last_line(replay, bytes, size, answers, text);
     write_text(to, &text[..end])
 }

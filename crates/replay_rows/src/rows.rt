@@ -22,6 +22,7 @@ fn numbers(line: Printed) -> [u64; 6]
 }
 
 // All lines are told, one after the other, each answer into the same row of the answers.
+// Kept (5, 6): rows and answers are lent one by one, each of any length that suffices; the answers go on to be written, as rows of their own.
 pub fn tell_lines<T: Teller>(replay: &mut T, rows: &[Line], answers: &mut [[u64; 6]])
     requires { length rows.now ≤ length answers.old }
     ensures told { RowsTold rows.now (T.shown replay.old) (T.shown replay.new) (take (length rows.now) answers.new) }

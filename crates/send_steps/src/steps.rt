@@ -126,7 +126,7 @@ fn step(
     let leg = word / LEG;
     if leg == 0 {
         let sent = sending::send(
-            group,
+            &group,
             members,
             pending,
             waiting,

@@ -69,7 +69,7 @@ pub struct LinkPart {
 }
 
 // Where a queue's events stand in the ring: the front's place, read modulo MAX_QUEUED, and how many there are.
-// Kept (2): two words of a row; `HistoryRing` is a part of the record that C lends, in `usize`, and over another number of places.
+// Kept (2): these are words of a row, of 64 bits; `HistoryRing` is a part of the record, in `usize`. A type over both would convert the number in each method, and is no plainer.
 #[derive(Clone, Copy)]
 pub struct Ring {
     pub start: u64,
@@ -282,14 +282,12 @@ fn part(row: &Row, place: usize) -> &Part
     &parts[place]
 }
 
-#[tactic(auto, using(crate::specs::Laws::Row::put_between))]
+#[tactic(auto, using(word_rows::specs::Laws::Rows::row_back))]
 fn put_part(row: &mut Row, place: usize, words: Part)
     requires { place < parts }
     ensures { row.new ≡ put_part row.old place words }
 {
-    let (_, rest) = row.split_at_mut(place * PART);
-    let (part, _) = rest.split_at_mut(PART);
-    *part.as_mut_array().unwrap() = words;
+    word_rows::put_row(row, place, words);
 }
 
 fn link_part(row: &Row) -> LinkPart

@@ -1,7 +1,7 @@
 // `SrtGroup` of srt_group/mod.rs: the group's record, by value, with `new` and its limits. All that is large is lent: the members with
 // their legs and queues, the held packets, the waiting events, the history's two arrays, the store. The public calls over it stand in the
 // crates of their subjects, in modules `calls`; no public function there has a `requires`.
-// Kept (1): the mode is the record's word, which a C host lends so that 6 can refuse it; an enum of two modes says what `is_backup` says, and is no plainer.
+// Kept (1): the mode is a word of the C call: any is a legal question, 2 refuses what is none, and the record keeps the word.
 
 #![tactic(auto)]
 

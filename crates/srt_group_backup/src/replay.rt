@@ -57,6 +57,7 @@ pub fn replay_entries(
         list.old result list.new }
 {
     let mut here = leg;
+    // Kept (3): the places of a ring are no slice; in a chain a closure would hold what the loop changes, and an invariant of its calls say it: no plainer.
     for index in 0..history.words.ring.length {
         let entry = history.entry_at(index);
         let result = replay_entry(here, entry, time, id, list, sent + index);

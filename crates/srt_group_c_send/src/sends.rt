@@ -43,8 +43,9 @@ pub extern "C" fn srt_group_valid_send(
         (tables members.new pending.now waiting.now history.new sources.new)
         (sending_into store.new list.new) answer.new) used.new }
 {
+    let group = read_group(record);
     let sent = sending::send(
-        read_group(record),
+        &group,
         members,
         pending,
         waiting,

@@ -152,6 +152,7 @@ fn release_range(
     ensures released { Released (packets_between from end pending.now) core members.old result members.new }
     ensures freed { Freed (pending_cells (packets_between from end pending.now)) used.old used.new }
 {
+    // Kept (3): the places of a ring are no slice; in a chain a closure would hold what the loop changes, and an invariant of its calls say it: no plainer.
     for at in from..end {
         core = release_held(core, members, pending, used, at);
     }

@@ -9,7 +9,7 @@ ghost use Rattle.srt_group_refusals.specs.Promised.{nothing_lent, showing, Promi
 ghost use Rattle.srt_group_addition.specs.Handed.{call_of_row};
 ghost use Rattle.srt_group_flat.specs.Words.{words_answer, Cleared, send_words_answer, ClearedSent};
 
-use crate::words::{DataWords, SendWords, words_of, words_of_send};
+use crate::words::{DataWords, SendWords, words_of_send};
 use srt_group::Group;
 use srt_group_addition::calls as addition;
 use srt_group_data_poll::calls as polls;
@@ -49,7 +49,7 @@ pub fn poll_data(
     );
     AnsweredWords {
         group: polled.record,
-        answer: words_of(polled.answer),
+        answer: DataWords::from(polled.answer),
     }
 }
 

@@ -26,7 +26,7 @@ pub struct Printed {
 }
 
 // The group after a line, and what the line prints.
-// Kept (2): `Replayed`, above, may have no group; a type parameter for these two fields is no plainer.
+// Kept (2): `Replayed` of srt_group_replay may have no group; a type parameter for these two fields is no plainer.
 #[repr(C)]
 #[derive(Clone, Copy)]
 pub struct Told {

@@ -26,7 +26,7 @@ use srt_protocol::error::{Error, outcome_number};
 use srt_protocol::time::Timestamp;
 
 // The line of a verb that is refused, or accepted without columns of its own (0).
-// Kept (1): verb and code are printed columns, the verb 0 where a line names none; as an `Option` of an enum they are no plainer.
+// Kept (1): verb and code are printed columns, the verb 0 where a line names none; an `Option` of an enum would be turned into the number at once: no plainer.
 pub fn code_line(verb: u64, code: u64) -> Printed
     ensures { numbers_of result ≡ refused_line verb code }
 {

@@ -196,7 +196,7 @@ pub fn send(
         };
     };
     let sent = sending::send(
-        group,
+        &group,
         members,
         pending,
         waiting,

@@ -1,4 +1,5 @@
 // The looks at the group.
+// Kept (2): public names, each with the promise of its call: no plainer as one, since behind 5 and 6 each shows something else.
 ghost use Rattle.srt_group_model.specs.Lent.{look_group_id, look_mode, look_peer_group_id, look_skipped_receive_packets};
 ghost use Rattle.srt_group_model.specs.Lent.{look_has_pending_data, look_has_receive_continuation, look_time_until_send};
 ghost use Rattle.srt_group_model.specs.Guards.{shown, number, optional, truth};

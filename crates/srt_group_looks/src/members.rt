@@ -47,8 +47,7 @@ fn list_member(row: &Row, index: usize, list: &mut [u64])
     ensures { list.new
         ≡ overwritten (index * member_row_size) (member_values (member_shown (member_of row.now))) list.old }
 {
-    let start = index * MEMBER_WORDS;
-    list[start..start + MEMBER_WORDS].copy_from_slice(&words_of(shown(row)));
+    word_rows::put_row(list, index, words_of(shown(row)));
 }
 
 #[tactic(auto, using(crate::specs::Laws::Members::row_written, crate::specs::Laws::Members::all_written))]

@@ -1,4 +1,5 @@
 // The calls that change the members' states with their refusals, over the record and the lent tables: 5 and 6, and then what follows them.
+// Kept (2): public names; each makes its own call behind 5 and 6.
 // Kept (5, 6): the members are changed, so they are in no struct of lent readings, and a call's promise names each table: a struct of the others alone would be no plainer.
 ghost use Rattle.srt_protocol.specs.Errors.{outcome_number};
 ghost use Rattle.srt_group_model.specs.Guards.{no_answer};

@@ -23,7 +23,7 @@ pub struct Admission {
     pub base: Option<u64>,
 }
 
-// Kept (1): a flag of the row is asked as the word that it is, as the definitions ask it.
+// Kept (1): a state or a flag of the row is asked as the word that it is, as the definitions ask it.
 // Not admitted yet, not Broken, and connected.
 #[tactic(auto, unfolding(srt_group_model::specs::Members::arrives))]
 pub fn arrives(row: &Row) -> bool

@@ -13,7 +13,7 @@ use crate::states::{
 };
 use srt_connection_queue::rows::{Row, admitted, link_state, member_state};
 
-// Kept (1): a flag of the row is asked as the word that it is, as the definitions ask it.
+// Kept (1): a state or a flag of the row is asked as the word that it is, as the definitions ask it.
 // Broken; or still handshaking; or connected, admitted, and Active or Standby. Three words of the row are read.
 #[tactic(auto, unfolding(crate::specs::Quiet::is_steady))]
 fn is_steady(row: &Row) -> bool

@@ -1,4 +1,6 @@
 // What state a member is in. A test reads the few words of a row that it needs.
+// Kept (2): three are tests of a leg again (`srt_connection::legs`), of its row: those are handed a leg that was read whole, these read one word or part, and as
+// one, over a trait of both, they would read the whole leg of a row: no plainer.
 // Kept (1): the mode is the record's word, which a C host lends so that 6 can refuse it; an enum of two modes says what `is_backup` says, and is no plainer.
 // Kept (1): a state or a flag is a word of the lent row: a C host may lend any number, and 6 has to read it to refuse it. What is written goes into
 // the row as it is, and the definitions compare words; an enum that is turned into its number at once is no plainer.

@@ -54,7 +54,7 @@ impl Event {
 
 // `GroupPacket`, with its place in `owned`: 1 if the group holds it itself, 0 if its member holds the reservation.
 #[repr(C)]
-#[derive(Clone, Copy)]
+#[derive(Clone, Copy, Default)]
 pub struct Packet {
     // member_id
     pub member: u64,
@@ -112,6 +112,7 @@ pub struct Receiver {
     // Kept (1): a word of the lent row, in which a C host writes 4294967295 for none.
     pub first: u64,
     pub window: u64,
+    // Kept (1): a word of the lent row, in which a C host writes 0 for a leg that gives up never.
     pub latency: u64,
     pub reserved: u64,
     pub advanced: u64,

@@ -56,6 +56,7 @@ fn refresh_unless_quiet(core: Core, sending: Sending, members: &mut [u64], quiet
 }
 
 // The same of the part of a refresh that stands before the visits.
+// Kept (2): as one with the refresh, over a closure, a clause would say of the closure what each refresh promises: longer than the two.
 fn settle_unless_quiet(core: Core, sending: Sending, members: &mut [u64], quiet: bool) -> Core
     requires long { core.counts.members * row_size ≤ length members.old }
     requires known { Known quiet core members.old }

@@ -39,6 +39,7 @@ fn data_unfit(id: u64, content: Data) -> bool
 fn data_event(content: Data, cell: usize, size: usize) -> Event
     ensures { result ≡ data_event cell size content }
 {
+    // Kept (1): the kind is a word of the row, 0 of data, which the definitions compare.
     Event {
         kind: 0,
         reason: 0,

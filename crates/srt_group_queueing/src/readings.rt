@@ -1,4 +1,5 @@
 // `read_leg` of the stand-in leg: a number into a field of a leg.
+// Kept (2): the form for a valid state is a public name, as that of `queue_event`: each makes its own call.
 // Kept (5, 6): the calls and their forms are lent flat tables, as C lends them; of a struct of them, with the members that each call changes,
 // every clause would name each `&mut` field by a ghost name (docs/DECISIONS.md, "What only reads a table").
 // Kept (1): field and number are words of the C call: any is a legal question, and 2 refuses what is none.

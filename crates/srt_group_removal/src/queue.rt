@@ -27,6 +27,7 @@ pub fn free_queue(row: &Row, used: &mut CellSet)
     ensures { Freed (queue_cells (member_of row.now)) used.old used.new }
 {
     let count = queue_length(row);
+    // Kept (3): the places of a ring are no slice; in a chain a closure would hold what the loop changes, and an invariant of its calls say it: no plainer.
     for index in 0..count {
         let event = queued_event(row, index);
         free_event(used, event);

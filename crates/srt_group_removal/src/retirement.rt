@@ -59,6 +59,7 @@ fn retire_downward(
     ensures follows_held { FollowsHeld core pending.old used.old
         result pending.new used.new }
 {
+    // Kept (3): the places of a ring are no slice; in a chain a closure would hold what the loop changes, and an invariant of its calls say it: no plainer.
     for at in (0..core.counts.pending).rev() {
         if core.own.reserved <= limit {
             return core;

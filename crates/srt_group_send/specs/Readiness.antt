@@ -5,6 +5,7 @@ use Rattle.srt_group_model.specs.Legs.{largest_64}
 use Rattle.srt_group_model.specs.Guards.{shown, truth}
 use Rattle.srt_group_model.specs.Backup.{max_history, trim_by_carrier, backup_send_ready}
 use Rattle.srt_group_model.specs.Sound.{Fit}
+use Rattle.srt_group_model.specs.declared.Identity.{Identity}
 use Rattle.srt_group_model.specs.Lent.{Call, call_can_send, call_can_send_with_pacing}
 use Rattle.srt_connection_queue.specs.Rows.{row_size}
 use Rattle.srt_connection_members.specs.Members.{members_of}
@@ -46,12 +47,17 @@ pub record Testable (g : Group) (members history : List ℕ) : Type 0 where
   pub sources : List ℕ
   pub fit : Fit (state_of (parts_of g) (tables members pending waiting history sources))
 
--- the call is its definition, over whatever it does not touch, and the set of used cells follows it
+-- a record with another identity: what the group was made as, of which no test reads anything
+abbrev pub with_identity : Identity → Group → Group
+with_identity i g = record { identity = i; core = g.core; sending = g.sending; ring = g.ring }
+
+-- the call is its definition, over whatever it does not touch, the identity too, and the set of used cells follows it
 pub record Tests (call : Call) (g : Group) (members history used : List ℕ) (answer : Readiness) (members' used' : List ℕ) : Type 0 where
-  pub steps : (pending waiting sources : List ℕ)
-      → Unbroken (parts_of g) (tables members pending waiting history sources)
-      → Steps call (parts_of g) (tables members pending waiting history sources) 0 (shown (truth answer.ready))
-      (parts_of answer.«record») (tables members' pending waiting history sources)
-  pub shows : (pending waiting sources : List ℕ)
-      → Shows used (state_of (parts_of g) (tables members pending waiting history sources))
-      → Shows used' (state_of (parts_of answer.«record») (tables members' pending waiting history sources))
+  pub same : answer.«record».identity ≡ g.identity
+  pub steps : (identity : Identity) (pending waiting sources : List ℕ)
+      → Unbroken (parts_of (with_identity identity g)) (tables members pending waiting history sources)
+      → Steps call (parts_of (with_identity identity g)) (tables members pending waiting history sources) 0 (shown (truth answer.ready))
+      (parts_of (with_identity identity answer.«record»)) (tables members' pending waiting history sources)
+  pub shows : (identity : Identity) (pending waiting sources : List ℕ)
+      → Shows used (state_of (parts_of (with_identity identity g)) (tables members pending waiting history sources))
+      → Shows used' (state_of (parts_of (with_identity identity answer.«record»)) (tables members' pending waiting history sources))

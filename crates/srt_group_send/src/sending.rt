@@ -115,7 +115,7 @@ fn send_mode(
     )
 }
 
-// The refresh, 23, and the send of the mode. The record is read where it stands: by value its 160 bytes would be copied once more.
+// The refresh, 23, and the send of the mode.
 fn refresh_and_send(
     group: &Group,
     history: &mut [u64],
@@ -171,9 +171,10 @@ fn store_sent(store: &mut [u8], cell: usize, payload: &[u8], answer: Result<usiz
     }
 }
 
-// `send` for a valid state, of which `used` shows the cells in use. 30 comes before anything is refreshed; a Broadcast send takes no cell.
+// `send` for a valid state, of which `used` shows the cells in use. 30 comes before anything is refreshed; a Broadcast send takes no cell. The record is
+// read where it stands, here and below: by value its 160 bytes would be copied once more at each of the two.
 pub fn send(
-    group: Group,
+    group: &Group,
     members: &mut [u64],
     pending: &[u64],
     waiting: &[u64],
@@ -185,30 +186,30 @@ pub fn send(
     time: Timestamp,
     payload: &[u8],
 ) -> GroupSent
-    requires ready { Ready (parts_of group)
+    requires ready { Ready (parts_of group.now)
         (tables members.old pending.now waiting.now history.old sources.old) (length store.old) used.old }
     requires list_size_in_bounds { list_size ≤ length list.old }
-    ensures { Sends time.0 payload.now (parts_of group)
+    ensures { Sends time.0 payload.now (parts_of group.now)
         (tables members.old pending.now waiting.now history.old sources.old)
         (sending_into store.old list.old) result
         (tables members.new pending.now waiting.now history.new sources.new)
         (sending_into store.new list.new) used.new }
 {
     if CELL < payload.len() {
-        return GroupSent::refused(group, Error::PayloadTooLong);
+        return GroupSent::refused(*group, Error::PayloadTooLong);
     }
     let size = payload.len() as u64;
     if !is_backup(group.core.mode) {
         return refresh_and_send(
-            &group, history, sources, members, list, used, time, size, None,
+            group, history, sources, members, list, used, time, size, None,
         );
     }
     let lowest = lowest_free(used, cells_of(store.len()));
     let Some(cell) = lowest else {
-        return GroupSent::refused(group, Error::NoFreeCell);
+        return GroupSent::refused(*group, Error::NoFreeCell);
     };
     let sent = refresh_and_send(
-        &group,
+        group,
         history,
         sources,
         members,

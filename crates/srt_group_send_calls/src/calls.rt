@@ -56,7 +56,7 @@ pub fn send(
         return GroupSent::refused(group, refusal);
     }
     sending::send(
-        group, members, pending, waiting, history, sources, store, list, &mut used, time, payload,
+        &group, members, pending, waiting, history, sources, store, list, &mut used, time, payload,
     )
 }
 

@@ -1,6 +1,7 @@
 // A send in Broadcast: the same payload at the same sequence on every active leg. A leg that fails is marked, and the others are
 // tried all the same.
-// Kept (3, 5, 6): a host lends each table as words; a struct of `&mut` fields wants a clause a field, in every function, that its slice is still the caller's, and a loop over rows that it changes an index (docs/DECISIONS.md).
+// Kept (5, 6): a host lends each table as words; a struct of `&mut` fields wants a clause a field, in every function, that its slice is still the caller's (docs/DECISIONS.md).
+// Kept (3): what changes members goes by the index, since of the words that `as_chunks_mut` lends nothing is promised once they are back.
 // Kept (5, 6): the list goes with its rows in use: `Wrote` says of the whole list which rows are written, a rest of it (`&mut list[..]`) would say so of the rest alone.
 ghost use Rattle.std.specs.Prelude.{◌≡◌, not, ◌&&◌, ◌*◌, ◌≤◌, ◌<◌, length};
 ghost use Rattle.srt_protocol.specs.Sequence.{sequence_further};

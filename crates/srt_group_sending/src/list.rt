@@ -17,6 +17,7 @@ pub const MAX_SENT: usize = 1100;
 pub const SENT_LENGTH: usize = MAX_SENT * SENT_WORDS;
 
 // In a row of the list: the payload is the call's own, not one of the history.
+// Kept (1): the list's word, in which C reads 4294967295 for the call's own payload; an Option would be turned into it at once, and is no plainer.
 pub const OWN_PAYLOAD: u64 = 0xffff_ffff;
 
 // A send, as a row of the list tells it: the leg, the sequence, the cell of the payload, its source time, and the time of the send.
@@ -45,25 +46,24 @@ impl Sent {
 }
 
 #[tactic(auto, unfolding(crate::specs::SentList::sent_words))]
-fn write_row(row: &mut [u64], sent: Sent)
-    requires { length row.old ≡ sent_row_size }
-    ensures { row.new ≡ sent_words (sent_row sent.leg sent.sequence sent.cell sent.source.0 sent.time.0) }
+fn words_of(sent: Sent) -> [u64; SENT_WORDS]
+    ensures { result ≡ sent_words (sent_row sent.leg sent.sequence sent.cell sent.source.0 sent.time.0) }
 {
-    *row.as_mut_array().unwrap() = [
+    [
         sent.leg,
         sent.sequence,
         sent.cell,
         sent.source.0,
         sent.time.0,
-    ];
+    ]
 }
 
 // A send behind the first `count`.
+#[tactic(auto, using(crate::specs::Laws::SentList::wrote_one))]
 pub fn write_sent(list: &mut [u64], count: usize, sent: Sent)
     requires { count * sent_row_size + sent_row_size ≤ length list.old }
     ensures { Wrote count (sent_row sent.leg sent.sequence sent.cell sent.source.0 sent.time.0 ∷ [])
         list.old (count + 1) list.new }
 {
-    let start = count * SENT_WORDS;
-    write_row(&mut list[start..start + SENT_WORDS], sent);
+    word_rows::put_row(list, count, words_of(sent));
 }

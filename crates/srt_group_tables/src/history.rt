@@ -152,7 +152,7 @@ impl HistoryWords<'_> {
         cell_of(self.word_at(index))
     }
 
-    // The ring without the entries at the front that are before `oldest`.
+    // The ring without the entries at the front that are before `oldest`; if none is, word for word as it was.
     pub fn drop_before(&self, oldest: u64) -> HistoryRing
         ensures { Trimmed oldest self.now.history.now self.now.ring result }
     {
@@ -160,6 +160,9 @@ impl HistoryWords<'_> {
         let dropped = (0..ring.length)
             .find(|at| !word_before(self.sequence_at(*at), oldest))
             .unwrap_or(ring.length);
+        if dropped == 0 {
+            return ring;
+        }
         HistoryRing {
             start: place(ring, dropped),
             length: ring.length - dropped,

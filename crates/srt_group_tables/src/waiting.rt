@@ -27,13 +27,11 @@ fn read_waiting(row: &[u64; WAITING_WORDS]) -> Waiting
     }
 }
 
-// Kept (6): tried as a lent array of three words: the proof of `push_back` did not close.
 #[tactic(auto, unfolding(crate::specs::Waitings::waiting_words))]
-fn write_waiting(row: &mut [u64], event: Waiting)
-    requires { length row.old ≡ waiting_row_size }
-    ensures { row.new ≡ waiting_words event }
+fn words_of(event: Waiting) -> [u64; WAITING_WORDS]
+    ensures { result ≡ waiting_words event }
 {
-    *row.as_mut_array().unwrap() = [event.member, event.kind, event.reason];
+    [event.member, event.kind, event.reason]
 }
 
 // The event of a row: the first is the front.
@@ -47,14 +45,13 @@ pub fn waiting_event(waiting: &[u64], at: usize) -> Waiting
 }
 
 // An event behind the last.
-#[tactic(auto, using(crate::specs::Laws::Waitings::waiting_pushed, word_rows::specs::Laws::Rows::row_back, crate::specs::Laws::Waitings::three_words))]
+#[tactic(auto, using(crate::specs::Laws::Waitings::waiting_pushed))]
 pub fn push_back(waiting: &mut [u64], count: usize, event: Waiting)
     requires { (waiting_size ≤ length waiting.old) × (count < max_waiting) }
     ensures { HoldsWaiting (length waiting.old) waiting.new (count + 1)
         (waitings count waiting.old ++ (event ∷ [])) }
 {
-    let start = count * WAITING_WORDS;
-    write_waiting(&mut waiting[start..start + WAITING_WORDS], event);
+    word_rows::put_row(waiting, count, words_of(event));
 }
 
 // The front goes.

@@ -17,13 +17,11 @@ pub fn flag_of(word: u64) -> u64
 }
 
 // The numbers over the first words of the row.
-#[tactic(auto, using(crate::specs::Laws::Record::put_front))]
 pub fn put<const N: usize>(answer: &mut [u64], numbers: [u64; N])
     requires { N ≤ length answer.old }
     ensures { answer.new ≡ overwritten 0 numbers.entry answer.old }
 {
-    let (front, _) = answer.split_at_mut(N);
-    *front.as_mut_array().unwrap() = numbers;
+    word_rows::put_row(answer, 0, numbers);
 }
 
 // ---- polls

@@ -186,6 +186,7 @@ pub fn put_back(words: &mut [u64], group: Group, outcome: Result<(), Error>) -> 
 }
 
 // The same of a form for a valid state, which moves the core alone.
+// Kept (2): two lines, as `put_back`; as one, over what is put, each caller would name which: no plainer.
 pub fn put_back_core(words: &mut [u64], core: Core, outcome: Result<(), Error>) -> u32
     requires { record_size ≤ length words.old }
     ensures { PutBack (with_core core (group_of words.old)) (outcome_number outcome) words.old result words.new }

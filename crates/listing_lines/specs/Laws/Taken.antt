@@ -8,7 +8,7 @@ use Rattle.std.proofs.lemmas.List.{take-set, take_more_set}
 use denote.Ref.{Bor}
 use Rattle.listing.specs.Line.{well_formed, line_numbers}
 use Rattle.listing.specs.Stream.{first_line, after_feed, ended, open_line, last_line}
-use Rattle.listing.specs.Held.{Held, SameBuffer, HeldRead, TakenFrom}
+use Rattle.listing.specs.Held.{Held, HeldBy, SameBuffer, HeldRead, TakenFrom}
 use Rattle.listing.specs.declared.MalformedLine.{MalformedLine}
 use Rattle.listing.specs.declared.stream.OpenLine.{OpenLine}
 use Rattle.listing.proofs.Cases.{by_cases}
@@ -23,17 +23,17 @@ long_malformed : (line : List ℕ) → 88 < length line → line_numbers 8 11 li
 unfolding well_formed line_numbers
 long_malformed line h = let other : length line ≡ 8 * 11 → ⊥ = λ e. omega arith in rw (ne_eqb (length line) (8 * 11) other)
 
--- a line that is held with room for 88 bytes or more is read as its numbers
+-- a line that a buffer of 88 bytes or more holds is read as its numbers
 pub held_numbers :
-    (held : OpenLine) (line row row_after : List ℕ) (told : Result (Unit {0}) MalformedLine) → 88 ≤ length held.bytes.now → length row ≡ 8
-    → HeldRead 11 held row row_after told → Held line held → row_after ≡ line_numbers 8 11 line
-held_numbers held line row row_after told room eight read holds = by_cases (leb (length line) (length held.bytes.now))
+    (buffer line : List ℕ) (size : ℕ) (row row_after : List ℕ) (told : Result (Unit {0}) MalformedLine) → 88 ≤ length buffer → length row ≡ 8
+    → HeldRead 11 buffer size row row_after told → Held line buffer size → row_after ≡ line_numbers 8 11 line
+held_numbers buffer line size row row_after told room eight read holds = by_cases (leb (length line) (length buffer))
     (λ short. put ∙ rw short)
     (λ long.
-    let more = leb-false (length line) (length held.bytes.now) long in
+    let more = leb-false (length line) (length buffer) long in
     put ∙ (rw long (sym (long_malformed line (omega arith)))))
   where
-    put : row_after ≡ cond (leb (length line) (length held.bytes.now)) (line_numbers 8 11 line) (0 ∷ 0 ∷ 0 ∷ 0 ∷ 0 ∷ 0 ∷ 0 ∷ 0 ∷ [])
+    put : row_after ≡ cond (leb (length line) (length buffer)) (line_numbers 8 11 line) (0 ∷ 0 ∷ 0 ∷ 0 ∷ 0 ∷ 0 ∷ 0 ∷ 0 ∷ [])
     put = rw eight at (read.put line holds)
 
 -- a block without line feed is held
@@ -45,7 +45,7 @@ none_ended block held after row took =
 -- a line that a line feed ended is read
 pub line_ended :
     (block : List ℕ) (held between after : OpenLine) (row row_after : List ℕ) (told : Result (Unit {0}) MalformedLine) (rest : Bor (List ℕ))
-    → TakenFrom block held between (Some rest) → HeldRead 11 between row row_after told → 88 ≤ length held.bytes.now → length row ≡ 8
+    → TakenFrom block held between (Some rest) → HeldRead 11 between.bytes.now between.size row row_after told → 88 ≤ length held.bytes.now → length row ≡ 8
     → SameBuffer between after → after.size ≡ 0 → LineTakenFrom block held after row_after (Some rest)
 line_ended block held between after row row_after told rest took read room eight same none =
     record {
@@ -53,8 +53,8 @@ line_ended block held between after row row_after told rest took read room eight
       taken = (
         took.behind.0,
         took.behind.1,
-        held_nothing after none,
-        λ line h. held_numbers between (line ++ first_line block) row row_after told (omega (arith, took.same.room)) eight read (took.holds line h),
+        held_nothing after.bytes.now none,
+        λ line h. held_numbers between.bytes.now (line ++ first_line block) between.size row row_after told (omega (arith, took.same.room)) eight read (took.holds line h),
       );
     }
 
@@ -63,7 +63,7 @@ line_ended block held between after row row_after told rest took read room eight
 -- a line began before a block, and the rest is left of the block: what is held now, with which the rest ends and leaves open the same
 pub record Behind (start block rest : List ℕ) (after : OpenLine) (rows : List (List ℕ)) : Type 0 where
   pub now : List ℕ
-  pub holds : Held now after
+  pub holds : HeldBy now after
   pub filled : map (line_numbers 8 11) (ended start block) ≡ rows ++ map (line_numbers 8 11) (ended now rest)
   pub leaves : open_line start block ≡ open_line now rest
 
@@ -71,7 +71,7 @@ pub record Behind (start block rest : List ℕ) (after : OpenLine) (rows : List 
 pub record TakenSoFar (block rest : List ℕ) (held after : OpenLine) (rows : List (List ℕ)) (count : ℕ) : Type 0 where
   pub same : SameBuffer held after
   pub few : count + length rest ≤ length block
-  pub behind : (start : List ℕ) → Held start held → Behind start block rest after (take count rows)
+  pub behind : (start : List ℕ) → HeldBy start held → Behind start block rest after (take count rows)
 
 pub none_so_far : (block : List ℕ) (held : OpenLine) (rows : List (List ℕ)) → TakenSoFar block block held held rows 0
 none_so_far block held rows =
@@ -138,11 +138,11 @@ last_line_one [] some = absurd (omega arith)
 last_line_one (byte ∷ line) some = refl
 
 pub last_line_taken :
-    (held : OpenLine) (row row_after : List ℕ) (told : Result (Unit {0}) MalformedLine) → (held.size ≡ 0 → ⊥) → 88 ≤ length held.bytes.now → length row ≡ 8
-    → HeldRead 11 held row row_after told → LastLineTaken held (Some row_after)
-last_line_taken held row row_after told some room eight read =
-    λ line h. rw (last_line_one line (held_some line held (omega arith) h), held_numbers held line row row_after told room eight read h)
+    (buffer : List ℕ) (size : ℕ) (row row_after : List ℕ) (told : Result (Unit {0}) MalformedLine) → (size ≡ 0 → ⊥) → 88 ≤ length buffer → length row ≡ 8
+    → HeldRead 11 buffer size row row_after told → LastLineTaken buffer size (Some row_after)
+last_line_taken buffer size row row_after told some room eight read =
+    λ line h. rw (last_line_one line (held_some line buffer size (omega arith) h), held_numbers buffer line size row row_after told room eight read h)
 
-pub no_last_line : (held : OpenLine) → held.size ≡ 0 → LastLineTaken held None
+pub no_last_line : (buffer : List ℕ) (size : ℕ) → size ≡ 0 → LastLineTaken buffer size None
 unfolding last_line
-no_last_line held none = λ line h. rw (held_is_nothing line held none h)
+no_last_line buffer size none = λ line h. rw (held_is_nothing line buffer size none h)

@@ -1,6 +1,6 @@
 -- What is proved of the definitions in specs/Text.antt, with what the proofs need: the text of lines one behind the other, and that a line has
 -- room.
-use Rattle.std.specs.Prelude.{ℕ, ◌+◌, ◌<◌, ◌≤◌, ◌^◌, true, ◌≡◌, refl, List, [], ◌∷◌, ◌++◌, leb, length, take, get_or, Option}
+use Rattle.std.specs.Prelude.{ℕ, ◌+◌, ◌<◌, ◌≤◌, ◌^◌, true, ◌≡◌, refl, List, [], ◌∷◌, ◌++◌, leb, length, take, get_or, Option, Some, None}
 use Rattle.std.proofs.lemmas.List.{take_more}
 use Rattle.std.specs.Option.{unwrap_or}
 use Rattle.std.proofs.Common.{arith, ap, sym, ◌∙◌, append_assoc, append-nil, le-leb}
@@ -42,3 +42,12 @@ row_written row out after answer six fits free put =
     let bytes = rw room at put.bytes in
     let end = rw room at put.end_of in
     rw end (record { most = omega (arith, few); text = record { bytes = bytes ∙ placed_begins out (line_text 11 row); end_of = zero-add _ } })
+
+pub row_not_refused :
+    (row out after : List ℕ) (at : ℕ) (answer : Option ℕ) → length row ≡ 6 → ((index : ℕ) → get_or row index 0 < 2 ^ 64) → at + 121 ≤ length out
+    → PlacedOrRefused out at (line_text 11 row) after answer → answer ≡ None → ⊥
+row_not_refused row out after at answer six fits free put e =
+    let few = six_at_most row six fits in
+    let room : leb (at + length (line_text 11 row)) (length out) ≡ true = le-leb _ _ (omega arith) in
+    let never : None ≡ Some (at + length (line_text 11 row)) = sym e ∙ (put.end_of ∙ rw room) in
+    cc never

@@ -3,7 +3,6 @@ use Rattle.std.specs.Prelude.{◌≡◌, List, [], map, ℕ, Option, None}
 use Rattle.std.proofs.Common.{ap, ◌∙◌, arith}
 use Rattle.listing.specs.Line.{line_numbers}
 use Rattle.listing.specs.Stream.{lines, joined}
-use Rattle.listing.specs.declared.stream.OpenLine.{OpenLine}
 use Rattle.listing_lines.specs.Text.{texts}
 use Rattle.listing_lines.specs.Taken.{LastLineTaken}
 use Rattle.listing_lines.specs.Answers.{answers_from, written_for_blocks}
@@ -24,6 +23,6 @@ blocks_replayed blocks =
 -- ---- the code
 
 -- where no line is left nothing is answered
-pub none_answered : {held : OpenLine} (s : Option State) (out : List ℕ) → LastLineTaken held None → LastAnswered held s out 0
+pub none_answered : {buffer : List ℕ} {size : ℕ} (s : Option State) (out : List ℕ) → LastLineTaken buffer size None → LastAnswered buffer size s out 0
 unfolding texts answers_from
 none_answered s out takes = record { inside = omega arith; text = λ line h. rw (takes line h) }

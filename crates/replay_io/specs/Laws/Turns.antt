@@ -5,7 +5,7 @@ use Rattle.std.proofs.Common.{ap, sym, ◌∙◌, append_assoc, append-nil}
 use mathlib.Core.List.{map-append}
 use Rattle.listing.specs.Line.{line_numbers}
 use Rattle.listing.specs.Stream.{lines, joined, ended, open_line, last_line}
-use Rattle.listing.specs.Held.{Held}
+use Rattle.listing.specs.Held.{HeldBy}
 use Rattle.listing.specs.Laws.Stream.{lines_of_blocks}
 use Rattle.listing.proofs.StreamLaws.{ended_append, open_line_append, lines_of_blocks_are_lines, held_nothing}
 use Rattle.listing_lines.specs.Answers.{state_after, answers_from}
@@ -57,7 +57,7 @@ pub record ReplayedSoFar (held : OpenLine) (s : Option State) (left₀ left writ
   pub read : Consumes left₀ left beginning
   pub text : Appends written₀ written (texts (prints_from None (numbers (ended [] beginning))))
   pub group : s ≡ group_after None (numbers (ended [] beginning))
-  pub open_held : Held (open_line [] beginning) held
+  pub open_held : HeldBy (open_line [] beginning) held
 
 pub none_so_far : (held : OpenLine) {s : Option State} (left written : Option (List ℕ)) → s ≡ None → held.size ≡ 0 → ReplayedSoFar held s left left written written
 unfolding ended open_line texts answers_from state_after
@@ -67,7 +67,7 @@ none_so_far held left written none empty =
       read = consumes_nothing left;
       text = appends_nothing written;
       group = none;
-      open_held = held_nothing held empty;
+      open_held = held_nothing held.bytes.now empty;
     }
 
 module _ {held : OpenLine} {s : Option State} {left₀ left written₀ written : Option (List ℕ)} where
@@ -97,7 +97,7 @@ module _ {held : OpenLine} {s : Option State} {left₀ left written₀ written :
 
   -- the listing's end
   pub whole : {written' : Option (List ℕ)} → ReplayedSoFar held s left₀ left written₀ written → IsAtEnd left
-      → LastReplayed held s written written' → ListingReplayed left₀ left written₀ written'
+      → LastReplayed held.bytes.now held.size s written written' → ListingReplayed left₀ left written₀ written'
   unfolding replayed replay lines_of_blocks joined
   whole {written' = written'} so end done =
       let a = so.beginning in
@@ -118,8 +118,14 @@ module _ {held : OpenLine} {s : Option State} {left₀ left written₀ written :
             (appends_then written₀ written written' _ _ so.text (done.text line so.open_held));
       }
 
-  -- the same where only the outcome says whether the last line was written
-  pub whole_if : {T E : Type 0} (outcome : Result T E) (written' : Option (List ℕ)) → ReplayedSoFar held s left₀ left written₀ written
-      → IsAtEnd left → OnOk outcome (LastReplayed held s written written') → OnOk outcome (ListingReplayed left₀ left written₀ written')
-  whole_if (Ok x) written' so end done = whole so end done
+  -- the same where it is known only of some listings that they ended, and only the outcome says whether the last line was written
+  pub whole_if : {T E A : Type 0} (outcome : Result T E) (written' : Option (List ℕ)) → ReplayedSoFar held s left₀ left written₀ written
+      → (A → IsAtEnd left) → OnOk outcome (LastReplayed held.bytes.now held.size s written written') → OnOk outcome (A → ListingReplayed left₀ left written₀ written')
+  whole_if (Ok x) written' so end done = λ a. whole so (end a) done
   whole_if (Err e) written' so end done = tt
+
+  -- the same of a listing that ended
+  pub whole_ended : {T E : Type 0} (outcome : Result T E) (written' : Option (List ℕ)) → ReplayedSoFar held s left₀ left written₀ written
+      → IsAtEnd left → OnOk outcome (LastReplayed held.bytes.now held.size s written written') → OnOk outcome (ListingReplayed left₀ left written₀ written')
+  whole_ended (Ok x) written' so end done = whole so end done
+  whole_ended (Err e) written' so end done = tt

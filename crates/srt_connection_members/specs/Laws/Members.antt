@@ -3,9 +3,9 @@ use Rattle.srt_protocol.specs.Errors.{Outcome}
 use Rattle.std.specs.Prelude.{◌≡◌, refl, List, [], ◌∷◌, ℕ, zero, suc, ◌+◌, ◌-◌, ◌*◌, ◌≤◌, ◌<◌, length, take, drop, get_or, None, Option, Some}
 use Rattle.std.specs.Simd.{first_chunks}
 use Rattle.std.proofs.Math.Path.{ap}
-use Rattle.std.proofs.Common.{◌∙◌, add-one, arith}
+use Rattle.std.proofs.Common.{sym, ◌∙◌, add-one, arith}
 use Rattle.std.proofs.Math.Decide.{dec_lt}
-use borrow.Author.Tests.{eqb-true}
+use borrow.Author.Tests.{eq-eqb, ne_eqb, eqb-true}
 use Rattle.srt_protocol.specs.Errors.{if_accepted}
 use Rattle.srt_group_model.specs.Tools.{at_place, without_place}
 use Rattle.srt_group_model.specs.Calls.{enqueue}
@@ -19,14 +19,14 @@ use Rattle.srt_group_model.specs.declared.Account.{Account}
 use Rattle.srt_connection_queue.specs.declared.queue.LegPoll.{LegPoll}
 use Rattle.word_rows.specs.Tab.{tab}
 use Rattle.word_rows.specs.Laws.Tab.{tab_length, tab_push}
-use Rattle.srt_connection_queue.specs.Laws.Tab.{tab_place, tab_change, tab_without, tab_each, place_below, tab_passes}
+use Rattle.srt_connection_queue.specs.Laws.Tab.{tab_place, tab_change, tab_without, tab_each, tab_found, tab_not_found, place_below, tab_passes}
 use Rattle.word_rows.specs.Rows.{row_at, Closed}
-use Rattle.word_rows.specs.Laws.Rows.{row_same, row_part, chunks_read}
+use Rattle.word_rows.specs.Laws.Rows.{row_word, chunk_there, row_same, row_part, chunks_read}
 use Rattle.srt_connection_queue.specs.Row.{put_row}
 use Rattle.srt_connection_queue.specs.Laws.Row.{row_put, row_put_other, put_length}
-use Rattle.srt_connection_queue.specs.Rows.{row_size, member_of, Kept, with_membership}
-use Rattle.srt_connection_queue.specs.Queue.{Pushed, queue_after, Polled}
-use Rattle.srt_connection_members.specs.Members.{member_at, members_of, members_in, member_in, HasRow, RowLent, Changed, PushedAt, PolledAt, ChangedAll, Appended, Removed}
+use Rattle.srt_connection_queue.specs.Rows.{part_size, membership_part, row_size, membership_of, member_of, member_parts, Kept, with_membership}
+use Rattle.srt_connection_queue.specs.Queue.{cleared, Pushed, queue_after, Polled}
+use Rattle.srt_connection_members.specs.Members.{member_at, members_of, members_in, member_in, HasRow, new_member, RowLent, Changed, PushedAt, PolledAt, ChangedAll, Appended, Removed}
 
 -- ---- laws
 
@@ -42,6 +42,11 @@ members_place n t i h = tab_place n (member_at t) i h
 pub lent_member : (t : List ℕ) (i : ℕ) → member_of (take (i * row_size + row_size - i * row_size) (drop (i * row_size) t)) ≡ member_at t i
 unfolding member_at
 lent_member t i = ap member_of (row_part row_size t i)
+
+-- a row that `as_chunks` lends shows the member at that index; cited by no proof, it stands for who reads `member_at`
+pub row_shows : (i k : ℕ) (t : List ℕ) → i < k → member_of (get_or (first_chunks row_size k t) i []) ≡ member_at t i
+unfolding member_at
+row_shows i k t below = ap member_of (chunk_there row_size k i t below)
 
 -- the rows that `as_chunks` lends show the members
 pub rows_show : (n k : ℕ) (t : List ℕ) → n ≤ k → members_in (take n (first_chunks row_size k t)) ≡ members_of n t
@@ -211,7 +216,33 @@ changing_done i n f t u l h c =
       members = tab_each n (member_at t) (member_at u) f (λ j k. c.done j (omega arith));
     }
 
+-- ---- rows that are made
+
+-- a new member's row: its membership, its leg, and no event; cited by no proof, it stands for who reads `new_member`
+pub new_put : (r₀ r₁ r₂ r₃ : List ℕ) (x : Membership) (l : Leg) → Kept r₁ (with_membership x (member_of r₀))
+    → Kept r₂ (with_leg l (member_of r₁)) → Kept r₃ (cleared (member_of r₂)) → Kept r₃ (new_member x l)
+new_put r₀ r₁ r₂ r₃ x l a b c =
+    record { long = c.long; is = c.is ∙ ap cleared (b.is ∙ ap (with_leg l) a.is) }
+
 -- ---- the row of an id
+
+-- the first word of a row is its member's id; with the two after it, cited by no proof: they stand for who reads `find` over the words
+pub id_word : (t : List ℕ) (i : ℕ) → get_or t (i * row_size) 0 ≡ (member_at t i).membership.id
+unfolding member_at member_of member_parts membership_of
+id_word t i = sym (row_word part_size (row_at row_size t i) membership_part 0 (omega arith) ∙ row_word row_size t i 0 (omega arith) ∙ ap (λ (k : ℕ). get_or t k 0) (omega arith))
+
+module _ (n id : ℕ) (t : List ℕ) where
+  pub found : (i : ℕ) → i < n → get_or t (i * row_size) 0 ≡ id → ((j : ℕ) → j < i → get_or t (j * row_size) 0 ≡ id → ⊥)
+      → find id (members_of n t) ≡ Some i
+  unfolding members_of
+  found i h is before =
+      tab_found (has_id id) n (member_at t) i h (eq-eqb (member_at t i).membership.id id (sym (id_word t i) ∙ is))
+      (λ j k. ne_eqb (member_at t j).membership.id id (λ e. before j k (id_word t j ∙ e)))
+
+  pub not_found : ((j : ℕ) → j < n → get_or t (j * row_size) 0 ≡ id → ⊥) → find id (members_of n t) ≡ None
+  unfolding members_of
+  not_found none_is =
+      tab_not_found (has_id id) n (member_at t) (λ j k. ne_eqb (member_at t j).membership.id id (λ e. none_is j k (id_word t j ∙ e)))
 
 -- an equation of options, the other way round
 pub found_some : (o : Option ℕ) (i : ℕ) → Some i ≡ o → o ≡ Some i

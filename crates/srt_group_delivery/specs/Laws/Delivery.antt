@@ -1,12 +1,13 @@
 -- What is proved of the definitions in specs/Delivery.antt, with what the proofs need.
-use Rattle.std.specs.Prelude.{◌≡◌, refl, Bool, true, false, ℕ, zero, suc, ◌+◌, ◌≤◌, ◌<◌, ◌*◌, leb, length, None, Option, Some, MatchOption}
+use Rattle.std.specs.Prelude.{◌≡◌, refl, Bool, true, false, ℕ, suc, ◌+◌, ◌≤◌, ◌<◌, ◌*◌, leb, length, None, Option, Some, MatchOption}
 use Rattle.std.specs.Option.{option_map, option_copied, option_or}
 use Rattle.std.specs.List.{slice_get}
 use denote.Ref.{Bor}
 use Rattle.std.proofs.Math.Path.{ap, ap₂, sym}
-use Rattle.std.proofs.Common.{subst, ◌∙◌, eq-eqb, ne_eqb, arith, is_le, nat_cmp}
+use Rattle.std.proofs.Common.{subst, ◌∙◌, arith, is_le, nat_cmp}
 use Rattle.std.proofs.lemmas.Bool.Decides.{nat_tests}
 use mathlib.Core.List.{List, [], ◌∷◌, ◌++◌}
+use Rattle.word_rows.specs.Tab.{tab}
 use Rattle.srt_protocol.specs.Sequence.{sequence_further}
 use Rattle.srt_protocol.specs.declared.time.Timestamp.{Timestamp}
 use Rattle.srt_group_model.specs.declared.Core.{Core}
@@ -24,8 +25,7 @@ use Rattle.srt_group_model.specs.Removal.{is_owned}
 use Rattle.srt_group_model.specs.Nearest.{nearest, covered, not_covered}
 use Rattle.srt_group_model.specs.Delivery.{leg_gives_up, gap_given_up, release_pending_reservation, release_all, advance_legs, pass_run, deliver_packet}
 use Rattle.srt_connection_members.specs.Members.{member_at, members_in, members_of, Changed, ChangedAll, HasRow}
-use Rattle.srt_connection_members.specs.Laws.Members.{found_some, found_none, found_below, changed_twice, account_changed}
-use Rattle.srt_connection_queue.specs.Laws.Tab.{place_below}
+use Rattle.srt_connection_members.specs.Laws.Members.{members_place, found_some, found_none, found_below, changed_twice, account_changed}
 use Rattle.srt_connection_queue.specs.Rows.{row_size, member_of}
 use Rattle.srt_connection.specs.Answers.{deadline_of}
 use Rattle.srt_group_tables.specs.Packets.{packet_at, packets, packets_between, Holds, FoundPacket}
@@ -80,6 +80,14 @@ module _ (time source : ℕ) (l : Leg) where
       go None none_is g = rw (deadline_none (gives_up_at source l) none_is) g
       go (Some moment) some_is g = rw (deadline_some (gives_up_at source l) moment some_is) (g ∙ le_is_leb moment.0 time)
 
+  pub given_up_from : {r : Option Timestamp} (moment : Timestamp) → r ≡ Some moment → r ≡ deadline_of (gives_up_at source l) → leb moment.0 time ≡ leg_given_up time source l
+  unfolding if_some◌give◌otherwise◌
+  given_up_from moment at_moment is = rw (deadline_some (gives_up_at source l) moment (sym at_moment ∙ is))
+
+  pub never_given_up : {r : Option Timestamp} → r ≡ None → r ≡ deadline_of (gives_up_at source l) → false ≡ leg_given_up time source l
+  unfolding if_some◌give◌otherwise◌
+  never_given_up never is = rw (deadline_none (gives_up_at source l) (sym never ∙ is))
+
 -- the first that passes a test, by its place
 pub first_place : {A : Type 0} (test : A → Bool) (l : List A)
     → first_such test l ≡ (if_some place_of test l give (λ i. at_place i l) otherwise None)
@@ -97,6 +105,32 @@ first_place {A} test (x ∷ xs) = go (test x) (place_of test xs) (first_place te
 pub found_has_row : {r : Option ℕ} (n id i : ℕ) (t : List ℕ) → r ≡ Some i → r ≡ find id (members_of n t)
     → n * row_size ≤ length t → HasRow i t
 found_has_row n id i t there found long = omega (arith, found_below n id i t (sym there ∙ found))
+
+-- of the members in a table: the one with the packet's member's id is asked, or else the first, or none
+module _ (time n : ℕ) (t : List ℕ) (p : Packet) where
+  first_none : None ≡ find p.member (members_of n t) → first_such (has_id p.member) (members_of n t) ≡ None
+  unfolding if_some◌give◌otherwise◌
+  first_none e = rw (first_place (has_id p.member) (members_of n t), found_none (find p.member (members_of n t)) e)
+
+  first_some : (i : ℕ) → Some i ≡ find p.member (members_of n t) → first_such (has_id p.member) (members_of n t) ≡ Some (member_at t i)
+  unfolding if_some◌give◌otherwise◌
+  first_some i e =
+      rw (first_place (has_id p.member) (members_of n t), found_some (find p.member (members_of n t)) i e)
+      (members_place n t i (found_below n p.member i t e))
+
+  pub own_leg_asked : {b : Bool} {l : Leg} {r : Option ℕ} (i : ℕ) → r ≡ Some i → r ≡ find p.member (members_of n t) → l ≡ (member_at t i).leg
+      → b ≡ leg_given_up time p.content.source.0 l → b ≡ leg_gives_up time p (members_of n t)
+  unfolding leg_gives_up or_else if_some◌give◌otherwise◌
+  own_leg_asked i there found is asked = rw (first_some i (sym there ∙ found), ← is) asked
+
+  pub first_leg_asked : {b : Bool} {l : Leg} {r : Option ℕ} → r ≡ None → r ≡ find p.member (members_of n t) → (n ≡ 0 → ⊥) → l ≡ (member_at t 0).leg
+      → b ≡ leg_given_up time p.content.source.0 l → b ≡ leg_gives_up time p (members_of n t)
+  unfolding leg_gives_up or_else if_some◌give◌otherwise◌
+  first_leg_asked nowhere found some_member is asked = rw (first_none (sym nowhere ∙ found), members_place n t 0 (omega (arith, some_member)), ← is) asked
+
+  pub no_leg_asked : n ≡ 0 → false ≡ leg_gives_up time p (members_of n t)
+  unfolding leg_gives_up or_else if_some◌give◌otherwise◌ members_of tab first_such at_place
+  no_leg_asked e = rw e
 
 -- the first row shows the first member
 first_row : (rows : List (List ℕ)) (o : Option (Bor (List ℕ))) → option_copied o ≡ slice_get rows 0
@@ -219,6 +253,10 @@ released_then {l} {m} {core} {here} {after} {ms} first second =
           release_append l m (shown core others ms ps ws) ∙ ap (release_all m) (first.state others ps ws) ∙ second.state others ps ws;
     }
 
+pub that_released : {p q : Packet} {core after : Core} {ms ms' : List ℕ} → q ≡ p → Released (q ∷ []) core ms after ms' → Released (p ∷ []) core ms after ms'
+that_released {core = core} {after = after} {ms = ms} {ms' = ms'} same released =
+    subst (λ (x : Packet). Released (x ∷ []) core ms after ms') same released
+
 -- those from `from` up to `at` are released, and then the one there
 pub released_start : (words : List ℕ) (from : ℕ) (core : Core) (ms : List ℕ) → Released (packets_between from from words) core ms core ms
 released_start words from core ms =
@@ -229,6 +267,15 @@ pub released_on : (words : List ℕ) (from at : ℕ) {core here next : Core} {ms
     → Released (packets_between from (at + 1) words) core ms next ms₂
 released_on words from at {core} {here} {next} {ms} {ms₁} {ms₂} ordered so_far one =
     subst (λ (l : List Packet). Released l core ms next ms₂) (sym (between_push (packet_at words) from at ordered)) (released_then so_far one)
+
+-- the members' table is as long as before, and has a row for each member
+pub rows_still : (core after : Core) (ms ms' : List ℕ) → core.counts.members * row_size ≤ length ms → after ≡ with_own_account after.own core
+    → length ms' ≡ length ms → after.counts.members * row_size ≤ length ms'
+rows_still core after ms ms' enough rest long = omega (arith, ap (λ (x : Core). x.counts.members) rest)
+
+pub rows_kept : (core after : Core) (ms ps ms' : List ℕ) → Deliverable core ms ps → after ≡ with_own_account after.own core
+    → length ms' ≡ length ms → after.counts.members * row_size ≤ length ms'
+rows_kept core after ms ps ms' h rest long = omega (arith, h.members_long, h.members_few, ap (λ (x : Core). x.counts.members) rest)
 
 -- ---- a packet is delivered
 

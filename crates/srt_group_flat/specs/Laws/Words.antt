@@ -1,7 +1,7 @@
 -- What is proved of the definitions in specs/Words.antt, and that a promise is the same over an answer in words.
 use Rattle.std.specs.Prelude.{◌≡◌, Bool, false, List, ℕ, Err, None, Ok, Option, Result, Some, is_some}
 use mir.Val.{bool_byte}
-use Rattle.std.specs.Option.{unwrap_or}
+use Rattle.std.specs.Option.{unwrap_or, UnwrapsOrElse}
 use Rattle.std.proofs.Math.Path.{refl, ap, subst}
 use Rattle.std.proofs.Common.{sym, ◌∙◌, true≢false, arith}
 use Rattle.srt_protocol.specs.declared.error.Error.{Error}
@@ -27,6 +27,39 @@ use Rattle.srt_group_flat.specs.Words.{words_answer, no_packet, Says, send_words
 abbrev in_words : (code given : ℕ) → Packet → (continuation : ℕ) → DataWords
 in_words code given packet continuation = record { code = code; given = given; packet = packet; continuation = continuation }
 
+-- a packet of zeros, word by word, as `Default` has it
+abbrev Zeros : Packet → Type 0
+Zeros p =
+    (p.member ≡ 0)
+    × ((p.owned ≡ 0)
+    × ((p.content.sequence ≡ 0)
+    × ((p.content.count ≡ 0)
+    × ((p.content.message ≡ 0)
+    × ((p.content.timestamp ≡ 0) × ((p.content.source.0 ≡ 0) × ((p.content.cell ≡ 0) × (p.content.length ≡ 0))))))))
+
+pub no_packet_is : {p : Packet} → Zeros p → p ≡ no_packet
+no_packet_is zeros =
+    let content = zeros.1.1 in
+    λ i.
+    record {
+      member = zeros.0 i;
+      owned = zeros.1.0 i;
+      content =
+          record {
+            sequence = content.0 i;
+            count = content.1.0 i;
+            message = content.1.1.0 i;
+            timestamp = content.1.1.1.0 i;
+            source = record { 0 = content.1.1.1.1.0 i };
+            cell = content.1.1.1.1.1.0 i;
+            length = content.1.1.1.1.1.1 i;
+          };
+    }
+
+pub given_or_zeros : (given : Option Packet) {p : Packet} → UnwrapsOrElse given Zeros p → p ≡ unwrap_or given no_packet
+given_or_zeros None zeros = no_packet_is zeros
+given_or_zeros (Some q) same = same
+
 pub says_refused : {answer : Result GroupDataPoll Error} (e : Error) → answer ≡ Err e → {n : ℕ} → n ≡ error_number e
     → Says answer (in_words n 0 no_packet 0)
 unfolding words_answer if_true◌then◌else◌
@@ -48,7 +81,7 @@ abbrev answer_with : (continuation : ℕ) → Option Packet → Answer
 answer_with continuation packet = data_polled packet (is_set continuation)
 
 module _ {poll : GroupDataPoll} where
-  says_none : poll.packet ≡ None → Says (Ok poll) (in_words 0 0 no_packet poll.continuation)
+  pub says_none : poll.packet ≡ None → Says (Ok poll) (in_words 0 0 no_packet poll.continuation)
   unfolding words_answer if_true◌then◌else◌
   says_none is =
       record {
@@ -62,7 +95,7 @@ module _ {poll : GroupDataPoll} where
             };
       }
 
-  says_some : (p : Packet) → poll.packet ≡ Some p → Says (Ok poll) (in_words 0 1 p poll.continuation)
+  pub says_some : (p : Packet) → poll.packet ≡ Some p → Says (Ok poll) (in_words 0 1 p poll.continuation)
   unfolding words_answer if_true◌then◌else◌
   says_some p is =
       record {

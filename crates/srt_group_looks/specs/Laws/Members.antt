@@ -56,10 +56,10 @@ unfolding each
 shown_length [] = refl
 shown_length (x ∷ ms) = omega (arith, shown_length ms)
 
-values_length : (ms : List Member) → length (all_values (each member_shown ms)) ≡ length ms * member_row_size
+pub values_length : (ms : List Member) → length (all_values (each member_shown ms)) ≡ length ms * member_row_size
 values_length ms = omega (arith, all_values_length (each member_shown ms), shown_length ms)
 
-rows_length : (n : ℕ) (rows : List (List ℕ)) → n ≤ length rows → length (rows_of n rows) ≡ n * member_row_size
+pub rows_length : (n : ℕ) (rows : List (List ℕ)) → n ≤ length rows → length (rows_of n rows) ≡ n * member_row_size
 rows_length n rows within =
     omega (arith, values_length (take n (members_in rows)), length-take-le n (members_in rows) (omega (arith, length-map rows member_of)))
 

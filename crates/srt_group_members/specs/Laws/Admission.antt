@@ -9,7 +9,7 @@ use borrow.Author.Tests.{eq-eqb, ne_eqb}
 use Rattle.std.proofs.Math.Dec.{eqb}
 use Rattle.srt_group_model.specs.Tools.{if_true◌then◌else◌, or_else}
 use Rattle.srt_group_model.specs.State.{Member, on_membership, with_admitted, with_collision, broken_state}
-use Rattle.srt_group_model.specs.Legs.{peer_initial_sequence}
+use Rattle.srt_group_model.specs.Legs.{is_connected, peer_initial_sequence}
 use Rattle.srt_group_model.specs.Members.{arrives, base_after, peer_after, admit_peer_group}
 use Rattle.srt_group_model.specs.Laws.Arrivals.{base_after_none, base_after_one, base_after_next, peer_after_none, peer_after_one, peer_after_next, peer_stays}
 use Rattle.srt_group_model.specs.declared.Leg.{Leg}
@@ -35,6 +35,13 @@ module _ (m : Member) {x : Membership} (membership : x ≡ m.membership) where
       go : (b : Bool) → (b && false) ≡ false
       go true = refl
       go false = refl
+
+  -- cited by no proof: it stands for who reads `arrives`
+  pub arrives_if_connected : {answer : Bool} → x.admitted ≡ 0 → (x.state ≡ broken_state → ⊥) → answer ≡ is_connected m.leg
+      → answer ≡ arrives m
+  unfolding arrives
+  arrives_if_connected new other is =
+      is ∙ sym (rw (← membership, eq-eqb x.admitted 0 new, ne_eqb x.state broken_state other))
 
 -- ---- one member
 

@@ -1,14 +1,16 @@
 -- What is proved of the definitions in specs/Rank.antt, with what the proofs need.
 use Rattle.std.proofs.Math.Path.{◌≡◌, refl, ap, sym}
-use Rattle.std.specs.Prelude.{Bool, ◌&&◌, List, [], ◌∷◌, drop, None, Option, Some, IfSome}
+use Rattle.std.specs.Prelude.{Bool, ◌&&◌, List, [], ◌∷◌, ltb, drop, None, Option, Some, IfSome}
 use Rattle.std.proofs.Math.Bool.{true, false, not}
 use Prim.Native.Nat.{ℕ, zero, suc, ◌+◌, ◌-◌, ◌≤◌, ◌<◌}
 use native.Mathlib.Omega.{arith}
+use borrow.Author.Tests.{lt-ltb, le-ltb, eq-eqb, ne_eqb}
 use Rattle.std.proofs.Common.{◌∙◌}
 use Rattle.std.proofs.Math.ListN.{length}
 use Rattle.srt_group_model.specs.Tools.{if_true◌then◌else◌, if_some◌give◌otherwise◌}
 use Rattle.srt_group_model.specs.State.{Member, is_backup, turned, active_state}
 use Rattle.srt_group_model.specs.Members.{Placed, is_standby, outranks, first_in_rank, promotion, promote_backup_member, promote_if_none, has_active_member}
+use Rattle.srt_group_model.specs.declared.Membership.{Membership}
 use Rattle.srt_connection_members.specs.Members.{members_in, members_of, Changed}
 use Rattle.srt_connection_members.specs.Laws.Members.{members_length, found_some, found_none}
 use Rattle.srt_group_members.specs.Scan.{Became}
@@ -101,6 +103,23 @@ module _ (rows : List (List ℕ)) where
   pub ranking_row : (left : ℕ) (best : Option ℕ) → Ranking rows left best → IfSome best (λ first. first < length rows)
   ranking_row left None ranking = tt
   ranking_row left (Some i) ranking = omega (arith, ranking.there)
+
+-- ---- one comparison; cited by no proof, these laws stand for who reads `outranks`
+
+module _ (a b : Member) {x y : Membership} (first : x ≡ a.membership) (second : y ≡ b.membership) where
+  pub outranks_by_weight : y.weight < x.weight → true ≡ outranks a b
+  unfolding outranks
+  outranks_by_weight more = sym (rw (← first, ← second, lt-ltb y.weight x.weight more))
+
+  pub outranked_by_weight : x.weight ≤ y.weight → (x.weight ≡ y.weight → ⊥) → false ≡ outranks a b
+  unfolding outranks
+  outranked_by_weight less other =
+      sym (rw (← first, ← second, le-ltb y.weight x.weight less, ne_eqb x.weight y.weight other))
+
+  pub outranks_by_id : x.weight ≡ y.weight → ltb x.id y.id ≡ outranks a b
+  unfolding outranks
+  outranks_by_id same =
+      sym (rw (← first, ← second, le-ltb y.weight x.weight (omega arith), eq-eqb x.weight y.weight same))
 
 -- ---- one row
 

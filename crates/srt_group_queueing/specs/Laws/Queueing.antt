@@ -44,6 +44,19 @@ use Rattle.srt_group_shown.specs.Laws.Found.{with_table, long_with, is_nowhere, 
 -- ---- the member at an index, once a cell is found
 
 module _ (index cell : ℕ) (d : Data) (payload members store used : List ℕ) where
+  pub enqueue_refused : {r : Outcome} (e : Error) (members' : List ℕ) (event : Event) → PushedAt index event members r members' → r ≡ Err e
+      → Enqueues index cell d payload members store used (Err e) members' store used
+  enqueue_refused e members' event pushed is =
+      record {
+        outcome = sym is ∙ pushed.outcome;
+        queued =
+            changed_by index members members' (λ m. m) pushed.changed
+            (ap (λ (o : Outcome). if_accepted o (enqueue event (member_at members index)) (member_at members index)) is);
+        stored_there = refl;
+        taken = λ never. never_accepted never;
+        kept = λ f g. refl;
+      }
+
   module _ (fits : Enqueueable index cell d (length payload) members (length store)) where
     accepted_changed : {r : Outcome} (event : Event) (u v : List ℕ) → event ≡ data_event cell (length payload) d
         → PushedAt index event members r u → r ≡ Ok tt → Changed index (on_leg (add_reservation d.count)) u v

@@ -12,7 +12,7 @@ use Rattle.srt_group_model.specs.Tools.{if_true◌then◌else◌}
 use Rattle.srt_group_model.specs.Laws.Reason.{when_true, when_false, or_left, or_right, by_test}
 use Rattle.srt_group_model.specs.Backup.{max_history}
 use Rattle.srt_group_model.specs.Validity.{is_invalid}
-use Rattle.srt_group_model.specs.Calls.{store_unfit, output_unfit, breaks_rule}
+use Rattle.srt_group_model.specs.Calls.{store_unfit, output_unfit, cells_given, breaks_rule}
 use Rattle.srt_connection_members.specs.Members.{members_size}
 use Rattle.srt_group_tables.specs.Packets.{pending_size}
 use Rattle.srt_group_tables.specs.Waitings.{waiting_size}
@@ -46,6 +46,9 @@ pub never_accepted : {B : Type 0} {e : Error} → ◌≡◌ {A = Outcome} (Err e
 never_accepted {B} {e} never = let different : ◌≡◌ {A = ℕ} 0 1 = cc in absurd (omega arith)
 
 module _ (p : Parts) (t : Tables) (store : ℕ) (used : List ℕ) where
+  pub begins_short : are_short t ≡ true → BeginsStored p t store (Err InsufficientBuffer) used
+  begins_short short = record { is = refused_is _ _ short; ready = λ never. never_accepted never }
+
   -- the store, as the code tests it
   pub unfit_is : {b : Bool}
       → ((not (eqb p.identity.length 0) && not (eqb store p.identity.length)) || ltb store cell_size) ≡ b
@@ -83,6 +86,23 @@ none_given {given} is = sym (when_true (eqb given 0) max_cells (cells_of given) 
 
 pub some_given : {given : ℕ} → (given ≡ 0 → ⊥) → cells_of given ≡ (if_true eqb given 0 then max_cells else cells_of given)
 some_given {given} not_0 = sym (when_false (eqb given 0) max_cells (cells_of given) (ne_eqb given 0 not_0))
+
+module _ (p : Parts) (t : Tables) where
+  pub begun_short : are_short t ≡ true → Err InsufficientBuffer ≡ begun p t
+  begun_short short = refused_is _ _ short
+
+  module _ (long : are_short t ≡ false) {cells : ℕ}
+      (is_cells : cells ≡ (if_true eqb p.identity.length 0 then max_cells else cells_of p.identity.length))
+      {r : Bool} {used : List ℕ} (found : Tested cells (state_of p t) r used) where
+    broken_is : {b : Bool} → r ≡ b → breaks_rule (state_of p t) ≡ b
+    unfolding cells_given
+    broken_is is = ap (λ (n : ℕ). is_invalid n (state_of p t)) (sym is_cells) ∙ sym found.is ∙ is
+
+    pub begun_invalid : r ≡ true → Err InvalidState ≡ begun p t
+    begun_invalid broken = refused_is _ _ (broken_is broken) ∙ passed_is _ _ long
+
+    pub begun_on : r ≡ false → Ok tt ≡ begun p t
+    begun_on valid = passed_is _ _ (broken_is valid) ∙ passed_is _ _ long
 
 -- what it then knows
 module _ (p : Parts) (t : Tables) {r : Outcome} (begins : r ≡ begun p t) where
@@ -162,6 +182,15 @@ module _ {p : Parts} {t : Tables} {store : ℕ} {r : Outcome} {used : List ℕ} 
       ∙ sym (passed_is InvalidState (Ok tt) valid)))))
 
 -- ---- a poll
+
+module _ (p : Parts) (t : Tables) (store output : ℕ) (used : List ℕ) where
+  pub begins_no_room : output_unfit output ≡ true → BeginsPoll p t store output (Err InsufficientBuffer) used
+  begins_no_room unfit =
+      record { is = refused_is _ _ unfit; ready = λ never. never_accepted never; room = λ never. never_accepted never }
+
+  pub begins_with_room : output_unfit output ≡ false → {r : Outcome} → BeginsStored p t store r used → BeginsPoll p t store output r used
+  begins_with_room room begins =
+      record { is = begins.is ∙ passed_is _ _ room; ready = begins.ready; room = λ accepted. ltb-false _ _ room }
 
 module _ {p : Parts} {t : Tables} {store output : ℕ} {r : Outcome} {used : List ℕ} (begins : BeginsPoll p t store output r used) where
   -- with room for a payload it begins as a call that is lent a store

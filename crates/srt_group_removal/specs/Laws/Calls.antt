@@ -5,8 +5,8 @@ use Rattle.std.proofs.Math.Path.{refl, ap}
 use Rattle.std.proofs.Math.Bool.{true, false}
 use Rattle.std.proofs.Common.{arith}
 use Rattle.srt_protocol.specs.declared.error.Error.{Error}
-use Rattle.srt_protocol.specs.Errors.{error_number, outcome_number}
-use Rattle.srt_group_model.specs.Guards.{Answer, no_answer}
+use Rattle.srt_protocol.specs.Errors.{outcome_number}
+use Rattle.srt_group_model.specs.Guards.{Answer}
 use Rattle.srt_group_model.specs.Calls.{remove_body, remove_member_connection}
 use Rattle.srt_group_model.specs.Lent.{call_remove_member_connection, step_of}
 use Rattle.srt_group_model.specs.declared.Core.{Core}

@@ -1,7 +1,8 @@
 -- What is proved of the definitions in specs/Ids.antt, with what the proofs need.
-use Rattle.std.specs.Prelude.{◌≡◌, Bool, true, false, List, take, eqb, length, set, Some}
+use Rattle.std.specs.Prelude.{◌≡◌, Bool, true, false, List, [], take, eqb, length, set, replicate, Some}
 use Rattle.std.proofs.Math.Path.{refl, ap, sym}
-use Rattle.std.proofs.Common.{◌∙◌, length-set, get_or-set_same, get_or-set_other}
+use Rattle.std.proofs.Common.{◌∙◌, length-set, length-take-le, get_or-take, get_or-set_same, get_or-set_other}
+use Rattle.std.proofs.lemmas.List.{length-replicate}
 use Prim.Native.Nat.{ℕ, zero, suc, ◌+◌, ◌%◌, ◌≤◌, ◌<◌}
 use Rattle.std.proofs.Math.Decide.{dec_lt}
 use native.Mathlib.Omega.{arith}
@@ -13,6 +14,7 @@ use Rattle.srt_group_model.specs.Laws.Reason.{by_test, not_both, or_yes_left, or
 use Rattle.srt_group_model.specs.Members.{id_of, has_id, find}
 use Rattle.srt_group_model.specs.Cells.{is_among}
 use Rattle.srt_group_model.specs.Validity.{one_twice}
+use Rattle.srt_connection_queue.specs.Rows.{member_of}
 use Rattle.srt_connection_members.specs.Members.{member_in, members_in}
 use Rattle.srt_connection_members.specs.Laws.Members.{members_tab, members_front}
 use Rattle.word_rows.specs.Laws.Tab.{tab_length}
@@ -92,6 +94,10 @@ module _ (t : List (List ℕ)) (index : ℕ) where
         any_place (has_id (id_at t index)) index (member_in t) (sym tested ∙ again)
         (λ i below it. sym (ap one_twice (ids_of n t) ∙ twice_there n (id_at t) i index below inside (eqb-true (id_at t i) (id_at t index) it)))
 
+-- Cited by no proof: it stands for who reads `Apart`.
+pub apart_start : (t : List (List ℕ)) → Apart (id_at t) 0
+apart_start t = record { apart = λ i j less below same. omega arith }
+
 pub apart_all : (t : List (List ℕ)) (index n : ℕ) → Apart (id_at t) index → n ≤ index → false ≡ one_twice (each id_of (members_upto n t))
 apart_all t index n here all =
     sym
@@ -115,6 +121,10 @@ once_in t index here all = apart_all t index (length t) here all ∙ ap (λ (ms 
 
 -- ---- the table of places
 
+-- Cited by no proof: it stands for who reads `TakenBefore`.
+pub taken_start : (t : List (List ℕ)) → TakenBefore t 0 (replicate places nobody)
+taken_start t = record { long = length-replicate places nobody; taken = λ k below. absurd (omega arith) }
+
 -- no id before has the place, so none is the same
 pub free_place : (t : List (List ℕ)) (table : List ℕ) (id : ℕ) → TakenBefore t (length t) table → get_or table (id % places) 0 ≡ nobody
     → false ≡ any (has_id id) (members_in t)
@@ -125,6 +135,19 @@ free_place t table id here free =
     (λ k below.
     ne_eqb (id_at t k) id
     (λ same. here.taken k below (ap (λ (n : ℕ). get_or table (n % places) 0) same ∙ free))))
+
+-- the members before one are those of the rows before its; cited by no proof, it stands for who reads `TakenBefore`
+pub taken_front : (t : List (List ℕ)) (index : ℕ) (table : List ℕ) → index ≤ length t → TakenBefore t index table
+    → TakenBefore (take index t) (length (take index t)) table
+taken_front t index table within here =
+    record {
+      long = here.long;
+      taken =
+          λ k below free.
+          let low : k < index = omega (arith, length-take-le index t within) in
+          here.taken k low
+          (ap (λ (row : List ℕ). get_or table (id_of (member_of row) % places) 0) (sym (get_or-take index t k [] low)) ∙ free);
+    }
 
 module _ (t : List (List ℕ)) (index : ℕ) (table : List ℕ) (here : TakenBefore t index table) (at : ℕ) (place_is : at ≡ id_at t index % places) where
   pub taken_on : index < nobody → TakenBefore t (index + 1) (set table at index)

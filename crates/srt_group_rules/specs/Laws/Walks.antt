@@ -4,6 +4,7 @@ use Rattle.std.specs.List.{list_any, range_with_len}
 use Rattle.std.proofs.Math.Path.{refl, ap, ap₂}
 use Rattle.std.proofs.Common.{sym, ◌∙◌, arith, lt-ltb, le-ltb}
 use Rattle.std.proofs.Math.Bool.{true, false, ◌||◌}
+use Rattle.std.proofs.Math.Decide.{dec_lt}
 use mathlib.Core.List.{List, [], ◌∷◌}
 use Prim.Native.Nat.{ℕ, zero, suc, ◌+◌, ◌%◌, ◌≤◌, ◌<◌}
 use Rattle.srt_group_model.specs.Tools.{any, All}
@@ -64,6 +65,31 @@ module _ {A : Type 0} where
       apart false true true s = refl
       apart false true false s = refl
       apart false false r s = refl
+
+-- ---- where a walk stands: no row before it passes the test; cited by no proof, these laws stand for who reads `any` row by row
+
+pub record Passed {A : Type 0} (test : A → Bool) (f : ℕ → A) (at : ℕ) : Type 0 where
+  pub none : (i : ℕ) → i < at → test (f i) ≡ false
+
+module _ {A : Type 0} (test : A → Bool) (f : ℕ → A) where
+  pub passed_start : Passed test f 0
+  passed_start = record { none = λ i below. absurd (omega arith) }
+
+  -- a row was read and tested
+  module _ (at : ℕ) (row : A) (answer : Bool) (read : row ≡ f at) (tested : answer ≡ test row) where
+    pub passed_one : Passed test f at → answer ≡ false → Passed test f (at + 1)
+    passed_one here not_it = record { none = λ i below. one_more i below (dec_lt i at) }
+      where
+        one_more : (i : ℕ) → i < at + 1 → Dec (i < at) → test (f i) ≡ false
+        one_more i below (yes lower) = here.none i lower
+        one_more i below (no other) =
+            let last : i ≡ at = omega arith in rw last (ap test (sym read) ∙ sym tested ∙ not_it)
+
+    pub stops_there : (n : ℕ) → at < n → answer ≡ true → true ≡ any test (tab n f)
+    stops_there n inside it = sym (any_there test n f at inside (ap test (sym read) ∙ sym tested ∙ it))
+
+  pub passed_all : (n at : ℕ) → Passed test f at → n ≤ at → false ≡ any test (tab n f)
+  passed_all n at here all = sym (any_nowhere test n f (λ i below. here.none i (omega arith)))
 
 -- ---- a leg's queue, as the ring in its row shows it
 

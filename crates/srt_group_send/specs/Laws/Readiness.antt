@@ -25,6 +25,7 @@ use Rattle.srt_group_model.specs.Laws.Steps.{refresh_has}
 use Rattle.srt_group_model.specs.Laws.RangesCalls.{fit_law}
 use Rattle.srt_group_model.specs.declared.Core.{Core}
 use Rattle.srt_group_model.specs.declared.Event.{Event}
+use Rattle.srt_group_model.specs.declared.Identity.{Identity}
 use Rattle.srt_connection_members.specs.Members.{members_of}
 use Rattle.srt_group_members.specs.Scan.{Became}
 use Rattle.srt_group_tables.specs.Ring.{Arrays, arrays, entries_of, send_of}
@@ -43,13 +44,13 @@ use Rattle.srt_group_polls.specs.Refresh.{Refreshes}
 use Rattle.srt_group_shown.specs.Shown.{rest}
 use Rattle.srt_group_shown.specs.Tables.{parts, tables, state_of, Long}
 use Rattle.srt_group_shown.specs.Ready.{Ready, storing, Performs}
-use Rattle.srt_group_shown.specs.Steps.{Unbroken, Left}
+use Rattle.srt_group_shown.specs.Steps.{Unbroken, Left, Steps}
 use Rattle.srt_group_shown.specs.Laws.Steps.{rows_there, unbroken_of, performs_steps}
 use Rattle.cell_set.specs.Sets.{ShowsCells}
 use Rattle.cell_set.specs.Shows.{Shows}
 use Rattle.cell_set.specs.Laws.Shows.{shows_kept}
 use Rattle.srt_group_send.specs.declared.readiness.Readiness.{Readiness}
-use Rattle.srt_group_send.specs.Readiness.{call_paced, InWord, TrimmedReady, Testable, Tests}
+use Rattle.srt_group_send.specs.Readiness.{call_paced, InWord, TrimmedReady, Testable, with_identity, Tests}
 
 -- a step that is another
 left_by_step : {a b : Step} {number : ℕ} {given : Answer} {s : State} → a ≡ b → Left b number given s → Left a number given s
@@ -138,6 +139,16 @@ readied_cells mode time ms =
 
 -- ---- the calls
 
+-- `Tests` of the identity that stands in the record
+record TestsHere (call : Call) (g : Group) (members history used : List ℕ) (answer : Readiness) (members' used' : List ℕ) : Type 0 where
+  steps : (pending waiting sources : List ℕ)
+      → Unbroken (parts_of g) (tables members pending waiting history sources)
+      → Steps call (parts_of g) (tables members pending waiting history sources) 0 (shown (truth answer.ready))
+      (parts_of answer.«record») (tables members' pending waiting history sources)
+  shows : (pending waiting sources : List ℕ)
+      → Shows used (state_of (parts_of g) (tables members pending waiting history sources))
+      → Shows used' (state_of (parts_of answer.«record») (tables members' pending waiting history sources))
+
 -- a call of a state that is shown: what no test touches is given
 module _ (g : Group) (members history used : List ℕ) (after : Core) (mid : List ℕ)
     (refreshes : Refreshes (sends g.sending) refresh_states g.core members after mid) where
@@ -214,10 +225,10 @@ module _ (g : Group) (members history used : List ℕ) (after : Core) (mid : Lis
         (shows_trimmed {t = state_of (parts g.identity after answer.«record».sending answer.«record».ring) (tables members' pending waiting history sources)} shows refl refl
         (tested.follows (arrays history sources) refl))
 
-  pub backup_can_send : {b : Bool} {answer : Readiness} {used' : List ℕ} → b ≡ is_backup g.core.mode → b ≡ true
-      → TrimmedReady None h mid history used answer used' → Tests call_can_send g members history used answer mid used'
+  backup_can_send_here : {b : Bool} {answer : Readiness} {used' : List ℕ} → b ≡ is_backup g.core.mode → b ≡ true
+      → TrimmedReady None h mid history used answer used' → TestsHere call_can_send g members history used answer mid used'
   unfolding step_of can_send_call can_send_body guard run
-  backup_can_send {answer = answer} InMode in_backup tested =
+  backup_can_send_here {answer = answer} InMode in_backup tested =
       record {
         steps =
             λ pending waiting sources unbroken.
@@ -237,11 +248,11 @@ module _ (g : Group) (members history used : List ℕ) (after : Core) (mid : Lis
       }
 
   -- Broadcast
-  pub broadcast_can_send : {b ready : Bool} → b ≡ is_backup g.core.mode → b ≡ false
+  broadcast_can_send_here : {b ready : Bool} → b ≡ is_backup g.core.mode → b ≡ false
       → ready ≡ any (sends_now None) (members_of after.counts.members mid)
-      → Tests call_can_send g members history used record { ready = ready; «record» = h } mid used
+      → TestsHere call_can_send g members history used record { ready = ready; «record» = h } mid used
   unfolding step_of can_send_call can_send_body guard run
-  broadcast_can_send {b} {ready} tested in_broadcast is =
+  broadcast_can_send_here {b} {ready} tested in_broadcast is =
       record {
         steps =
             λ pending waiting sources unbroken.
@@ -273,11 +284,11 @@ module _ (g : Group) (members history used : List ℕ) (after : Core) (mid : Lis
         guard_goes_on (6 when breaks_rule z) ((2 when above largest_64 time) ∷ []) z (can_send_with_pacing_body time z) unbroken
         ∙ guard_goes_on (2 when above largest_64 time) [] z (can_send_with_pacing_body time z) (le-ltb largest_64 time small)
 
-    pub broadcast_with_pacing : {b ready : Bool} → b ≡ is_backup g.core.mode → b ≡ false
+    broadcast_with_pacing_here : {b ready : Bool} → b ≡ is_backup g.core.mode → b ≡ false
         → ready ≡ any (sends_now (Some time)) (members_of after.counts.members mid)
-        → Tests (call_can_send_with_pacing time) g members history used record { ready = ready; «record» = h } mid used
+        → TestsHere (call_can_send_with_pacing time) g members history used record { ready = ready; «record» = h } mid used
     unfolding step_of can_send_with_pacing_body run
-    broadcast_with_pacing {b} {ready} tested in_broadcast is =
+    broadcast_with_pacing_here {b} {ready} tested in_broadcast is =
         record {
           steps =
               λ pending waiting sources unbroken.
@@ -300,12 +311,12 @@ module _ (g : Group) (members history used : List ℕ) (after : Core) (mid : Lis
           shows = λ pending waiting sources shows. shows_refreshed pending waiting sources shows;
         }
 
-    pub backup_with_pacing : {b : Bool} {answer : Readiness} {used' members' : List ℕ} → b ≡ is_backup g.core.mode → b ≡ true
+    backup_with_pacing_here : {b : Bool} {answer : Readiness} {used' members' : List ℕ} → b ≡ is_backup g.core.mode → b ≡ true
         → Became after.counts.members (promote_if_none g.core.mode (demote_stale_backup_carrier time (members_of after.counts.members mid))) mid members'
         → TrimmedReady (Some time) h members' history used answer used'
-        → Tests (call_can_send_with_pacing time) g members history used answer members' used'
+        → TestsHere (call_can_send_with_pacing time) g members history used answer members' used'
     unfolding step_of can_send_with_pacing_body run
-    backup_with_pacing {members' = members'} InMode in_backup readied tested =
+    backup_with_pacing_here {members' = members'} InMode in_backup readied tested =
         record {
           steps =
               λ pending waiting sources unbroken.
@@ -333,12 +344,80 @@ module _ (g : Group) (members history used : List ℕ) (after : Core) (mid : Lis
               (shows_refreshed pending waiting sources shows));
         }
 
+-- what holds with any identity in the record
+every_identity : {call : Call} {g : Group} {members history used : List ℕ} {answer : Readiness} {members' used' : List ℕ}
+    → answer.«record».identity ≡ g.identity
+    → ((i : Identity) → TestsHere call (with_identity i g) members history used
+    record { ready = answer.ready; «record» = with_identity i answer.«record» } members' used')
+    → Tests call g members history used answer members' used'
+every_identity same here = record { same = same; steps = λ i. (here i).steps; shows = λ i. (here i).shows }
+
+trimmed_with : {time : Option ℕ} {g : Group} {members history used : List ℕ} {answer : Readiness} {used' : List ℕ} (i : Identity)
+    → TrimmedReady time g members history used answer used'
+    → TrimmedReady time (with_identity i g) members history used record { ready = answer.ready; «record» = with_identity i answer.«record» } used'
+trimmed_with i tested =
+    record { same = ap (with_identity i) tested.same; fits = tested.fits; follows = tested.follows; trims = tested.trims; tests = tested.tests }
+
+module _ (g : Group) (members history used : List ℕ) (after : Core) (mid : List ℕ)
+    (refreshes : Refreshes (sends g.sending) refresh_states g.core members after mid) where
+  abbrev refreshed_group : Group
+  refreshed_group = record { identity = g.identity; core = after; sending = g.sending; ring = g.ring }
+
+  pub backup_can_send : {b : Bool} {answer : Readiness} {used' : List ℕ} → b ≡ is_backup g.core.mode → b ≡ true
+      → TrimmedReady None refreshed_group mid history used answer used' → Tests call_can_send g members history used answer mid used'
+  backup_can_send InMode in_backup tested =
+      every_identity (ap (λ (k : Group). k.identity) tested.same)
+      (λ i. backup_can_send_here (with_identity i g) members history used after mid refreshes InMode in_backup (trimmed_with i tested))
+
+  -- Broadcast
+  pub broadcast_can_send : {b ready : Bool} → b ≡ is_backup g.core.mode → b ≡ false
+      → ready ≡ any (sends_now None) (members_of after.counts.members mid)
+      → Tests call_can_send g members history used record { ready = ready; «record» = refreshed_group } mid used
+  broadcast_can_send tested in_broadcast is =
+      every_identity refl (λ i. broadcast_can_send_here (with_identity i g) members history used after mid refreshes tested in_broadcast is)
+
+  module _ (time : ℕ) (small : time ≤ largest_64) where
+    pub broadcast_with_pacing : {b ready : Bool} → b ≡ is_backup g.core.mode → b ≡ false
+        → ready ≡ any (sends_now (Some time)) (members_of after.counts.members mid)
+        → Tests (call_can_send_with_pacing time) g members history used record { ready = ready; «record» = refreshed_group } mid used
+    broadcast_with_pacing tested in_broadcast is =
+        every_identity refl
+        (λ i. broadcast_with_pacing_here (with_identity i g) members history used after mid refreshes time small tested in_broadcast is)
+
+    pub backup_with_pacing : {b : Bool} {answer : Readiness} {used' members' : List ℕ} → b ≡ is_backup g.core.mode → b ≡ true
+        → Became after.counts.members (promote_if_none g.core.mode (demote_stale_backup_carrier time (members_of after.counts.members mid))) mid members'
+        → TrimmedReady (Some time) refreshed_group members' history used answer used'
+        → Tests (call_can_send_with_pacing time) g members history used answer members' used'
+    backup_with_pacing InMode in_backup readied tested =
+        every_identity (ap (λ (k : Group). k.identity) tested.same)
+        (λ i.
+        backup_with_pacing_here (with_identity i g) members history used after mid refreshes time small InMode in_backup readied (trimmed_with i tested))
+
   -- Broadcast, with a time or without one
   pub broadcast_tested : (pacing : Option ℕ) {b ready : Bool} → InWord pacing → b ≡ is_backup g.core.mode → b ≡ false
       → ready ≡ any (sends_now pacing) (members_of after.counts.members mid)
-      → Tests (call_paced pacing) g members history used record { ready = ready; «record» = h } mid used
+      → Tests (call_paced pacing) g members history used record { ready = ready; «record» = refreshed_group } mid used
   broadcast_tested None small = broadcast_can_send
   broadcast_tested (Some time) small = broadcast_with_pacing time small
+
+-- with the identity that stands: the record after it is the answer's
+module _ {call : Call} {g : Group} {members history used : List ℕ} {answer : Readiness} {members' used' : List ℕ}
+    (tests : Tests call g members history used answer members' used') (pending waiting sources : List ℕ) where
+  pub tests_steps : Unbroken (parts_of g) (tables members pending waiting history sources)
+      → Steps call (parts_of g) (tables members pending waiting history sources) 0 (shown (truth answer.ready))
+      (parts_of answer.«record») (tables members' pending waiting history sources)
+  tests_steps unbroken =
+      subst
+      (λ (i : Identity).
+      Steps call (parts_of g) (tables members pending waiting history sources) 0 (shown (truth answer.ready))
+      (parts_of (with_identity i answer.«record»)) (tables members' pending waiting history sources))
+      (sym tests.same) (tests.steps g.identity pending waiting sources unbroken)
+
+  pub tests_shows : Shows used (state_of (parts_of g) (tables members pending waiting history sources))
+      → Shows used' (state_of (parts_of answer.«record») (tables members' pending waiting history sources))
+  tests_shows shows =
+      subst (λ (i : Identity). Shows used' (state_of (parts_of (with_identity i answer.«record»)) (tables members' pending waiting history sources)))
+      (sym tests.same) (tests.shows g.identity pending waiting sources shows)
 
 -- ---- for a valid state
 
@@ -361,5 +440,5 @@ module _ {g : Group} {members pending waiting history sources used : List ℕ} (
       (parts_of answer.«record») (tables members' pending waiting history sources) (storing store) used'
   unfolding delivered_by
   tests_performed {used' = used'} tests =
-      performs_steps ready refl used' (tests.steps pending waiting sources (unbroken_of ready))
-      (tests.shows pending waiting sources ready.shows)
+      performs_steps ready refl used' (tests_steps tests pending waiting sources (unbroken_of ready))
+      (tests_shows tests pending waiting sources ready.shows)

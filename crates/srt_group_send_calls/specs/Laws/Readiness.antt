@@ -6,7 +6,7 @@ use Rattle.srt_protocol.specs.declared.error.Error.{Error}
 use Rattle.srt_protocol.specs.Errors.{error_number}
 use Rattle.srt_group_model.specs.Guards.{no_answer, shown, truth}
 use Rattle.srt_group_model.specs.Calls.{cells_given, can_send_call, can_send_with_pacing_call}
-use Rattle.srt_group_model.specs.Lent.{call_can_send, call_can_send_with_pacing, delivered_by, step_of}
+use Rattle.srt_group_model.specs.Lent.{Call, call_can_send, call_can_send_with_pacing, delivered_by, step_of}
 use Rattle.srt_group_model.specs.Laws.Valid.{valid_of, fit_of}
 use Rattle.srt_group.specs.declared.Group.{Group}
 use Rattle.srt_group.specs.Made.{parts_of}
@@ -19,6 +19,7 @@ use Rattle.srt_group_refusals.specs.Promised.{nothing_lent, showing, Promised}
 use Rattle.srt_group_refusals.specs.Laws.Promised.{promised_refused_6, promised_steps}
 use Rattle.srt_group_send.specs.declared.readiness.Readiness.{Readiness}
 use Rattle.srt_group_send.specs.Readiness.{call_paced, Testable, Tests}
+use Rattle.srt_group_send.specs.Laws.Readiness.{tests_steps}
 
 -- what the tests rely on
 pub testable_unbroken : {g : Group} {members pending waiting history sources : List ℕ}
@@ -62,13 +63,9 @@ module _ (g : Group) (members pending waiting history sources : List ℕ) {o : O
     pub can_test : Testable g members history
     can_test = testable_unbroken (begun_unbroken p t begins accepted)
 
-    pub tested : (pacing : Option ℕ) {answer : Readiness} {used members' used' : List ℕ}
-        → Tests (call_paced pacing) g members history used answer members' used'
-        → Promised (call_paced pacing) p t nothing_lent
+    pub tested : (call : Call) {answer : Readiness} {used members' used' : List ℕ} → Tests call g members history used answer members' used'
+        → Promised call p t nothing_lent
         (showing (parts_of answer.«record») (tables members' pending waiting history sources) nothing_lent 0 (shown (truth answer.ready)) 0)
     unfolding delivered_by
-    tested None tests =
-        promised_steps call_can_send p t nothing_lent begins accepted refl (tests.steps pending waiting sources (begun_unbroken p t begins accepted))
-    tested (Some time) tests =
-        promised_steps (call_can_send_with_pacing time) p t nothing_lent begins accepted refl
-        (tests.steps pending waiting sources (begun_unbroken p t begins accepted))
+    tested call tests =
+        promised_steps call p t nothing_lent begins accepted refl (tests_steps tests pending waiting sources (begun_unbroken p t begins accepted))

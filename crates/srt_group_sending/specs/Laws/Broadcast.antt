@@ -1,5 +1,5 @@
 -- What is proved of the definitions in specs/Broadcast.antt, with what the proofs need.
-use Rattle.std.specs.Prelude.{◌≡◌, Bool, ◌&&◌, ◌||◌, eqb, Err, None, Ok, Option, Some}
+use Rattle.std.specs.Prelude.{◌≡◌, Bool, ◌&&◌, ◌||◌, eqb, Err, None, Ok, Option, Some, is_some}
 use Rattle.std.proofs.Math.Path.{refl, ap, sym}
 use Rattle.std.proofs.Common.{subst, ◌∙◌, add-one}
 use Rattle.std.proofs.Math.Bool.{true, false, not}
@@ -26,7 +26,7 @@ use Rattle.srt_group_model.specs.declared.Sender.{Sender}
 use Rattle.srt_group_model.specs.declared.Sending.{Sending}
 use Rattle.srt_connection_members.specs.Members.{member_at, members_in, members_of, Changed}
 use Rattle.srt_connection_members.specs.Laws.Members.{members_place, found_some, found_none, changed_by, changed_twice, unchanged, Changing, changing_start, changing_on, changing_done}
-use Rattle.srt_group_members.specs.Laws.Scan.{found_row}
+use Rattle.srt_group_members.specs.Laws.Scan.{found_row, any_found}
 use Rattle.srt_group_members.specs.Rank.{shown}
 use Rattle.srt_group_sending.specs.SentList.{sent_rows, send_tables, Wrote}
 use Rattle.srt_group_sending.specs.OwnSend.{SentOn}
@@ -201,6 +201,18 @@ number_of_first x ms m e = go (is_set x.numbers.numbered)
     go true = refl
     go false = ap (λ (o : Option Member). if_some o give (λ k. k.leg.sender.next) otherwise 0) e
 
+module _ (sequence : ℕ) (m : Member) {active : Bool} (is : active ≡ is_active m) where
+  pub inactive_matches : active ≡ false → false ≡ is_mismatched sequence m
+  unfolding is_mismatched
+  inactive_matches e = sym (rw (← is, e))
+
+  pub active_matches : {sender : Sender} → active ≡ true → sender ≡ m.leg.sender
+      → not (eqb sender.next sequence) ≡ is_mismatched sequence m
+  unfolding is_mismatched
+  active_matches e is_sender =
+      ap (λ (y : Sender). not (eqb y.next sequence)) is_sender
+      ∙ sym (rw (← is, e))
+
 pub mismatch_of_any : (sequence : ℕ) (ms : List Member) → sequence_mismatch sequence (such_that is_active ms) ≡ any (is_mismatched sequence) ms
 unfolding sequence_mismatch is_mismatched such_that any if_true◌then◌else◌
 mismatch_of_any sequence [] = refl
@@ -211,6 +223,17 @@ mismatch_of_any sequence (m ∷ ms) = go (is_active m) (mismatch_of_any sequence
         ≡ ((b && not (eqb m.leg.sender.next sequence)) || any (is_mismatched sequence) ms)
     go true e = ap (λ (r : Bool). not (eqb m.leg.sender.next sequence) || r) e
     go false e = e
+
+module _ (sequence n : ℕ) (t : List ℕ) where
+  pub mismatch_at : (i : ℕ) → Some i ≡ place_of (is_mismatched sequence) (members_of n t)
+      → true ≡ sequence_mismatch sequence (such_that is_active (members_of n t))
+  mismatch_at i e =
+      sym (mismatch_of_any sequence (members_of n t) ∙ any_found (is_mismatched sequence) (members_of n t) ∙ ap is_some (sym e))
+
+  pub mismatch_nowhere : None ≡ place_of (is_mismatched sequence) (members_of n t)
+      → false ≡ sequence_mismatch sequence (such_that is_active (members_of n t))
+  mismatch_nowhere e =
+      sym (mismatch_of_any sequence (members_of n t) ∙ any_found (is_mismatched sequence) (members_of n t) ∙ ap is_some (sym e))
 
 -- ---- one attempt
 

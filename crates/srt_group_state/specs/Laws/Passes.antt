@@ -6,7 +6,7 @@ use Rattle.std.proofs.Math.Bool.{not}
 use mathlib.Core.List.{List, [], ◌∷◌, ◌++◌}
 use Rattle.std.proofs.Math.Decide.{dec_lt}
 use native.Mathlib.Omega.{arith}
-use borrow.Author.Tests.{eq-eqb, eqb-true, eqb-false, lt-ltb, ltb-false}
+use borrow.Author.Tests.{eq-eqb, eqb-true, eqb-false, lt-ltb, ltb-true, ltb-false}
 use Rattle.srt_group_model.specs.Tools.{any, each, such_that}
 use Rattle.srt_group_model.specs.Laws.Reason.{by_test, not_both, or_left, or_right, or_cases, no_either, or_yes_left}
 use Rattle.srt_group_model.specs.Laws.CellsKept.{occurs_append}
@@ -40,7 +40,7 @@ use Rattle.srt_group_rules.specs.Sums.{account_place, differs, accounts_wrong, o
 use Rattle.srt_group_rules.specs.Laws.Walks.{any_nowhere, none_there, queued, the_queue, queue_too_long, queue_walked, history_too_long, history_walked}
 use Rattle.srt_group_rules.specs.Laws.Sums.{Queued, queued_all, placed_nowhere, placed_somewhere, wrong_is}
 use Rattle.srt_group_state.specs.Cells.{event_cells}
-use Rattle.srt_group_state.specs.Passes.{Passes, QueueGood, MemberGood, PacketGood, RowsGood, is_nothing, PlacesPacket}
+use Rattle.srt_group_state.specs.Passes.{Passes, QueueGood, MemberGood, PacketGood, RowsGood, TablesGood, is_nothing, PlacesPacket}
 use Rattle.srt_group_state.specs.Laws.Cells.{answered_true, answered_false, nothing_marked, marks_as, joined, joined_next, joined_more, events_are, entries_are, pending_are, queues_are}
 
 -- ---- one test, one cell
@@ -329,6 +329,23 @@ module _ (held : Account) (m : Member) where
 
 -- ---- a held packet
 
+module _ (cells : ℕ) (ms : List Member) (lowest : ℕ) (p : Packet) (before : List ℕ) (b : Bool) (b_is : b ≡ packet_breaks_rule p) where
+  -- the next two are cited by no proof: they stand for who reads `PlacesPacket`
+  pub place_broken : (b || ltb p.content.sequence lowest) ≡ true → PlacesPacket cells ms lowest p before None before
+  place_broken found =
+      record {
+        passes =
+            passes_broken
+            (λ good.
+            or_cases b (ltb p.content.sequence lowest) found (λ t. not_both (sym b_is ∙ t) good.rules)
+            (λ t. omega (arith, ltb-true p.content.sequence lowest t, good.above)));
+        place = λ e. not_both refl e;
+      }
+
+  module _ (m : Bool) (after : List ℕ) (marks : Marks cells (p.content.cell ∷ []) before m after) where
+    pub place_refused : not m ≡ true → PlacesPacket cells ms lowest p before None after
+    place_refused refused = record { passes = passes_refused m marks refused; place = λ e. not_both refl e }
+
 -- the packet breaks no rule, and its cell is marked: it has the place of its account, if there is one
 pub place_found : (cells : ℕ) (t : List (List ℕ)) (count : ℕ) → count ≤ max_members → one_twice (each id_of (members_upto count t)) ≡ false → (lowest : ℕ) (p : Packet)
     (before : List ℕ) (b : Bool) → b ≡ packet_breaks_rule p → (b || ltb p.content.sequence lowest) ≡ false → (m : Bool) (after : List ℕ)
@@ -505,6 +522,16 @@ module _ (t : List (List ℕ)) (count : ℕ) (pending : List ℕ) (n : ℕ) wher
 
               pub rows_passed : count ≤ index → Passes cells rows_good row_cells before false now
               rows_passed all = passes_then (passed.marks refl) (passing_done members (queues_are count t) all) all_good members_good
+
+-- ---- the ids first; cited by no proof, these laws stand for who reads `TablesGood`
+
+module _ {cells : ℕ} {ms : List Member} {ps : List Packet} {own : Account} {named before after : List ℕ} (twice : Bool)
+    (twice_is : twice ≡ one_twice (each id_of ms)) where
+  pub tables_id_twice : twice ≡ true → Passes cells (TablesGood ms ps own) named before true after
+  tables_id_twice e = passes_broken (λ good. not_both (sym twice_is ∙ e) good.ids)
+
+  pub tables_rows : {r : Bool} → twice ≡ false → Passes cells (RowsGood ms ps own) named before r after → Passes cells (TablesGood ms ps own) named before r after
+  tables_rows e = passes_same (λ rows. record { ids = sym twice_is ∙ e; rows = rows }) (λ good. good.rows)
 
 -- ---- the history
 

@@ -101,6 +101,16 @@ module _ (words : List ℕ) (count sequence : ℕ) (up : ascends (packets count 
             omega (arith, ascends_le count (packet_at words) up middle k higher inside_count);
       }
 
+-- where a search that looks at the ends first begins; cited by no proof, it stands for who reads `Between`
+pub between_all : (words : List ℕ) (count sequence : ℕ) → Between words count sequence 0 count
+between_all words count sequence =
+    record {
+      ordered = omega arith;
+      within = omega arith;
+      below = λ k lower. absurd (omega arith);
+      above = λ k higher inside. absurd (omega arith);
+    }
+
 pub placed_between : (words : List ℕ) (count sequence low high : ℕ) → Between words count sequence low high → high ≤ low → Placed words count sequence low
 placed_between words count sequence low high here met =
     record {

@@ -33,6 +33,15 @@ module _ (sequence cell length : ℕ) (packs : Packs sequence cell length) where
 
 -- ---- the arrays
 
+-- the entry whose parts were read at a place of the arrays; cited by no proof, it stands for who reads `entry_at`
+pub entry_shown : (r : HistoryRing) (a : Arrays) (i at : ℕ) {sequence cell size : ℕ} → at ≡ (r.start + i) % 512
+    → sequence ≡ word_sequence (get_or a.history at 0) → cell ≡ word_cell (get_or a.history at 0)
+    → size ≡ word_length (get_or a.history at 0)
+    → entry_of sequence cell size (get_or a.sources at 0) ≡ entry_at r a i
+entry_shown r a i at is sequence cell size =
+    (λ j. entry_of (sequence j) (cell j) (size j) (get_or a.sources at 0))
+    ∙ ap (entry_in a) is
+
 -- the model's history after a send: the entry is the newest, and a full history loses its oldest
 unfoldable pub with_newest : Entry → List Entry → List Entry
 with_newest e entries = (if_true leb max_history (length entries) then drop 1 entries else entries) ++ (e ∷ [])
@@ -258,3 +267,15 @@ module _ (sequence : ℕ) (history : List ℕ) (before : HistoryRing) where
       trimmed_there sequence history before ((before.start + i) % max_history) (before.length - i)
       (trimming_at i (omega (arith, there.1)) (λ k h. there.3 k (omega arith) h)) (omega (arith, there.1))
       (ap (λ (k : ℕ). sequence_before (word_sequence (get_or history k 0)) sequence) (omega arith) ∙ there.2)
+
+  -- the first entry stays, or there is none
+  pub trimmed_nothing : (found : Option ℕ) → Ends found → unwrap_or found before.length ≡ 0 → Trimmed sequence history before before
+  trimmed_nothing found ends none = by found ends none where
+    whole : Trimming sequence history before before.start before.length
+    whole = record { fits = omega arith; same = λ a is i. drop_before sequence (entries_of before a) }
+
+    by : (f : Option ℕ) → Ends f → unwrap_or f before.length ≡ 0 → Trimmed sequence history before before
+    by None all none = trimmed_all sequence history before before.start before.length whole none
+    by (Some i) stays none =
+        trimmed_there sequence history before before.start before.length whole (omega (arith, stays.1, none))
+        (ap (λ (k : ℕ). sequence_before (word_sequence (get_or history k 0)) sequence) (omega (arith, none)) ∙ stays.2)

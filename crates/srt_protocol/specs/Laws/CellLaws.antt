@@ -124,6 +124,10 @@ module _ (store_length cell size : ℕ) where
       go (no short) (no beyond) (no long) = (omega arith, omega arith)
 
   module _ (output_length : ℕ) where
+    -- Cited by no proof: it stands for who reads `copy_outcome`.
+    pub output_short : output_length < output_size → copy_outcome store_length cell size output_length ≡ Err InsufficientBuffer
+    output_short short = simp (lt-ltb output_length output_size short)
+
     pub output_enough : output_size ≤ output_length
         → copy_outcome store_length cell size output_length ≡ cell_outcome store_length cell size
     output_enough enough = simp (le-ltb output_length output_size enough)

@@ -1,7 +1,7 @@
 -- What is proved of the definitions in specs/Rows.antt, with what the proofs need.
 use Rattle.std.specs.Prelude.{◌≡◌, ◌⊎◌, List, [], ◌∷◌, ◌++◌, ℕ, zero, suc, ◌+◌, ◌*◌, ◌-◌, ◌≤◌, ◌<◌, drop, get_or, map}
 use Rattle.std.specs.Simd.{first_chunks}
-use Rattle.std.proofs.Math.Path.{ap, refl}
+use Rattle.std.proofs.Math.Path.{ap, ap₂, refl}
 use Rattle.std.proofs.Common.{sym, ◌∙◌, mul-le-mul_right, add-one, arith, length-drop, length-take-le, get_or-take, get_or-drop, ext_get_or, drop-drop}
 use Rattle.std.proofs.Math.Logic.{inl, inr}
 use Rattle.std.proofs.Math.Decide.{dec_lt}
@@ -49,6 +49,15 @@ row_part width words i =
 pub row_back : (width : ℕ) (words row : List ℕ) (i : ℕ) → length row ≡ width
     → take (i * width) words ++ (row ++ drop (i * width + width - i * width) (drop (i * width) words)) ≡ overwritten (i * width) row words
 row_back width words row i long = part_back (i * width) width row words long
+
+-- the row between two parts of the words is lent, and comes back as `row`
+pub row_between : (width : ℕ) (words row : List ℕ) (i : ℕ) (before rest behind : List ℕ) → length row ≡ width → before ≡ take (i * width) words
+    → rest ≡ drop (i * width) words → behind ≡ drop width rest → before ++ (row ++ behind) ≡ overwritten (i * width) row words
+row_between width words row i before rest behind long front back last =
+    let size : i * width + width - i * width ≡ width = omega arith in
+    ap₂ (λ (x y : List ℕ). x ++ (row ++ y)) front (last ∙ ap (drop width) back)
+    ∙ sym (ap (λ (n : ℕ). take (i * width) words ++ (row ++ drop n (drop (i * width) words))) size)
+    ∙ row_back width words row i long
 
 next_row : (width j i : ℕ) → j < i → j * width + width ≤ i * width
 next_row width j i below =

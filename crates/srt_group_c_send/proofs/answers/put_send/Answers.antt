@@ -1,5 +1,5 @@
 -- `put_send` meets its contract: what a send moves is put back, and its two words are the answer.
-use mathlib.Core.Path.{refl, sym, ap, ◌∙◌}
+use mathlib.Core.Path.{sym, ap, ◌∙◌}
 use Rattle.srt_group_send.specs.Answers.{send_number}
 use Rattle.srt_group_c_send.specs.Laws.Sends.{says_sent, says_not_sent}
 use Rattle.srt_group_c_send.proofs.answers.put_send.Goals as goal

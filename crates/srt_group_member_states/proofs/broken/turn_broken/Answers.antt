@@ -18,9 +18,6 @@ returns-then-id-gt-LARGEST_32 c =
           unfit_refused (broken_call a.id) (parts identity a.core sending ring) (tables a.members.now pending waiting history sources) unbroken (lt-ltb _ _ c.if-id-gt-LARGEST_32.true);
     }
 
-pub rows-requires : goal.rows-requires
-rows-requires c = c.requires
-
 pub returns-in_err-index : goal.returns-in_err-index
 returns-in_err-index c =
     let a = c.args in

@@ -2,16 +2,9 @@
 use mathlib.Core.Path.{ap, ◌∙◌}
 use Rattle.srt_group_model.specs.Tools.{any}
 use Rattle.srt_group_sending.specs.Readiness.{pacing_in, sends_now}
-use native.Mathlib.Omega.{arith}
-use Rattle.srt_group_model.specs.declared.Counts.{Counts}
 use Rattle.srt_group_send.specs.Laws.Readiness.{members_refreshed, backup_can_send, backup_with_pacing, broadcast_tested}
 use Rattle.srt_group_send.proofs.readiness.test.Goals as goal
 use Rattle.srt_group_send.proofs.readiness.test.Goals.{in-Some, in_default}
-
-pub rows-requires : goal.rows-requires
-rows-requires c =
-    let refreshes = c.refresh_states-core.ensures in
-    omega (arith, c.requires.testable.rows, refreshes.members_long, ap (λ (k : Counts). k.members) refreshes.counts_same)
 
 pub returns-then-not-is_backup : goal.returns-then-not-is_backup
 returns-then-not-is_backup c =

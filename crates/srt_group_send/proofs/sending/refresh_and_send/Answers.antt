@@ -1,7 +1,7 @@
 -- `refresh_and_send` meets its contract: 23, or the send of the mode.
 use mathlib.Core.Path.{ap, ◌∙◌}
 use Rattle.srt_group_model.specs.Sending.{above_limit}
-use Rattle.srt_group_send.specs.Laws.Sends.{numbers_refreshed, lendable_refreshed, few_refreshed, limit_made, mode_made}
+use Rattle.srt_group_send.specs.Laws.Sends.{numbers_refreshed, limit_made, mode_made}
 use Rattle.srt_group_send.proofs.sending.refresh_and_send.Goals as goal
 
 pub returns-then-above_limit : goal.returns-then-above_limit
@@ -9,9 +9,8 @@ returns-then-above_limit c =
     rw c.refused.ensures
     (limit_made _ _ _ _ c.refresh_states-core.ensures _ _ _ (c.above_limit.ensures ∙ ap (above_limit c.args.size) c.rows.ensures.shows) c.if-above_limit.true c.requires.lendable)
 
-pub send_mode-sent-requires : goal.send_mode-sent-requires
-send_mode-sent-requires c =
-    let refreshes = c.refresh_states-core.ensures in record { lendable = lendable_refreshed c.args.group.now _ _ _ refreshes c.requires.lendable; numbers_fit = numbers_refreshed c.args.group.now _ _ _ refreshes c.requires.fit_shown; count_le_max_members = (few_refreshed refreshes c.requires.members_le_max_members.0, c.requires.members_le_max_members.1) }
+pub send_mode-sent-requires-clause-numbers_fit : goal.send_mode-sent-requires-clause-numbers_fit
+send_mode-sent-requires-clause-numbers_fit c = numbers_refreshed c.args.group.now _ _ _ c.refresh_states-core.ensures c.requires.fit_shown
 
 pub returns : goal.returns
 returns c =

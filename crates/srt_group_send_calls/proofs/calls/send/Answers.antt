@@ -23,10 +23,6 @@ returns-in-Err c =
     (tables a.members.now a.pending.now a.waiting.now a.history.now a.sources.now) a.store.now a.list.now
     c.begin_stored.ensures (le-ltb (length a.list.now) list_size c.if-list-lt-SENT_LENGTH.false) _ c.in-Err.is)
 
-pub send-requires : goal.send-requires
-send-requires c =
-    let accepted = c.in_default.is in record { ready = c.begin_stored.ensures.ready accepted; list_size_in_bounds = c.if-list-lt-SENT_LENGTH.false }
-
 pub returns : goal.returns
 returns c =
     let a = c.args in

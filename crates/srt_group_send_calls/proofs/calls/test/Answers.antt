@@ -1,5 +1,6 @@
 -- `test` meets its contract: 5 and 6, and then what follows them.
 use Rattle.srt_group_sending.specs.Readiness.{pacing_in}
+use Rattle.srt_group_send.specs.Readiness.{call_paced}
 use Rattle.srt_group_send_calls.specs.Laws.Readiness.{test_refused, can_test, tested}
 use Rattle.srt_group_send_calls.proofs.calls.test.Goals as goal
 
@@ -22,4 +23,4 @@ pub returns : goal.returns
 returns c =
     let a = c.args in
     tested a.group a.members.now a.pending.now a.waiting.now a.history.now a.sources.now
-    c.begin.ensures c.in_default.is (pacing_in a.pacing) c.test-tested.ensures
+    c.begin.ensures c.in_default.is (call_paced (pacing_in a.pacing)) c.test-tested.ensures

@@ -1,5 +1,4 @@
 -- `move_up` meets its contract. The loop's invariant: the words of the last places have moved, and those below have not.
-use Rattle.std.proofs.Common.{◌-◌}
 use Rattle.srt_group_tables.specs.Laws.PacketLaws.{MovingUp}
 use Rattle.srt_group_tables.proofs.pending.move_up.Given as goal
 
