@@ -15,7 +15,7 @@ use Rattle.listing.proofs.Cases.{by_cases}
 use lib.Dec.{eqb}
 use lib.ListN.{length, drop, get_or}
 use lib.Seq.{drop-cons, drop-length}
-use borrow.Author.Tests.{ltb-false, lt-ltb, le-ltb, le-leb}
+use borrow.Author.Tests.{ltb-false, lt-ltb, le-ltb, le-leb, lt-leb, eq-eqb, ne_eqb}
 use Rattle.listing.specs.Column.{after_spaces, all_digits, decimal_value, digits_read, number_in_64_bits, is_digit, LeadingSpaces}
 use Rattle.std.specs.Prelude.{Option, Some, None}
 
@@ -114,3 +114,35 @@ digits_at_end bytes at value e h = rw (drop_at_end bytes at e) (digits_after_las
 pub no_digits_at_end : (bytes : List ℕ) (at : ℕ) → at ≡ length bytes → digits_read (drop at bytes) ≡ None
 unfolding digits_read
 no_digits_at_end bytes at e = rw (drop_at_end bytes at e)
+
+-- ---- laws of the definitions that no proof cites today
+
+pub after_a_space : (bytes : List ℕ) (at : ℕ) → at < length bytes → get_or bytes at 0 ≡ 32 → after_spaces (drop at bytes) ≡ after_spaces (drop (at + 1) bytes)
+unfolding after_spaces
+after_a_space bytes at h e = rw (drop_at_byte bytes at h, eq-eqb _ _ e)
+
+pub after_no_space : (bytes : List ℕ) (at : ℕ) → at < length bytes → (get_or bytes at 0 ≡ 32 → ⊥) → after_spaces (drop at bytes) ≡ drop at bytes
+unfolding after_spaces
+after_no_space bytes at h e = rw (drop_at_byte bytes at h, ne_eqb _ _ e)
+
+pub after_all_spaces : (bytes : List ℕ) (at : ℕ) → at ≡ length bytes → after_spaces (drop at bytes) ≡ drop at bytes
+unfolding after_spaces
+after_all_spaces bytes at e = rw (drop_at_end bytes at e)
+
+pub digits_after_below : (value byte : ℕ) (bytes : List ℕ) → byte < 48 → digits_after value (byte ∷ bytes) ≡ None
+unfolding digits_after all_digits
+digits_after_below value byte bytes h = rw (lt-leb _ _ h)
+
+pub digits_after_above : (value byte : ℕ) (bytes : List ℕ) → 48 ≤ byte → 57 < byte → digits_after value (byte ∷ bytes) ≡ None
+unfolding digits_after all_digits
+digits_after_above value byte bytes low h = rw (le-leb _ _ low, lt-leb _ _ h)
+
+-- the same for the byte at a place of a list
+module _ (bytes : List ℕ) (at : ℕ) (inside : at < length bytes) where
+  pub digits_at_below : (value : ℕ) → get_or bytes at 0 < 48 → digits_after value (drop at bytes) ≡ None
+  digits_at_below value h = rw (drop_at_byte bytes at inside) (digits_after_below value (get_or bytes at 0) (drop (at + 1) bytes) h)
+
+  pub digits_at_above :
+      (value : ℕ) → 48 ≤ get_or bytes at 0 → 57 < get_or bytes at 0 → digits_after value (drop at bytes) ≡ None
+  digits_at_above value low h =
+      rw (drop_at_byte bytes at inside) (digits_after_above value (get_or bytes at 0) (drop (at + 1) bytes) low h)

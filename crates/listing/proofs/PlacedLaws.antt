@@ -1,15 +1,15 @@
 -- Laws of a text placed in a buffer: its length, a text placed over the end of another, and a text that grows by one.
 use Prim.Native.Nat.{ℕ, suc, ◌+◌, ◌-◌, ◌<◌, ◌≤◌}
 use native.Mathlib.Omega.{arith}
-use native.Mathlib.Nat.{zero-add}
+use native.Mathlib.Nat.{zero-add, add-zero}
 use native.Mathlib.Numerals.{add-one}
 use mathlib.Core.Bool.{true, false}
 use lib.Dec.{leb}
 use borrow.Author.Tests.{le-leb, lt-leb}
 use mathlib.Core.Path.{◌≡◌, refl, ap, sym, subst, ◌∙◌}
 use mathlib.Core.List.{List, [], ◌∷◌, ◌++◌, append_assoc}
-use lib.ListN.{length, take, drop, set, length-append, length-drop, length-set, drop_of_length-le}
-use lib.Seq.{append_snoc, drop-cons, drop-set-lt, get_or-set_same, take-set-le, length-take-le, take_at, drop-append-add, drop-drop, set_split, take_all}
+use lib.ListN.{length, take, drop, get_or, set, replicate, length-append, length-drop, length-set, length-replicate, replicate-append-replicate, take-append-drop, drop_of_length-le}
+use lib.Seq.{append_snoc, drop-cons, drop-set-lt, get_or-set_same, take-set-le, length-take-le, take-suc, take_at, drop-length, drop-append-add, drop-drop, set_split, take_all}
 use Rattle.std.proofs.lemmas.List.{append-nil}
 use Rattle.std.specs.Prelude.{Some, None}
 use Rattle.listing.specs.Placed.{placed, begun, Placed, PlacedOrRefused}
@@ -126,3 +126,63 @@ module _ (buffer out : List ℕ) (end : ℕ) (s : List ℕ) (inside : end ≤ le
   begun_byte_more byte h =
       set_placed out end byte h
       ∙ (ap (λ (n : ℕ). placed out n (byte ∷ [])) e ∙ ap (λ (t : List ℕ). placed t (length s) (byte ∷ [])) begins ∙ begun_more buffer s (byte ∷ []))
+
+-- ---- laws of the definitions that no proof cites today
+
+pub length_placed : (buffer : List ℕ) (at : ℕ) (text : List ℕ) → at + length text ≤ length buffer → length (placed buffer at text) ≡ length buffer
+unfolding placed
+length_placed buffer at text h =
+    let inside : at ≤ length buffer = omega arith in
+    simp (length-append, length-drop, length-take-le at buffer inside) (omega arith)
+
+pub placed_nothing : (buffer : List ℕ) (at : ℕ) → placed buffer at [] ≡ buffer
+unfolding placed
+placed_nothing buffer at = rw (add-zero at) (take-append-drop at buffer)
+
+-- up to the end of the text stand the bytes before it, and the text
+pub upto_placed : (buffer : List ℕ) (at : ℕ) (text : List ℕ) → at ≤ length buffer → take (at + length text) (placed buffer at text) ≡ take at buffer ++ text
+unfolding placed
+upto_placed buffer at text h =
+    let e : length (take at buffer ++ text) ≡ at + length text = length-append (take at buffer) text ∙ ap (λ (n : ℕ). n + length text) (length-take-le at buffer h) in
+    rw (← append_assoc (take at buffer) text (drop (at + length text) buffer)) (take_at (take at buffer ++ text) (drop (at + length text) buffer) (at + length text) e)
+
+-- a text placed behind another
+pub placed_behind_another : (buffer : List ℕ) (at : ℕ) (s u : List ℕ) → at ≤ length buffer → placed (placed buffer at s) (at + length s) u ≡ placed buffer at (s ++ u)
+placed_behind_another buffer at s u h =
+    subst (λ (t : List ℕ). placed (placed buffer at t) (at + length s) u ≡ placed buffer at (s ++ u)) (append-nil s)
+    (placed_over buffer at s [] u h (omega arith))
+
+-- a byte stored behind a text that is placed
+pub placed_byte_more :
+    (buffer : List ℕ) (at : ℕ) (text : List ℕ) (byte : ℕ) → at + length text < length buffer
+    → set (placed buffer at text) (at + length text) byte ≡ placed buffer at (text ++ (byte ∷ []))
+placed_byte_more buffer at text byte h =
+    let long : length (placed buffer at text) ≡ length buffer = length_placed buffer at text (omega arith) in
+    set_placed (placed buffer at text) (at + length text) byte (omega arith) ∙ placed_behind_another buffer at text (byte ∷ []) (omega arith)
+
+-- one more of equal bytes behind those that are placed
+pub placed_one_more :
+    (buffer : List ℕ) (at count byte : ℕ) → at + count < length buffer
+    → set (placed buffer at (replicate count byte)) (at + count) byte ≡ placed buffer at (replicate (count + 1) byte)
+placed_one_more buffer at count byte h =
+    let long = length-replicate count byte in
+    let here : at + length (replicate count byte) ≡ at + count = omega arith in
+    let more : replicate count byte ++ (byte ∷ []) ≡ replicate (count + 1) byte = replicate-append-replicate count 1 byte in
+    rw (← here, ← more) (placed_byte_more buffer at (replicate count byte) byte (omega arith))
+
+-- one more of some bytes behind those that are placed
+pub placed_next :
+    (buffer : List ℕ) (at : ℕ) (bytes : List ℕ) (index : ℕ) → index < length bytes → at + index < length buffer
+    → set (placed buffer at (take index bytes)) (at + index) (get_or bytes index 0) ≡ placed buffer at (take (index + 1) bytes)
+placed_next buffer at bytes index g h =
+    let long : length (take index bytes) ≡ index = length-take-le index bytes (omega arith) in
+    let here : at + length (take index bytes) ≡ at + index = omega arith in
+    let more : take index bytes ++ (get_or bytes index 0 ∷ []) ≡ take (index + 1) bytes = rw add-one (sym (take-suc bytes index 0 g)) in
+    rw (← here, ← more) (placed_byte_more buffer at (take index bytes) (get_or bytes index 0) (omega arith))
+
+-- a text as long as the buffer, placed at its start, is the whole
+pub placed_whole : (buffer text : List ℕ) → length text ≡ length buffer → placed buffer 0 text ≡ text
+unfolding placed
+placed_whole buffer text e =
+    let end : 0 + length text ≡ length buffer = omega arith in
+    rw (end, drop-length buffer) (append-nil text)

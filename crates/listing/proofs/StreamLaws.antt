@@ -5,15 +5,18 @@ use mathlib.Core.Bool.{true, false, true≢false}
 use mathlib.Core.Path.{◌≡◌, refl, subst, ap, sym, ◌∙◌}
 use mathlib.Core.List.{List, [], ◌∷◌, ◌++◌, append_assoc}
 use lib.Dec.{leb, eqb}
-use lib.ListN.{length, take, drop, length-drop, drop_of_length-le}
-use lib.Seq.{append_snoc, length-take-le, take_all}
+use lib.ListN.{length, take, drop, get_or, length-append, length-drop, drop_of_length-le}
+use lib.Seq.{append_snoc, take-suc, get_or-drop, length-take-le, take_all}
 use denote.Ref.{Bor}
 use Rattle.std.specs.Prelude.{nat_eq, nat_lt, slice_range, Some, None, ◌⊎◌}
 use Rattle.std.proofs.Common.{inl, inr}
 use Rattle.std.specs.List.{position, position_or_len}
 use Rattle.std.proofs.lemmas.Option.{cond_some, none-some}
-use borrow.Author.Tests.{ltb-true, ltb-false, leb-true, leb-false}
+use borrow.Author.Tests.{eq-eqb, ne_eqb, ltb-true, ltb-false, leb-true, leb-false}
 use Rattle.listing.proofs.Cases.{by_cases}
+use Rattle.listing.proofs.ColumnLaws.{drop_at_byte, drop_at_end}
+use Rattle.listing.proofs.PlacedLaws.{upto_placed, length_placed}
+use Rattle.listing.specs.Placed.{placed}
 use Rattle.std.proofs.lemmas.List.{append-nil}
 use Rattle.listing.specs.Stream.{lines, in_front, joined, has_feed, first_line, after_feed, ended, open_line, last_line}
 use Rattle.listing.specs.Laws.Stream.{lines_of_blocks}
@@ -194,3 +197,76 @@ held_some line buffer size some h = by_cases (leb size (length buffer))
     let inside = leb-true size (length buffer) t in
     omega (arith, ap length (h.within inside), length-take-le size buffer inside))
     (λ f. let long = h.beyond (leb-false size (length buffer) f) in omega arith)
+
+-- ---- laws of the definitions that no proof cites today
+
+-- the byte at a place of a block, where it is a line feed and where not
+module _ (block : List ℕ) (at : ℕ) (inside : at < length block) where
+  pub has_feed_here : get_or block at 0 ≡ 10 → has_feed (drop at block) ≡ true
+  unfolding has_feed
+  has_feed_here e = rw (drop_at_byte block at inside, eq-eqb _ _ e)
+
+  pub first_line_here : get_or block at 0 ≡ 10 → first_line (drop at block) ≡ []
+  unfolding first_line
+  first_line_here e = rw (drop_at_byte block at inside, eq-eqb _ _ e)
+
+  pub after_feed_here : get_or block at 0 ≡ 10 → after_feed (drop at block) ≡ drop (at + 1) block
+  unfolding after_feed
+  after_feed_here e = rw (drop_at_byte block at inside, eq-eqb _ _ e)
+
+  pub has_feed_later : (get_or block at 0 ≡ 10 → ⊥) → has_feed (drop at block) ≡ has_feed (drop (at + 1) block)
+  unfolding has_feed
+  has_feed_later e = rw (drop_at_byte block at inside, ne_eqb _ _ e)
+
+  pub first_line_longer : (get_or block at 0 ≡ 10 → ⊥) → first_line (drop at block) ≡ get_or block at 0 ∷ first_line (drop (at + 1) block)
+  unfolding first_line
+  first_line_longer e = rw (drop_at_byte block at inside, ne_eqb _ _ e)
+
+  pub after_feed_later : (get_or block at 0 ≡ 10 → ⊥) → after_feed (drop at block) ≡ after_feed (drop (at + 1) block)
+  unfolding after_feed
+  after_feed_later e = rw (drop_at_byte block at inside, ne_eqb _ _ e)
+
+  -- the bytes from a place up to here, and the one here
+  pub part_longer : (from : ℕ) → from ≤ at → take (at + 1 - from) (drop from block) ≡ take (at - from) (drop from block) ++ (get_or block at 0 ∷ [])
+  part_longer from h =
+      let one : at + 1 - from ≡ suc (at - from) = omega arith in
+      let place : from + (at - from) ≡ at = omega arith in
+      let left = length-drop from block in
+      rw (one, take-suc (drop from block) (at - from) 0 (omega arith), get_or-drop from block (at - from) 0, place)
+
+-- at the end of a block
+module _ (block : List ℕ) (at : ℕ) (done : at ≡ length block) where
+  pub has_feed_none : has_feed (drop at block) ≡ false
+  unfolding has_feed
+  has_feed_none = rw (drop_at_end block at done)
+
+  pub first_line_none : first_line (drop at block) ≡ []
+  unfolding first_line
+  first_line_none = rw (drop_at_end block at done)
+
+-- a line that a buffer holds, with bytes added to it
+module _ (buffer line bytes : List ℕ) (size : ℕ) (held : Held line buffer size) where
+  pub held_longer : length buffer < size → Held (line ++ bytes) buffer size
+  held_longer h =
+      let long = held.beyond h in
+      let more = length-append line bytes in
+      record { within = λ w. absurd (omega arith); beyond = λ w. omega arith }
+
+  pub held_overflow : size ≤ length buffer → length buffer - size < length bytes → Held (line ++ bytes) buffer (length buffer + 1)
+  held_overflow h g =
+      let here : length (take size buffer) ≡ length line = ap length (held.within h) in
+      let long = length-take-le size buffer h in
+      let more = length-append line bytes in
+      record { within = λ w. absurd (omega arith); beyond = λ w. omega arith }
+
+  pub held_append : size + length bytes ≤ length buffer → Held (line ++ bytes) (placed buffer size bytes) (size + length bytes)
+  held_append h =
+      let same = length_placed buffer size bytes h in
+      record {
+        within = λ w. upto_placed buffer size bytes (omega arith) ∙ ap (λ (s : List ℕ). s ++ bytes) (held.within (omega arith));
+        beyond = λ w. absurd (omega arith);
+      }
+
+-- nothing is taken from a place past the end of a block
+pub past_the_end : (block : List ℕ) (from : ℕ) → length block < from → drop from block ≡ []
+past_the_end block from h = drop_of_length-le block {i = from} (omega arith)

@@ -3,12 +3,13 @@ use Prim.Native.Nat.{ℕ, zero, suc, ◌+◌, ◌-◌, ◌*◌, ◌/◌, ◌%◌
 use native.Mathlib.Omega.{arith}
 use native.Mathlib.Nat.{pow-suc, suc-mul}
 use native.Mathlib.Numerals.{add-one}
+use mathlib.Core.Bool.{Bool, true, false, cond}
 use mathlib.Core.Path.{◌≡◌, refl, ap, sym, ◌∙◌}
 use mathlib.Core.List.{List, [], ◌∷◌, ◌++◌, append_assoc}
-use lib.Dec.{ltb}
+use lib.Dec.{ltb, eqb}
 use lib.ListN.{length, take, drop, get_or, replicate, length-append, length-replicate, replicate-append-replicate, take-append-drop}
 use lib.Seq.{take-suc}
-use borrow.Author.Tests.{lt-ltb, le-ltb, ltb-true, ltb-false}
+use borrow.Author.Tests.{lt-ltb, le-ltb, ltb-true, ltb-false, ne_eqb, eqb-true, eqb-false}
 use Rattle.std.specs.Prelude.{Option, Some, None, IfNone, IfSome}
 use Rattle.std.specs.Option.{MatchOption}
 use Rattle.listing.proofs.Cases.{by_cases, cond_equal}
@@ -171,3 +172,42 @@ pub line_text_at_most :
     → length (line_text width numbers) ≤ length numbers * most + 1
 line_text_at_most width most numbers w t fits =
     omega (arith, length_line_text width numbers, columns_text_at_most width most numbers w t fits)
+
+-- ---- laws of the definitions that no proof cites today
+
+-- the digits before the last one, of what they make
+unfoldable pub leading_digits : ℕ → List ℕ
+leading_digits rest = cond (eqb rest 0) [] (digits rest)
+
+pub no_leading_digits : leading_digits 0 ≡ []
+unfolding leading_digits
+no_leading_digits = refl
+
+pub digits_by_last : (number : ℕ) → digits number ≡ leading_digits (number / 10) ++ ((number % 10 + 48) ∷ [])
+unfolding leading_digits
+digits_by_last number = by_test (eqb (number / 10) 0) refl where
+  by_test :
+      (test : Bool) → eqb (number / 10) 0 ≡ test
+      → digits number ≡ cond test [] (digits (number / 10)) ++ ((number % 10 + 48) ∷ [])
+  by_test true e =
+      let none = eqb-true (number / 10) 0 e in
+      let same : number + 48 ≡ number % 10 + 48 = omega arith in
+      digits_of_one number (omega arith) ∙ rw same
+  by_test false e =
+      let some : number / 10 ≡ 0 → ⊥ = eqb-false (number / 10) 0 e in
+      digits_of_more number (omega arith)
+
+leading_digits_are_digits : (rest : ℕ) → 0 < rest → leading_digits rest ≡ digits rest
+unfolding leading_digits
+leading_digits_are_digits rest h = let some : rest ≡ 0 → ⊥ = λ e. omega arith in rw (ne_eqb _ _ some)
+
+pub leading_digits_by_last :
+    (rest : ℕ) → 0 < rest → leading_digits rest ≡ leading_digits (rest / 10) ++ ((rest % 10 + 48) ∷ [])
+leading_digits_by_last rest h = leading_digits_are_digits rest h ∙ digits_by_last rest
+
+pub length_digits_by_last : (number : ℕ) → length (digits number) ≡ length (leading_digits (number / 10)) + 1
+length_digits_by_last number = rw (digits_by_last number) (length-append (leading_digits (number / 10)) ((number % 10 + 48) ∷ []))
+
+pub length_leading_digits : (rest : ℕ) → 0 < rest → length (leading_digits rest) ≡ length (leading_digits (rest / 10)) + 1
+length_leading_digits rest h =
+    rw (leading_digits_by_last rest h) (length-append (leading_digits (rest / 10)) ((rest % 10 + 48) ∷ []))

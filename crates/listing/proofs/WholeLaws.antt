@@ -213,3 +213,10 @@ pub none_whole_behind :
 unfolding has_feed
 none_whole_behind block from width numbers behind =
     rw (drop_of_length-le block {i = from} (omega arith)) (record { found = refl; put = λ t. absurd (false≢true t); same = refl })
+
+-- ---- laws of the definitions that no proof cites today
+
+pub begins_inside : (count width : ℕ) (stream : List ℕ) → begins_with_columns count width stream ≡ true → count * width ≤ length stream
+unfolding begins_with_columns
+begins_inside count width stream h =
+    leb-true (count * width) (length stream) (and_parts (leb (count * width) (length stream)) (all_numbers (cut count width stream)) h).0

@@ -10,7 +10,7 @@ use listing::OpenLine;
 use listing_lines::LINE;
 use replay_blocks::blocks::Room;
 use replay_io::stopped::Stopped;
-use replay_io::turns::{State, finish, turn};
+use replay_io::turns::{Replaying, finish, turn};
 use srt_group_replay::Replay;
 use std::env::{Env, FillError};
 use std::io::{ErrorKind, Read, Write};
@@ -27,7 +27,7 @@ fn run<R: Read, W: Write>(input: &mut R, to: &mut W) -> Result<(), Stopped>
     ensures { OnOk result (ListingReplayed (R.remaining input.old) (R.remaining input.new) (W.contents to.old) (W.contents to.new)) }
 {
     let mut bytes = [0u8; LINE];
-    let mut state = State {
+    let mut state = Replaying {
         replay: Replay::new(),
         line: OpenLine::new(&mut bytes),
     };
@@ -44,11 +44,10 @@ fn run<R: Read, W: Write>(input: &mut R, to: &mut W) -> Result<(), Stopped>
             &mut room.text,
         )?;
         if count == 0 {
-            let State { mut replay, line } = state;
-            let OpenLine { bytes, size } = line;
+            let OpenLine { bytes, size } = state.line;
             return finish(
                 to,
-                &mut replay,
+                &mut state.replay,
                 bytes,
                 size,
                 &mut room.answers,

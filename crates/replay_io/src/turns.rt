@@ -11,15 +11,35 @@ ghost use Rattle.replay_io.specs.Turns.{BlockRead, BlockReplayed, LastReplayed};
 use crate::stopped::Stopped;
 use listing::OpenLine;
 use replay_blocks::blocks::{answer_block, answer_last_line};
+use srt_group::Group;
 use srt_group_listing::Line;
-use srt_group_replay::Teller;
+use srt_group_replay::{LentReplay, Teller};
 use std::io::{Read, Write};
 
-// What is kept from one block to the next: the replay, with its group if one was made, and the open line.
+// What is kept from one block to the next where all loans end between them: the group, if one was made, and how many bytes the open line has.
+#[derive(Clone, Copy)]
+pub struct State {
+    pub group: Option<Group>,
+    pub size: usize,
+}
+
+// A listing that is being replayed: the replay, with its group if one was made, and the open line.
 #[derive(Drop)]
-pub struct State<'a, T> {
+pub struct Replaying<'a, T> {
     pub replay: T,
     pub line: OpenLine<'a>,
+}
+
+impl Replaying<'_, LentReplay<'_>> {
+    // With it and the tables and the buffer as they are then, lent once more, the next block goes on.
+    pub fn state(&self) -> State
+        ensures { result ≡ record { group = self.now.replay.group; size = self.now.line.size } }
+    {
+        State {
+            group: self.replay.group,
+            size: self.line.size,
+        }
+    }
 }
 
 // Writes a text, all of it or to the first error.
@@ -33,7 +53,7 @@ fn write_text<W: Write>(to: &mut W, text: &[u8]) -> Result<(), Stopped>
 pub fn turn<R: Read, W: Write, T: Teller>(
     input: &mut R,
     to: &mut W,
-    state: &mut State<T>,
+    state: &mut Replaying<T>,
     block: &mut [u8],
     rows: &mut [Line],
     answers: &mut [[u64; 6]],
@@ -52,7 +72,7 @@ pub fn turn<R: Read, W: Write, T: Teller>(
     if count == 0 {
         return Ok(0);
     }
-    let State { replay, line } = state;
+    let Replaying { replay, line } = state;
     let end = answer_block(replay, line, &block[..count], rows, answers, text);
     write_text(to, &text[..end])?;
     Ok(count)

@@ -8,12 +8,11 @@ ghost use Rattle.srt_group_refusals.specs.Promised.{showing, Promised};
 ghost use Rattle.srt_group_flat.specs.Words.{send_words_answer, ClearedSent};
 
 use srt_group::Group;
-use srt_group_flat::words::{SendWords, words_of_send};
-use srt_group_send_calls::calls as sends;
+use srt_group_flat::flat;
+use srt_group_flat::words::SendWords;
 use srt_protocol::time::Timestamp;
 
-// One payload through the group, on every active leg or on the carrier; each send that a leg takes fills a row of the list. The call is made
-// here, and not by its flat form, which would copy the record once more.
+// One payload through the group, on every active leg or on the carrier; each send that a leg takes fills a row of the list.
 #[unsafe(no_mangle)]
 pub extern "C" fn srt_group_lent_send(
     group: &mut Group,
@@ -35,9 +34,9 @@ pub extern "C" fn srt_group_lent_send(
         (sending_into store.new list.new) result.code (send_words_answer result) result.rows) }
     ensures cleared_sent { ClearedSent result }
 {
-    let sent = sends::send(
+    let sent = flat::send(
         *group, members, pending, waiting, history, sources, store, list, time, payload,
     );
-    *group = sent.record;
-    words_of_send(sent.answer, sent.rows)
+    *group = sent.group;
+    sent.answer
 }

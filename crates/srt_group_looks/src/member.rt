@@ -39,9 +39,10 @@ fn member_row<'a>(lent: &LentGroup<'a>, id: u64) -> Result<&'a Row, Error>
         return Err(Error::OutOfRange);
     }
     let rows = rows(lent.members, lent.group.core.counts.members);
-    rows.iter()
-        .find(|row| member_id(row) == id)
-        .ok_or(Error::UnknownMember)
+    let Some(row) = rows.iter().find(|row| member_id(row) == id) else {
+        return Err(Error::UnknownMember);
+    };
+    Ok(row)
 }
 
 // A member: its membership, with its label and its collision, and its leg's state.

@@ -27,8 +27,9 @@ pub fn turn_broken(core: Core, members: &mut [u64], id: u64) -> Result<(), Error
     if LARGEST_32 < id {
         return Err(Error::OutOfRange);
     }
-    let found = find(rows(members, core.counts.members), id);
-    let index = found.ok_or(Error::UnknownMember)?;
+    let Some(index) = find(rows(members, core.counts.members), id) else {
+        return Err(Error::UnknownMember);
+    };
     turn_at(members, index, BROKEN);
     Ok(())
 }

@@ -27,13 +27,20 @@ fn is_steady(row: &Row) -> bool
             | ((link == CONNECTED) & ((admitted != 0) & ((state == ACTIVE) | (state == STANDBY)))))
 }
 
-// Kept (3): by `all`, which ends at the first unsteady row, a row costs 23 instructions in place of 19 (as counted in the compiled loop), and a poll with
-// 64 legs 1.07 of what it cost with a loop by index (callgrind).
-fn all_steady(rows: &[Row]) -> bool
+// Without an end before the last: few rows are asked faster so than one by one.
+fn steady_throughout(rows: &[Row]) -> bool
     ensures { result ≡ all is_steady (members_in rows.now) }
 {
     rows.iter()
         .fold(true, |steady, row| steady & is_steady(row))
+}
+
+// It ends at the first eight rows that are not all steady. Kept (3): by `all` over single rows a row costs 23 instructions in place of 13.
+fn all_steady(rows: &[Row]) -> bool
+    ensures { result ≡ all is_steady (members_in rows.now) }
+{
+    let (eights, rest) = rows.as_chunks::<8>();
+    eights.iter().all(|eight| steady_throughout(eight)) && steady_throughout(rest)
 }
 
 // Every member is steady, and in Backup one is active.

@@ -57,7 +57,9 @@ pub fn push_event(
     if event_unfit(id, kind, reason) {
         return Err(Error::OutOfRange);
     }
-    let index = find(rows(members, core.counts.members), id).ok_or(Error::UnknownMember)?;
+    let Some(index) = find(rows(members, core.counts.members), id) else {
+        return Err(Error::UnknownMember);
+    };
     push_at(members, index, lifecycle_event(kind, reason))
 }
 

@@ -109,7 +109,9 @@ pub fn queue_data(
     if data_unfit(id, content) {
         return Err(Error::OutOfRange);
     }
-    let index = find(rows(members, group.core.counts.members), id).ok_or(Error::UnknownMember)?;
+    let Some(index) = find(rows(members, group.core.counts.members), id) else {
+        return Err(Error::UnknownMember);
+    };
     if CELL < payload.len() {
         return Err(Error::PayloadTooLong);
     }

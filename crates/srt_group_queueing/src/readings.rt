@@ -48,7 +48,9 @@ pub fn put_reading(
     if reading_unfit(id, field, number) {
         return Err(Error::OutOfRange);
     }
-    let index = find(rows(members, core.counts.members), id).ok_or(Error::UnknownMember)?;
+    let Some(index) = find(rows(members, core.counts.members), id) else {
+        return Err(Error::UnknownMember);
+    };
     let leg = leg_at(members, index);
     if goes_back(leg, field, number) {
         return Err(Error::OutOfTurn);

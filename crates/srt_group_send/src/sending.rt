@@ -115,7 +115,9 @@ fn send_mode(
     )
 }
 
-// The refresh, 23, and the send of the mode.
+// The refresh, 23, and the send of the mode. It is part of its caller, which has it in two places: compiled by itself it has the record copied whole
+// (docs/DECISIONS.md).
+#[inline(always)]
 fn refresh_and_send(
     group: &Group,
     history: &mut [u64],

@@ -1,7 +1,9 @@
 -- What is proved of the definitions in specs/Quiet.antt: a refresh of a quiet group changes nothing.
-use Rattle.std.specs.Prelude.{◌≡◌, Bool, ◌&&◌, ◌||◌, ◌⊎◌, ℕ, fold, zero, suc, eqb, length, None, Option, Some}
+use Rattle.std.specs.Prelude.{◌≡◌, Bool, ◌&&◌, ◌||◌, ◌⊎◌, ◌*◌, ℕ, fold, zero, suc, eqb, length, None, Option, Some}
 use Rattle.std.proofs.Math.Path.{refl, ap, ap₂, sym}
-use Rattle.std.proofs.Common.{subst, ◌∙◌, arith, eqb-true, ne_eqb}
+use Rattle.std.specs.List.{list_all}
+use Rattle.std.proofs.Common.{subst, ◌∙◌, arith, eqb-true, ne_eqb, zero-mul, suc-mul, take, drop, drop-drop}
+use Rattle.std.specs.Simd.{first_chunks}
 use Rattle.std.proofs.Math.Bool.{true, false, not}
 use mathlib.Core.List.{List, [], ◌∷◌}
 use Rattle.std.proofs.Math.Logic.{inl, inr}
@@ -31,6 +33,49 @@ steady_folded true [] = refl
 steady_folded false [] = refl
 steady_folded steady (row ∷ rows) =
     steady_folded (steady && is_steady (member_of row)) rows ∙ both_first steady (is_steady (member_of row)) (all is_steady (members_in rows))
+
+-- those of the first n rows and those behind them
+steady_apart : (n : ℕ) (rows : List (List ℕ))
+    → (all is_steady (members_in (take n rows)) && all is_steady (members_in (drop n rows))) ≡ all is_steady (members_in rows)
+unfolding all
+steady_apart zero rows = refl
+steady_apart (suc n) [] = refl
+steady_apart (suc n) (row ∷ rows) =
+    both_first (is_steady (member_of row)) (all is_steady (members_in (take n rows))) (all is_steady (members_in (drop n rows)))
+    ∙ ap (λ (rest : Bool). is_steady (member_of row) && rest) (steady_apart n rows)
+
+-- those of k pieces of n rows and those behind them
+pub steady_in_pieces : (n k : ℕ) (rows : List (List ℕ))
+    → (list_all (λ piece. all is_steady (members_in piece)) (first_chunks n k rows) && all is_steady (members_in (drop (k * n) rows)))
+    ≡ all is_steady (members_in rows)
+steady_in_pieces n zero rows = ap (λ (m : ℕ). all is_steady (members_in (drop m rows))) (zero-mul n)
+steady_in_pieces n (suc k) rows =
+    both_first (all is_steady (members_in (take n rows))) (list_all (λ piece. all is_steady (members_in piece)) (first_chunks n k (drop n rows)))
+    (all is_steady (members_in (drop (suc k * n) rows)))
+    ∙ ap (λ (rest : Bool). all is_steady (members_in (take n rows)) && rest) (ap
+    (λ behind. list_all (λ piece. all is_steady (members_in piece)) (first_chunks n k (drop n rows)) && all is_steady (members_in behind)) further
+    ∙ steady_in_pieces n k (drop n rows))
+    ∙ steady_apart n rows
+  where
+    further : drop (suc k * n) rows ≡ drop (k * n) (drop n rows)
+    further = ap (λ (m : ℕ). drop m rows) (omega (arith, suc-mul k n)) ∙ sym (drop-drop (k * n) n rows)
+
+-- what is asked of the pieces, and then of the rows behind them
+module _ (n k : ℕ) (rows : List (List ℕ)) {pieces : List (List (List ℕ))} {behind : List (List ℕ)} {front : Bool}
+    (cut : pieces ≡ first_chunks n k rows) (left : behind ≡ drop (k * n) rows)
+    (asked : front ≡ list_all (λ piece. all is_steady (members_in piece)) pieces)
+  where
+    both_parts : (front && all is_steady (members_in behind)) ≡ all is_steady (members_in rows)
+    both_parts =
+        ap₂ (λ (a b : Bool). a && b) (asked ∙ ap (list_all (λ piece. all is_steady (members_in piece))) cut)
+        (ap (λ some. all is_steady (members_in some)) left)
+        ∙ steady_in_pieces n k rows
+
+    pub steady_behind : {back : Bool} → front ≡ true → back ≡ all is_steady (members_in behind) → back ≡ all is_steady (members_in rows)
+    steady_behind e f = f ∙ ap (λ (a : Bool). a && all is_steady (members_in behind)) (sym e) ∙ both_parts
+
+    pub one_piece_moves : front ≡ false → front ≡ all is_steady (members_in rows)
+    one_piece_moves e = e ∙ ap (λ (a : Bool). a && all is_steady (members_in behind)) (sym e) ∙ both_parts
 
 -- ---- a steady member
 
