@@ -31,7 +31,7 @@ pub struct Replaying<'a, T> {
 }
 
 impl Replaying<'_, LentReplay<'_>> {
-    // With it and the tables and the buffer as they are then, lent once more, the next block goes on.
+    // What a host keeps of it: the tables and the buffer are its own.
     pub fn state(&self) -> State
         ensures { result ≡ record { group = self.now.replay.group; size = self.now.line.size } }
     {

@@ -27,7 +27,7 @@ fn is_steady(row: &Row) -> bool
             | ((link == CONNECTED) & ((admitted != 0) & ((state == ACTIVE) | (state == STANDBY)))))
 }
 
-// Without an end before the last: few rows are asked faster so than one by one.
+// Kept (3): without an end before the last. By `all`, which ends at the first unsteady row, a row costs 23 instructions, by a fold over all of them 13.
 fn steady_throughout(rows: &[Row]) -> bool
     ensures { result ≡ all is_steady (members_in rows.now) }
 {
@@ -35,7 +35,7 @@ fn steady_throughout(rows: &[Row]) -> bool
         .fold(true, |steady, row| steady & is_steady(row))
 }
 
-// It ends at the first eight rows that are not all steady. Kept (3): by `all` over single rows a row costs 23 instructions in place of 13.
+// It ends at the first eight rows that are not all steady.
 fn all_steady(rows: &[Row]) -> bool
     ensures { result ≡ all is_steady (members_in rows.now) }
 {

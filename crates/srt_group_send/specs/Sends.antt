@@ -1,5 +1,8 @@
 -- A send in either mode, over the lent tables: what its parts may rely on, and what they leave.
-use Rattle.std.specs.Prelude.{◌≡◌, true, false, List, ℕ, ◌≤◌, ◌<◌, length, IfOk, None, Option, Some, MatchOption}
+use Rattle.std.specs.Prelude.{◌≡◌, true, false, List, ℕ, ◌≤◌, ◌<◌, length, IfOk, None, Option, Some, Result, MatchOption, MatchResult}
+use Rattle.srt_protocol.specs.declared.error.Error.{Error}
+use Rattle.srt_protocol.specs.declared.error.Error.TheVariants.{NoFreeCell}
+use Rattle.cell_set.specs.Sets.{LowestFree}
 use Rattle.srt_protocol.specs.Cells.{cell_size, max_cells, cells_of}
 use Rattle.srt_group_model.specs.Tools.{if_true◌then◌else◌}
 use Rattle.srt_group_model.specs.State.{State, is_backup}
@@ -32,6 +35,13 @@ cell_or_none (Some cell) = cell
 -- a Backup send takes a cell, and a Broadcast send none
 abbrev pub CellByMode : ℕ → Option ℕ → Type 0
 CellByMode mode cell = MatchOption cell (is_backup mode ≡ false) (λ k. (is_backup mode ≡ true) × (k < cells_in_word))
+
+-- the cell of a send's payload: none in Broadcast, in Backup the lowest that is free; or in Backup none is free
+abbrev pub CellOfSend : ℕ → List ℕ → ℕ → Result (Option ℕ) Error → Type 0
+CellOfSend mode used cells r =
+    MatchResult r
+    (λ cell. MatchOption cell (is_backup mode ≡ false) (λ k. (is_backup mode ≡ true) × LowestFree used cells (Some k)))
+    (λ e. (e ≡ NoFreeCell) × ((is_backup mode ≡ true) × LowestFree used cells None))
 
 -- the state that a record shows, with held packets and waiting events, which no send moves
 abbrev pub sending_state : Group → BackupTables → (pending waiting : List ℕ) → State

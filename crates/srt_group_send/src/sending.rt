@@ -6,7 +6,7 @@
 // Kept (1): the mode is handed on as the record's word, which the definitions below compare; code asks `is_backup` of it where it chooses.
 ghost use Rattle.std.specs.Prelude.{◌≡◌, true, ◌*◌, ◌≤◌, ◌<◌, length, is_ok, Err, Ok};
 ghost use Rattle.std.specs.Result.{result_and};
-ghost use Rattle.srt_protocol.specs.Cells.{cell_size, cells_of, overwritten};
+ghost use Rattle.srt_protocol.specs.Cells.{cell_size, cells_of, max_cells, overwritten};
 ghost use Rattle.srt_group_model.specs.Tools.{if_true◌then◌else◌};
 ghost use Rattle.srt_group_model.specs.State.{is_backup};
 ghost use Rattle.srt_group_model.specs.Sending.{list_size, send_broadcast};
@@ -19,7 +19,7 @@ ghost use Rattle.srt_group_carrier.specs.Flows.{InMode, BackupFlows};
 ghost use Rattle.srt_group_shown.specs.Tables.{tables};
 ghost use Rattle.srt_group_shown.specs.Ready.{Ready, sending_into};
 ghost use Rattle.srt_group.specs.Made.{parts_of};
-ghost use Rattle.srt_group_send.specs.Sends.{by_mode, cell_or_none, CellByMode, FitShown, FlowMade, Storable, Sends};
+ghost use Rattle.srt_group_send.specs.Sends.{by_mode, cell_or_none, CellByMode, CellOfSend, FitShown, FlowMade, Storable, Sends};
 
 use cell_set::{CellSet, lowest_free};
 use srt_connection_members::rows;
@@ -115,9 +115,7 @@ fn send_mode(
     )
 }
 
-// The refresh, 23, and the send of the mode. It is part of its caller, which has it in two places: compiled by itself it has the record copied whole
-// (docs/DECISIONS.md).
-#[inline(always)]
+// The refresh, 23, and the send of the mode.
 fn refresh_and_send(
     group: &Group,
     history: &mut [u64],
@@ -173,8 +171,23 @@ fn store_sent(store: &mut [u8], cell: usize, payload: &[u8], answer: Result<usiz
     }
 }
 
+// The cell of a send's payload, the lowest that is free: a Broadcast send takes none.
+fn cell_of_send(group: &Group, used: &CellSet, cells: usize) -> Result<Option<usize>, Error>
+    requires { cells ≤ max_cells }
+    ensures { CellOfSend group.now.core.mode used.now cells result }
+{
+    if !is_backup(group.core.mode) {
+        return Ok(None);
+    }
+    let Some(cell) = lowest_free(used, cells) else {
+        return Err(Error::NoFreeCell);
+    };
+    Ok(Some(cell))
+}
+
 // `send` for a valid state, of which `used` shows the cells in use. 30 comes before anything is refreshed; a Broadcast send takes no cell. The record is
 // read where it stands, here and below: by value its 160 bytes would be copied once more at each of the two.
+// `refresh_and_send` stands in one place, so that it is compiled into this: by itself it has the record copied whole (docs/DECISIONS.md).
 pub fn send(
     group: &Group,
     members: &mut [u64],
@@ -201,26 +214,16 @@ pub fn send(
         return GroupSent::refused(*group, Error::PayloadTooLong);
     }
     let size = payload.len() as u64;
-    if !is_backup(group.core.mode) {
-        return refresh_and_send(
-            group, history, sources, members, list, used, time, size, None,
-        );
-    }
-    let lowest = lowest_free(used, cells_of(store.len()));
-    let Some(cell) = lowest else {
-        return GroupSent::refused(*group, Error::NoFreeCell);
+    let cell = match cell_of_send(group, used, cells_of(store.len())) {
+        Ok(cell) => cell,
+        Err(refusal) => return GroupSent::refused(*group, refusal),
     };
     let sent = refresh_and_send(
-        group,
-        history,
-        sources,
-        members,
-        list,
-        used,
-        time,
-        size,
-        Some(cell),
+        group, history, sources, members, list, used, time, size, cell,
     );
-    store_sent(store, cell, payload, sent.answer);
+    let Some(taken) = cell else {
+        return sent;
+    };
+    store_sent(store, taken, payload, sent.answer);
     sent
 }

@@ -1,6 +1,6 @@
 -- `send` is document 01's: its codes before anything is done, and what is left by the flow that was made.
 use Rattle.srt_protocol.specs.Errors.{Outcome}
-use Rattle.std.specs.Prelude.{◌≡◌, Bool, ◌||◌, ℕ, ◌*◌, ◌≤◌, ◌<◌, eqb, None, Option, Some, Err, Ok, Result, is_ok}
+use Rattle.std.specs.Prelude.{◌≡◌, Bool, ◌||◌, ℕ, ◌*◌, ◌≤◌, ◌<◌, eqb, None, Option, Some, Err, Ok, Result, MatchOption, is_ok}
 use Rattle.std.proofs.Math.Path.{refl, ap, sym, subst}
 use Rattle.std.proofs.Common.{ap₂, ◌∙◌, arith, ne_eqb, lt-ltb, le-ltb}
 use Rattle.std.proofs.lemmas.Result.{IfOk-at_ok}
@@ -53,7 +53,7 @@ use Rattle.srt_group_carrier.specs.Freeing.{SendFollows}
 use Rattle.srt_group_carrier.specs.Lendable.{BackupTables, backup_tables, Lendable}
 use Rattle.srt_group_send.specs.Answers.{send_number, send_answer}
 use Rattle.srt_group_send.specs.declared.sending.GroupSent.{GroupSent}
-use Rattle.srt_group_send.specs.Sends.{FitShown, FlowMade, Storable, Sends}
+use Rattle.srt_group_send.specs.Sends.{cell_or_none, CellByMode, FitShown, FlowMade, Storable, Sends}
 
 -- ---- the cells
 
@@ -363,6 +363,55 @@ module _ (time : ℕ) (payload : List ℕ) (g : Group) (t : Tables) (store list 
         (λ e refused.
         refused_performed cell cell answer end store' is made refl can.1 size true in_backup e refused
         (bytes ∙ when_false (is_ok answer.answer) (overwritten (cell * cell_size) payload store) store (ap is_ok refused)))
+
+-- ---- the cell that was looked for
+
+abbrev InBroadcast : ℕ → Type 0
+InBroadcast mode = is_backup mode ≡ false
+
+abbrev LowestInBackup : ℕ → List ℕ → ℕ → ℕ → Type 0
+LowestInBackup mode used cells k = (is_backup mode ≡ true) × LowestFree used cells (Some k)
+
+-- the send is in the mode that takes it
+pub cell_by_mode : (mode cells : ℕ) (used : List ℕ) (o : Option ℕ) → cells ≤ max_cells
+    → MatchOption o (InBroadcast mode) (LowestInBackup mode used cells) → CellByMode mode o
+cell_by_mode mode cells used None few h = h
+cell_by_mode mode cells used (Some k) few h = let there = h.1.free.0 in (h.0, omega (arith, there))
+
+module _ (time : ℕ) (payload : List ℕ) (g : Group) (t : Tables) (store list used : List ℕ) (ready : Ready (parts_of g) t (length store) used)
+    (list_long : list_size ≤ length list) (small : time ≤ largest_64) (cells : ℕ) (counted : cells ≡ cells_of (length store)) (o : Option ℕ)
+    (looked : MatchOption o (InBroadcast g.core.mode) (LowestInBackup g.core.mode used cells)) (short : length payload ≤ cell_size)
+  where
+    abbrev Looked : Option ℕ → Type 0
+    Looked cell = MatchOption cell (InBroadcast g.core.mode) (LowestInBackup g.core.mode used cells)
+
+    abbrev Made : Option ℕ → GroupSent → BackupTables → Type 0
+    Made cell = FlowMade (cell_or_none cell) time (length payload) g (lent_tables ready list list_long)
+
+    pub without_cell : {answer : GroupSent} {end : BackupTables} → o ≡ None → Made o answer end
+        → Sends time payload (parts_of g) t (sending_into store list) answer (tables end.members t.pending t.waiting end.history end.sources)
+        (sending_into store end.list) end.used
+    without_cell {answer} {end} is made =
+        broadcast_performed time payload g t store list used ready list_long small (subst Looked is looked) short
+        (subst (λ (o : Option ℕ). Made o answer end) is made)
+
+    module _ (cell : ℕ) (is : o ≡ Some cell) where
+      in_backup : is_backup g.core.mode ≡ true
+      in_backup = (subst Looked is looked).0
+
+      lowest : LowestFree used (cells_of (length store)) (Some cell)
+      lowest = subst (λ (n : ℕ). LowestFree used n (Some cell)) counted (subst Looked is looked).1
+
+      pub taken_storable : Storable cell (length payload) (length store)
+      taken_storable = cell_storable time payload g t store list used ready list_long small cell in_backup short lowest refl
+
+      pub with_cell : {answer : GroupSent} {end : BackupTables} {store' : List ℕ} → Made o answer end
+          → store' ≡ (if_true is_ok answer.answer then overwritten (cell * cell_size) payload store else store) → length store' ≡ length store
+          → Sends time payload (parts_of g) t (sending_into store list) answer (tables end.members t.pending t.waiting end.history end.sources)
+          (sending_into store' end.list) end.used
+      with_cell {answer} {end} made =
+          backup_performed time payload g t store list used ready list_long small cell in_backup short lowest refl
+          (subst (λ (o : Option ℕ). Made o answer end) is made)
 
 -- ---- the payload in its cell
 
